@@ -1,0 +1,5 @@
+pub mod Exists
+pub mod Fronts
+pub mod Rows
+pub mod Spelled
+pub mod Steps

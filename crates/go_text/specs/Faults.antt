@@ -1,0 +1,23 @@
+-- Faults as values, and how reports name their kinds.
+use Rattle.std.specs.Prelude.{ℕ, List, codes}
+use Rattle.go_text.specs.declared.place.Place.{Place}
+use Rattle.go_text.specs.declared.fault.FaultKind.{FaultKind}
+use Rattle.go_text.specs.declared.fault.FaultKind.TheVariants.{LeftOut, PackageName, Main}
+
+-- the file's name, the place in it, and what is wrong there
+pub record Fault : Type 0 where
+  pub file : List ℕ
+  pub place : Place
+  pub kind : FaultKind
+
+-- the number of a kind in reports
+abbrev pub fault_number : FaultKind → ℕ
+fault_number LeftOut = 2
+fault_number PackageName = 6
+fault_number Main = 23
+
+-- the word of a kind in reports
+abbrev pub fault_word : FaultKind → List ℕ
+fault_word LeftOut = codes "leftout"
+fault_word PackageName = codes "packagename"
+fault_word Main = codes "main"

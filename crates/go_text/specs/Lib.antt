@@ -1,0 +1,5 @@
+pub mod Editions
+pub mod Faults
+pub mod Named
+pub mod Places
+pub mod Texts

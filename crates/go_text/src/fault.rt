@@ -1,0 +1,101 @@
+//! Faults: what is reported of a package that can't be built.
+ghost use Rattle.std.specs.Prelude.{◌≡◌, IfOk, string_bytes};
+ghost use Rattle.go_text.specs.Faults.{fault_number, fault_word};
+
+use crate::place::Place;
+use std::alloc::AllocError;
+use std::marker::Model;
+
+/// The kinds of faults.
+#[derive(Clone, Copy, PartialEq, Eq, Debug)]
+pub enum FaultKind {
+    /// A form that this edition leaves out.
+    LeftOut,
+    /// A package name that differs from that of the package's first file.
+    PackageName,
+    /// A program with no function main.
+    Main,
+}
+
+impl FaultKind {
+    /// The kind's number in reports.
+    pub fn number(self) -> u32
+        ensures { result ≡ fault_number self }
+    {
+        match self {
+            FaultKind::LeftOut => 2,
+            FaultKind::PackageName => 6,
+            FaultKind::Main => 23,
+        }
+    }
+
+    /// The kind's word in reports.
+    pub fn word(self) -> &'static str
+        ensures { result.now ≡ fault_word self }
+    {
+        match self {
+            FaultKind::LeftOut => "leftout",
+            FaultKind::PackageName => "packagename",
+            FaultKind::Main => "main",
+        }
+    }
+}
+
+/// A fault: its kind and where it stands, by the file's name and the place in the file.
+#[derive(Drop)]
+pub struct Fault {
+    file: String,
+    place: Place,
+    kind: FaultKind,
+}
+
+impl Model for Fault {
+    ghost use Rattle.std.specs.Prelude.{string_bytes};
+    ghost use Rattle.go_text.specs.Faults as faults;
+
+    ghost Value = { faults.Fault };
+
+    ghost view = { λ a. record { file = string_bytes a.file; place = a.place; kind = a.kind } };
+}
+
+impl Fault {
+    /// A fault of a kind at a place of a file, which is given by its name.
+    pub fn new(file: String, place: Place, kind: FaultKind) -> Fault
+        ensures { result ≡ record { file = string_bytes file; place = place; kind = kind } }
+    {
+        Fault { file, place, kind }
+    }
+
+    /// The name of the file that the fault is in.
+    pub fn file(&self) -> &str
+        ensures { result.now ≡ self.now.file }
+    {
+        self.file.as_str()
+    }
+
+    /// Where in the file the fault is.
+    pub fn place(&self) -> Place
+        ensures { result ≡ self.now.place }
+    {
+        self.place
+    }
+
+    /// What kind of fault it is.
+    pub fn kind(&self) -> FaultKind
+        ensures { result ≡ self.now.kind }
+    {
+        self.kind
+    }
+
+    /// Another equal fault. An `Err` only where memory ran out.
+    pub fn copy(&self) -> Result<Fault, AllocError>
+        ensures { IfOk result (λ copy. copy ≡ self.now) }
+    {
+        let file = self.file.clone()?;
+        Ok(Fault {
+            file,
+            place: self.place,
+            kind: self.kind,
+        })
+    }
+}

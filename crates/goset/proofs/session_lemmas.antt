@@ -1,0 +1,11 @@
+pub mod Cuts
+pub mod Growth
+pub mod Places
+pub mod OneText
+pub mod Reaches
+pub mod Settling
+pub mod Standings
+pub mod Telling
+pub mod Texts
+pub mod Utf8
+pub mod Words

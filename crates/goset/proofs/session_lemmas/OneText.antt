@@ -1,0 +1,75 @@
+-- A script has one session text.
+use Rattle.std.proofs.Common.{◌≡◌, ℕ, zero, suc, List, [], ◌∷◌, ◌++◌, Option, None, Some, refl, sym, ap, ◌∙◌, subst}
+use Rattle.ws_version.specs.Writes.{Write as AWrite}
+use Rattle.goset.specs.ws_action.Actions.{Action}
+use Rattle.goset.specs.ws_cache.Count.{compiled_count}
+use Rattle.goset.specs.ws_graph.Plan.{Planned, NoFiles, Faulty, Sound, IsPlanOf}
+use Rattle.goset.specs.ws_replica.Reports.{Verdict, IsReport, actions_of}
+use Rattle.goset.specs.declared.session.refusal.Refusal.{Refusal}
+use Rattle.goset.specs.session.Commands.{Command, Nothing, Bad, Create, Write, Merge, Build, command_of, text_lines, text_of}
+use Rattle.goset.specs.session.Refusals.{first_of}
+use Rattle.goset.specs.session.Printing.{report_text}
+use Rattle.goset.specs.session.World.{World, opening, writes_of, actions_held, taking, with_replicas, refusals, Accepted, AfterBy, After, Answers, PrintsBy, Prints, Told}
+use Rattle.goset.specs.session.Text.{TextFrom, SessionText}
+
+module _ (one_plan : (W : List AWrite) (directory : List ℕ) (p q : Planned) → IsPlanOf W directory p → IsPlanOf W directory q → p ≡ q)
+    (one_report : (edition : ℕ) (directory : List ℕ) (p : Planned) (r s : List (List ℕ × Verdict)) → IsReport edition directory p r → IsReport edition directory p s → r ≡ s) where
+  one_report_text : (edition : ℕ) (name directory : List ℕ) (held : List Action) (p : Planned) (r s : List (List ℕ × Verdict)) (a b : List ℕ) → IsReport edition directory p r → IsReport edition directory p s
+      → a ≡ report_text name directory r (compiled_count held (actions_of edition directory p)) → b ≡ report_text name directory s (compiled_count held (actions_of edition directory p)) → a ≡ b
+  one_report_text edition name directory held p r s a b g h e f = e ∙ ap (λ x. report_text name directory x (compiled_count held (actions_of edition directory p))) (one_report edition directory p r s g h) ∙ sym f
+
+  one_told : (edition : ℕ) (name directory : List ℕ) (held : List Action) (p : Planned) (a b : List ℕ) → Told edition name directory held p a → Told edition name directory held p b → a ≡ b
+  one_told edition name directory held NoFiles a b g h = g ∙ sym h
+  one_told edition name directory held (Faulty fault) a b g h = one_report_text edition name directory held (Faulty fault) g.0 h.0 a b g.1 h.1 g.2 h.2
+  one_told edition name directory held (Sound parsed) a b g h = one_report_text edition name directory held (Sound parsed) g.0 h.0 a b g.1 h.1 g.2 h.2
+
+  one_answer : (command : Command) (world : World) (a b : List ℕ) → Answers command world a → Answers command world b → a ≡ b
+  one_answer (Build name directory) world a b g h =
+      let same : h.0 ≡ g.0 = one_plan (writes_of name world) directory h.0 g.0 h.1 g.1 in
+      one_told world.edition name directory (actions_held name world) g.0 a b g.2 (subst (λ p. Told world.edition name directory (actions_held name world) p b) same h.2)
+  one_answer Nothing world a b g h = g ∙ sym h
+  one_answer Bad world a b g h = g ∙ sym h
+  one_answer (Create name) world a b g h = g ∙ sym h
+  one_answer (Write name path lines) world a b g h = g ∙ sym h
+  one_answer (Merge name other) world a b g h = g ∙ sym h
+
+  one_print_by : (refusal : Option Refusal) (command : Command) (world : World) (a b : List ℕ) → PrintsBy refusal command world a → PrintsBy refusal command world b → a ≡ b
+  one_print_by None command world a b g h = one_answer command world a b g h
+  one_print_by (Some refusal) command world a b g h = g ∙ sym h
+
+  one_print : (command : Command) (text : Option (List ℕ)) (world : World) (a b : List ℕ) → Prints command text world a → Prints command text world b → a ≡ b
+  unfolding Prints
+  one_print command text world a b g h = one_print_by (first_of (refusals command text world)) command world a b g h
+
+  one_accepted : (command : Command) (text : Option (List ℕ)) (world a b : World) → Accepted command text world a → Accepted command text world b → a ≡ b
+  one_accepted (Build name directory) text world a b g h =
+      let same : g.0 ≡ h.0 = one_plan (writes_of name world) directory g.0 h.0 g.1 h.1 in
+      g.2 ∙ ap (λ p. with_replicas world (taking name [] (actions_of world.edition directory p) world.replicas)) same ∙ sym h.2
+  one_accepted Nothing text world a b g h = g ∙ sym h
+  one_accepted Bad text world a b g h = g ∙ sym h
+  one_accepted (Create name) text world a b g h = g ∙ sym h
+  one_accepted (Write name path lines) text world a b g h = g ∙ sym h
+  one_accepted (Merge name other) text world a b g h = g ∙ sym h
+
+  one_after_by : (refusal : Option Refusal) (command : Command) (text : Option (List ℕ)) (world a b : World) → AfterBy refusal command text world a → AfterBy refusal command text world b → a ≡ b
+  one_after_by None command text world a b g h = one_accepted command text world a b g h
+  one_after_by (Some refusal) command text world a b g h = g ∙ sym h
+
+  one_after : (command : Command) (text : Option (List ℕ)) (world a b : World) → After command text world a → After command text world b → a ≡ b
+  unfolding After
+  one_after command text world a b g h = one_after_by (first_of (refusals command text world)) command text world a b g h
+
+  one_text_from : (taken : ℕ) (lines : List (List ℕ)) (world : World) (a b : List ℕ) → TextFrom taken lines world a → TextFrom taken lines world b → a ≡ b
+  unfolding TextFrom
+  one_text_from taken [] world a b g h = g ∙ sym h
+  one_text_from (suc taken) (line ∷ lines) world a b g h = one_text_from taken lines world a b g h
+  one_text_from zero (line ∷ lines) world a b g h =
+      let command = command_of line in
+      let text = text_of (text_lines command) lines in
+      let now : g.0 ≡ h.0 = one_print command text world g.0 h.0 g.3 h.3 in
+      let next : h.2 ≡ g.2 = one_after command text world h.2 g.2 h.4 g.4 in
+      let later : g.1 ≡ h.1 = one_text_from (text_lines command) lines g.2 g.1 h.1 g.5 (subst (λ w. TextFrom (text_lines command) lines w h.1) next h.5) in
+      g.6 ∙ ap (λ (x : List ℕ). x ++ g.1) now ∙ ap (λ (x : List ℕ). h.0 ++ x) later ∙ sym h.6
+
+  pub one_session_text : (edition : ℕ) (script a b : List ℕ) → SessionText edition script a → SessionText edition script b → a ≡ b
+  one_session_text edition script a b g h = one_text_from 0 _ (opening edition) a b g h

@@ -1,0 +1,18 @@
+-- What is printed for a command that is refused.
+use Rattle.std.specs.Prelude.{ℕ, Bool, cond, List, [], ◌∷◌, ◌++◌, Option, None, Some, codes}
+use Rattle.goset.specs.declared.session.refusal.Refusal.{Refusal}
+use Rattle.goset.specs.declared.session.refusal.Refusal.TheVariants.{BadCommand, Unknown, Exists, BadPath, CounterFull, BadText, NoPackage}
+
+abbrev pub refused : Refusal → List ℕ
+refused BadCommand = codes "refused 1 command" ++ 10 ∷ []
+refused Unknown = codes "refused 2 replica" ++ 10 ∷ []
+refused Exists = codes "refused 3 exists" ++ 10 ∷ []
+refused BadPath = codes "refused 4 path" ++ 10 ∷ []
+refused CounterFull = codes "refused 6 counter" ++ 10 ∷ []
+refused BadText = codes "refused 7 text" ++ 10 ∷ []
+refused NoPackage = codes "refused 8 nopackage" ++ 10 ∷ []
+
+-- of reasons in the order of their numbers, each with whether it holds, the first that does
+abbrev pub first_of : List (Bool × Refusal) → Option Refusal
+first_of [] = None
+first_of (r ∷ rest) = cond r.0 (Some r.1) (first_of rest)

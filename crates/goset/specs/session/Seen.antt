@@ -1,0 +1,13 @@
+-- A command without where its words lie.
+use Rattle.goset.specs.session.Commands.{Command, Nothing, Bad, Create, Write, Merge, Build}
+use Rattle.goset.specs.declared.session.commands.Asked.{Asked}
+use Rattle.goset.specs.declared.session.commands.Asked.TheVariants as asked
+
+-- the command that the words of a line spell
+abbrev pub seen : Asked → Command
+seen asked.Nothing = Nothing
+seen asked.Bad = Bad
+seen (asked.Create name) = Create name.now
+seen (asked.Write name path lines) = Write name.now path.now lines
+seen (asked.Merge name other) = Merge name.now other.now
+seen (asked.Build name directory) = Build name.now directory.now

@@ -1,0 +1,102 @@
+-- What the replicas of a session stand for.
+use Rattle.std.specs.Prelude.{◌≡◌, ◌≢◌, ℕ, ◌+◌, suc, cond, List, [], ◌∷◌, ◌++◌, slice_set, slice_index_or, Option, None, Some}
+use Rattle.std.specs.Str.{bytes_eq}
+use Rattle.std.specs.Option.{option_map}
+use Rattle.go_text.specs.Editions.{edition_number}
+use Rattle.goset.specs.declared.session.replicas.Named.{Named}
+use Rattle.goset.specs.declared.session.replicas.Replicas.{Replicas}
+use Rattle.ws_version.specs.Writes.{Write}
+use Rattle.ws_register.specs.Sources.{top}
+use Rattle.goset.specs.ws_action.Actions.{Action}
+use Rattle.goset.specs.ws_action.Clash.{AllSized, NoClash, hashed_actions}
+use Rattle.goset.specs.ws_cache.Count.{compiled_count}
+use Rattle.goset.specs.ws_graph.Plan.{Planned, NoFiles, IsPlanOf}
+use Rattle.goset.specs.ws_replica.Reports.{Verdict, IsReport, actions_of}
+use Rattle.goset.specs.ws_replica.Holdings.{ReplicaStandsFor}
+use Rattle.goset.specs.session.Refusals.{refused, first_of}
+use Rattle.goset.specs.session.Commands.{Command}
+use Rattle.goset.specs.session.World.{World, Replica, refusals, AfterBy, After, Prints, hashed}
+use Rattle.goset.specs.declared.session.refusal.Refusal.{Refusal}
+
+-- the first place of that name
+abbrev pub place_of : List ℕ → List Named → Option ℕ
+place_of name [] = None
+place_of name (n ∷ ns) = cond (bytes_eq n.name.items name) (Some 0) (option_map (λ k. suc k) (place_of name ns))
+
+-- a replica of the world, and what the code keeps of it
+pub record Stands (n : Named) (r : Replica) : Type 0 where
+  pub name : n.name.items ≡ r.name
+  pub number : n.number ≡ r.number
+  pub holds : ReplicaStandsFor n.replica r.writes r.actions
+  pub sized : AllSized r.actions
+
+-- the same of each, in order
+abbrev pub AllStand : List Named → List Replica → Type 0
+AllStand [] [] = Unit {0}
+AllStand [] (r ∷ rs) = ⊥
+AllStand (n ∷ ns) [] = ⊥
+AllStand (n ∷ ns) (r ∷ rs) = Stands n r × AllStand ns rs
+
+pub record StandFor (s : Replicas) (world : World) : Type 0 where
+  pub edition : edition_number s.edition ≡ world.edition
+  pub replicas : AllStand s.named.items world.replicas
+
+-- A command that prints no more than its refusal: the refusal is the definition's, and the replicas stand for the world after it.
+pub record Settles (command : Command) (text : Option (List ℕ)) (world : World) (refusal : Option Refusal) (named : List Named) : Type 0 where
+  pub refuses : first_of (refusals command text world) ≡ refusal
+  pub next : World
+  pub after : AfterBy refusal command text world next
+  pub edition : next.edition ≡ world.edition
+  pub stand : AllStand named next.replicas
+
+abbrev pub told_of : Option Refusal → List ℕ
+told_of None = []
+told_of (Some refusal) = refused refusal
+
+-- A command and what it tells: the world after it is the definition's, and, if no two texts that are hashed in that world
+-- clash, so is what it tells, and the replicas stand for that world.
+pub record Tells (command : Command) (text : Option (List ℕ)) (world : World) (told : List ℕ) (named : List Named) : Type 0 where
+  pub next : World
+  pub after : After command text world next
+  pub edition : next.edition ≡ world.edition
+  pub clear : NoClash (hashed next) → Prints command text world told × AllStand named next.replicas
+
+-- one replica is changed so, and no other
+pub record ChangedAt (Change : Named → Named → Type 0) (old : List Named) (place : ℕ) (new : List Named) : Type 0 where
+  pub changed : Named
+  pub is : new ≡ slice_set old place changed
+  pub so : (n : Named) → n ≡ slice_index_or old place n → Change n changed
+
+-- it took an edit of its own
+pub record Edited (path text : List ℕ) (old new : Named) : Type 0 where
+  pub name : new.name.items ≡ old.name.items
+  pub number : new.number ≡ old.number
+  pub holds : (W : List Write) (E : List Action) → ReplicaStandsFor old.replica W E
+      → ReplicaStandsFor new.replica (W ++ (path, record { counter = top W + 1; number = old.number; text = Some text }) ∷ []) E
+
+-- it took what the replica at that place holds
+pub record MergedFrom (named : List Named) (theirs : ℕ) (old new : Named) : Type 0 where
+  pub name : new.name.items ≡ old.name.items
+  pub number : new.number ≡ old.number
+  pub holds : (other : Named) → other ≡ slice_index_or named theirs other → (V W : List Write) (E F : List Action)
+      → ReplicaStandsFor old.replica V E → ReplicaStandsFor other.replica W F → ReplicaStandsFor new.replica (V ++ W) (E ++ F)
+
+-- what is known of a build where no two texts clash
+pub record IsBuilt (edition : ℕ) (directory : List ℕ) (report : List (List ℕ × Verdict)) (compiled : ℕ) (new : Named) (W : List Write) (E : List Action) (planned : Planned) : Type 0 where
+  pub reports : IsReport edition directory planned report
+  pub counts : compiled ≡ compiled_count E (actions_of edition directory planned)
+  pub holds : ReplicaStandsFor new.replica W (E ++ actions_of edition directory planned)
+
+-- what is known of a build
+pub record BuildOf (edition : ℕ) (directory : List ℕ) (report : List (List ℕ × Verdict)) (compiled : ℕ) (new : Named) (W : List Write) (E : List Action) : Type 0 where
+  pub planned : Planned
+  pub plan : IsPlanOf W directory planned
+  pub some : planned ≢ NoFiles
+  pub sized : AllSized (actions_of edition directory planned)
+  pub built : NoClash (hashed_actions (E ++ actions_of edition directory planned)) → IsBuilt edition directory report compiled new W E planned
+
+-- it built a directory, with this report
+pub record Built (edition : ℕ) (directory : List ℕ) (report : List (List ℕ × Verdict)) (compiled : ℕ) (old new : Named) : Type 0 where
+  pub name : new.name.items ≡ old.name.items
+  pub number : new.number ≡ old.number
+  pub builds : (W : List Write) (E : List Action) → ReplicaStandsFor old.replica W E → AllSized E → BuildOf edition directory report compiled new W E

@@ -1,0 +1,158 @@
+-- The world of a session: replicas, each a set of writes and a set of actions.
+use Rattle.std.specs.Prelude.{◌≡◌, ℕ, ◌+◌, ◌==◌, ◌&&◌, not, nat_lt, Bool, true, false, cond, List, [], ◌∷◌, ◌++◌, length, Option, None, Some, is_some, is_none}
+use Rattle.std.specs.List.{flat_map}
+use Rattle.std.specs.Str.{bytes_eq, is_utf8}
+use Rattle.go_text.specs.Texts.{text_error}
+use Rattle.ws_version.specs.Writes.{Write as AWrite}
+use Rattle.ws_version.specs.Paths.{is_path}
+use Rattle.ws_register.specs.Sources.{top}
+use Rattle.goset.specs.ws_action.Actions.{Action}
+use Rattle.goset.specs.ws_action.Clash.{hashed_actions}
+use Rattle.goset.specs.ws_cache.Count.{compiled_count}
+use Rattle.goset.specs.ws_graph.Plan.{Planned, NoFiles, Faulty, Sound, IsPlanOf}
+use Rattle.goset.specs.ws_replica.Reports.{Verdict, actions_of, IsReport}
+use Rattle.goset.specs.declared.session.refusal.Refusal.{Refusal}
+use Rattle.goset.specs.declared.session.refusal.Refusal.TheVariants.{BadCommand, Unknown, Exists, BadPath, CounterFull, BadText, NoPackage}
+use Rattle.goset.specs.session.Refusals.{refused, first_of}
+use Rattle.goset.specs.session.Printing.{report_text}
+use Rattle.goset.specs.session.Commands.{Command, Nothing, Bad, Create, Write, Merge, Build}
+
+-- A replica: what it took, as two sets that are read by membership. A number is never given twice.
+pub record Replica : Type 0 where
+  pub name : List ℕ
+  pub number : ℕ
+  pub writes : List AWrite
+  pub actions : List Action
+
+-- the replicas in order of creation, and the edition that all is built in
+pub record World : Type 0 where
+  pub edition : ℕ
+  pub replicas : List Replica
+
+abbrev pub opening : ℕ → World
+opening edition = record { edition = edition; replicas = [] }
+
+-- the replica of that name
+abbrev pub replica_at : List ℕ → List Replica → Option Replica
+replica_at name [] = None
+replica_at name (r ∷ rs) = cond (bytes_eq r.name name) (Some r) (replica_at name rs)
+
+abbrev pub knows : List ℕ → World → Bool
+knows name world = is_some (replica_at name world.replicas)
+
+abbrev pub writes_in : Option Replica → List AWrite
+writes_in None = []
+writes_in (Some r) = r.writes
+
+abbrev pub actions_in : Option Replica → List Action
+actions_in None = []
+actions_in (Some r) = r.actions
+
+-- what the replica of that name took
+abbrev pub writes_of : List ℕ → World → List AWrite
+writes_of name world = writes_in (replica_at name world.replicas)
+
+abbrev pub actions_held : List ℕ → World → List Action
+actions_held name world = actions_in (replica_at name world.replicas)
+
+-- a replica that takes these writes and actions too
+abbrev pub grown : Replica → List AWrite → List Action → Replica
+grown r writes actions = record { name = r.name; number = r.number; writes = r.writes ++ writes; actions = r.actions ++ actions }
+
+-- the replica of that name takes them
+abbrev pub taking : List ℕ → List AWrite → List Action → List Replica → List Replica
+taking name writes actions [] = []
+taking name writes actions (r ∷ rs) = cond (bytes_eq r.name name) (grown r writes actions ∷ rs) (r ∷ taking name writes actions rs)
+
+abbrev pub number_in : Option Replica → ℕ
+number_in None = 0
+number_in (Some r) = r.number
+
+-- An edit by the replica of that name: one more than the greatest counter that it took, and its number.
+abbrev pub edit_of : List ℕ → List ℕ → List ℕ → World → AWrite
+edit_of name path text world = (path, record { counter = top (writes_of name world) + 1; number = number_in (replica_at name world.replicas); text = Some text })
+
+-- a whole text: there are so many lines, they are UTF-8, and a source may hold them
+abbrev pub is_text : Option (List ℕ) → Bool
+is_text None = false
+is_text (Some text) = is_utf8 text && is_none (text_error text)
+
+-- a word that is UTF-8 and spells a path
+abbrev pub is_path_word : List ℕ → Bool
+is_path_word word = is_utf8 word && is_path word
+
+-- For each command its refusals in order of their numbers, and when each holds. A word that isn't UTF-8 is no directory;
+-- whether a directory has package files is a matter of its plan.
+abbrev pub refusals : Command → Option (List ℕ) → World → List (Bool × Refusal)
+refusals Nothing text world = []
+refusals Bad text world = (true, BadCommand) ∷ []
+refusals (Create name) text world = (nat_lt 63 (length world.replicas), BadCommand) ∷ (knows name world, Exists) ∷ []
+refusals (Write name path lines) text world =
+    (not (knows name world), Unknown) ∷ (not (is_path_word path), BadPath) ∷ (top (writes_of name world) == 18446744073709551615, CounterFull) ∷ (not (is_text text), BadText) ∷ []
+refusals (Merge name other) text world = (not (knows name world && knows other world), Unknown) ∷ []
+refusals (Build name directory) text world = (not (knows name world), Unknown) ∷ (not (is_utf8 directory), NoPackage) ∷ []
+
+abbrev pub text_in : Option (List ℕ) → List ℕ
+text_in None = []
+text_in (Some text) = text
+
+abbrev pub with_replicas : World → List Replica → World
+with_replicas world replicas = record { edition = world.edition; replicas = replicas }
+
+-- the world after a command that isn't refused
+abbrev pub Accepted : Command → Option (List ℕ) → World → World → Type 0
+Accepted Nothing text world next = next ≡ world
+Accepted Bad text world next = next ≡ world
+Accepted (Create name) text world next =
+    next ≡ with_replicas world (world.replicas ++ record { name = name; number = length world.replicas + 1; writes = []; actions = [] } ∷ [])
+Accepted (Write name path lines) text world next =
+    next ≡ with_replicas world (taking name (edit_of name path (text_in text) world ∷ []) [] world.replicas)
+Accepted (Merge name other) text world next =
+    next ≡ with_replicas world (taking name (writes_of other world) (actions_held other world) world.replicas)
+Accepted (Build name directory) text world next =
+    (planned : Planned) × IsPlanOf (writes_of name world) directory planned
+    × (next ≡ with_replicas world (taking name [] (actions_of world.edition directory planned) world.replicas))
+
+abbrev pub AfterBy : Option Refusal → Command → Option (List ℕ) → World → World → Type 0
+AfterBy None command text world next = Accepted command text world next
+AfterBy (Some refusal) command text world next = next ≡ world
+
+-- the world after a command, of which a refused one changes nothing
+unfoldable pub After : Command → Option (List ℕ) → World → World → Type 0
+After command text world next = AfterBy (first_of (refusals command text world)) command text world next
+
+-- what a plan's report prints
+abbrev pub Told : ℕ → List ℕ → List ℕ → List Action → Planned → List ℕ → Type 0
+Told edition name directory held NoFiles told = told ≡ refused NoPackage
+Told edition name directory held planned told =
+    (report : List (List ℕ × Verdict)) × IsReport edition directory planned report
+    × (told ≡ report_text name directory report (compiled_count held (actions_of edition directory planned)))
+
+-- what a command that isn't refused prints
+abbrev pub Answers : Command → World → List ℕ → Type 0
+Answers (Build name directory) world told =
+    (planned : Planned) × IsPlanOf (writes_of name world) directory planned × Told world.edition name directory (actions_held name world) planned told
+Answers Nothing world told = told ≡ []
+Answers Bad world told = told ≡ []
+Answers (Create name) world told = told ≡ []
+Answers (Write name path lines) world told = told ≡ []
+Answers (Merge name other) world told = told ≡ []
+
+abbrev pub PrintsBy : Option Refusal → Command → World → List ℕ → Type 0
+PrintsBy None command world told = Answers command world told
+PrintsBy (Some refusal) command world told = told ≡ refused refusal
+
+-- what a command prints
+unfoldable pub Prints : Command → Option (List ℕ) → World → List ℕ → Type 0
+Prints command text world told = PrintsBy (first_of (refusals command text world)) command world told
+
+abbrev pub text_list : Option (List ℕ) → List (List ℕ)
+text_list None = []
+text_list (Some text) = text ∷ []
+
+abbrev pub texts_of_replica : Replica → List (List ℕ)
+texts_of_replica r = flat_map (λ w. text_list w.1.text) r.writes ++ hashed_actions r.actions
+
+-- The texts that are hashed: of the files written and compiled, and of the actions.
+unfoldable pub hashed : World → List (List ℕ)
+hashed world = flat_map texts_of_replica world.replicas

@@ -1,0 +1,125 @@
+//! What a command line asks for.
+ghost use Rattle.std.specs.Prelude.{◌≡◌, ◌<◌, ◌&&◌, map};
+ghost use Rattle.goset.specs.session.Commands.{is_name, is_name_byte, of_words, command_of, text_lines};
+ghost use Rattle.goset.specs.session.Seen.{seen};
+
+use crate::session::lines::{first_word, number, trimmed};
+
+/// A command, whose words lie in the script.
+#[derive(Clone, Copy, Debug)]
+pub enum Asked<'a> {
+    /// A line without words.
+    Nothing,
+    /// No command of the language.
+    Bad,
+    /// `replica R`
+    Create(&'a [u8]),
+    /// `write R PATH LINES`
+    Write(&'a [u8], &'a [u8], u64),
+    /// `merge R S`
+    Merge(&'a [u8], &'a [u8]),
+    /// `build R DIR`
+    Build(&'a [u8], &'a [u8]),
+}
+
+impl Asked<'_> {
+    /// How many lines of text follow the command's line.
+    pub fn text_lines(&self) -> u64
+        ensures { result ≡ text_lines (seen self.now) }
+    {
+        match self {
+            Asked::Write(_, _, lines) => *lines,
+            _ => 0,
+        }
+    }
+}
+
+fn is_name_byte(byte: u8) -> bool
+    ensures { result ≡ is_name_byte byte }
+{
+    byte.is_ascii_digit()
+        || (96 < byte && byte < 123)
+        || (64 < byte && byte < 91)
+        || byte == b'_'
+        || byte == b'-'
+}
+
+/// Whether a word may name a replica.
+pub fn is_name(word: &[u8]) -> bool
+    ensures { result ≡ is_name word.now }
+{
+    if word.is_empty() || word.len() > 32 {
+        return false;
+    }
+    for byte in word {
+        if !is_name_byte(*byte) {
+            return false;
+        }
+    }
+    true
+}
+
+fn asked_by<'a>(words: &[&'a [u8]]) -> Asked<'a>
+    ensures { seen result ≡ of_words (map (λ word. word.now) words.now) }
+{
+    match words {
+        [] => Asked::Nothing,
+        [word, a] => {
+            if *word == b"replica".as_slice() && is_name(a) {
+                Asked::Create(a)
+            } else {
+                Asked::Bad
+            }
+        }
+        [word, a, b] => {
+            if *word == b"merge".as_slice() {
+                if is_name(a) && is_name(b) {
+                    Asked::Merge(a, b)
+                } else {
+                    Asked::Bad
+                }
+            } else if *word == b"build".as_slice() {
+                if is_name(a) {
+                    Asked::Build(a, b)
+                } else {
+                    Asked::Bad
+                }
+            } else {
+                Asked::Bad
+            }
+        }
+        [word, a, b, c] => {
+            if *word == b"write".as_slice() && is_name(a) {
+                match number(c) {
+                    Some(lines) => Asked::Write(a, b, lines),
+                    None => Asked::Bad,
+                }
+            } else {
+                Asked::Bad
+            }
+        }
+        _ => Asked::Bad,
+    }
+}
+
+/// What a line asks for.
+pub fn ask(line: &[u8]) -> Asked<'_>
+    ensures { seen result ≡ command_of line.now }
+{
+    let Some((word, rest)) = first_word(trimmed(line)) else {
+        return Asked::Nothing;
+    };
+    let Some((a, rest)) = first_word(rest) else {
+        return Asked::Bad;
+    };
+    let Some((b, rest)) = first_word(rest) else {
+        return asked_by(&[word, a]);
+    };
+    let Some((c, rest)) = first_word(rest) else {
+        return asked_by(&[word, a, b]);
+    };
+    if first_word(rest).is_some() {
+        return Asked::Bad;
+    }
+    asked_by(&[word, a, b, c])
+}

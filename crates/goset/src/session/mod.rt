@@ -1,0 +1,16 @@
+//! A session: a script of commands, and what is written for it.
+
+pub mod commands;
+pub mod ends;
+pub mod lines;
+pub mod printing;
+pub mod reading;
+pub mod refusal;
+pub mod replicas;
+#[cfg(test)]
+mod rows;
+pub mod running;
+pub mod script;
+#[cfg(test)]
+mod tests;
+pub mod writing;

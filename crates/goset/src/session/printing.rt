@@ -1,0 +1,147 @@
+//! What a build prints.
+ghost use Rattle.std.specs.Prelude.{◌≡◌, ◌++◌, OnOk, IfOk, count_by, map};
+ghost use Rattle.std.specs.Fmt.{decimal};
+ghost use Rattle.std.specs.List.{flat_map};
+ghost use Rattle.goset.specs.session.Printing.{place_text, kind_text, fault_text, blocked_text, row_text, is_bad, summary_text, target_text, report_text};
+ghost use Rattle.goset.specs.ws_replica.Reports.{rows, row};
+
+use crate::ws_replica::{Report, Verdict};
+use go_text::fault::{Fault, FaultKind};
+use go_text::place::Place;
+use std::alloc::{AllocError, Global};
+
+fn push(out: &mut Vec<u8>, text: &[u8]) -> Result<(), AllocError>
+    ensures { OnOk result (out.new.items ≡ out.old.items ++ text.now) }
+{
+    out.extend_from_slice(text)
+}
+
+/// Adds a text and then a number.
+fn push_number(alloc: Global, out: &mut Vec<u8>, text: &[u8], number: u64) -> Result<(), AllocError>
+    ensures { OnOk result (out.new.items ≡ out.old.items ++ (text.now ++ decimal number)) }
+{
+    let digits = number.to_string(alloc)?;
+    push(out, text)?;
+    push(out, digits.as_bytes())
+}
+
+fn push_place(alloc: Global, out: &mut Vec<u8>, place: Place) -> Result<(), AllocError>
+    ensures { OnOk result (out.new.items ≡ out.old.items ++ place_text place) }
+{
+    push_number(alloc, out, b":", u64::from(place.line))?;
+    push_number(alloc, out, b":", u64::from(place.column))
+}
+
+fn push_kind(alloc: Global, out: &mut Vec<u8>, kind: FaultKind) -> Result<(), AllocError>
+    ensures { OnOk result (out.new.items ≡ out.old.items ++ kind_text kind) }
+{
+    push_number(alloc, out, b" ", u64::from(kind.number()))?;
+    push(out, b" ")?;
+    push(out, kind.word().as_bytes())
+}
+
+/// Adds the line of a fault of a directory's file.
+#[tactic(auto, unfolding(crate::specs::session::Printing::fault_text))]
+fn push_fault(
+    alloc: Global,
+    out: &mut Vec<u8>,
+    directory: &str,
+    fault: &Fault,
+) -> Result<(), AllocError>
+    ensures { OnOk result (out.new.items ≡ out.old.items ++ fault_text directory.now fault.now) }
+{
+    push(out, b"fault ")?;
+    push(out, directory.as_bytes())?;
+    push(out, b"/")?;
+    push(out, fault.file().as_bytes())?;
+    push_place(alloc, out, fault.place())?;
+    push_kind(alloc, out, fault.kind())?;
+    push(out, b"\n")
+}
+
+fn push_blocked(out: &mut Vec<u8>, directory: &str) -> Result<(), AllocError>
+    ensures { OnOk result (out.new.items ≡ out.old.items ++ blocked_text directory.now) }
+{
+    push(out, b"blocked ")?;
+    push(out, directory.as_bytes())?;
+    push(out, b"\n")
+}
+
+/// Adds the line of a directory that isn't good.
+fn push_row(alloc: Global, out: &mut Vec<u8>, of: &(String, Verdict)) -> Result<(), AllocError>
+    ensures { OnOk result (out.new.items ≡ out.old.items ++ row_text (row of.now)) }
+{
+    match &of.1 {
+        Verdict::Good => {}
+        Verdict::Blocked => push_blocked(out, of.0.as_str())?,
+        Verdict::Faulty(fault) => push_fault(alloc, out, of.0.as_str(), fault)?,
+    }
+    Ok(())
+}
+
+fn push_rows(alloc: Global, out: &mut Vec<u8>, all: &[(String, Verdict)]) -> Result<(), AllocError>
+    ensures { OnOk result (out.new.items ≡ out.old.items ++ flat_map row_text (map row all.now)) }
+{
+    for of in all {
+        push_row(alloc, out, of)?;
+    }
+    Ok(())
+}
+
+fn count_bad(all: &[(String, Verdict)]) -> usize
+    ensures { result ≡ count_by is_bad (map row all.now) }
+{
+    let mut count = 0;
+    for of in all {
+        if !of.1.is_good() {
+            count += 1;
+        }
+    }
+    count
+}
+
+/// Adds how many directories were reached, or how many of them aren't good.
+#[tactic(auto, unfolding(crate::specs::session::Printing::summary_text))]
+fn push_summary(
+    alloc: Global,
+    out: &mut Vec<u8>,
+    all: &[(String, Verdict)],
+) -> Result<(), AllocError>
+    ensures { OnOk result (out.new.items ≡ out.old.items ++ summary_text (map row all.now)) }
+{
+    let bad = count_bad(all);
+    if bad == 0 {
+        push_number(alloc, out, b" ok ", all.len() as u64)
+    } else {
+        push_number(alloc, out, b" faults ", bad as u64)
+    }
+}
+
+fn push_target(out: &mut Vec<u8>, name: &[u8], directory: &str) -> Result<(), AllocError>
+    ensures { OnOk result (out.new.items ≡ out.old.items ++ target_text name.now directory.now) }
+{
+    push(out, b"build ")?;
+    push(out, name)?;
+    push(out, b" ")?;
+    push(out, directory.as_bytes())
+}
+
+/// The lines of a build's report, with the names of the replica and of the target's directory.
+#[tactic(auto, unfolding(crate::specs::session::Printing::report_text))]
+pub fn report_lines(
+    alloc: Global,
+    name: &[u8],
+    directory: &str,
+    report: &Report,
+) -> Result<Vec<u8>, AllocError>
+    ensures { IfOk result (λ text. text.items ≡ report_text name.now directory.now (rows report.now.directories.items) report.now.compiled) }
+{
+    let mut out = Vec::new(alloc);
+    let rows = report.directories.as_slice();
+    push_target(&mut out, name, directory)?;
+    push_summary(alloc, &mut out, rows)?;
+    push_number(alloc, &mut out, b" compiled ", report.compiled)?;
+    push(&mut out, b"\n")?;
+    push_rows(alloc, &mut out, rows)?;
+    Ok(out)
+}

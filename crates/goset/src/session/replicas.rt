@@ -1,0 +1,280 @@
+//! The replicas of a session: what each command does to them.
+ghost use Rattle.std.specs.Prelude.{◌≡◌, ◌<◌, ℕ, List, length, slice_index_or, vec_len, true, false, IfOk, OnOk, OnErr, IfSome, MatchOption, Option, Some, None, Err};
+ghost use Rattle.std.specs.Option.{option_map};
+ghost use Rattle.ws_version.specs.Paths.{file_name};
+ghost use Rattle.go_text.specs.Editions.{edition_number};
+ghost use Rattle.ws_version.specs.Writes.{Write as AWrite};
+ghost use Rattle.ws_register.specs.Sources.{top};
+ghost use Rattle.goset.specs.declared.session.replicas.Named.{Named as ANamed};
+ghost use Rattle.goset.specs.ws_action.Actions.{Action as AnAction};
+ghost use Rattle.goset.specs.ws_graph.Plan.{NoFiles, IsPlanOf};
+ghost use Rattle.goset.specs.ws_replica.Holdings.{ReplicaStandsFor};
+ghost use Rattle.goset.specs.ws_replica.Reports.{rows};
+ghost use Rattle.goset.specs.session.Standing.{StandFor, place_of, AllStand, Settles, Tells, told_of, ChangedAt, Edited, MergedFrom, Built};
+ghost use Rattle.goset.specs.session.World.{World, opening, is_text, is_path_word};
+ghost use Rattle.goset.specs.session.Commands.{Create, Write, Merge, Build};
+
+use crate::session::commands::Asked;
+use crate::session::printing::report_lines;
+use crate::session::refusal::{Refusal, refused};
+use crate::session::running::Steps;
+use crate::ws_replica::{BuildError, Replica, Report, build};
+use go_text::edition::Edition;
+use go_text::source::Source;
+use go_text::text::TextError;
+use std::alloc::{AllocError, Global};
+use std::str;
+use ws_version::Join;
+use ws_version::path::{file_name, is_path};
+
+/// How many replicas a session may have.
+const MOST_REPLICAS: usize = 64;
+
+/// A replica of a session, with its name and the number of its edits.
+#[derive(Drop)]
+pub struct Named {
+    name: Vec<u8>,
+    number: u32,
+    replica: Replica,
+}
+
+/// The replicas of a session in order of creation, and the edition in which they build.
+#[derive(Drop)]
+pub struct Replicas {
+    alloc: Global,
+    edition: Edition,
+    named: Vec<Named>,
+}
+
+/// Where the replica of that name stands.
+fn place_of(named: &[Named], name: &[u8]) -> Option<usize>
+    ensures value { result ≡ place_of name.now named.now }
+    ensures within { IfSome result (λ place. place < length named.now) }
+{
+    for (i, one) in named.iter().enumerate() {
+        if one.name.as_slice() == name {
+            return Some(i);
+        }
+    }
+    None
+}
+
+/// A word as a path, if it is one.
+fn path_of(word: &[u8]) -> Option<&str>
+    ensures { MatchOption result (is_path_word word.now ≡ false) (λ path. (is_path_word word.now ≡ true) × (path.now ≡ word.now)) }
+{
+    match str::from_utf8(word) {
+        Err(_) => None,
+        Ok(path) => { if is_path(path) { Some(path) } else { None } }
+    }
+}
+
+/// A text as the source of a path's file, if a source may hold it.
+fn source_of(alloc: Global, path: &str, text: Option<Vec<u8>>) -> Result<Option<Source>, AllocError>
+    ensures { IfOk result (λ source. MatchOption source (is_text (option_map (λ v. v.items) text) ≡ false) (λ s. (is_text (option_map (λ v. v.items) text) ≡ true) × (s.name ≡ file_name path.now) × (Some s.text ≡ option_map (λ v. v.items) text))) }
+{
+    let Some(bytes) = text else {
+        return Ok(None);
+    };
+    let Ok(text) = String::from_utf8(bytes) else {
+        return Ok(None);
+    };
+    let name = String::from_str(alloc, file_name(path))?;
+    match Source::new(alloc, name, text) {
+        Ok(source) => Ok(Some(source)),
+        Err(TextError::Memory) => Err(AllocError),
+        Err(_) => Ok(None),
+    }
+}
+
+/// A new replica, whose number is one more than the number of those before it.
+fn create(alloc: Global, named: &mut Vec<Named>, name: &[u8]) -> Result<Option<Refusal>, AllocError>
+    ensures { IfOk result (λ refusal. (text : Option (List ℕ)) (world : World) → AllStand named.old.items world.replicas → Settles (Create name.now) text world refusal named.new.items) }
+{
+    if named.len() >= MOST_REPLICAS {
+        return Ok(Some(Refusal::BadCommand));
+    }
+    if place_of(named.as_slice(), name).is_some() {
+        return Ok(Some(Refusal::Exists));
+    }
+    let number = named.len() as u32 + 1;
+    let name = Vec::from_slice(alloc, name)?;
+    let replica = Replica::new(alloc);
+    named.push(Named {
+        name,
+        number,
+        replica,
+    })?;
+    Ok(None)
+}
+
+/// The greatest counter that the replica at a place holds.
+fn greatest_at(named: &Vec<Named>, place: usize) -> u64
+    requires { place < vec_len named.now }
+    ensures { (n : ANamed) (W : List AWrite) (E : List AnAction) → n ≡ slice_index_or named.now.items place n → ReplicaStandsFor n.replica W E → result ≡ top W }
+{
+    named[place].replica.greatest_counter()
+}
+
+/// The replica at a place edits a path.
+fn edit_at(
+    alloc: Global,
+    named: &mut Vec<Named>,
+    place: usize,
+    path: &str,
+    source: Source,
+) -> Result<(), AllocError>
+    requires { place < vec_len named.old }
+    ensures { OnOk result (ChangedAt (Edited path.now source.text) named.old.items place named.new.items) }
+{
+    let path = String::from_str(alloc, path)?;
+    let one = &mut named[place];
+    let number = one.number;
+    match one.replica.edit(path, source, number) {
+        Ok(()) => Ok(()),
+        Err(_) => Err(AllocError),
+    }
+}
+
+/// The replica at a place takes what the replica at another, or at the same, holds.
+fn merge_at(named: &mut Vec<Named>, mine: usize, theirs: usize) -> Result<(), AllocError>
+    requires mine { mine < vec_len named.old }
+    requires theirs { theirs < vec_len named.old }
+    ensures { OnOk result (ChangedAt (MergedFrom named.old.items theirs) named.old.items mine named.new.items) }
+{
+    let other = named[theirs].replica.copy()?;
+    let one = &mut named[mine];
+    one.replica.merge(&other)
+}
+
+/// The replica at a place builds a directory.
+fn build_at(
+    alloc: Global,
+    edition: Edition,
+    named: &mut Vec<Named>,
+    place: usize,
+    directory: &str,
+) -> Result<Report, BuildError>
+    requires { place < vec_len named.old }
+    ensures ok { IfOk result (λ report. ChangedAt (Built (edition_number edition) directory.now (rows report.directories.items) report.compiled) named.old.items place named.new.items) }
+    ensures none { result ≡ Err BuildError.NoPackage → (n : ANamed) (W : List AWrite) (E : List AnAction) → n ≡ slice_index_or named.old.items place n → ReplicaStandsFor n.replica W E → IsPlanOf W directory.now NoFiles }
+    ensures err { OnErr result (named.new.items ≡ named.old.items) }
+{
+    let one = &mut named[place];
+    build(alloc, &mut one.replica, directory, edition)
+}
+
+/// A write of a text to a path by the replica of that name.
+fn write(
+    alloc: Global,
+    named: &mut Vec<Named>,
+    name: &[u8],
+    word: &[u8],
+    text: Option<Vec<u8>>,
+) -> Result<Option<Refusal>, AllocError>
+    ensures { IfOk result (λ refusal. (lines : ℕ) (world : World) → AllStand named.old.items world.replicas → Settles (Write name.now word.now lines) (option_map (λ v. v.items) text) world refusal named.new.items) }
+{
+    let Some(place) = place_of(named.as_slice(), name) else {
+        return Ok(Some(Refusal::Unknown));
+    };
+    let Some(path) = path_of(word) else {
+        return Ok(Some(Refusal::BadPath));
+    };
+    if greatest_at(named, place) == u64::MAX {
+        return Ok(Some(Refusal::CounterFull));
+    }
+    let Some(source) = source_of(alloc, path, text)? else {
+        return Ok(Some(Refusal::BadText));
+    };
+    edit_at(alloc, named, place, path, source)?;
+    Ok(None)
+}
+
+/// The replica of one name takes what that of the other holds.
+fn merge(named: &mut Vec<Named>, name: &[u8], other: &[u8]) -> Result<Option<Refusal>, AllocError>
+    ensures { IfOk result (λ refusal. (text : Option (List ℕ)) (world : World) → AllStand named.old.items world.replicas → Settles (Merge name.now other.now) text world refusal named.new.items) }
+{
+    let Some(mine) = place_of(named.as_slice(), name) else {
+        return Ok(Some(Refusal::Unknown));
+    };
+    let Some(theirs) = place_of(named.as_slice(), other) else {
+        return Ok(Some(Refusal::Unknown));
+    };
+    merge_at(named, mine, theirs)?;
+    Ok(None)
+}
+
+/// A build of a directory by the replica of that name, and what it prints.
+fn build_target(
+    alloc: Global,
+    edition: Edition,
+    named: &mut Vec<Named>,
+    name: &[u8],
+    word: &[u8],
+) -> Result<Vec<u8>, AllocError>
+    ensures { IfOk result (λ told. (text : Option (List ℕ)) (world : World) → edition_number edition ≡ world.edition → AllStand named.old.items world.replicas → Tells (Build name.now word.now) text world told.items named.new.items) }
+{
+    let Some(place) = place_of(named.as_slice(), name) else {
+        return refused(alloc, Refusal::Unknown);
+    };
+    let Ok(directory) = str::from_utf8(word) else {
+        return refused(alloc, Refusal::NoPackage);
+    };
+    match build_at(alloc, edition, named, place, directory) {
+        Ok(report) => report_lines(alloc, name, directory, &report),
+        Err(BuildError::NoPackage) => refused(alloc, Refusal::NoPackage),
+        Err(BuildError::Memory) => Err(AllocError),
+    }
+}
+
+/// What is printed for a command that prints no more than its refusal.
+fn told(alloc: Global, refusal: Option<Refusal>) -> Result<Vec<u8>, AllocError>
+    ensures { IfOk result (λ line. line.items ≡ told_of refusal) }
+{
+    match refusal {
+        None => Ok(Vec::new(alloc)),
+        Some(refusal) => refused(alloc, refusal),
+    }
+}
+
+impl Replicas {
+    /// No replica yet.
+    pub fn new(alloc: Global, edition: Edition) -> Replicas
+        ensures stands { StandFor result (opening (edition_number edition)) }
+    {
+        Replicas {
+            alloc,
+            edition,
+            named: Vec::new(alloc),
+        }
+    }
+}
+
+impl Steps for Replicas {
+    ghost use Rattle.goset.specs.session.Standing.{StandFor};
+
+    ghost stands_for = { StandFor };
+
+    fn step(&mut self, asked: &Asked<'_>, text: Option<Vec<u8>>) -> Result<Vec<u8>, AllocError> {
+        let alloc = self.alloc;
+        match asked {
+            Asked::Nothing => told(alloc, None),
+            Asked::Bad => told(alloc, Some(Refusal::BadCommand)),
+            Asked::Create(name) => {
+                let refusal = create(alloc, &mut self.named, name)?;
+                told(alloc, refusal)
+            }
+            Asked::Write(name, path, _) => {
+                let refusal = write(alloc, &mut self.named, name, path, text)?;
+                told(alloc, refusal)
+            }
+            Asked::Merge(name, other) => {
+                let refusal = merge(&mut self.named, name, other)?;
+                told(alloc, refusal)
+            }
+            Asked::Build(name, directory) => {
+                build_target(alloc, self.edition, &mut self.named, name, directory)
+            }
+        }
+    }
+}

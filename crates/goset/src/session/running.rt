@@ -1,0 +1,178 @@
+//! Running a script, each command's answer written before the next is read.
+ghost use Rattle.std.specs.Prelude.{◌≡◌, ℕ, ◌+◌, ◌<◌, ◌≤◌, ◌^◌, length, drop, IfOk, OnOk, OnErr, Option};
+ghost use Rattle.std.specs.Option.{option_map};
+ghost use Rattle.goset.specs.session.Lines.{lines_of};
+ghost use Rattle.goset.specs.session.Commands.{text_of};
+ghost use Rattle.goset.specs.session.Seen.{seen};
+ghost use Rattle.goset.specs.session.Requests.{IsFirst};
+ghost use Rattle.goset.specs.session.World.{World, opening, hashed, After, Prints};
+ghost use Rattle.goset.specs.ws_action.Clash.{NoClash};
+ghost use Rattle.goset.specs.session.Ends.{Wrote, WroteSome, Session};
+ghost use Rattle.goset.specs.session.Failures.{failed_writes, failed_reads, unwritten};
+
+use crate::session::commands::{Asked, ask};
+use crate::session::lines::{closed, cut_line, next_line};
+use crate::session::reading::{ReadError, ScriptIn, read_whole};
+use crate::session::writing::{ScriptOut, write_whole};
+use std::alloc::{AllocError, Global};
+use thiserror::Error;
+
+/// Why a session ended early: no memory, a failed read, a failed write, or a script that is too
+/// long.
+#[derive(Clone, Copy, Debug, PartialEq, Eq, Drop, Error)]
+pub enum SessionError {
+    #[error("memory")]
+    Memory,
+    #[error("read")]
+    Read,
+    #[error("write")]
+    Write,
+    #[error("script over 16777216 bytes")]
+    TooLong,
+}
+
+/// Why answers weren't written: no memory for a command, or a failed write.
+#[derive(Clone, Copy, Debug, PartialEq, Eq, Drop)]
+pub enum AnswerError {
+    Memory,
+    Write,
+}
+
+/// What runs single commands.
+pub trait Steps {
+    /// The worlds that it may stand for.
+    ghost stands_for: { Self → World → Type 0 };
+
+    /// Runs one command on its text, where the script had all of it, and answers what it prints.
+    /// After an `Err`, want of memory, it may stand for no world.
+    fn step(&mut self, asked: &Asked<'_>, text: Option<Vec<u8>>) -> Result<Vec<u8>, AllocError>
+        ensures { let command = seen asked.now in
+            let given = option_map (λ v. v.items) text in
+            (world : World) → stands_for self.old world → IfOk result (λ told.
+            (next : World) × After command given world next
+            × (NoClash (hashed next) →
+            Prints command given world told.items × stands_for self.new next)) };
+}
+
+/// A command with its text, and what is left of the script behind it.
+#[derive(Drop)]
+pub struct Request<'a> {
+    pub asked: Asked<'a>,
+    pub text: Option<Vec<u8>>,
+    pub behind: &'a [u8],
+}
+
+/// The text of so many lines, where there are so many, and what is left behind it: nothing, where
+/// there aren't. An `Err` is want of memory.
+pub fn take_text(
+    alloc: Global,
+    script: &[u8],
+    lines: u64,
+) -> Result<(Option<Vec<u8>>, &[u8]), AllocError>
+    ensures text { IfOk result (λ taken.
+        option_map (λ v. v.items) taken.0 ≡ text_of lines (lines_of script.now)) }
+    ensures behind { IfOk result (λ taken.
+        lines_of taken.1.now ≡ drop lines (lines_of script.now)) }
+    ensures shorter { IfOk result (λ taken. length taken.1.now ≤ length script.now) }
+{
+    let mut rest = script;
+    let mut left = lines;
+    'lines: while left > 0 && !rest.is_empty() {
+        rest = cut_line(rest).1;
+        left -= 1;
+    }
+    if left > 0 {
+        return Ok((None, rest));
+    }
+    let (text, rest) = script.split_at(script.len() - rest.len());
+    Ok((Some(closed(alloc, text)?), rest))
+}
+
+/// The first command of a script. An `Err` is want of memory.
+pub fn first_request(alloc: Global, script: &[u8]) -> Result<Request<'_>, AllocError>
+    requires { 0 < length script.now }
+    ensures first { IfOk result (λ request.
+        IsFirst script.now (seen request.asked)
+        (option_map (λ v. v.items) request.text) request.behind.now) }
+    ensures shorter { IfOk result (λ request. length request.behind.now < length script.now) }
+{
+    let (line, behind) = next_line(script);
+    let asked = ask(line);
+    let (text, behind) = take_text(alloc, behind, asked.text_lines())?;
+    Ok(Request {
+        asked,
+        text,
+        behind,
+    })
+}
+
+/// Writes what a session writes for a script, where the steps stand for an edition's first world.
+///
+/// On an `Err` a beginning of it is written: on `Memory` all that the commands before print, on
+/// `Write` all that the writer took.
+pub fn answer<S: Steps, O: ScriptOut>(
+    alloc: Global,
+    steps: &mut S,
+    script: &[u8],
+    writer: &mut O,
+) -> Result<(), AnswerError>
+    requires writable { O.failed writer.old + 1 < 2 ^ 64 }
+    ensures ok { (edition : ℕ) → S.stands_for steps.old (opening edition) →
+        OnOk result (Wrote edition script.now (O.written writer.old) (O.written writer.new)) }
+    ensures err { (edition : ℕ) → S.stands_for steps.old (opening edition) →
+        OnErr result (WroteSome edition script.now (O.written writer.old) (O.written writer.new)) }
+    ensures failed { O.failed writer.new ≡ O.failed writer.old + unwritten result }
+{
+    let mut rest = script;
+    'commands: while !rest.is_empty() {
+        let Ok(request) = first_request(alloc, rest) else {
+            return Err(AnswerError::Memory);
+        };
+        let Request {
+            asked,
+            text,
+            behind,
+        } = request;
+        let Ok(told) = steps.step(&asked, text) else {
+            return Err(AnswerError::Memory);
+        };
+        if write_whole(writer, told.as_slice()).is_err() {
+            return Err(AnswerError::Write);
+        }
+        rest = behind;
+    }
+    Ok(())
+}
+
+/// Reads a script to its end, and writes what a session writes for it, where the steps stand for
+/// an edition's first world.
+///
+/// - `Memory`: there was none for the script, or for a command. A beginning of the text is written.
+/// - `Read`: a read failed. Nothing is written.
+/// - `TooLong`: the script has more than 16,777,216 bytes. Nothing is written.
+/// - `Write`: a write failed, or took nothing. A beginning of the text is written.
+pub fn play<S: Steps, I: ScriptIn, O: ScriptOut>(
+    alloc: Global,
+    steps: &mut S,
+    reader: &mut I,
+    writer: &mut O,
+) -> Result<(), SessionError>
+    requires readable { I.failed reader.old + 1 < 2 ^ 64 }
+    requires writable { O.failed writer.old + 1 < 2 ^ 64 }
+    ensures session { (edition : ℕ) → S.stands_for steps.old (opening edition) →
+        Session edition result (I.told reader.old) (I.told reader.new)
+        (O.written writer.old) (O.written writer.new) }
+    ensures reads { I.failed reader.new ≡ I.failed reader.old + failed_reads result }
+    ensures writes { O.failed writer.new ≡ O.failed writer.old + failed_writes result }
+{
+    match read_whole(alloc, reader) {
+        Err(ReadError::Memory) => Err(SessionError::Memory),
+        Err(ReadError::Read) => Err(SessionError::Read),
+        Err(ReadError::TooLong) => Err(SessionError::TooLong),
+        Ok(script) => match answer(alloc, steps, script.as_slice(), writer) {
+            Ok(()) => Ok(()),
+            Err(AnswerError::Memory) => Err(SessionError::Memory),
+            Err(AnswerError::Write) => Err(SessionError::Write),
+        },
+    }
+}

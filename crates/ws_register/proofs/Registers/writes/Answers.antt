@@ -1,0 +1,11 @@
+use Rattle.std.proofs.Common.{ap, sym, ◌∙◌}
+use Rattle.std.specs.FinMap.{entries}
+use Rattle.ws_register.specs.Texted.{entries-by_path}
+use Rattle.ws_register.proofs.Registers.writes.Goals as goal
+
+pub returns-clause-ok : goal.returns-clause-ok
+returns-clause-ok c =
+    c.in_ok-writes.ensures.ok ∙ sym (entries-by_path c.self.inside.held.entries c.list_of.ensures.ordered) ∙ ap entries c.self.view_is
+
+pub returns-clause-stands : goal.returns-clause-stands
+returns-clause-stands c W h = (c.args.self.now, h, returns-clause-ok c)

@@ -1,0 +1,5 @@
+use Rattle.ws_register.specs.Laws.{one_sources, same_sources}
+use Rattle.ws_register.proofs.law_same_sources.Goals as goal
+
+pub returns : goal.returns
+returns c = record { one = one_sources; members = same_sources }

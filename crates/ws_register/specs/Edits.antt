@@ -1,0 +1,43 @@
+-- What a replica holds, its greatest counter, and what edits refuse and write.
+use Rattle.std.specs.Prelude.{◌≡◌, ◌≤◌, ℕ, ◌+◌, Bool, cond, not, ◌&&◌, eqb, max, List, [], ◌∷◌, ◌⊎◌, Option, Some, None}
+use Rattle.std.specs.Str.{bytes_eq}
+use Rattle.std.specs.FinMap.{FinMap, get, entries}
+use Rattle.ws_version.specs.Paths.{is_path, file_name}
+use Rattle.ws_version.specs.Writes.{Held, Write, path_cmp}
+use Rattle.ws_register.specs.declared.EditError.{EditError}
+use Rattle.ws_register.specs.declared.EditError.TheVariants.{BadPath, CounterFull, Memory}
+
+-- what is held at each path
+abbrev pub Contents : Type 0
+Contents = FinMap path_cmp Held
+
+-- the greatest counter among writes, and 0 for none
+abbrev pub top : List Write → ℕ
+top [] = 0
+top (w ∷ ws) = max w.1.counter (top ws)
+
+-- on any path, and 0 where nothing is held
+abbrev pub greatest_counter : Contents → ℕ
+greatest_counter m = top (entries m)
+
+-- no held counter is above n, and n is held on some path, or 0
+pub record IsGreatestCounter (m : Contents) (n : ℕ) : Type 0 where
+  pub bound : (q : List ℕ) (h : Held) → get m q ≡ Some h → h.counter ≤ n
+  pub attained : (n ≡ 0) ⊎ ((q : List ℕ) × (h : Held) × (get m q ≡ Some h) × (h.counter ≡ n))
+
+-- the path is one, and the source is named as the file there
+abbrev pub fits : List ℕ → List ℕ → Bool
+fits path name = is_path path && bytes_eq name (file_name path)
+
+-- Of an edit where that counter is the greatest: the least that holds.
+abbrev pub edit_refusal : ℕ → List ℕ → List ℕ → Option EditError
+edit_refusal greatest path name = cond (not (fits path name)) (Some BadPath) (cond (eqb greatest 18446744073709551615) (Some CounterFull) None)
+
+-- memory may be wanted in the place of any other answer
+abbrev pub IsRefusal : EditError → Option EditError → Type 0
+IsRefusal Memory refusal = Unit {0}
+IsRefusal error refusal = refusal ≡ Some error
+
+-- what an edit writes where that counter is the greatest, by the replica with that number
+abbrev pub edited : ℕ → ℕ → List ℕ → Held
+edited greatest number text = record { counter = greatest + 1; number = number; text = Some text }

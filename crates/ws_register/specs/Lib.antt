@@ -1,0 +1,6 @@
+pub mod Between
+pub mod Counters
+pub mod Edits
+pub mod Laws
+pub mod Sources
+pub mod Texted

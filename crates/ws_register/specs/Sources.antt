@@ -1,0 +1,56 @@
+-- The sources among writes, and the files of one package.
+use Rattle.std.specs.Prelude.{◌≡◌, ℕ, Bool, cond, not, ◌&&◌, ◌||◌, eqb, List, [], ◌∷◌, ◌++◌, map, codes, Option, Some, None}
+use Rattle.std.specs.List.{filter, filter_map, starts_with, ends_with}
+use Rattle.std.specs.Option.{option_map}
+use Rattle.std.specs.Str.{bytes_eq}
+use Rattle.std.specs.FinMap.{entries}
+use Rattle.go_text.specs.Named.{Source}
+use Rattle.ws_version.specs.Paths.{directory, file_name}
+use Rattle.ws_version.specs.Writes.{Held, Write, held_cmp}
+use Rattle.ws_version.specs.Kept.{StandsFor}
+use Rattle.ws_register.specs.Edits.{Contents}
+pub use Rattle.ws_register.specs.Edits.{top}
+
+-- path and text, unless it is a removal
+abbrev pub source_of : Write → Option (List ℕ × List ℕ)
+source_of w = option_map (λ text. (w.0, text)) w.1.text
+
+-- those that aren't removals, path and text
+abbrev pub texts_of : List Write → List (List ℕ × List ℕ)
+texts_of ws = filter_map source_of ws
+
+-- what a replica that took the set of writes shows: the greatest write of each path, in the order of paths
+abbrev pub IsShown : List Write → List Write → Type 0
+IsShown W shown = (m : Contents) × StandsFor held_cmp m W × (shown ≡ entries m)
+
+-- the sources of a set of writes: the texts among the greatest write of each path, in the order of paths
+abbrev pub IsSources : List Write → List (List ℕ × List ℕ) → Type 0
+IsSources W S = (m : Contents) × StandsFor held_cmp m W × (S ≡ texts_of (entries m))
+
+-- files whose name begins with `.` or `_`, or ends in `_test.go`, aren't part of a build
+abbrev pub is_built : List ℕ → Bool
+is_built name = not (starts_with eqb name (codes ".")) && (not (starts_with eqb name (codes "_")) && not (ends_with eqb name (codes "_test.go")))
+
+-- the path of a file in the directory that is part of a build
+abbrev pub is_package_path : List ℕ → List ℕ → Bool
+is_package_path dir path = bytes_eq (directory path) dir && is_built (file_name path)
+
+-- with its file name in the place of its path
+abbrev pub named : List ℕ × List ℕ → List ℕ × List ℕ
+named source = (file_name source.0, source.1)
+
+-- the files of a directory's package, name and text, in the order of the sources
+abbrev pub package_files : List ℕ → List (List ℕ × List ℕ) → List (List ℕ × List ℕ)
+package_files dir sources = map named (filter (λ source. is_package_path dir source.0) sources)
+
+-- those of what a replica holds
+abbrev pub package_files_of : List ℕ → Contents → List (List ℕ × List ℕ)
+package_files_of dir m = package_files dir (texts_of (entries m))
+
+-- the name and the text of a source
+abbrev pub pair_of : Source → List ℕ × List ℕ
+pair_of source = (source.name, source.text)
+
+-- the file that one write is of a directory's package, if it is one
+abbrev pub package_file : List ℕ → Write → Option (List ℕ × List ℕ)
+package_file dir w = cond (is_package_path dir w.0) (option_map named (source_of w)) None

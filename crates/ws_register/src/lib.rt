@@ -1,0 +1,365 @@
+//! The greatest write for each path.
+#![tactic(auto)]
+
+ghost use Rattle.std.specs.Prelude.{◌≡◌, ℕ, ◌+◌, ◌++◌, ◌∷◌, [], List, OnOk, OnErr, IfOk, IfErr, true, false, Some, None, string_bytes, option_copied, option_map, string_cmp, map as map_list};
+ghost use Rattle.std.specs.FinMap as map;
+ghost use Rattle.std.specs.List.{Contains};
+ghost use Rattle.std.specs.Ordering.{is_gt};
+ghost use Rattle.std.specs.BTreeMap.{IsOrdered};
+ghost use Rattle.std.specs.BTreeMap.Range.{IsLeBy, IsLtBy, entries_between};
+ghost use Rattle.std.specs.Range.Bound.{IsForward};
+ghost use Rattle.ws_version.specs.Writes.{Write as AWrite, Held as AHeld, held_cmp, path_cmp, greater_held};
+ghost use Rattle.ws_version.specs.Kept.{StandsFor, StandsAt, SameMembers, taken, joined as joined_by};
+ghost use Rattle.ws_version.specs.Gathered.{is_news, gathered};
+ghost use Rattle.ws_register.specs.Texted.{texted};
+ghost use Rattle.ws_register.specs.Between.{is_between};
+ghost use Rattle.ws_register.specs.Sources.{texts_of, is_built, is_package_path, package_file, package_files, package_files_of, pair_of, IsShown, IsSources};
+ghost use Rattle.ws_register.specs.Edits.{top, greatest_counter, fits, edit_refusal, IsRefusal, edited};
+
+use go_text::source::Source;
+use std::alloc::{AllocError, Global};
+use std::cmp::Ordering;
+use std::collections::BTreeMap;
+use std::marker::Model;
+use std::ops::Bound;
+use thiserror::Error;
+use ws_version::path::{directory as directory_of, file_name, is_path};
+use ws_version::{Held, Join, Version, Write};
+
+/// Why an edit is refused.
+#[derive(Debug, Drop, Error)]
+pub enum EditError {
+    /// The path isn't one, or the source's name isn't the name of the file there.
+    #[error("no path of a file")]
+    BadPath,
+    /// No counter is left above the greatest that is held.
+    #[error("the counter is full")]
+    CounterFull,
+    /// Memory ran out.
+    #[error("out of memory")]
+    Memory,
+}
+
+/// The greatest write for each path, in the order of paths, and the greatest counter of all.
+#[derive(Drop)]
+pub struct Registers {
+    alloc: Global,
+    held: BTreeMap<String, Held>,
+    greatest: u64,
+}
+
+impl Model for Registers {
+    ghost use Rattle.std.specs.FinMap as finite;
+    ghost use Rattle.std.specs.Coded.{coded_ℕ, coded_list};
+    ghost use Rattle.ws_version.specs.Writes.{Held as AHeld, held_code, path_cmp};
+
+    ghost Value = { finite.FinMap path_cmp AHeld };
+
+    ghost coded = { finite.code (coded_list coded_ℕ) held_code };
+
+    ghost use Rattle.ws_register.specs.Texted.{by_path};
+    ghost use Rattle.ws_register.specs.Edits.{IsGreatestCounter};
+
+    ghost view = { λ a. by_path a.held.entries };
+
+    ghost invariant = { λ a. IsGreatestCounter (by_path a.held.entries) a.greatest };
+}
+
+impl Registers {
+    /// Registers that hold nothing.
+    pub fn new(alloc: Global) -> Registers
+        ensures { result ≡ map.empty }
+    {
+        Registers {
+            alloc,
+            held: BTreeMap::new(alloc),
+            greatest: 0,
+        }
+    }
+
+    /// What is held at a path, a removal too.
+    pub fn get(&self, path: &str) -> Option<&Held>
+        ensures value { option_copied result ≡ map.get self.now path.now }
+        ensures stands { (W : List AWrite) → StandsFor held_cmp self.now W → StandsAt held_cmp W path.now (option_copied result) }
+    {
+        self.held.get(path)
+    }
+
+    fn is_news(&self, path: &str, held: &Held) -> bool
+        ensures { result ≡ is_news held_cmp (map.get self.now path.now) held.now }
+    {
+        match self.get(path) {
+            None => true,
+            Some(old) => match old.cmp_held(held) {
+                Ordering::Less => true,
+                _ => false,
+            },
+        }
+    }
+
+    fn put(&mut self, path: String, held: Held) -> Result<(), AllocError>
+        requires news { is_news held_cmp (map.get self.old (string_bytes path)) held ≡ true }
+        ensures ok { OnOk result (self.new ≡ map.insert self.old (string_bytes path) held) }
+        ensures err { OnErr result (self.new ≡ self.old) }
+    {
+        let counter = held.counter();
+        self.held.insert(path, held)?;
+        self.greatest = self.greatest.max(counter);
+        Ok(())
+    }
+
+    /// Takes one write: it is kept if it is above what is held at its path. An `Err`, for want of
+    /// memory, changes nothing.
+    pub fn apply(&mut self, write: Write) -> Result<(), AllocError>
+        ensures ok { OnOk result (self.new ≡ taken greater_held self.old write.0 write.1) }
+        ensures err { OnErr result (self.new ≡ self.old) }
+        ensures stands { OnOk result ((W : List AWrite) → StandsFor held_cmp self.old W → StandsFor held_cmp self.new (W ++ write ∷ [])) }
+    {
+        if self.is_news(write.path(), write.held()) {
+            let (path, held) = write.into_parts();
+            self.put(path, held)?;
+        }
+        Ok(())
+    }
+
+    /// The greatest counter that is held on any path, and 0 if nothing is held.
+    pub fn greatest_counter(&self) -> u64
+        ensures value { result ≡ greatest_counter self.now }
+        ensures stands { (W : List AWrite) → StandsFor held_cmp self.now W → result ≡ top W }
+    {
+        self.greatest
+    }
+
+    /// Takes copies of the other's writes. After an `Err` some may be taken, and some not.
+    fn take_all(&mut self, other: &Registers) -> Result<(), AllocError>
+        ensures { OnOk result (self.new ≡ joined_by greater_held self.old other.now) }
+    {
+        take_entries(self, &other.held)?;
+        Ok(())
+    }
+
+    /// Copies of the held writes, removals too, in path order. An `Err` is for want of memory.
+    pub fn writes(&self) -> Result<Vec<Write>, AllocError>
+        ensures ok { IfOk result (λ writes. writes.items ≡ map.entries self.now) }
+        ensures stands { IfOk result (λ writes. (W : List AWrite) → StandsFor held_cmp self.now W → IsShown W writes.items) }
+    {
+        let writes = list_of(self.alloc, &self.held)?;
+        Ok(writes)
+    }
+
+    /// Copies of the sources of a directory that are part of a build, in the order of their names:
+    /// no removals, no name that begins with `.` or `_`, and none that ends in `_test.go`. An
+    /// `Err` is for want of memory.
+    pub fn files(&self, directory: &str) -> Result<Vec<Source>, AllocError>
+        ensures ok { IfOk result (λ files. map_list pair_of files.items ≡ package_files_of directory.now self.now) }
+        ensures stands { IfOk result (λ files. (W : List AWrite) → StandsFor held_cmp self.now W → (S : List (List ℕ × List ℕ)) × IsSources W S × (map_list pair_of files.items ≡ package_files directory.now S)) }
+    {
+        let files = files_of(self.alloc, &self.held, directory)?;
+        Ok(files)
+    }
+
+    /// The replica with that number writes a text, with one more than the greatest counter.
+    ///
+    /// It is `BadPath` if the path isn't one or the source isn't named as the file there, else
+    /// `CounterFull` if the greatest counter is the last, and `Memory` may come in the place of
+    /// any answer. An `Err` changes nothing.
+    pub fn edit(&mut self, path: String, source: Source, number: u32) -> Result<(), EditError>
+        ensures refused { IfErr result (λ error. IsRefusal error (edit_refusal (greatest_counter self.old) (string_bytes path) source.name)) }
+        ensures allowed { OnOk result (edit_refusal (greatest_counter self.old) (string_bytes path) source.name ≡ None) }
+        ensures ok { OnOk result (self.new ≡ taken greater_held self.old (string_bytes path) (edited (greatest_counter self.old) number source.text)) }
+        ensures err { OnErr result (self.new ≡ self.old) }
+        ensures stands { OnOk result ((W : List AWrite) → StandsFor held_cmp self.old W → StandsFor held_cmp self.new (W ++ (string_bytes path, edited (top W) number source.text) ∷ [])) }
+    {
+        if !fits(path.as_str(), source.name()) {
+            return Err(EditError::BadPath);
+        }
+        let greatest = self.greatest_counter();
+        if greatest == u64::MAX {
+            return Err(EditError::CounterFull);
+        }
+        let version = Version {
+            counter: greatest + 1,
+            number,
+        };
+        let (_, text) = source.into_parts();
+        match self.apply(Write::new(path, Held::new(version, Some(text)))) {
+            Ok(()) => Ok(()),
+            Err(_) => Err(EditError::Memory),
+        }
+    }
+}
+
+/// Whether a path is one, and this the name of the file there.
+fn fits(path: &str, name: &str) -> bool
+    ensures { result ≡ fits path.now name.now }
+{
+    is_path(path) && name == file_name(path)
+}
+
+/// Replicas that took the same writes hold the same, however each came to them.
+pub fn law_same_writes()
+    ensures { (m n : map.FinMap path_cmp AHeld) → (V W : List AWrite) → SameMembers V W → StandsFor held_cmp m V → StandsFor held_cmp n W → m ≡ n }
+{}
+
+/// A write that is taken twice changes nothing.
+pub fn law_taken_twice()
+    ensures { (m n : map.FinMap path_cmp AHeld) → (W : List AWrite) → (w : AWrite) → StandsFor held_cmp m (W ++ w ∷ []) → StandsFor held_cmp n (W ++ w ∷ w ∷ []) → m ≡ n }
+{}
+
+/// A write that was taken is held, or is below the one that is held at its path.
+pub fn law_taken_write()
+    ensures { (m : map.FinMap path_cmp AHeld) → (W : List AWrite) → (w : AWrite) → StandsFor held_cmp m W → Contains W w → (h : AHeld) × (map.get m w.0 ≡ Some h) × Contains W (w.0, h) × (is_gt (held_cmp w.1 h) ≡ false) }
+{}
+
+/// The greatest counter is that of the writes that were taken, and a matter of membership alone.
+pub fn law_greatest_counter()
+    ensures taken { (m : map.FinMap path_cmp AHeld) → (W : List AWrite) → StandsFor held_cmp m W → greatest_counter m ≡ top W }
+    ensures members { (V W : List AWrite) → SameMembers V W → top V ≡ top W }
+{}
+
+/// A set of writes has one list of sources, and sets with the same members have the same.
+pub fn law_same_sources()
+    ensures one { (W : List AWrite) → (S T : List (List ℕ × List ℕ)) → IsSources W S → IsSources W T → S ≡ T }
+    ensures members { (V W : List AWrite) → (S T : List (List ℕ × List ℕ)) → SameMembers V W → IsSources V S → IsSources W T → S ≡ T }
+{}
+
+fn take_entries(all: &mut Registers, entries: &BTreeMap<String, Held>) -> Result<(), AllocError>
+    ensures ok { OnOk result (all.new ≡ gathered greater_held all.old (texted entries.now.entries)) }
+    ensures ordered { IsOrdered string_cmp entries.now }
+{
+    for (path, held) in entries {
+        all.apply(Write::new(path.clone()?, held.copy()?))?;
+    }
+    Ok(())
+}
+
+fn list_of(alloc: Global, entries: &BTreeMap<String, Held>) -> Result<Vec<Write>, AllocError>
+    ensures ok { IfOk result (λ writes. writes.items ≡ texted entries.now.entries) }
+    ensures ordered { IsOrdered string_cmp entries.now }
+{
+    let mut writes = Vec::new(alloc);
+    for (path, held) in entries {
+        writes.push(Write::new(path.clone()?, held.copy()?))?;
+    }
+    Ok(writes)
+}
+
+fn files_of(
+    alloc: Global,
+    entries: &BTreeMap<String, Held>,
+    directory: &str,
+) -> Result<Vec<Source>, AllocError>
+    ensures ok { IfOk result (λ files. map_list pair_of files.items ≡ package_files directory.now (texts_of (texted entries.now.entries))) }
+    ensures ordered { OnOk result (IsOrdered string_cmp entries.now) }
+{
+    let ends = ends_of(alloc, directory)?;
+    let files = files_between(alloc, entries, ends, directory)?;
+    Ok(files)
+}
+
+/// Two ends that the paths of a directory's package lie between. Only the files in no directory
+/// don't stand together.
+fn ends_of(alloc: Global, directory: &str) -> Result<(Bound<String>, Bound<String>), AllocError>
+    ensures forward { IfOk result (λ ends. IsForward (IsLeBy string_cmp) (IsLtBy string_cmp) ends.0 ends.1) }
+    ensures around { IfOk result (λ ends. (path : List ℕ) → is_package_path directory.now path ≡ true → is_between ends.0 ends.1 path ≡ true) }
+{
+    if directory.is_empty() {
+        return Ok((Bound::Unbounded, Bound::Unbounded));
+    }
+    // The byte behind the slash is `0`.
+    let start = followed_by(alloc, directory, "/")?;
+    let end = followed_by(alloc, directory, "0")?;
+    Ok((Bound::Included(start), Bound::Excluded(end)))
+}
+
+fn followed_by(alloc: Global, directory: &str, end: &str) -> Result<String, AllocError>
+    ensures { IfOk result (λ text. string_bytes text ≡ directory.now ++ end.now) }
+{
+    let mut text = String::from_str(alloc, directory)?;
+    text.push_str(end)?;
+    Ok(text)
+}
+
+fn files_between(
+    alloc: Global,
+    entries: &BTreeMap<String, Held>,
+    ends: (Bound<String>, Bound<String>),
+    directory: &str,
+) -> Result<Vec<Source>, AllocError>
+    requires forward { IsForward (IsLeBy string_cmp) (IsLtBy string_cmp) ends.0 ends.1 }
+    ensures ok { IfOk result (λ files. map_list pair_of files.items ≡ package_files directory.now (texts_of (texted (entries_between string_cmp ends.0 ends.1 entries.now.entries)))) }
+    ensures ordered { IsOrdered string_cmp entries.now }
+{
+    let mut files = Vec::new(alloc);
+    for (path, held) in entries.range(ends) {
+        if let Some(file) = file_of(alloc, path, held, directory)? {
+            files.push(file)?;
+        }
+    }
+    Ok(files)
+}
+
+/// The file of a directory's package that is held at a path, if it is one.
+fn file_of(
+    alloc: Global,
+    path: &str,
+    held: &Held,
+    directory: &str,
+) -> Result<Option<Source>, AllocError>
+    ensures { IfOk result (λ file. option_map pair_of file ≡ package_file directory.now (path.now, held.now)) }
+{
+    let Some(text) = held.text() else {
+        return Ok(None);
+    };
+    if !is_package_path(path, directory) {
+        return Ok(None);
+    }
+    let name = String::from_str(alloc, file_name(path))?;
+    Ok(Some(Source::of(name, text.copy()?)))
+}
+
+fn is_package_path(path: &str, directory: &str) -> bool
+    ensures { result ≡ is_package_path directory.now path.now }
+{
+    directory_of(path) == directory && is_built(file_name(path))
+}
+
+fn is_built(name: &str) -> bool
+    ensures { result ≡ is_built name.now }
+{
+    let name = name.as_bytes();
+    !name.starts_with(b".") && !name.starts_with(b"_") && !name.ends_with(b"_test.go")
+}
+
+impl Join for Registers {
+    ghost use Rattle.ws_version.specs.Kept.{joined as joined_by, joined-commutative, joined-associative, joined-idempotent};
+    ghost use Rattle.ws_version.specs.Writes.{greater_held, path_cmp_total, path_cmp-IsAntisymmetric, held-semilattice};
+
+    ghost joined = { joined_by greater_held };
+
+    ghost commutative = { joined-commutative path_cmp_total path_cmp-IsAntisymmetric held-semilattice };
+
+    ghost associative = { joined-associative path_cmp_total path_cmp-IsAntisymmetric held-semilattice };
+
+    ghost idempotent = { joined-idempotent path_cmp_total path_cmp-IsAntisymmetric held-semilattice };
+
+    fn copy(&self) -> Result<Registers, AllocError> {
+        let mut all = Registers::new(self.alloc);
+        all.take_all(self)?;
+        Ok(all)
+    }
+
+    fn merge(&mut self, other: &Registers) -> Result<(), AllocError>
+        ensures ok { OnOk result (self.new ≡ joined_by greater_held self.old other.now) }
+        ensures err { OnErr result (self.new ≡ self.old) }
+        ensures stands { OnOk result ((V W : List AWrite) → StandsFor held_cmp self.old V → StandsFor held_cmp other.now W → StandsFor held_cmp self.new (V ++ W)) }
+    {
+        let mut both = self.copy()?;
+        both.take_all(other)?;
+        *self = both;
+        Ok(())
+    }
+}
+
+#[cfg(test)]
+mod tests;

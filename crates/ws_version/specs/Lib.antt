@@ -1,0 +1,6 @@
+pub mod Gathered
+pub mod Greater
+pub mod Itself
+pub mod Kept
+pub mod Paths
+pub mod Writes
