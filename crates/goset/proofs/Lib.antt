@@ -1,4 +1,6 @@
 pub mod BoardJobs
+pub mod OnePlan
+pub mod OneReport
 pub mod PlanFiles
 pub mod PoolRuns
 pub mod ReplicaBuilds

@@ -1,7 +1,7 @@
 pub mod Cuts
 pub mod Growth
-pub mod Places
 pub mod OneText
+pub mod Places
 pub mod Reaches
 pub mod Settling
 pub mod Standings

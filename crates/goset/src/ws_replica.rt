@@ -17,7 +17,7 @@ ghost use Rattle.goset.specs.ws_board.Machine.{opening, is_finish};
 ghost use Rattle.goset.specs.ws_pool.Runs.{RunsTo};
 ghost use Rattle.goset.specs.ws_replica.Holdings.{ReplicaStandsFor, both};
 ghost use Rattle.goset.specs.ws_replica.Builds.{IsBuilt};
-ghost use Rattle.goset.specs.ws_replica.Reports.{actions_of, verdict_of, IsReport, seen, is_good, rows};
+ghost use Rattle.goset.specs.ws_replica.Reports.{Verdict as AVerdict, actions_of, verdict_of, IsReport, seen, is_good, rows};
 
 use crate::go_parse::Parsed;
 use crate::ws_action::Action;
@@ -268,3 +268,8 @@ pub fn build(
         }
     }
 }
+
+/// A plan has one report.
+pub fn law_one_report()
+    ensures { (edition : ℕ) (directory : List ℕ) (planned : Planned) (r s : List (List ℕ × AVerdict)) → IsReport edition directory planned r → IsReport edition directory planned s → r ≡ s }
+{}

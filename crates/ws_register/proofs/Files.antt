@@ -1,11 +1,11 @@
 -- The files of a directory's package among some writes, taken from the first on.
-use Rattle.std.proofs.Common.{◌≡◌, ℕ, Bool, true, false, cond, List, [], ◌∷◌, ◌++◌, map, Option, Some, None, refl, sym, ap, subst, ◌∙◌, append_assoc}
+use Rattle.std.proofs.Common.{◌≡◌, ℕ, Bool, true, false, cond, List, [], ◌∷◌, ◌++◌, map, Option, Some, None, refl, sym, ap, ◌∙◌, append_assoc}
 use Rattle.std.specs.Option.{option_map, option_to_list}
 use Rattle.std.specs.List.{cons_option}
 use Rattle.std.proofs.lemmas.List.{map-append}
 use Rattle.go_text.specs.Named.{Source}
-use Rattle.ws_version.specs.Writes.{Held, Write}
-use Rattle.ws_register.specs.Sources.{is_package_path, named, source_of, texts_of, package_file, package_files, pair_of}
+use Rattle.ws_version.specs.Writes.{Write}
+use Rattle.ws_register.specs.Sources.{is_package_path, named, texts_of, package_file, package_files, pair_of}
 
 by_test : (b : Bool) (x : List ℕ × List ℕ) (xs : List (List ℕ × List ℕ)) → map named (cond b (x ∷ xs) xs) ≡ option_to_list (cond b (Some (named x)) None) ++ map named xs
 by_test true x xs = refl

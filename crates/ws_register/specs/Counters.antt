@@ -1,19 +1,17 @@
 -- The greatest counter is a matter of the writes taken.
-use Rattle.std.specs.Prelude.{◌≡◌, ◌≤◌, ◌<◌, ℕ, Bool, true, false, cond, max, List, [], ◌∷◌, ◌++◌, ◌⊎◌, refl, Option, Some, None}
+use Rattle.std.specs.Prelude.{◌≡◌, ◌≤◌, ◌<◌, ℕ, Bool, true, false, cond, max, List, [], ◌∷◌, ◌⊎◌, refl, Option, Some, None}
 use Rattle.std.specs.List.{Contains}
 use Rattle.std.specs.declared.cmp.Ordering.{Ordering}
 use Rattle.std.specs.declared.cmp.Ordering.TheVariants.{Less, Equal, Greater}
 use Rattle.std.specs.Ordering.{nat_cmp, ordering_then, is_lt, is_gt, is_eq, eq_by_cmp}
-use Rattle.std.specs.Option.{option_cmp}
-use Rattle.std.specs.Cmp.Lexicographic.{slice_cmp}
-use Rattle.std.specs.FinMap.{FinMap, get, insert, empty, entries, get-insert, get-empty, get_tied}
+use Rattle.std.specs.FinMap.{get, insert, empty, entries, get-insert, get-empty, get_tied}
 use Rattle.std.proofs.lemmas.Bool.{cases_lt}
 use Rattle.std.proofs.lemmas.Cmp.{ranked, tied_itself}
-use Rattle.std.proofs.Common.{sym, ap, subst, ◌∙◌, inl, inr, arith}
+use Rattle.std.proofs.Common.{sym, ap, ◌∙◌, inl, inr, arith}
 use Rattle.ws_version.specs.Writes.{Held, Write, held_cmp, held_cmp_total, path_cmp, path_cmp_total, path_cmp-IsAntisymmetric}
 use Rattle.ws_version.specs.Kept.{StandsFor, SameMembers}
 use Rattle.ws_version.specs.Gathered.{is_news}
-use Rattle.ws_version.specs.Itself.{Contains-cons_cases, Contains-first, Contains-later, held_or_above, kept_is_member, stands_for-entries, get-contained, contained-get}
+use Rattle.ws_version.specs.Itself.{Contains-cons_cases, Contains-first, Contains-later, held_or_above, kept_is_member, stands_for-entries}
 use Rattle.ws_register.specs.Edits.{Contents, top, greatest_counter, IsGreatestCounter}
 
 equal_test : (r : Ordering) → is_eq r ≡ true → r ≡ Equal

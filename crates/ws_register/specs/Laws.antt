@@ -1,12 +1,10 @@
 -- What follows for sources and maps from the members of the sets alone.
-use Rattle.std.specs.Prelude.{◌≡◌, ℕ, List, [], ◌∷◌, ◌++◌, ◌⊎◌, refl}
-use Rattle.std.specs.List.{Contains}
+use Rattle.std.specs.Prelude.{◌≡◌, ℕ, List, [], ◌∷◌, ◌++◌}
 use Rattle.std.specs.FinMap.{entries}
 use Rattle.std.proofs.lemmas.List.Elements.{Contains-append_left, Contains-append_right, Contains-append_cases}
 use Rattle.std.proofs.Common.{sym, ap, ◌∙◌, inl, inr}
-use Rattle.ws_version.specs.Writes.{Held, Write, held_cmp, held_cmp_total, held_cmp-IsAntisymmetric, path_cmp_total, path_cmp-IsAntisymmetric}
+use Rattle.ws_version.specs.Writes.{Write, held_cmp, held_cmp_total, held_cmp-IsAntisymmetric, path_cmp_total, path_cmp-IsAntisymmetric}
 use Rattle.ws_version.specs.Kept.{StandsFor, SameMembers, one_map}
-use Rattle.ws_version.specs.Itself.{Contains-cons_cases, Contains-first}
 use Rattle.ws_register.specs.Edits.{Contents}
 use Rattle.ws_register.specs.Sources.{texts_of, IsSources}
 

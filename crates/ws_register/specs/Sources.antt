@@ -1,12 +1,12 @@
 -- The sources among writes, and the files of one package.
-use Rattle.std.specs.Prelude.{◌≡◌, ℕ, Bool, cond, not, ◌&&◌, ◌||◌, eqb, List, [], ◌∷◌, ◌++◌, map, codes, Option, Some, None}
+use Rattle.std.specs.Prelude.{◌≡◌, ℕ, Bool, cond, not, ◌&&◌, eqb, List, map, codes, Option, None}
 use Rattle.std.specs.List.{filter, filter_map, starts_with, ends_with}
 use Rattle.std.specs.Option.{option_map}
 use Rattle.std.specs.Str.{bytes_eq}
 use Rattle.std.specs.FinMap.{entries}
 use Rattle.go_text.specs.Named.{Source}
 use Rattle.ws_version.specs.Paths.{directory, file_name}
-use Rattle.ws_version.specs.Writes.{Held, Write, held_cmp}
+use Rattle.ws_version.specs.Writes.{Write, held_cmp}
 use Rattle.ws_version.specs.Kept.{StandsFor}
 use Rattle.ws_register.specs.Edits.{Contents}
 pub use Rattle.ws_register.specs.Edits.{top}

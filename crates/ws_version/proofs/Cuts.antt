@@ -1,5 +1,5 @@
 -- A list cut at the last element that passes a test.
-use Rattle.std.proofs.Common.{◌≡◌, ℕ, ◌+◌, ◌-◌, ◌<◌, Bool, true, false, not, eqb, List, [], ◌∷◌, ◌++◌, reverse, length, get_or, take, drop, All, Bor, Some, None, sym, ap, subst, ◌∙◌, append_assoc, append-nil, length-append, take-append-drop, take_at, drop_at, zero-add, ne_eqb, eqb-true, eq-eqb, leb, ◌⊎◌, inl, inr, refl, arith}
+use Rattle.std.proofs.Common.{◌≡◌, ℕ, ◌+◌, ◌-◌, ◌<◌, Bool, true, false, not, eqb, List, [], ◌∷◌, ◌++◌, reverse, length, get_or, take, drop, All, sym, ap, subst, ◌∙◌, append_assoc, append-nil, length-append, take-append-drop, take_at, drop_at, zero-add, ne_eqb, eqb-true, eq-eqb, leb, ◌⊎◌, inl, inr, refl, arith}
 use Rattle.std.specs.List.{slice_split, prefix_len, suffix_len, before_last, after_last}
 use Rattle.std.specs.Str.{NoCharPasses}
 use Rattle.std.specs.Str.Pattern.{RFindsChar, SplitsAroundMatch}

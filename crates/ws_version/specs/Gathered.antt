@@ -1,16 +1,16 @@
 -- Values taken one at a time, and all the values of a map.
-use Rattle.std.specs.Prelude.{◌≡◌, Bool, true, false, cond, T, ◌&&◌, List, [], ◌∷◌, ◌++◌, ◌⊎◌, refl, map, Option, Some, None}
+use Rattle.std.specs.Prelude.{◌≡◌, Bool, true, false, cond, T, ◌&&◌, List, [], ◌∷◌, ◌++◌, refl, Option, Some, None}
 use Rattle.std.specs.List.{Contains}
 use Rattle.std.specs.declared.cmp.Ordering.{Ordering}
 use Rattle.std.specs.declared.cmp.Ordering.TheVariants.{Less, Equal, Greater}
 use Rattle.std.specs.Ordering.{is_lt, is_gt, is_eq, eq_by_cmp}
-use Rattle.std.specs.Cmp.{IsTotalOrder, eq_by_cmp_equiv}
+use Rattle.std.specs.Cmp.{IsTotalOrder}
 use Rattle.std.specs.FinMap.{FinMap, get, insert, empty, entries, entries_sorted, from_entries, from_sorted, is_sorted, IsAntisymmetric, same_map, get-empty, find, get-from_entries, get-from_sorted, entries-from_sorted, get-insert, get-entries, get_tied}
 use Rattle.std.proofs.lemmas.List.Elements.{Contains-push, Contains-push_cases}
-use Rattle.std.proofs.lemmas.Cmp.{tied_back, tied_itself, alike_right}
+use Rattle.std.proofs.lemmas.Cmp.{tied_itself}
 use Rattle.std.proofs.Common.{sym, ap, subst, ◌∙◌, inl, inr, arith}
 use Rattle.ws_version.specs.Greater.{greater, joined_option}
-use Rattle.ws_version.specs.Kept.{joined, taken, get-joined, StandsFor, StandsAt, IsGreatest, stands_for-joined}
+use Rattle.ws_version.specs.Kept.{joined, taken, get-joined, StandsFor, StandsAt, stands_for-joined}
 
 -- is x above what there was
 abbrev pub is_news : {X : Type 0} → (X → X → Ordering) → Option X → X → Bool

@@ -1,14 +1,14 @@
 -- A map stands for the set of its own entries; what is known at one key.
-use Rattle.std.specs.Prelude.{◌≡◌, ℕ, zero, suc, ◌+◌, ◌<◌, Bool, true, false, cond, T, ◌&&◌, List, [], ◌∷◌, length, slice_index_or, ◌⊎◌, refl, Option, Some, None}
+use Rattle.std.specs.Prelude.{◌≡◌, zero, suc, Bool, true, false, cond, T, ◌&&◌, List, [], ◌∷◌, ◌⊎◌, refl, Option, Some, None}
 use Rattle.std.specs.List.{Contains}
 use Rattle.std.specs.declared.cmp.Ordering.{Ordering}
 use Rattle.std.specs.declared.cmp.Ordering.TheVariants.{Less, Equal, Greater}
-use Rattle.std.specs.Ordering.{is_gt, is_eq, eq_by_cmp}
+use Rattle.std.specs.Ordering.{is_gt, is_eq}
 use Rattle.std.specs.Cmp.{IsTotalOrder}
 use Rattle.std.specs.FinMap.{FinMap, get, entries, entries_sorted, is_sorted, IsAntisymmetric, find, get-entries}
 use Rattle.std.proofs.lemmas.Cmp.{tied_itself}
 use Rattle.std.proofs.Common.{sym, ap, subst, ◌∙◌, inl, inr, arith}
-use Rattle.ws_version.specs.Kept.{StandsFor, StandsAt, IsGreatest}
+use Rattle.ws_version.specs.Kept.{StandsFor, StandsAt}
 use Rattle.ws_version.specs.Gathered.{find_above}
 
 -- what a list contains is its first element, or in the rest

@@ -1,11 +1,11 @@
 -- Maps that keep the greatest value for each key: what they stand for, and the union of two.
-use Rattle.std.specs.Prelude.{◌≡◌, Bool, true, false, cond, List, [], ◌∷◌, ◌++◌, MatchOption, is_some, ◌⊎◌, ◌||◌, ◌↔◌, refl, Option, Some, None}
+use Rattle.std.specs.Prelude.{◌≡◌, Bool, true, false, cond, List, [], ◌∷◌, ◌++◌, MatchOption, is_some, ◌||◌, refl, Option, Some, None}
 use Rattle.std.specs.List.{Contains, list_any}
 use Rattle.std.specs.declared.cmp.Ordering.{Ordering}
 use Rattle.std.specs.declared.cmp.Ordering.TheVariants.{Less, Equal, Greater}
 use Rattle.std.specs.Ordering.{is_lt, is_gt, is_eq, eq_by_cmp}
 use Rattle.std.specs.Cmp.{IsTotalOrder}
-use Rattle.std.specs.FinMap.{FinMap, get, keys, insert, from_entries, IsAntisymmetric, same_map, empty, get-empty, find, get-from_entries, get_tied, contains_key-keys, get-insert}
+use Rattle.std.specs.FinMap.{FinMap, get, keys, insert, from_entries, IsAntisymmetric, same_map, empty, find, get-from_entries, get_tied, contains_key-keys}
 use Rattle.std.proofs.lemmas.Cmp.{upto}
 use Rattle.std.proofs.lemmas.List.Folds.{list_any-append}
 use Rattle.std.proofs.lemmas.List.Elements.{Contains-append_left, Contains-append_right, Contains-append_cases}

@@ -2,6 +2,7 @@
 
 pub mod commands;
 pub mod ends;
+pub mod law;
 pub mod lines;
 pub mod printing;
 pub mod reading;

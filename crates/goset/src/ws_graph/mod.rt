@@ -5,10 +5,10 @@ ghost use Rattle.go_text.specs.Faults.{Fault as AFault};
 ghost use Rattle.go_text.specs.declared.place.Place.{Place as APlace};
 ghost use Rattle.go_text.specs.declared.fault.FaultKind.TheVariants as kind;
 ghost use Rattle.ws_version.specs.Writes.{Write, held_cmp};
-ghost use Rattle.ws_version.specs.Kept.{StandsFor};
+ghost use Rattle.ws_version.specs.Kept.{StandsFor, SameMembers};
 ghost use Rattle.ws_register.specs.Sources.{pair_of};
 ghost use Rattle.goset.specs.go_parse.Parse.{Derived, Stopped, IsParse};
-ghost use Rattle.goset.specs.ws_graph.Plan.{NoFiles, source_of, AreParsed, AllNamed, HasOther, StopsIn, IsPlan, IsPlanOf};
+ghost use Rattle.goset.specs.ws_graph.Plan.{Planned, NoFiles, source_of, AreParsed, AllNamed, HasOther, StopsIn, IsPlan, IsPlanOf};
 ghost use Rattle.goset.specs.ws_graph.Node.{planned_of};
 
 use crate::go_parse::{ParseError, Parsed};
@@ -127,3 +127,8 @@ pub fn plan(alloc: Global, registers: &Registers, directory: &str) -> Result<Pla
         node,
     })
 }
+
+/// The plan of a directory depends on the members of the set of writes alone.
+pub fn law_one_plan()
+    ensures { (V W : List Write) (directory : List ℕ) (p q : Planned) → SameMembers V W → IsPlanOf V directory p → IsPlanOf W directory q → p ≡ q }
+{}

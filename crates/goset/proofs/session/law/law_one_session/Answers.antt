@@ -1,0 +1,7 @@
+use Rattle.goset.proofs.OnePlan.{one_plan_of}
+use Rattle.goset.proofs.OneReport.{one_report}
+use Rattle.goset.proofs.session_lemmas.OneText.{one_session_text}
+use Rattle.goset.proofs.session.law.law_one_session.Goals as goal
+
+pub returns : goal.returns
+returns c = one_session_text (λ W d p q g h. one_plan_of W W d p q (λ a. ((λ x. x), (λ x. x))) g h) one_report

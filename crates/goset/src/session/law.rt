@@ -1,0 +1,8 @@
+//! What holds of every session.
+ghost use Rattle.std.specs.Prelude.{◌≡◌, ℕ, List};
+ghost use Rattle.goset.specs.session.Text.{SessionText};
+
+/// A script has one session text, whoever writes it.
+pub fn law_one_session()
+    ensures { (edition : ℕ) (script a b : List ℕ) → SessionText edition script a → SessionText edition script b → a ≡ b }
+{}
