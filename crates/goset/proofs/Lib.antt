@@ -4,5 +4,6 @@ pub mod OneReport
 pub mod PlanFiles
 pub mod PoolRuns
 pub mod ReplicaBuilds
+pub mod SomePlan
 pub mod go_parse_lemmas
 pub mod session_lemmas

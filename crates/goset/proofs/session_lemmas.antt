@@ -4,6 +4,7 @@ pub mod OneText
 pub mod Places
 pub mod Reaches
 pub mod Settling
+pub mod SomeText
 pub mod Standings
 pub mod Telling
 pub mod Texts

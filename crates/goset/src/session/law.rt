@@ -6,3 +6,8 @@ ghost use Rattle.goset.specs.session.Text.{SessionText};
 pub fn law_one_session()
     ensures { (edition : ℕ) (script a b : List ℕ) → SessionText edition script a → SessionText edition script b → a ≡ b }
 {}
+
+/// Each script has a session text.
+pub fn law_some_session()
+    ensures { (edition : ℕ) (script : List ℕ) → (text : List ℕ) × SessionText edition script text }
+{}

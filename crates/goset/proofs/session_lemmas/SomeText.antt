@@ -1,0 +1,76 @@
+-- Each script has a session text.
+use Rattle.std.proofs.Common.{◌≡◌, ℕ, zero, suc, List, [], ◌∷◌, ◌++◌, Option, None, Some, refl}
+use Rattle.goset.specs.ws_action.Actions.{Action}
+use Rattle.goset.specs.ws_cache.Count.{compiled_count}
+use Rattle.goset.specs.ws_graph.Plan.{Planned, NoFiles, Faulty, Sound, IsPlan}
+use Rattle.goset.specs.ws_replica.Reports.{actions_of}
+use Rattle.goset.specs.declared.session.refusal.Refusal.{Refusal}
+use Rattle.goset.specs.declared.session.refusal.Refusal.TheVariants.{NoPackage}
+use Rattle.goset.specs.session.Commands.{Command, Nothing, Bad, Create, Write, Merge, Build, command_of, text_lines, text_of}
+use Rattle.goset.specs.session.Refusals.{first_of, refused}
+use Rattle.goset.specs.session.Printing.{report_text}
+use Rattle.goset.specs.session.Lines.{lines_of}
+use Rattle.goset.specs.session.World.{World, Replica, opening, writes_of, actions_held, taking, with_replicas, edit_of, text_in, refusals, Accepted, AfterBy, After, Answers, PrintsBy, Prints, Told}
+use Rattle.goset.specs.session.Text.{TextFrom, SessionText}
+use Rattle.goset.proofs.SomePlan.{some_plan_of, some_report}
+
+some_told : (edition : ℕ) (name directory : List ℕ) (held : List Action) (files : List (List ℕ × List ℕ)) (p : Planned) → IsPlan files p → (told : List ℕ) × Told edition name directory held p told
+some_told edition name directory held files NoFiles h = (refused NoPackage, refl)
+some_told edition name directory held files (Faulty fault) h =
+    let r = some_report edition directory files (Faulty fault) h in
+    (report_text name directory r.0 (compiled_count held (actions_of edition directory (Faulty fault))), (r.0, r.1, refl))
+some_told edition name directory held files (Sound parsed) h =
+    let r = some_report edition directory files (Sound parsed) h in
+    (report_text name directory r.0 (compiled_count held (actions_of edition directory (Sound parsed))), (r.0, r.1, refl))
+
+some_answer : (command : Command) (world : World) → (told : List ℕ) × Answers command world told
+some_answer (Build name directory) world =
+    let p = some_plan_of (writes_of name world) directory in
+    let t = some_told world.edition name directory (actions_held name world) _ p.0 p.1.2 in
+    (t.0, (p.0, p.1, t.1))
+some_answer Nothing world = ([], refl)
+some_answer Bad world = ([], refl)
+some_answer (Create name) world = ([], refl)
+some_answer (Write name path lines) world = ([], refl)
+some_answer (Merge name other) world = ([], refl)
+
+some_print_by : (refusal : Option Refusal) (command : Command) (world : World) → (told : List ℕ) × PrintsBy refusal command world told
+some_print_by None command world = some_answer command world
+some_print_by (Some refusal) command world = (refused refusal, refl)
+
+some_print : (command : Command) (text : Option (List ℕ)) (world : World) → (told : List ℕ) × Prints command text world told
+unfolding Prints
+some_print command text world = some_print_by (first_of (refusals command text world)) command world
+
+some_accepted : (command : Command) (text : Option (List ℕ)) (world : World) → (next : World) × Accepted command text world next
+some_accepted (Build name directory) text world =
+    let p = some_plan_of (writes_of name world) directory in
+    (with_replicas world (taking name [] (actions_of world.edition directory p.0) world.replicas), (p.0, p.1, refl))
+some_accepted Nothing text world = (world, refl)
+some_accepted Bad text world = (world, refl)
+some_accepted (Create name) text world = (_, refl)
+some_accepted (Write name path lines) text world = (_, refl)
+some_accepted (Merge name other) text world = (_, refl)
+
+some_after_by : (refusal : Option Refusal) (command : Command) (text : Option (List ℕ)) (world : World) → (next : World) × AfterBy refusal command text world next
+some_after_by None command text world = some_accepted command text world
+some_after_by (Some refusal) command text world = (world, refl)
+
+some_after : (command : Command) (text : Option (List ℕ)) (world : World) → (next : World) × After command text world next
+unfolding After
+some_after command text world = some_after_by (first_of (refusals command text world)) command text world
+
+some_text_from : (taken : ℕ) (lines : List (List ℕ)) (world : World) → (told : List ℕ) × TextFrom taken lines world told
+unfolding TextFrom
+some_text_from taken [] world = ([], refl)
+some_text_from (suc taken) (line ∷ lines) world = some_text_from taken lines world
+some_text_from zero (line ∷ lines) world =
+    let command = command_of line in
+    let text = text_of (text_lines command) lines in
+    let now = some_print command text world in
+    let next = some_after command text world in
+    let later = some_text_from (text_lines command) lines next.0 in
+    (now.0 ++ later.0, (now.0, later.0, next.0, now.1, next.1, later.1, refl))
+
+pub some_session_text : (edition : ℕ) (script : List ℕ) → (text : List ℕ) × SessionText edition script text
+some_session_text edition script = some_text_from 0 (lines_of script) (opening edition)
