@@ -151,10 +151,10 @@ impl Join for Replica {
         ensures err { OnErr result (self.new ≡ self.old) }
         ensures stands { OnOk result ((V W : List Write) (E F : List AnAction) → ReplicaStandsFor self.old V E → ReplicaStandsFor other.now W F → ReplicaStandsFor self.new (V ++ W) (E ++ F)) }
     {
-        let mut registers = self.registers.copy()?;
-        registers.merge(&other.registers)?;
-        self.cache.merge(&other.cache)?;
-        self.registers = registers;
+        let mut cache = self.cache.copy()?;
+        cache.merge(&other.cache)?;
+        self.registers.merge(&other.registers)?;
+        self.cache = cache;
         Ok(())
     }
 }
