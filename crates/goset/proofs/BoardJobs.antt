@@ -1,6 +1,6 @@
 -- The jobs of a board, one by one.
 use Rattle.std.proofs.Common.{◌≡◌, ℕ, zero, suc, ◌+◌, ◌<◌, ◌≤◌, List, [], ◌∷◌, ◌++◌, Option, Some, None, Bool, true, false, cond, IsTrue, map, length, get_or, sym, ap, subst, ◌∙◌, refl, arith, ◌||◌, ◌&&◌, is_some}
-use Rattle.std.specs.List.{slice_get, list_any}
+use Rattle.std.specs.List.{list_any}
 use Rattle.std.specs.Prelude.{if◌then◌else◌}
 use Rattle.std.specs.declared.cmp.Ordering.TheVariants.{Less, Equal, Greater}
 use Rattle.std.specs.FinMap.{FinMap, get}
@@ -16,7 +16,7 @@ use Rattle.goset.specs.declared.ws_board.work.Status.TheVariants.{Ready, Running
 use Rattle.goset.specs.declared.ws_board.work.Event.{Event}
 use Rattle.goset.specs.declared.ws_board.work.Event.TheVariants.{Take, Idle}
 use Rattle.goset.specs.ws_board.Work.{Job, State}
-use Rattle.goset.specs.ws_board.Machine.{is_ready, is_running, is_job_ready, is_job_running, running_count, run, has_id, opened, is_run_of, is_free, IsFree, NoneFree, IsIdle, IsRunBy, StandsAt, stood, finished, after_take, after_idle}
+use Rattle.goset.specs.ws_board.Machine.{is_ready, is_running, is_job_ready, is_job_running, running_count, run, has_id, opened, is_run_of, NoneFree, IsIdle, IsRunBy, StandsAt, stood, finished, after_take, after_idle}
 
 -- ---- equal actions
 

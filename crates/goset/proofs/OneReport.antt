@@ -5,7 +5,7 @@ use Rattle.std.proofs.lemmas.Slice.Eq.{bytes_eq-Decides}
 use Rattle.goset.specs.go_parse.Grammar.{Name, File}
 use Rattle.goset.specs.go_parse.Parse.{Parse, Derived, Stopped, IsParse}
 use Rattle.goset.specs.ws_action.Actions.{action_of}
-use Rattle.goset.specs.ws_cache.Compiles.{IsOutcome, CompilesFirst, Compiles}
+use Rattle.goset.specs.ws_cache.Compiles.{IsOutcome, CompilesFirst}
 use Rattle.goset.specs.declared.ws_cache.Outcome.{Outcome}
 use Rattle.goset.specs.ws_graph.Plan.{Planned, NoFiles, Faulty, Sound}
 use Rattle.goset.specs.ws_replica.Reports.{Verdict, verdict_of, IsReport}

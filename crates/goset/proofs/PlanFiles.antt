@@ -1,13 +1,13 @@
 -- Steps along a directory's files.
-use Rattle.std.proofs.Common.{◌≡◌, ◌≢◌, ℕ, List, [], ◌∷◌, ◌++◌, map, length, drop, get_or, suc, ◌+◌, add-one, ◌<◌, sym, ap, subst, ◌∙◌, refl, append_assoc}
+use Rattle.std.proofs.Common.{◌≡◌, ◌≢◌, ℕ, List, [], ◌∷◌, ◌++◌, map, length, drop, get_or, suc, ◌+◌, add-one, ◌<◌, sym, ap, subst, ◌∙◌, refl}
 use Rattle.std.proofs.Math.Seq.{drop-cons}
 use Rattle.go_text.specs.Faults.{Fault}
 use Rattle.go_text.specs.Named.{Source}
 use Rattle.go_text.specs.declared.place.Place.{Place}
-use Rattle.go_text.specs.declared.fault.FaultKind.TheVariants.{LeftOut, PackageName}
+use Rattle.go_text.specs.declared.fault.FaultKind.TheVariants.{LeftOut}
 use Rattle.ws_register.specs.Sources.{pair_of}
 use Rattle.goset.specs.go_parse.Parse.{Parsed, Derived, Stopped, IsParse}
-use Rattle.goset.specs.ws_graph.Plan.{source_of, AllParsed, AllNamed, HasOther, StopsIn, DiffersIn, AreParsed}
+use Rattle.goset.specs.ws_graph.Plan.{source_of, AllParsed, AllNamed, HasOther, StopsIn}
 
 -- what is said of the parsed that are left is said of all
 pub record Leads (name : List ℕ) (left all : List Parsed) : Type 0 where

@@ -1,13 +1,13 @@
 -- One hand runs a board's jobs.
 use Rattle.std.proofs.Common.{◌≡◌, ℕ, zero, suc, ◌+◌, ◌<◌, ◌≤◌, List, [], ◌∷◌, Option, Some, None, Bool, true, false, cond, map, sym, ap, subst, ◌∙◌, refl, arith, ◌||◌}
-use Rattle.std.specs.List.{slice_get, list_any}
+use Rattle.std.specs.List.{list_any}
 use Rattle.std.specs.Prelude.{if◌then◌else◌}
 use Rattle.goset.specs.ws_action.Actions.{Action, action_id}
 use Rattle.goset.specs.declared.ws_board.work.Status.{Status}
 use Rattle.goset.specs.declared.ws_board.work.Status.TheVariants.{Ready, Running, Done}
 use Rattle.goset.specs.ws_board.Work.{Job, State}
 use Rattle.goset.specs.ws_board.Machine.{is_ready, is_running, is_job_running, running_count, run, has_id, IsFree, StandsAt, stood, finished, after_take, after_finish}
-use Rattle.goset.specs.ws_pool.Runs.{after_run, RunsAll, RunsTo}
+use Rattle.goset.specs.ws_pool.Runs.{after_run, RunsTo}
 use Rattle.goset.proofs.BoardJobs.{runs-stood, runs-finished_less}
 
 abbrev pub ready : Status → ℕ

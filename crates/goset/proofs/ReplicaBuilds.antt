@@ -1,7 +1,7 @@
 -- What a build of one action comes to.
-use Rattle.std.proofs.Common.{◌≡◌, ℕ, zero, suc, ◌+◌, List, [], ◌∷◌, ◌++◌, Option, Some, None, Bool, true, false, cond, map, sym, ap, subst, ◌∙◌, refl, arith, ◌⊎◌, inl, inr}
-use Rattle.std.specs.Prelude.{if◌then◌else◌, is_some, MatchOption}
-use Rattle.std.specs.List.{slice_get, list_any, count_by, Contains}
+use Rattle.std.proofs.Common.{◌≡◌, ℕ, zero, suc, List, [], ◌∷◌, ◌++◌, Option, Some, None, Bool, true, false, cond, sym, ap, subst, ◌∙◌, refl, inl, inr}
+use Rattle.std.specs.Prelude.{if◌then◌else◌, is_some}
+use Rattle.std.specs.List.{slice_get, count_by, Contains}
 use Rattle.std.specs.Str.{bytes_eq}
 use Rattle.std.specs.FinMap.{FinMap, get, empty, get-empty, insert, get-insert}
 use Rattle.std.proofs.lemmas.Slice.Eq.{bytes_eq-Decides}
@@ -11,13 +11,13 @@ use Rattle.std.proofs.lemmas.Cmp.{tied_itself}
 use Rattle.std.specs.Ordering.{is_eq, eq_by_cmp}
 use Rattle.go_text.specs.Faults.{Fault}
 use Rattle.ws_version.specs.Writes.{Held, Write, held_cmp, path_cmp}
-use Rattle.ws_version.specs.Kept.{StandsFor, StandsAt, taken, joined, get-joined}
+use Rattle.ws_version.specs.Kept.{StandsFor, StandsAt, taken, get-joined}
 use Rattle.ws_version.specs.Greater.{joined_option}
 use Rattle.ws_register.specs.Edits.{Contents}
 use Rattle.goset.specs.ws_action.Actions.{Action, action_id, action_of, IsSized}
 use Rattle.goset.specs.go_parse.Parse.{Parsed}
 use Rattle.goset.specs.ws_graph.Plan.{Faulty, Sound, IsPlanOf}
-use Rattle.goset.specs.ws_action.Clash.{NoClash, Includes, AllSized, hashed_actions, none_in_empty, head_or_later}
+use Rattle.goset.specs.ws_action.Clash.{NoClash, AllSized, hashed_actions, none_in_empty, head_or_later}
 use Rattle.goset.specs.ws_cache.Held.{id_cmp, IsLeast, IsHeld, CacheStandsFor}
 use Rattle.goset.specs.ws_cache.Compiles.{Compiles}
 use Rattle.goset.specs.declared.ws_cache.Outcome.{Outcome}
@@ -34,7 +34,7 @@ use Rattle.goset.specs.declared.ws_replica.Verdict.{Verdict as RustVerdict}
 use Rattle.goset.specs.declared.ws_replica.Report.{Report}
 use Rattle.goset.specs.ws_replica.Holdings.{Replica, ReplicaStandsFor}
 use Rattle.goset.specs.ws_replica.Reports.{Wrong, verdict_of, seen, rows}
-use Rattle.goset.specs.ws_replica.Builds.{IsRight, IsBuilt, IsBuild}
+use Rattle.goset.specs.ws_replica.Builds.{IsBuilt, IsBuild}
 
 -- registers that took nothing
 pub nothing_stands : (m : Contents) → m ≡ empty → StandsFor held_cmp m []

@@ -1,6 +1,6 @@
 -- There is a plan of each directory for each set of writes, and a report of each plan.
 use Rattle.std.proofs.Common.{◌≡◌, ℕ, List, [], ◌∷◌, ◌++◌, true, false, Bool, refl, sym, ap, subst, inl, inr, append-nil, append_assoc}
-use Rattle.std.specs.Prelude.{◌≢◌, ◌⊎◌, map, codes}
+use Rattle.std.specs.Prelude.{◌⊎◌, map, codes}
 use Rattle.std.specs.Str.{bytes_eq}
 use Rattle.std.specs.FinMap.{empty, entries}
 use Rattle.std.proofs.lemmas.Slice.Eq.{bytes_eq-Decides}
@@ -13,8 +13,7 @@ use Rattle.ws_register.specs.Edits.{Contents}
 use Rattle.ws_register.specs.Sources.{texts_of, IsSources, package_files}
 use Rattle.goset.specs.go_parse.Grammar.{Name, File}
 use Rattle.goset.specs.go_parse.Parse.{Parse, Derived, Stopped, IsParse, Parsed}
-use Rattle.goset.specs.ws_graph.Plan.{Planned, NoFiles, Faulty, Sound, source_of, AllParsed, AreParsed, AllNamed, HasOther, StopsIn, DiffersIn, IsSound, IsPlan, IsPlanOf}
-use Rattle.goset.specs.ws_action.Actions.{action_of}
+use Rattle.goset.specs.ws_graph.Plan.{Planned, NoFiles, Faulty, Sound, source_of, AllParsed, AreParsed, AllNamed, HasOther, StopsIn, IsPlan, IsPlanOf}
 use Rattle.goset.specs.ws_cache.Compiles.{IsOutcome, CompilesFirst}
 use Rattle.goset.specs.declared.ws_cache.Outcome.{Outcome}
 use Rattle.goset.specs.declared.ws_cache.Outcome.TheVariants as outcome
@@ -47,29 +46,35 @@ read_one name text files (Derived file) h (inl ps) =
 read_one name text files (Derived file) h (inr stop) =
     let new : Parsed = record { name = name; text = text; «package» = file.«package» } in
     let s = stop.1 in
-    inr (stop.0, record {
-      front = new ∷ s.front;
-      name = s.name;
-      text = s.text;
-      rest = s.rest;
-      place = s.place;
-      whole = ap (λ (z : List (List ℕ × List ℕ)). (name, text) ∷ z) s.whole;
-      parses = (h, s.parses);
-      stops = s.stops;
-      is = s.is;
-    })
+    inr (
+      stop.0,
+      record {
+        front = new ∷ s.front;
+        name = s.name;
+        text = s.text;
+        rest = s.rest;
+        place = s.place;
+        whole = ap (λ (z : List (List ℕ × List ℕ)). (name, text) ∷ z) s.whole;
+        parses = (h, s.parses);
+        stops = s.stops;
+        is = s.is;
+      },
+    )
 read_one name text files (Stopped place) h rest =
-    inr (record { file = name; place = place; kind = LeftOut }, record {
-      front = [];
-      name = name;
-      text = text;
-      rest = files;
-      place = place;
-      whole = refl;
-      parses = tt;
-      stops = h;
-      is = refl;
-    })
+    inr (
+      record { file = name; place = place; kind = LeftOut },
+      record {
+        front = [];
+        name = name;
+        text = text;
+        rest = files;
+        place = place;
+        whole = refl;
+        parses = tt;
+        stops = h;
+        is = refl;
+      },
+    )
 
 read : (files : List (List ℕ × List ℕ)) → Read files
 read [] = inl ([], record { sources = refl; parses = tt })
@@ -80,20 +85,26 @@ Named name ps = AllNamed name ps ⊎ ((other : Parsed) × HasOther name ps other
 
 named_one : (name : List ℕ) (p : Parsed) (ps : List Parsed) (b : Bool) → bytes_eq p.package.text name ≡ b → Named name ps → Named name (p ∷ ps)
 named_one name p ps true e (inl n) = inl ((bytes_eq-Decides p.package.text name).0 e, n)
-named_one name p ps true e (inr o) = inr (o.0, record {
-  front = p ∷ o.1.front;
-  rest = o.1.rest;
-  whole = ap (λ (z : List Parsed). p ∷ z) o.1.whole;
-  named = ((bytes_eq-Decides p.package.text name).0 e, o.1.named);
-  differs = o.1.differs;
-})
-named_one name p ps false e n = inr (p, record {
-  front = [];
-  rest = ps;
-  whole = refl;
-  named = tt;
-  differs = λ q. let t = (bytes_eq-Decides p.package.text name).1 q in cc;
-})
+named_one name p ps true e (inr o) = inr (
+  o.0,
+  record {
+    front = p ∷ o.1.front;
+    rest = o.1.rest;
+    whole = ap (λ (z : List Parsed). p ∷ z) o.1.whole;
+    named = ((bytes_eq-Decides p.package.text name).0 e, o.1.named);
+    differs = o.1.differs;
+  },
+)
+named_one name p ps false e n = inr (
+  p,
+  record {
+    front = [];
+    rest = ps;
+    whole = refl;
+    named = tt;
+    differs = λ q. let t = (bytes_eq-Decides p.package.text name).1 q in cc;
+  },
+)
 
 names : (name : List ℕ) (ps : List Parsed) → Named name ps
 names name [] = inl tt
@@ -102,17 +113,19 @@ names name (p ∷ ps) = named_one name p ps (bytes_eq p.package.text name) refl 
 plan_named : (files : List (List ℕ × List ℕ)) (first : Parsed) (rest : List Parsed) → AreParsed files (first ∷ rest) → Named first.package.text rest → (p : Planned) × IsPlan files p
 plan_named files first rest a (inl n) = (Sound (first ∷ rest), record { first = first; rest = rest; is = refl; parses = a; named = n })
 plan_named files first rest a (inr o) =
-    let h = o.1 in
-    (Faulty (record { file = o.0.name; place = o.0.package.place; kind = PackageName }), inr (record {
-      first = first;
-      front = h.front;
-      other = o.0;
-      rest = h.rest;
-      parsed = subst (λ z. AreParsed files (first ∷ z)) h.whole a;
-      named = h.named;
-      differs = h.differs;
-      is = refl;
-    }))
+    let h = o.1 in (
+      Faulty (record { file = o.0.name; place = o.0.package.place; kind = PackageName }),
+      inr (record {
+        first = first;
+        front = h.front;
+        other = o.0;
+        rest = h.rest;
+        parsed = subst (λ z. AreParsed files (first ∷ z)) h.whole a;
+        named = h.named;
+        differs = h.differs;
+        is = refl;
+      }),
+    )
 
 plan_parsed : (file : List ℕ × List ℕ) (files : List (List ℕ × List ℕ)) (parsed : List Parsed) → AreParsed (file ∷ files) parsed → (p : Planned) × IsPlan (file ∷ files) p
 plan_parsed file files [] a = let none = a.sources in cc

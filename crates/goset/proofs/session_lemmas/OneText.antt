@@ -1,5 +1,5 @@
 -- A script has one session text.
-use Rattle.std.proofs.Common.{◌≡◌, ℕ, zero, suc, List, [], ◌∷◌, ◌++◌, Option, None, Some, refl, sym, ap, ◌∙◌, subst}
+use Rattle.std.proofs.Common.{◌≡◌, ℕ, zero, suc, List, [], ◌∷◌, ◌++◌, Option, None, Some, sym, ap, ◌∙◌, subst}
 use Rattle.ws_version.specs.Writes.{Write as AWrite}
 use Rattle.goset.specs.ws_action.Actions.{Action}
 use Rattle.goset.specs.ws_cache.Count.{compiled_count}

@@ -1,5 +1,5 @@
 -- Options that are tested, and lists of no action.
-use Rattle.std.proofs.Common.{◌≡◌, ℕ, List, [], Option, None, Some, true, false, Bool, refl, sym, ◌∙◌, arith}
+use Rattle.std.proofs.Common.{◌≡◌, ℕ, [], Option, None, Some, true, false, Bool, refl, sym, ◌∙◌, arith}
 use Rattle.std.specs.Prelude.{is_some}
 use Rattle.std.proofs.lemmas.Bool.{false≢true}
 use Rattle.goset.specs.ws_action.Clash.{AllSized}

@@ -1,7 +1,6 @@
 -- What a command makes of the replicas of a session, and what of those of the world.
-use Rattle.std.proofs.Common.{◌≡◌, ◌<◌, ◌≤◌, ◌+◌, ℕ, suc, List, [], ◌∷◌, ◌++◌, Option, None, Some, true, false, Bool, not, refl, sym, ap, ◌∙◌, cond, subst, length, get_or, append-nil, arith}
-use Rattle.std.specs.Prelude.{is_some, is_none, nat_lt, ◌==◌, ◌&&◌}
-use Rattle.std.proofs.Math.ListN.{set}
+use Rattle.std.proofs.Common.{◌≡◌, ◌<◌, ◌≤◌, ◌+◌, ℕ, List, [], ◌∷◌, ◌++◌, Option, None, Some, true, false, Bool, not, refl, sym, ap, ◌∙◌, cond, subst, length, get_or, append-nil, arith}
+use Rattle.std.specs.Prelude.{is_some, nat_lt, ◌&&◌}
 use Rattle.std.proofs.lemmas.Bool.{lt-ltb, le-ltb, eq-eqb, false_from_ne_true, eqb-true}
 use Rattle.std.proofs.Common.{inl, inr}
 use Rattle.std.proofs.lemmas.List.Elements.{Contains-append_cases}
@@ -12,12 +11,12 @@ use Rattle.goset.specs.ws_action.Clash.{AllSized}
 use Rattle.goset.specs.ws_replica.Holdings.{ReplicaStandsFor}
 use Rattle.goset.specs.declared.session.replicas.Named.{Named}
 use Rattle.goset.specs.declared.session.refusal.Refusal.{Refusal}
-use Rattle.goset.specs.declared.session.refusal.Refusal.TheVariants.{BadCommand, Unknown, Exists, BadPath, CounterFull, BadText, NoPackage}
-use Rattle.goset.specs.session.Commands.{Command, Create, Write, Merge, Build}
+use Rattle.goset.specs.declared.session.refusal.Refusal.TheVariants.{BadCommand, Unknown, Exists, BadPath, CounterFull, BadText}
+use Rattle.goset.specs.session.Commands.{Command, Create, Write, Merge}
 use Rattle.goset.specs.session.Refusals.{first_of}
-use Rattle.goset.specs.session.World.{World, Replica, replica_at, knows, writes_in, writes_of, actions_in, actions_held, number_in, taking, grown, with_replicas, edit_of, refusals, is_text, text_in, is_path_word, AfterBy}
+use Rattle.goset.specs.session.World.{World, Replica, replica_at, knows, writes_in, writes_of, actions_in, actions_held, number_in, taking, grown, with_replicas, edit_of, refusals, is_text, text_in, is_path_word}
 use Rattle.goset.specs.session.Standing.{place_of, Stands, AllStand, Settles, ChangedAt, Edited, MergedFrom}
-use Rattle.goset.proofs.session_lemmas.Standings.{Found, found, not_found, same_length, stands_push}
+use Rattle.goset.proofs.session_lemmas.Standings.{found, not_found, same_length, stands_push}
 
 -- a refused command changes nothing
 pub refused_settles : (command : Command) (text : Option (List ℕ)) (world : World) (refusal : Refusal) (ns : List Named) → first_of (refusals command text world) ≡ Some refusal → AllStand ns world.replicas → Settles command text world (Some refusal) ns

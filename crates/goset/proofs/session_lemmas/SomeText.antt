@@ -1,5 +1,5 @@
 -- Each script has a session text.
-use Rattle.std.proofs.Common.{◌≡◌, ℕ, zero, suc, List, [], ◌∷◌, ◌++◌, Option, None, Some, refl}
+use Rattle.std.proofs.Common.{ℕ, zero, suc, List, [], ◌∷◌, ◌++◌, Option, None, Some, refl}
 use Rattle.goset.specs.ws_action.Actions.{Action}
 use Rattle.goset.specs.ws_cache.Count.{compiled_count}
 use Rattle.goset.specs.ws_graph.Plan.{Planned, NoFiles, Faulty, Sound, IsPlan}
@@ -10,7 +10,7 @@ use Rattle.goset.specs.session.Commands.{Command, Nothing, Bad, Create, Write, M
 use Rattle.goset.specs.session.Refusals.{first_of, refused}
 use Rattle.goset.specs.session.Printing.{report_text}
 use Rattle.goset.specs.session.Lines.{lines_of}
-use Rattle.goset.specs.session.World.{World, Replica, opening, writes_of, actions_held, taking, with_replicas, edit_of, text_in, refusals, Accepted, AfterBy, After, Answers, PrintsBy, Prints, Told}
+use Rattle.goset.specs.session.World.{World, opening, writes_of, actions_held, taking, with_replicas, refusals, Accepted, AfterBy, After, Answers, PrintsBy, Prints, Told}
 use Rattle.goset.specs.session.Text.{TextFrom, SessionText}
 use Rattle.goset.proofs.SomePlan.{some_plan_of, some_report}
 

@@ -1,13 +1,13 @@
 -- Replicas of a session and of a world, place by place.
 use Rattle.std.proofs.Common.{◌≡◌, ℕ, zero, suc, List, [], ◌∷◌, ◌++◌, Option, None, Some, true, false, Bool, refl, sym, ap, ◌∙◌, cond, subst, length, get_or, arith}
 use Rattle.std.proofs.Math.ListN.{set}
-use Rattle.std.specs.Prelude.{is_some, Result, Ok, Err, OnOk, IfOk}
+use Rattle.std.specs.Prelude.{Result, Ok, Err, OnOk, IfOk}
 use Rattle.std.specs.Option.{option_map}
 use Rattle.std.specs.Str.{bytes_eq}
 use Rattle.ws_version.specs.Writes.{Write}
 use Rattle.goset.specs.ws_action.Actions.{Action}
 use Rattle.goset.specs.declared.session.replicas.Named.{Named}
-use Rattle.goset.specs.session.World.{World, Replica, replica_at, taking, grown}
+use Rattle.goset.specs.session.World.{Replica, replica_at, taking, grown}
 use Rattle.std.specs.Prelude.{◌<◌}
 use Rattle.goset.specs.session.Standing.{place_of, Stands, AllStand, ChangedAt}
 

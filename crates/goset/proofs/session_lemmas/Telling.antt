@@ -1,6 +1,6 @@
 -- What a build tells of the replicas of a session, and of those of the world.
-use Rattle.std.proofs.Common.{◌≡◌, ◌<◌, ◌+◌, ℕ, zero, suc, List, [], ◌∷◌, ◌++◌, Option, None, Some, true, false, Bool, not, refl, sym, ap, ◌∙◌, cond, subst, length, get_or, append-nil, arith, inl, inr}
-use Rattle.std.specs.Prelude.{◌≢◌, is_some}
+use Rattle.std.proofs.Common.{◌≡◌, ℕ, zero, suc, List, [], ◌∷◌, ◌++◌, Option, None, Some, true, false, Bool, not, refl, sym, ap, ◌∙◌, cond, subst, get_or, append-nil}
+use Rattle.std.specs.Prelude.{◌≢◌}
 use Rattle.std.specs.List.{flat_map, Contains}
 use Rattle.std.specs.Str.{bytes_eq, is_utf8}
 use Rattle.std.proofs.Math.ListN.{set}
@@ -20,9 +20,9 @@ use Rattle.goset.specs.declared.session.replicas.Replicas.{Replicas}
 use Rattle.goset.specs.session.Commands.{Command, Nothing, Bad, Create, Write, Merge, Build}
 use Rattle.goset.specs.session.Refusals.{first_of, refused}
 use Rattle.goset.specs.session.Printing.{report_text}
-use Rattle.goset.specs.session.World.{World, Replica, replica_at, knows, writes_in, writes_of, actions_in, actions_held, taking, grown, with_replicas, refusals, AfterBy, After, PrintsBy, Prints, Told, hashed, texts_of_replica, text_list}
+use Rattle.goset.specs.session.World.{World, Replica, replica_at, writes_in, writes_of, actions_in, actions_held, taking, grown, with_replicas, refusals, AfterBy, After, PrintsBy, Prints, Told, hashed, texts_of_replica, text_list}
 use Rattle.goset.specs.session.Standing.{StandFor, place_of, Stands, AllStand, Settles, Tells, told_of, ChangedAt, Built, BuildOf}
-use Rattle.goset.proofs.session_lemmas.Standings.{Found, found}
+use Rattle.goset.proofs.session_lemmas.Standings.{found}
 use Rattle.goset.proofs.session_lemmas.Settling.{knows_none, knows_some, sized_both}
 
 -- what a command that prints no more than its refusal tells

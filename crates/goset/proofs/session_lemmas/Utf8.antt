@@ -1,11 +1,9 @@
 -- Words and texts that are UTF-8, or not.
-use Rattle.std.proofs.Common.{◌≡◌, ℕ, List, Option, Some, None, Result, Ok, Err, true, false, Bool, refl, sym, ap, ◌∙◌, cond, subst}
-use Rattle.std.specs.Prelude.{◌&&◌, is_none}
+use Rattle.std.proofs.Common.{◌≡◌, ℕ, List, true, false, Bool, refl}
+use Rattle.std.specs.Prelude.{◌&&◌}
 use Rattle.std.specs.Str.{IsUtf8, is_utf8}
-use Rattle.std.proofs.lemmas.Str.{IsUtf8-from_is_utf8, is_utf8-from_IsUtf8}
+use Rattle.std.proofs.lemmas.Str.{IsUtf8-from_is_utf8}
 use Rattle.std.proofs.lemmas.Bool.{false_from_ne_true}
-use Rattle.ws_version.specs.Paths.{is_path}
-use Rattle.goset.specs.session.World.{is_path_word}
 
 pub not_utf8 : (bs : List ℕ) → (IsUtf8 bs → ⊥) → is_utf8 bs ≡ false
 not_utf8 bs h = false_from_ne_true (is_utf8 bs) (λ t. h (IsUtf8-from_is_utf8 bs t))

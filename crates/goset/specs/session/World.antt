@@ -9,7 +9,7 @@ use Rattle.ws_register.specs.Sources.{top}
 use Rattle.goset.specs.ws_action.Actions.{Action}
 use Rattle.goset.specs.ws_action.Clash.{hashed_actions}
 use Rattle.goset.specs.ws_cache.Count.{compiled_count}
-use Rattle.goset.specs.ws_graph.Plan.{Planned, NoFiles, Faulty, Sound, IsPlanOf}
+use Rattle.goset.specs.ws_graph.Plan.{Planned, NoFiles, IsPlanOf}
 use Rattle.goset.specs.ws_replica.Reports.{Verdict, actions_of, IsReport}
 use Rattle.goset.specs.declared.session.refusal.Refusal.{Refusal}
 use Rattle.goset.specs.declared.session.refusal.Refusal.TheVariants.{BadCommand, Unknown, Exists, BadPath, CounterFull, BadText, NoPackage}

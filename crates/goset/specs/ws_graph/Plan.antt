@@ -5,7 +5,7 @@ use Rattle.go_text.specs.declared.place.Place.{Place}
 use Rattle.go_text.specs.declared.fault.FaultKind.TheVariants.{LeftOut, PackageName}
 use Rattle.ws_version.specs.Writes.{Write}
 use Rattle.ws_register.specs.Sources.{IsSources, package_files}
-use Rattle.goset.specs.go_parse.Parse.{Parse, Derived, Stopped, IsParse, Parsed}
+use Rattle.goset.specs.go_parse.Parse.{Derived, Stopped, IsParse, Parsed}
 
 -- no file, or the plan's fault, or all files with what they parse to
 pub data Planned : Type 0 where

@@ -1,8 +1,8 @@
 -- What a replica holds, and for which writes and actions it stands.
-use Rattle.std.specs.Prelude.{◌≡◌, ℕ, List, refl}
+use Rattle.std.specs.Prelude.{◌≡◌, List, refl}
 use Rattle.std.specs.Coded.{Coded, code_by, coded×, coded_ℕ, coded_list}
 use Rattle.std.specs.FinMap.{FinMap, code}
-use Rattle.ws_version.specs.Writes.{Write, Held, held_code, held_cmp, path_cmp, path_cmp_total, path_cmp-IsAntisymmetric, held-semilattice, greater_held}
+use Rattle.ws_version.specs.Writes.{Write, held_code, held_cmp, path_cmp_total, path_cmp-IsAntisymmetric, held-semilattice, greater_held}
 use Rattle.ws_version.specs.Kept.{StandsFor, joined, joined-commutative, joined-associative, joined-idempotent}
 use Rattle.ws_register.specs.Edits.{Contents}
 use Rattle.goset.specs.ws_action.Actions.{Action, action_code}

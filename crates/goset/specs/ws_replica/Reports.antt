@@ -2,7 +2,6 @@
 use Rattle.std.specs.Prelude.{◌≡◌, ℕ, List, [], ◌∷◌, Bool, true, false, string_bytes, String, map}
 use Rattle.std.specs.Global.{Global}
 use Rattle.go_text.specs.Faults.{Fault}
-use Rattle.goset.specs.go_parse.Parse.{Parsed}
 use Rattle.goset.specs.ws_action.Actions.{Action, action_of}
 use Rattle.goset.specs.ws_cache.Compiles.{Compiles}
 use Rattle.goset.specs.declared.ws_cache.Outcome.{Outcome}

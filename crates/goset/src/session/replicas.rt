@@ -1,5 +1,5 @@
 //! The replicas of a session: what each command does to them.
-ghost use Rattle.std.specs.Prelude.{◌≡◌, ◌<◌, ℕ, List, length, slice_index_or, vec_len, true, false, IfOk, OnOk, OnErr, IfSome, MatchOption, Option, Some, None, Err};
+ghost use Rattle.std.specs.Prelude.{◌≡◌, ◌≢◌, ◌<◌, ℕ, List, length, slice_index_or, vec_len, true, false, IfOk, OnOk, OnErr, IfSome, MatchOption, Option, Some, None, Err};
 ghost use Rattle.std.specs.Option.{option_map};
 ghost use Rattle.ws_version.specs.Paths.{file_name};
 ghost use Rattle.go_text.specs.Editions.{edition_number};
@@ -23,7 +23,7 @@ use go_text::edition::Edition;
 use go_text::source::Source;
 use go_text::text::TextError;
 use std::alloc::{AllocError, Global};
-use std::str;
+use std::{mem, str};
 use ws_version::Join;
 use ws_version::path::{file_name, is_path};
 
@@ -136,15 +136,22 @@ fn edit_at(
     }
 }
 
-/// The replica at a place takes what the replica at another, or at the same, holds.
-fn merge_at(named: &mut Vec<Named>, mine: usize, theirs: usize) -> Result<(), AllocError>
+/// The replica at a place takes what the replica at another holds.
+fn merge_at(
+    alloc: Global,
+    named: &mut Vec<Named>,
+    mine: usize,
+    theirs: usize,
+) -> Result<(), AllocError>
     requires mine { mine < vec_len named.old }
     requires theirs { theirs < vec_len named.old }
+    requires others { mine ≢ theirs }
     ensures { OnOk result (ChangedAt (MergedFrom named.old.items theirs) named.old.items mine named.new.items) }
 {
-    let other = named[theirs].replica.copy()?;
-    let one = &mut named[mine];
-    one.replica.merge(&other)
+    let mut one = mem::replace(&mut named[mine].replica, Replica::new(alloc));
+    let merged = one.merge(&named[theirs].replica);
+    named[mine].replica = one;
+    merged
 }
 
 /// The replica at a place builds a directory.
@@ -190,8 +197,23 @@ fn write(
     Ok(None)
 }
 
+/// The replica at a place takes what it holds.
+fn merge_itself(named: &mut Vec<Named>, place: usize) -> Result<(), AllocError>
+    requires { place < vec_len named.old }
+    ensures { OnOk result (ChangedAt (MergedFrom named.old.items place) named.old.items place named.new.items) }
+{
+    let other = named[place].replica.copy()?;
+    let one = &mut named[place];
+    one.replica.merge(&other)
+}
+
 /// The replica of one name takes what that of the other holds.
-fn merge(named: &mut Vec<Named>, name: &[u8], other: &[u8]) -> Result<Option<Refusal>, AllocError>
+fn merge(
+    alloc: Global,
+    named: &mut Vec<Named>,
+    name: &[u8],
+    other: &[u8],
+) -> Result<Option<Refusal>, AllocError>
     ensures { IfOk result (λ refusal. (text : Option (List ℕ)) (world : World) → AllStand named.old.items world.replicas → Settles (Merge name.now other.now) text world refusal named.new.items) }
 {
     let Some(mine) = place_of(named.as_slice(), name) else {
@@ -200,7 +222,11 @@ fn merge(named: &mut Vec<Named>, name: &[u8], other: &[u8]) -> Result<Option<Ref
     let Some(theirs) = place_of(named.as_slice(), other) else {
         return Ok(Some(Refusal::Unknown));
     };
-    merge_at(named, mine, theirs)?;
+    if mine == theirs {
+        merge_itself(named, mine)?;
+    } else {
+        merge_at(alloc, named, mine, theirs)?;
+    }
     Ok(None)
 }
 
@@ -269,7 +295,7 @@ impl Steps for Replicas {
                 told(alloc, refusal)
             }
             Asked::Merge(name, other) => {
-                let refusal = merge(&mut self.named, name, other)?;
+                let refusal = merge(alloc, &mut self.named, name, other)?;
                 told(alloc, refusal)
             }
             Asked::Build(name, directory) => {

@@ -1,6 +1,4 @@
-use Rattle.std.proofs.Common.{subst, add-one, drop, ◌+◌}
-use Rattle.goset.specs.go_parse.Parse.{Parsed}
-use Rattle.goset.proofs.PlanFiles.{Leads, leads_next, other_next}
+use Rattle.goset.proofs.PlanFiles.{leads_next}
 use Rattle.goset.proofs.ws_graph.first_other.Goals as goal
 
 pub loop-other-preserved : goal.loop-other-preserved

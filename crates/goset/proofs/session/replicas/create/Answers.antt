@@ -1,8 +1,7 @@
-use Rattle.std.proofs.Common.{◌≡◌, ◌<◌, ◌≤◌, ◌+◌, List, ℕ, [], length, arith, sym, ap, ◌∙◌, subst, Option, None, Some, rules, ◌++◌, ◌∷◌}
+use Rattle.std.proofs.Common.{◌≡◌, ◌+◌, List, [], arith, sym, ap, ◌∙◌, subst, None, rules, ◌++◌, ◌∷◌}
 use Rattle.goset.specs.declared.session.replicas.Named.{Named}
 use Rattle.goset.specs.session.Commands.{Create}
-use Rattle.goset.specs.session.World.{World}
-use Rattle.goset.specs.session.Standing.{place_of, Settles, AllStand}
+use Rattle.goset.specs.session.Standing.{place_of, Settles}
 use Rattle.goset.proofs.session_lemmas.Settling.{create_full, create_exists, created}
 use Rattle.goset.proofs.session_lemmas.Places.{is_none_then, is_some_then, none_sized}
 use Rattle.goset.proofs.session.replicas.create.Goals as goal

@@ -1,7 +1,5 @@
-use Rattle.std.proofs.Common.{◌≡◌, ◌<◌, ◌+◌, ◌++◌, ◌∷◌, [], List, ℕ, Some, length, subst, refl, arith, string_bytes}
-use Rattle.ws_version.specs.Writes.{Write}
+use Rattle.std.proofs.Common.{◌+◌, ◌++◌, ◌∷◌, [], List, ℕ, Some, subst, refl, arith}
 use Rattle.ws_register.specs.Sources.{top}
-use Rattle.goset.specs.ws_action.Actions.{Action}
 use Rattle.goset.specs.ws_replica.Holdings.{ReplicaStandsFor}
 use Rattle.goset.specs.declared.session.replicas.Named.{Named}
 use Rattle.goset.specs.session.Standing.{Edited}

@@ -1,4 +1,4 @@
-use Rattle.std.proofs.Common.{◌≡◌, ap, sym, ◌∙◌, rules}
+use Rattle.std.proofs.Common.{ap, sym, ◌∙◌}
 use Rattle.std.proofs.lemmas.Str.{is_utf8-from_IsUtf8}
 use Rattle.ws_version.specs.Paths.{is_path}
 use Rattle.goset.proofs.session_lemmas.Utf8.{not_utf8, and_false, and_right}

@@ -1,4 +1,4 @@
-use Rattle.std.proofs.Common.{◌≡◌, ◌<◌, List, ℕ, sym, ap, ◌∙◌, subst, Option, Some, Vec, Global}
+use Rattle.std.proofs.Common.{List, ℕ, sym, ap, ◌∙◌, subst, Vec, Global}
 use Rattle.std.specs.Option.{option_map}
 use Rattle.goset.specs.session.Standing.{place_of, ChangedAt, Edited}
 use Rattle.goset.proofs.session_lemmas.Settling.{write_unknown, write_path, write_full, write_text, written, top_is}

@@ -1,4 +1,4 @@
-use Rattle.std.proofs.Common.{◌≡◌, subst, inr, List, ℕ, ap}
+use Rattle.std.proofs.Common.{subst, inr, List, ℕ}
 use Rattle.goset.specs.session.Ends.{WroteSome}
 use Rattle.goset.proofs.session.running.play.Goals as goal
 

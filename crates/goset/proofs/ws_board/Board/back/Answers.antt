@@ -1,4 +1,4 @@
-use Rattle.std.proofs.Common.{◌≡◌, ◌+◌, ◌≤◌, ◌<◌, arith, ap, vec_len, vec_capacity}
+use Rattle.std.proofs.Common.{◌≡◌, ◌+◌, ◌≤◌, arith, ap, vec_len, vec_capacity}
 use Rattle.goset.specs.declared.ws_board.work.Status.TheVariants.{Ready, Running}
 use Rattle.goset.specs.ws_board.Work.{State}
 use Rattle.goset.specs.ws_board.Machine.{IsRunBy, running_count, run}

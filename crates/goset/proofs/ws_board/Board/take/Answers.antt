@@ -6,7 +6,7 @@ use Rattle.std.proofs.lemmas.Option.{get_or_from_slice_get}
 use Rattle.goset.specs.ws_action.Actions.{Action}
 use Rattle.goset.specs.declared.ws_board.work.Event.{Event}
 use Rattle.goset.specs.ws_board.Work.{State, Job, Task}
-use Rattle.goset.specs.ws_board.Machine.{IsFree, NoneFree, IsIdle, is_job_running, running_count, run, StandsAt, stood, after_take}
+use Rattle.goset.specs.ws_board.Machine.{IsFree, NoneFree, IsIdle, is_job_running, running_count, run, stood, after_take}
 use Rattle.goset.proofs.BoardJobs.{no_runs, runs-le-length, idle_is, idle_step, take_step}
 use Rattle.goset.proofs.ws_board.Board.take.Goals as goal
 

@@ -1,9 +1,9 @@
-use Rattle.std.proofs.Common.{◌≡◌, ◌∙◌, ap, List, ℕ, None, Some, Option, Vec, Global}
+use Rattle.std.proofs.Common.{ap, List, ℕ, None, Some, Option, Vec, Global}
 use Rattle.std.specs.Option.{option_map}
 use Rattle.goset.specs.declared.session.refusal.Refusal.TheVariants.{BadCommand}
 use Rattle.goset.specs.declared.session.replicas.Replicas.{Replicas}
 use Rattle.goset.specs.declared.session.replicas.Named.{Named}
-use Rattle.goset.specs.session.Commands.{Command, Nothing, Bad, Create, Write, Merge, Build}
+use Rattle.goset.specs.session.Commands.{Nothing, Bad, Create, Write, Merge, Build}
 use Rattle.goset.specs.session.Seen.{seen}
 use Rattle.goset.proofs.session_lemmas.Standings.{if_ok_map}
 use Rattle.goset.proofs.session_lemmas.Telling.{settled_tells, stepped, prints_nothing, prints_bad, prints_create, prints_write, prints_merge, nothing_settles, bad_settles}
