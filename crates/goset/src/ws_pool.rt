@@ -9,6 +9,9 @@ use crate::ws_cache::Entry;
 use crate::ws_compile;
 use std::alloc::AllocError;
 
+#[cfg(test)]
+mod tests;
+
 /// Where a worker passes a gate.
 #[derive(Clone, Copy, PartialEq, Eq, Debug)]
 pub enum Point {

@@ -34,6 +34,9 @@ use thiserror::Error;
 use ws_register::{EditError, Registers};
 use ws_version::{Held, Join};
 
+#[cfg(test)]
+mod tests;
+
 /// Why there is no report.
 #[derive(Debug, Drop, Error)]
 pub enum BuildError {

@@ -15,6 +15,8 @@ pub use work::{Event, Hand, Status, Taken, Task};
 
 mod ending;
 mod rule;
+#[cfg(test)]
+mod tests;
 mod work;
 
 /// The jobs of a build, the cache, and the history of events, which has room for the end of each
