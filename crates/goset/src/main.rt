@@ -1,15 +1,9 @@
 //! `goset`: a replicated workspace with a shared build cache, driven by a script on standard input.
 #![tactic(auto)]
 
-mod go_parse;
+#[cfg(test)]
+mod layers;
 mod session;
-mod ws_action;
-mod ws_board;
-mod ws_cache;
-mod ws_compile;
-mod ws_graph;
-mod ws_pool;
-mod ws_replica;
 
 use go_text::edition::Edition;
 use session::ends::{FromReader, ToWriter};

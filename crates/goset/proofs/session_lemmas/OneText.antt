@@ -1,10 +1,10 @@
 -- A script has one session text.
 use Rattle.std.proofs.Common.{◌≡◌, ℕ, zero, suc, List, [], ◌∷◌, ◌++◌, Option, None, Some, sym, ap, ◌∙◌, subst}
 use Rattle.ws_version.specs.Writes.{Write as AWrite}
-use Rattle.goset.specs.ws_action.Actions.{Action}
-use Rattle.goset.specs.ws_cache.Count.{compiled_count}
-use Rattle.goset.specs.ws_graph.Plan.{Planned, NoFiles, Faulty, Sound, IsPlanOf}
-use Rattle.goset.specs.ws_replica.Reports.{Verdict, IsReport, actions_of}
+use Rattle.ws_action.specs.Actions.{Action}
+use Rattle.ws_cache.specs.Count.{compiled_count}
+use Rattle.ws_graph.specs.Plan.{Planned, NoFiles, Faulty, Sound, IsPlanOf}
+use Rattle.ws_replica.specs.Reports.{Verdict, IsReport, actions_of}
 use Rattle.goset.specs.declared.session.refusal.Refusal.{Refusal}
 use Rattle.goset.specs.session.Commands.{Command, Nothing, Bad, Create, Write, Merge, Build, command_of, text_lines, text_of}
 use Rattle.goset.specs.session.Refusals.{first_of}

@@ -2,7 +2,7 @@
 use Rattle.std.proofs.Common.{◌≡◌, ℕ, [], Option, None, Some, true, false, Bool, refl, sym, ◌∙◌, arith}
 use Rattle.std.specs.Prelude.{is_some}
 use Rattle.std.proofs.lemmas.Bool.{false≢true}
-use Rattle.goset.specs.ws_action.Clash.{AllSized}
+use Rattle.ws_action.specs.Clash.{AllSized}
 
 pub is_none_then : (o : Option ℕ) (b : Bool) → b ≡ is_some o → b ≡ false → o ≡ None
 is_none_then None b e f = refl

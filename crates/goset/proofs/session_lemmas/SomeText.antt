@@ -1,9 +1,9 @@
 -- Each script has a session text.
 use Rattle.std.proofs.Common.{ℕ, zero, suc, List, [], ◌∷◌, ◌++◌, Option, None, Some, refl}
-use Rattle.goset.specs.ws_action.Actions.{Action}
-use Rattle.goset.specs.ws_cache.Count.{compiled_count}
-use Rattle.goset.specs.ws_graph.Plan.{Planned, NoFiles, Faulty, Sound, IsPlan}
-use Rattle.goset.specs.ws_replica.Reports.{actions_of}
+use Rattle.ws_action.specs.Actions.{Action}
+use Rattle.ws_cache.specs.Count.{compiled_count}
+use Rattle.ws_graph.specs.Plan.{Planned, NoFiles, Faulty, Sound, IsPlan}
+use Rattle.ws_replica.specs.Reports.{actions_of}
 use Rattle.goset.specs.declared.session.refusal.Refusal.{Refusal}
 use Rattle.goset.specs.declared.session.refusal.Refusal.TheVariants.{NoPackage}
 use Rattle.goset.specs.session.Commands.{Command, Nothing, Bad, Create, Write, Merge, Build, command_of, text_lines, text_of}
@@ -12,7 +12,7 @@ use Rattle.goset.specs.session.Printing.{report_text}
 use Rattle.goset.specs.session.Lines.{lines_of}
 use Rattle.goset.specs.session.World.{World, opening, writes_of, actions_held, taking, with_replicas, refusals, Accepted, AfterBy, After, Answers, PrintsBy, Prints, Told}
 use Rattle.goset.specs.session.Text.{TextFrom, SessionText}
-use Rattle.goset.proofs.SomePlan.{some_plan_of, some_report}
+use Rattle.ws_replica.proofs.SomePlan.{some_plan_of, some_report}
 
 some_told : (edition : ℕ) (name directory : List ℕ) (held : List Action) (files : List (List ℕ × List ℕ)) (p : Planned) → IsPlan files p → (told : List ℕ) × Told edition name directory held p told
 some_told edition name directory held files NoFiles h = (refused NoPackage, refl)

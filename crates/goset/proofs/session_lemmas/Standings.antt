@@ -5,7 +5,7 @@ use Rattle.std.specs.Prelude.{Result, Ok, Err, OnOk, IfOk}
 use Rattle.std.specs.Option.{option_map}
 use Rattle.std.specs.Str.{bytes_eq}
 use Rattle.ws_version.specs.Writes.{Write}
-use Rattle.goset.specs.ws_action.Actions.{Action}
+use Rattle.ws_action.specs.Actions.{Action}
 use Rattle.goset.specs.declared.session.replicas.Named.{Named}
 use Rattle.goset.specs.session.World.{Replica, replica_at, taking, grown}
 use Rattle.std.specs.Prelude.{◌<◌}

@@ -6,12 +6,12 @@ use Rattle.std.specs.Str.{bytes_eq, is_utf8}
 use Rattle.std.proofs.Math.ListN.{set}
 use Rattle.std.proofs.lemmas.List.Elements.{Contains-append_left, Contains-append_right}
 use Rattle.ws_version.specs.Writes.{Write as AWrite}
-use Rattle.goset.specs.ws_action.Actions.{Action}
-use Rattle.goset.specs.ws_action.Clash.{NoClash, AllSized, hashed_actions}
-use Rattle.goset.specs.ws_cache.Count.{compiled_count}
-use Rattle.goset.specs.ws_graph.Plan.{Planned, NoFiles, Faulty, Sound, IsPlanOf}
-use Rattle.goset.specs.ws_replica.Holdings.{ReplicaStandsFor}
-use Rattle.goset.specs.ws_replica.Reports.{Verdict, IsReport, actions_of}
+use Rattle.ws_action.specs.Actions.{Action}
+use Rattle.ws_action.specs.Clash.{NoClash, AllSized, hashed_actions}
+use Rattle.ws_cache.specs.Count.{compiled_count}
+use Rattle.ws_graph.specs.Plan.{Planned, NoFiles, Faulty, Sound, IsPlanOf}
+use Rattle.ws_replica.specs.Holdings.{ReplicaStandsFor}
+use Rattle.ws_replica.specs.Reports.{Verdict, IsReport, actions_of}
 use Rattle.goset.specs.declared.session.replicas.Named.{Named}
 use Rattle.goset.specs.declared.session.refusal.Refusal.{Refusal}
 use Rattle.goset.specs.declared.session.refusal.Refusal.TheVariants.{BadCommand, Unknown, NoPackage}

@@ -7,12 +7,12 @@ use Rattle.goset.specs.declared.session.replicas.Named.{Named}
 use Rattle.goset.specs.declared.session.replicas.Replicas.{Replicas}
 use Rattle.ws_version.specs.Writes.{Write}
 use Rattle.ws_register.specs.Sources.{top}
-use Rattle.goset.specs.ws_action.Actions.{Action}
-use Rattle.goset.specs.ws_action.Clash.{AllSized, NoClash, hashed_actions}
-use Rattle.goset.specs.ws_cache.Count.{compiled_count}
-use Rattle.goset.specs.ws_graph.Plan.{Planned, NoFiles, IsPlanOf}
-use Rattle.goset.specs.ws_replica.Reports.{Verdict, IsReport, actions_of}
-use Rattle.goset.specs.ws_replica.Holdings.{ReplicaStandsFor}
+use Rattle.ws_action.specs.Actions.{Action}
+use Rattle.ws_action.specs.Clash.{AllSized, NoClash, hashed_actions}
+use Rattle.ws_cache.specs.Count.{compiled_count}
+use Rattle.ws_graph.specs.Plan.{Planned, NoFiles, IsPlanOf}
+use Rattle.ws_replica.specs.Reports.{Verdict, IsReport, actions_of}
+use Rattle.ws_replica.specs.Holdings.{ReplicaStandsFor}
 use Rattle.goset.specs.session.Refusals.{refused, first_of}
 use Rattle.goset.specs.session.Commands.{Command}
 use Rattle.goset.specs.session.World.{World, Replica, refusals, AfterBy, After, Prints, hashed}

@@ -1,6 +1,6 @@
 -- What a session writes for a script.
 use Rattle.std.specs.Prelude.{◌≡◌, ℕ, zero, suc, ◌⊎◌, List, [], ◌∷◌, ◌++◌}
-use Rattle.goset.specs.ws_action.Clash.{NoClash}
+use Rattle.ws_action.specs.Clash.{NoClash}
 use Rattle.goset.specs.session.Lines.{lines_of}
 use Rattle.goset.specs.session.Commands.{command_of, text_of, text_lines}
 use Rattle.goset.specs.session.World.{World, opening, hashed, After, Prints}

@@ -6,11 +6,11 @@ use Rattle.go_text.specs.Texts.{text_error}
 use Rattle.ws_version.specs.Writes.{Write as AWrite}
 use Rattle.ws_version.specs.Paths.{is_path}
 use Rattle.ws_register.specs.Sources.{top}
-use Rattle.goset.specs.ws_action.Actions.{Action}
-use Rattle.goset.specs.ws_action.Clash.{hashed_actions}
-use Rattle.goset.specs.ws_cache.Count.{compiled_count}
-use Rattle.goset.specs.ws_graph.Plan.{Planned, NoFiles, IsPlanOf}
-use Rattle.goset.specs.ws_replica.Reports.{Verdict, actions_of, IsReport}
+use Rattle.ws_action.specs.Actions.{Action}
+use Rattle.ws_action.specs.Clash.{hashed_actions}
+use Rattle.ws_cache.specs.Count.{compiled_count}
+use Rattle.ws_graph.specs.Plan.{Planned, NoFiles, IsPlanOf}
+use Rattle.ws_replica.specs.Reports.{Verdict, actions_of, IsReport}
 use Rattle.goset.specs.declared.session.refusal.Refusal.{Refusal}
 use Rattle.goset.specs.declared.session.refusal.Refusal.TheVariants.{BadCommand, Unknown, Exists, BadPath, CounterFull, BadText, NoPackage}
 use Rattle.goset.specs.session.Refusals.{refused, first_of}

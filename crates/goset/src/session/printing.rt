@@ -3,12 +3,12 @@ ghost use Rattle.std.specs.Prelude.{◌≡◌, ◌++◌, OnOk, IfOk, count_by, m
 ghost use Rattle.std.specs.Fmt.{decimal};
 ghost use Rattle.std.specs.List.{flat_map};
 ghost use Rattle.goset.specs.session.Printing.{place_text, kind_text, fault_text, blocked_text, row_text, is_bad, summary_text, target_text, report_text};
-ghost use Rattle.goset.specs.ws_replica.Reports.{rows, row};
+ghost use Rattle.ws_replica.specs.Reports.{rows, row};
 
-use crate::ws_replica::{Report, Verdict};
 use go_text::fault::{Fault, FaultKind};
 use go_text::place::Place;
 use std::alloc::{AllocError, Global};
+use ws_replica::{Report, Verdict};
 
 fn push(out: &mut Vec<u8>, text: &[u8]) -> Result<(), AllocError>
     ensures { OnOk result (out.new.items ≡ out.old.items ++ text.now) }

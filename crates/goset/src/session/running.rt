@@ -6,7 +6,7 @@ ghost use Rattle.goset.specs.session.Commands.{text_of};
 ghost use Rattle.goset.specs.session.Seen.{seen};
 ghost use Rattle.goset.specs.session.Requests.{IsFirst};
 ghost use Rattle.goset.specs.session.World.{World, opening, hashed, After, Prints};
-ghost use Rattle.goset.specs.ws_action.Clash.{NoClash};
+ghost use Rattle.ws_action.specs.Clash.{NoClash};
 ghost use Rattle.goset.specs.session.Ends.{Wrote, WroteSome, Session};
 ghost use Rattle.goset.specs.session.Failures.{failed_writes, failed_reads, unwritten};
 

@@ -8,11 +8,11 @@ use crate::session::reading::ScriptIn;
 use crate::session::replicas::Replicas;
 use crate::session::running::{SessionError, play};
 use crate::session::writing::ScriptOut;
-use crate::ws_pool::Gate;
 use go_text::edition::Edition;
 use std::alloc::Global;
 use std::sync::Wait;
 use std::thread::Threads;
+use ws_pool::Gate;
 
 /// Reads a script to its end and writes its session's text, from no replica on.
 ///

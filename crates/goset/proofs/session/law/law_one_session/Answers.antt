@@ -1,5 +1,5 @@
-use Rattle.goset.proofs.OnePlan.{one_plan_of}
-use Rattle.goset.proofs.OneReport.{one_report}
+use Rattle.ws_graph.proofs.OnePlan.{one_plan_of}
+use Rattle.ws_replica.proofs.OneReport.{one_report}
 use Rattle.goset.proofs.session_lemmas.OneText.{one_session_text}
 use Rattle.goset.proofs.session.law.law_one_session.Goals as goal
 

@@ -1,6 +1,6 @@
 use Rattle.std.proofs.Common.{◌≡◌, ◌≤◌, ◌+◌, drop, map, count_by}
 use Rattle.goset.specs.session.Printing.{is_bad}
-use Rattle.goset.specs.ws_replica.Reports.{row}
+use Rattle.ws_replica.specs.Reports.{row}
 use Rattle.goset.proofs.session.printing.count_bad.Given as goal
 
 abbrev pub invariant-loop-of : goal.invariant-loop-of

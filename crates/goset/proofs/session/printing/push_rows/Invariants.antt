@@ -1,7 +1,7 @@
 use Rattle.std.proofs.Common.{◌≡◌, ◌++◌, drop, map}
 use Rattle.std.specs.List.{flat_map}
 use Rattle.goset.specs.session.Printing.{row_text}
-use Rattle.goset.specs.ws_replica.Reports.{row}
+use Rattle.ws_replica.specs.Reports.{row}
 use Rattle.goset.proofs.session.printing.push_rows.Given as goal
 
 abbrev pub invariant-loop-of : goal.invariant-loop-of

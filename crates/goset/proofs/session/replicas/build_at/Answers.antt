@@ -1,7 +1,7 @@
 use Rattle.std.proofs.Common.{refl, arith}
 use Rattle.goset.specs.declared.session.replicas.Named.{Named}
 use Rattle.go_text.specs.Editions.{edition_number}
-use Rattle.goset.specs.ws_replica.Reports.{rows}
+use Rattle.ws_replica.specs.Reports.{rows}
 use Rattle.goset.specs.session.Standing.{Built}
 use Rattle.goset.proofs.session_lemmas.Standings.{changed_one, if_ok_map}
 use Rattle.goset.proofs.session.replicas.build_at.Goals as goal

@@ -1,9 +1,9 @@
 use Rattle.std.proofs.Common.{◌≡◌, sym, ap, ◌∙◌, subst}
 use Rattle.std.proofs.lemmas.Str.{is_utf8-from_IsUtf8}
 use Rattle.go_text.specs.Editions.{edition_number}
-use Rattle.goset.specs.ws_replica.Reports.{rows}
+use Rattle.ws_replica.specs.Reports.{rows}
 use Rattle.std.specs.Prelude.{Err}
-use Rattle.goset.specs.ws_graph.Plan.{NoFiles, IsPlanOf}
+use Rattle.ws_graph.specs.Plan.{NoFiles, IsPlanOf}
 use Rattle.goset.specs.session.Commands.{Build}
 use Rattle.goset.specs.session.Standing.{place_of, ChangedAt, Built, Tells}
 use Rattle.goset.specs.session.Printing.{report_text}

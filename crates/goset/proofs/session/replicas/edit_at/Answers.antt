@@ -1,6 +1,6 @@
 use Rattle.std.proofs.Common.{◌+◌, ◌++◌, ◌∷◌, [], List, ℕ, Some, subst, refl, arith}
 use Rattle.ws_register.specs.Sources.{top}
-use Rattle.goset.specs.ws_replica.Holdings.{ReplicaStandsFor}
+use Rattle.ws_replica.specs.Holdings.{ReplicaStandsFor}
 use Rattle.goset.specs.declared.session.replicas.Named.{Named}
 use Rattle.goset.specs.session.Standing.{Edited}
 use Rattle.goset.proofs.session_lemmas.Standings.{changed_one}

@@ -3,7 +3,7 @@ use Rattle.std.specs.Prelude.{◌≢◌}
 use Rattle.std.proofs.Math.ListN.{set, length-set}
 use Rattle.std.proofs.lemmas.List.{get_or-set_same, get_or-set_other, set-set}
 use Rattle.goset.specs.declared.session.replicas.Named.{Named}
-use Rattle.goset.specs.ws_replica.Holdings.{Replica, ReplicaStandsFor}
+use Rattle.ws_replica.specs.Holdings.{Replica, ReplicaStandsFor}
 use Rattle.goset.proofs.session_lemmas.Standings.{one_element, on_ok_map}
 use Rattle.goset.proofs.session.replicas.merge_at.Goals as goal
 

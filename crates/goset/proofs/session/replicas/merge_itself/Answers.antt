@@ -1,6 +1,6 @@
 use Rattle.std.proofs.Common.{◌≡◌, subst, refl, sym, ◌∙◌, ap, arith}
 use Rattle.goset.specs.declared.session.replicas.Named.{Named}
-use Rattle.goset.specs.ws_replica.Holdings.{ReplicaStandsFor}
+use Rattle.ws_replica.specs.Holdings.{ReplicaStandsFor}
 use Rattle.goset.specs.session.Standing.{MergedFrom}
 use Rattle.goset.proofs.session_lemmas.Standings.{changed_one, one_element, on_ok_map}
 use Rattle.goset.proofs.session.replicas.merge_itself.Goals as goal

@@ -1,0 +1,31 @@
+-- What a source text is parsed to.
+use Rattle.std.specs.Prelude.{ℕ, List, length, map, slice_range}
+use Rattle.go_text.specs.declared.place.Place.{Place}
+use Rattle.go_text.specs.Places.{place_at}
+use Rattle.go_scan.specs.declared.token.Token.{Token}
+use Rattle.go_scan.specs.Lex.{Lexes}
+use Rattle.go_parse.specs.Grammar.{Name, File, Lexeme, Derives, StopsAt}
+
+-- a token of a text, with its bytes
+abbrev pub lexeme : List ℕ → Token → Lexeme
+lexeme text t = record { kind = t.kind; text = slice_range text t.start t.end; place = t.place }
+
+-- the tokens of a text, with their bytes
+abbrev pub lexemes : List ℕ → List Token → List Lexeme
+lexemes text ts = map (lexeme text) ts
+
+-- a file, or the place where the text stops being one
+pub data Parse : Type 0 where
+  Derived : File → Parse
+  Stopped : Place → Parse
+
+-- a text's tokens are a file, or stop being one at a place, at the latest behind the text's last byte
+unfoldable pub IsParse : List ℕ → Parse → Type 0
+IsParse text (Derived file) = (ts : List Token) × Lexes text ts × Derives (lexemes text ts) file
+IsParse text (Stopped place) = (ts : List Token) × Lexes text ts × StopsAt (lexemes text ts) (place_at text (length text)) place
+
+-- a source that is a file: the file's name, the text, and the name in the package clause
+pub record Parsed : Type 0 where
+  pub name : List ℕ
+  pub text : List ℕ
+  pub «package» : Name

@@ -1,6 +1,0 @@
-use Rattle.std.proofs.Common.{◌≡◌, ◌++◌, take, drop, map}
-use Rattle.goset.specs.ws_board.Machine.{finished}
-use Rattle.goset.proofs.ws_board.rule.mark_all.Given as goal
-
-abbrev pub invariant-loop-job : goal.invariant-loop-job
-invariant-loop-job l = l.job-items ≡ map (finished l.id) (take l.job-index l.initial.job-items) ++ drop l.job-index l.initial.job-items

@@ -1,7 +1,0 @@
-use Rattle.std.proofs.Common.{ap, ◌∙◌}
-use Rattle.ws_version.specs.Kept.{taken}
-use Rattle.goset.specs.ws_cache.Joined.{lesser, taken_stands}
-use Rattle.goset.proofs.ws_cache.Cache.put.Goals as goal
-
-pub returns-clause-stands : goal.returns-clause-stands
-returns-clause-stands c E h = taken_stands c.args.self.now c.take.new.self E c.args.entry (c.in_ok-take.ensures.ok ∙ ap (λ i. taken lesser c.args.self.now i c.args.entry) c.id-id.ensures) h

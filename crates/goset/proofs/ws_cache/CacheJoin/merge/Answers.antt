@@ -1,7 +1,0 @@
-use Rattle.std.proofs.Common.{ap, ◌∙◌}
-use Rattle.ws_version.specs.Kept.{joined}
-use Rattle.goset.specs.ws_cache.Joined.{lesser, joined_stands}
-use Rattle.goset.proofs.ws_cache.CacheJoin.merge.Goals as goal
-
-pub returns-clause-stands : goal.returns-clause-stands
-returns-clause-stands c E F g h = joined_stands c.args.self.now c.args.other.now c.take_all.new.self E F (c.in_ok-take_all.ensures ∙ ap (λ m. joined lesser m c.args.other.now) c.in_ok-both.ensures) g h

@@ -1,6 +1,0 @@
-use Rattle.std.proofs.Common.{drop}
-use Rattle.goset.proofs.PlanFiles.{Leads}
-use Rattle.goset.proofs.ws_graph.first_other.Given as goal
-
-abbrev pub invariant-loop-other : goal.invariant-loop-other
-invariant-loop-other l = Leads l.name (drop l.other-index l.parsed) l.parsed

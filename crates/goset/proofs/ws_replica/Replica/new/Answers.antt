@@ -1,5 +1,0 @@
-use Rattle.goset.proofs.ReplicaBuilds.{nothing_stands}
-use Rattle.goset.proofs.ws_replica.Replica.new.Goals as goal
-
-pub returns : goal.returns
-returns c = record { stands = record { registers = nothing_stands c.new.result c.new.ensures; cache = c.new-2.ensures.stands } }

@@ -1,0 +1,5 @@
+use Rattle.ws_action.specs.Clash.{one_action}
+use Rattle.ws_action.proofs.law_one_action.Goals as goal
+
+pub returns : goal.returns
+returns c = one_action

@@ -1,0 +1,299 @@
+//! Compiled packages by the id of what they were compiled from.
+#![tactic(auto)]
+
+ghost use Rattle.std.specs.Prelude.{◌≡◌, ℕ, ◌++◌, ◌∷◌, [], List, OnOk, OnErr, IfOk, IfErr, Some, is_some, if◌then◌else◌, option_copied};
+ghost use Rattle.std.specs.FinMap as map;
+ghost use Rattle.std.specs.BTreeMap.{IsOrdered};
+ghost use Rattle.std.specs.List.{Contains};
+ghost use Rattle.ws_version.specs.Kept.{SameMembers, taken, joined as joined_by};
+ghost use Rattle.ws_version.specs.Gathered.{is_news, gathered};
+ghost use Rattle.ws_action.specs.Actions.{Action as AnAction, action_id};
+ghost use Rattle.ws_action.specs.Clash.{NoClash, Includes, hashed_actions, AllSized};
+ghost use Rattle.ws_cache.specs.declared.Outcome.{Outcome as AnOutcome};
+ghost use Rattle.ws_cache.specs.Compiles.{Compiles};
+ghost use Rattle.ws_cache.specs.Count.{compiled_count, new_actions_count};
+ghost use Rattle.ws_cache.specs.Held.{IsHeld, CacheStandsFor, id_cmp};
+ghost use Rattle.ws_cache.specs.Joined.{downwards, lesser};
+
+use go_text::fault::Fault;
+use std::alloc::{AllocError, Global};
+use std::cmp::Ordering;
+use std::collections::BTreeMap;
+use std::marker::Model;
+use ws_action::Action;
+use ws_version::Join;
+
+/// What compiling a package gives.
+#[derive(Drop)]
+pub enum Outcome {
+    /// The package is good.
+    Good,
+    /// The package has the fault, which is the first to report.
+    Faulty(Fault),
+}
+
+impl Outcome {
+    /// Another of equal contents. An `Err` only where memory ran out.
+    pub fn copy(&self) -> Result<Outcome, AllocError>
+        ensures { IfOk result (λ copy. copy ≡ self.now) }
+    {
+        match self {
+            Outcome::Good => Ok(Outcome::Good),
+            Outcome::Faulty(fault) => Ok(Outcome::Faulty(fault.copy()?)),
+        }
+    }
+}
+
+/// An action with what compiling it gives, and its id.
+#[derive(Drop)]
+pub struct Entry {
+    action: Action,
+    id: [u8; 32],
+    outcome: Outcome,
+}
+
+impl Model for Entry {
+    ghost use Rattle.std.specs.Prelude.{◌≡◌};
+    ghost use Rattle.ws_action.specs.Actions as actions;
+    ghost use Rattle.ws_cache.specs.Compiles as compiles;
+
+    ghost Value = { actions.Action };
+
+    ghost coded = { actions.action_code };
+
+    ghost view = { λ a. a.action };
+
+    ghost invariant = { λ a. (a.id ≡ actions.action_id a.action) × compiles.Compiles a.action a.outcome };
+}
+
+impl Entry {
+    /// The entry of an action and what compiling it gives. An `Err`, for want of memory, gives
+    /// the action back.
+    pub fn new(action: Action, outcome: Outcome) -> Result<Entry, Action>
+        requires { Compiles action outcome }
+        ensures ok { IfOk result (λ entry. entry ≡ action) }
+        ensures err { IfErr result (λ back. back ≡ action) }
+    {
+        match action.id() {
+            Ok(id) => Ok(Entry {
+                action,
+                id,
+                outcome,
+            }),
+            Err(_) => Err(action),
+        }
+    }
+
+    /// The action's id.
+    pub fn id(&self) -> [u8; 32]
+        ensures { result ≡ action_id self.now }
+    {
+        self.id
+    }
+
+    /// What was compiled.
+    pub fn action(&self) -> &Action
+        ensures { result.now ≡ self.now }
+    {
+        &self.action
+    }
+
+    /// What compiling the action gives.
+    pub fn outcome(&self) -> &Outcome
+        ensures { Compiles self.now result.now }
+    {
+        &self.outcome
+    }
+
+    /// Another of equal contents, which shares the texts. An `Err` only where memory ran out.
+    pub fn copy(&self) -> Result<Entry, AllocError>
+        ensures { IfOk result (λ copy. copy ≡ self.now) }
+    {
+        Ok(Entry {
+            action: self.action.copy()?,
+            id: self.id,
+            outcome: self.outcome.copy()?,
+        })
+    }
+}
+
+/// Entries by their ids: for each id the entry of the least action that was put with it.
+#[derive(Drop)]
+pub struct Cache {
+    alloc: Global,
+    entries: BTreeMap<[u8; 32], Entry>,
+}
+
+impl Model for Cache {
+    ghost use Rattle.std.specs.FinMap as finite;
+    ghost use Rattle.std.specs.Coded.{coded_ℕ, coded_list};
+    ghost use Rattle.ws_action.specs.Actions as actions;
+    ghost use Rattle.ws_cache.specs.Held as held;
+
+    ghost Value = { finite.FinMap held.id_cmp actions.Action };
+
+    ghost coded = { finite.code (coded_list coded_ℕ) actions.action_code };
+
+    ghost view = { λ a. finite.from_entries a.entries.entries };
+}
+
+impl Cache {
+    /// A cache of no entries.
+    pub fn new(alloc: Global) -> Cache
+        ensures empty { result ≡ map.empty }
+        ensures stands { CacheStandsFor result [] }
+    {
+        Cache {
+            alloc,
+            entries: BTreeMap::new(alloc),
+        }
+    }
+
+    /// The entry with that id: of all that were put with it, that of the least action.
+    pub fn get(&self, id: &[u8; 32]) -> Option<&Entry>
+        ensures value { option_copied result ≡ map.get self.now id.now }
+        ensures stands { (E : List AnAction) → CacheStandsFor self.now E → IsHeld E id.now (option_copied result) }
+    {
+        self.entries.get(id)
+    }
+
+    fn is_news(&self, id: &[u8; 32], action: &Action) -> bool
+        ensures { result ≡ is_news downwards (map.get self.now id.now) action.now }
+    {
+        match self.get(id) {
+            None => true,
+            Some(old) => match action.cmp_action(old.action()) {
+                Ordering::Less => true,
+                _ => false,
+            },
+        }
+    }
+
+    fn insert(&mut self, id: [u8; 32], entry: Entry) -> Result<(), Entry>
+        ensures ok { OnOk result (self.new ≡ map.insert self.old id entry) }
+        ensures back { IfErr result (λ back. back ≡ entry) }
+        ensures err { OnErr result (self.new ≡ self.old) }
+    {
+        match self.entries.insert(id, entry) {
+            Ok(_) => Ok(()),
+            Err(failed) => {
+                let (_, back) = failed.value;
+                Err(back)
+            }
+        }
+    }
+
+    fn take(&mut self, id: [u8; 32], entry: Entry) -> Result<(), Entry>
+        ensures ok { OnOk result (self.new ≡ taken lesser self.old id entry) }
+        ensures back { IfErr result (λ back. back ≡ entry) }
+        ensures err { OnErr result (self.new ≡ self.old) }
+    {
+        if !self.is_news(&id, entry.action()) {
+            return Ok(());
+        }
+        self.insert(id, entry)?;
+        Ok(())
+    }
+
+    /// Adds an entry: of two with one id that of the lesser action stays. An `Err`, for want of
+    /// memory, gives the entry back and changes nothing.
+    pub fn put(&mut self, entry: Entry) -> Result<(), Entry>
+        ensures ok { OnOk result (self.new ≡ taken lesser self.old (action_id entry) entry) }
+        ensures back { IfErr result (λ back. back ≡ entry) }
+        ensures err { OnErr result (self.new ≡ self.old) }
+        ensures stands { OnOk result ((E : List AnAction) → CacheStandsFor self.old E → CacheStandsFor self.new (E ++ entry ∷ [])) }
+    {
+        let id = entry.id();
+        self.take(id, entry)?;
+        Ok(())
+    }
+
+    fn take_all(&mut self, other: &Cache) -> Result<(), AllocError>
+        ensures { OnOk result (self.new ≡ joined_by lesser self.old other.now) }
+    {
+        take_entries(self, &other.entries)?;
+        Ok(())
+    }
+}
+
+/// Adds a copy of each entry.
+fn take_entries(all: &mut Cache, entries: &BTreeMap<[u8; 32], Entry>) -> Result<(), AllocError>
+    ensures ok { OnOk result (all.new ≡ gathered lesser all.old entries.now.entries) }
+    ensures ordered { IsOrdered id_cmp entries.now }
+{
+    for (id, entry) in entries {
+        if all.take(*id, entry.copy()?).is_err() {
+            return Err(AllocError);
+        }
+    }
+    Ok(())
+}
+
+impl Join for Cache {
+    ghost use Rattle.ws_version.specs.Kept.{joined as joined_by, joined-commutative, joined-associative, joined-idempotent};
+    ghost use Rattle.ws_cache.specs.Joined.{lesser, id_cmp_total, id_cmp-IsAntisymmetric, lesser-semilattice};
+
+    ghost joined = { joined_by lesser };
+
+    ghost commutative = { joined-commutative id_cmp_total id_cmp-IsAntisymmetric lesser-semilattice };
+
+    ghost associative = { joined-associative id_cmp_total id_cmp-IsAntisymmetric lesser-semilattice };
+
+    ghost idempotent = { joined-idempotent id_cmp_total id_cmp-IsAntisymmetric lesser-semilattice };
+
+    /// Another of equal contents, which shares the texts. An `Err` only where memory ran out.
+    fn copy(&self) -> Result<Cache, AllocError> {
+        let mut all = Cache::new(self.alloc);
+        all.take_all(self)?;
+        Ok(all)
+    }
+
+    /// Adds all entries of the other: of two with one id that of the lesser action stays. An
+    /// `Err`, for want of memory, changes nothing.
+    fn merge(&mut self, other: &Cache) -> Result<(), AllocError>
+        ensures ok { OnOk result (self.new ≡ joined_by lesser self.old other.now) }
+        ensures err { OnErr result (self.new ≡ self.old) }
+        ensures stands { OnOk result ((E F : List AnAction) → CacheStandsFor self.old E → CacheStandsFor other.now F → CacheStandsFor self.new (E ++ F)) }
+    {
+        let mut both = self.copy()?;
+        both.take_all(other)?;
+        *self = both;
+        Ok(())
+    }
+}
+
+/// Compiling an action gives one outcome.
+pub fn law_one_outcome()
+    ensures { (action : AnAction) (a b : AnOutcome) → Compiles action a → Compiles action b → a ≡ b }
+{}
+
+/// Caches that stand for the same actions are one, however each came about.
+pub fn law_same_actions()
+    ensures { (m n : map.FinMap id_cmp AnAction) (E F : List AnAction) → SameMembers E F → CacheStandsFor m E → CacheStandsFor n F → m ≡ n }
+{}
+
+/// To put an action again changes nothing.
+pub fn law_put_again()
+    ensures { (m : map.FinMap id_cmp AnAction) (E : List AnAction) (a : AnAction) → CacheStandsFor m E → Contains E a → taken lesser m (action_id a) a ≡ m }
+{}
+
+/// Where the hashed texts do not clash, the id of each action that was put gives that action.
+pub fn law_found_itself()
+    ensures { (texts : List (List ℕ)) (E : List AnAction) → NoClash texts → Includes texts (hashed_actions E) → AllSized E → (m : map.FinMap id_cmp AnAction) → CacheStandsFor m E → (a : AnAction) → Contains E a → map.get m (action_id a) ≡ Some a }
+{}
+
+/// Where the hashed texts do not clash, what is found by an action's id is the action, also where
+/// the action was not put.
+pub fn law_found_no_other()
+    ensures { (texts : List (List ℕ)) (E : List AnAction) (a b : AnAction) → NoClash texts → Includes texts (hashed_actions (E ++ a ∷ [])) → AllSized (E ++ a ∷ []) → (m : map.FinMap id_cmp AnAction) → CacheStandsFor m E → map.get m (action_id a) ≡ Some b → b ≡ a }
+{}
+
+/// Of one action none is to be compiled where its id is found, and else one.
+pub fn law_count_of_one()
+    ensures { (m : map.FinMap id_cmp AnAction) (E : List AnAction) (a : AnAction) → CacheStandsFor m E → compiled_count E (a ∷ []) ≡ (if is_some (map.get m (action_id a)) then 0 else 1) }
+{}
+
+/// Where the hashed texts do not clash, as many ids are new as actions.
+pub fn law_counts_agree()
+    ensures { (texts : List (List ℕ)) (E actions : List AnAction) → NoClash texts → Includes texts (hashed_actions (E ++ actions)) → AllSized (E ++ actions) → compiled_count E actions ≡ new_actions_count E actions }
+{}

@@ -1,0 +1,2 @@
+pub mod OnePlan
+pub mod PlanFiles

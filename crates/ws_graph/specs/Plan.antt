@@ -1,0 +1,86 @@
+-- What becomes of the files of a directory before anything is compiled.
+use Rattle.std.specs.Prelude.{◌≡◌, ◌≢◌, ℕ, ◌⊎◌, List, [], ◌∷◌, ◌++◌, map}
+use Rattle.go_text.specs.Faults.{Fault}
+use Rattle.go_text.specs.declared.place.Place.{Place}
+use Rattle.go_text.specs.declared.fault.FaultKind.TheVariants.{LeftOut, PackageName}
+use Rattle.ws_version.specs.Writes.{Write}
+use Rattle.ws_register.specs.Sources.{IsSources, package_files}
+use Rattle.go_parse.specs.Parse.{Derived, Stopped, IsParse, Parsed}
+
+-- no file, or the plan's fault, or all files with what they parse to
+pub data Planned : Type 0 where
+  NoFiles : Planned
+  Faulty : Fault → Planned
+  Sound : List Parsed → Planned
+
+-- a directory, and what becomes of its files
+pub record Plan : Type 0 where
+  pub directory : List ℕ
+  pub planned : Planned
+
+abbrev pub source_of : Parsed → List ℕ × List ℕ
+source_of p = (p.name, p.text)
+
+-- each is what its text parses to
+abbrev pub AllParsed : List Parsed → Type 0
+AllParsed [] = Unit {0}
+AllParsed (p ∷ ps) = IsParse p.text (Derived (record { «package» = p.package })) × AllParsed ps
+
+-- the files parse to these
+pub record AreParsed (files : List (List ℕ × List ℕ)) (parsed : List Parsed) : Type 0 where
+  pub sources : map source_of parsed ≡ files
+  pub parses : AllParsed parsed
+
+-- all have the package name of the first
+abbrev pub AllNamed : List ℕ → List Parsed → Type 0
+AllNamed name [] = Unit {0}
+AllNamed name (p ∷ ps) = (p.package.text ≡ name) × AllNamed name ps
+
+-- the first file that doesn't parse stops there
+pub record StopsIn (files : List (List ℕ × List ℕ)) (fault : Fault) : Type 0 where
+  pub front : List Parsed
+  pub name : List ℕ
+  pub text : List ℕ
+  pub rest : List (List ℕ × List ℕ)
+  pub place : Place
+  pub whole : files ≡ map source_of front ++ (name, text) ∷ rest
+  pub parses : AllParsed front
+  pub stops : IsParse text (Stopped place)
+  pub is : fault ≡ record { file = name; place = place; kind = LeftOut }
+
+-- one of them is the first whose package has another name
+pub record HasOther (name : List ℕ) (parsed : List Parsed) (other : Parsed) : Type 0 where
+  pub front : List Parsed
+  pub rest : List Parsed
+  pub whole : parsed ≡ front ++ other ∷ rest
+  pub named : AllNamed name front
+  pub differs : other.package.text ≢ name
+
+-- all files parse, and this is the first whose package name isn't the first file's
+pub record DiffersIn (files : List (List ℕ × List ℕ)) (fault : Fault) : Type 0 where
+  pub first : Parsed
+  pub front : List Parsed
+  pub other : Parsed
+  pub rest : List Parsed
+  pub parsed : AreParsed files (first ∷ front ++ other ∷ rest)
+  pub named : AllNamed first.package.text front
+  pub differs : other.package.text ≢ first.package.text
+  pub is : fault ≡ record { file = other.name; place = other.package.place; kind = PackageName }
+
+-- all files parse, and have one package name
+pub record IsSound (files : List (List ℕ × List ℕ)) (parsed : List Parsed) : Type 0 where
+  pub first : Parsed
+  pub rest : List Parsed
+  pub is : parsed ≡ first ∷ rest
+  pub parses : AreParsed files parsed
+  pub named : AllNamed first.package.text rest
+
+-- A file that doesn't parse comes before names that differ. Without imports nothing else is a plan's fault.
+abbrev pub IsPlan : List (List ℕ × List ℕ) → Planned → Type 0
+IsPlan files NoFiles = files ≡ []
+IsPlan files (Faulty fault) = StopsIn files fault ⊎ DiffersIn files fault
+IsPlan files (Sound parsed) = IsSound files parsed
+
+-- the plan of a directory for a set of writes: from the sources alone
+abbrev pub IsPlanOf : List Write → List ℕ → Planned → Type 0
+IsPlanOf writes directory planned = (sources : List (List ℕ × List ℕ)) × IsSources writes sources × IsPlan (package_files directory sources) planned

@@ -1,0 +1,3 @@
+pub mod OneReport
+pub mod ReplicaBuilds
+pub mod SomePlan

@@ -1,0 +1,45 @@
+-- What a replica holds, and for which writes and actions it stands.
+use Rattle.std.specs.Prelude.{◌≡◌, List, refl}
+use Rattle.std.specs.Coded.{Coded, code_by, coded×, coded_ℕ, coded_list}
+use Rattle.std.specs.FinMap.{FinMap, code}
+use Rattle.ws_version.specs.Writes.{Write, held_code, held_cmp, path_cmp_total, path_cmp-IsAntisymmetric, held-semilattice, greater_held}
+use Rattle.ws_version.specs.Kept.{StandsFor, joined, joined-commutative, joined-associative, joined-idempotent}
+use Rattle.ws_register.specs.Edits.{Contents}
+use Rattle.ws_action.specs.Actions.{Action, action_code}
+use Rattle.ws_cache.specs.Held.{id_cmp, CacheStandsFor}
+use Rattle.ws_cache.specs.Joined.{lesser, id_cmp_total, id_cmp-IsAntisymmetric, lesser-semilattice}
+
+-- what is held at each path, and what is compiled
+pub record Replica : Type 0 where
+  pub registers : Contents
+  pub cache : FinMap id_cmp Action
+
+abbrev pub replica_code : Coded Replica
+replica_code = code_by (Contents × FinMap id_cmp Action) (coded× (code (coded_list coded_ℕ) held_code) (code (coded_list coded_ℕ) action_code)) (λ r. (r.registers, r.cache)) (λ p. record { registers = p.0; cache = p.1 }) (λ _. refl)
+
+-- the replica took these writes, and the entries of these actions
+pub record ReplicaStandsFor (replica : Replica) (writes : List Write) (actions : List Action) : Type 0 where
+  pub registers : StandsFor held_cmp replica.registers writes
+  pub cache : CacheStandsFor replica.cache actions
+
+-- what two hold together: part by part
+abbrev pub both : Replica → Replica → Replica
+both a b = record { registers = joined greater_held a.registers b.registers; cache = joined lesser a.cache b.cache }
+
+pub both-commutative : (a b : Replica) → both a b ≡ both b a
+both-commutative a b =
+    let registers = joined-commutative path_cmp_total path_cmp-IsAntisymmetric held-semilattice a.registers b.registers in
+    let caches = joined-commutative id_cmp_total id_cmp-IsAntisymmetric lesser-semilattice a.cache b.cache in
+    λ i. record { registers = registers i; cache = caches i }
+
+pub both-associative : (a b c : Replica) → both (both a b) c ≡ both a (both b c)
+both-associative a b c =
+    let registers = joined-associative path_cmp_total path_cmp-IsAntisymmetric held-semilattice a.registers b.registers c.registers in
+    let caches = joined-associative id_cmp_total id_cmp-IsAntisymmetric lesser-semilattice a.cache b.cache c.cache in
+    λ i. record { registers = registers i; cache = caches i }
+
+pub both-idempotent : (a : Replica) → both a a ≡ a
+both-idempotent a =
+    let registers = joined-idempotent path_cmp_total path_cmp-IsAntisymmetric held-semilattice a.registers in
+    let caches = joined-idempotent id_cmp_total id_cmp-IsAntisymmetric lesser-semilattice a.cache in
+    λ i. record { registers = registers i; cache = caches i }

@@ -1,0 +1,280 @@
+//! Replicas: what is written and what is compiled, and builds.
+#![tactic(auto)]
+
+ghost use Rattle.std.specs.Prelude.{◌≡◌, ◌≢◌, ℕ, ◌++◌, ◌∷◌, [], List, if◌then◌else◌, is_some, IfOk, IfErr, OnOk, OnErr, Err, None, string_bytes, option_copied};
+ghost use Rattle.std.specs.FinMap as map;
+ghost use Rattle.std.specs.List.{count_by, slice_get};
+ghost use Rattle.go_text.specs.Editions.{edition_number};
+ghost use Rattle.ws_version.specs.Writes.{Write, held_cmp};
+ghost use Rattle.ws_version.specs.Kept.{StandsAt};
+ghost use Rattle.ws_register.specs.Edits.{top, edit_refusal, IsRefusal, edited};
+ghost use Rattle.ws_action.specs.Actions.{Action as AnAction, action_of, action_id, IsSized};
+ghost use Rattle.ws_action.specs.Clash.{AllSized, NoClash, hashed_actions};
+ghost use Rattle.ws_cache.specs.Held.{IsHeld, CacheStandsFor};
+ghost use Rattle.ws_cache.specs.Joined.{lesser};
+ghost use Rattle.ws_cache.specs.Count.{compiled_count};
+ghost use Rattle.ws_cache.specs.Compiles.{Compiles};
+ghost use Rattle.ws_graph.specs.Plan.{Planned, Sound, NoFiles, IsPlanOf};
+ghost use Rattle.ws_board.specs.Machine.{opening, is_finish};
+ghost use Rattle.ws_pool.specs.Runs.{RunsTo};
+ghost use Rattle.ws_replica.specs.Holdings.{ReplicaStandsFor, both};
+ghost use Rattle.ws_replica.specs.Builds.{IsBuilt};
+ghost use Rattle.ws_replica.specs.Reports.{Verdict as AVerdict, actions_of, verdict_of, IsReport, seen, is_good, rows};
+
+use go_parse::Parsed;
+use go_text::edition::Edition;
+use go_text::fault::Fault;
+use go_text::source::Source;
+use std::alloc::{AllocError, Global};
+use std::marker::Model;
+use thiserror::Error;
+use ws_action::Action;
+use ws_board::{Board, Built};
+use ws_cache::{Cache, Outcome};
+use ws_graph::{Node, PlanError, plan};
+use ws_pool::drive;
+use ws_register::{EditError, Registers};
+use ws_version::{Held, Join};
+
+#[cfg(test)]
+mod tests;
+
+/// Why there is no report.
+#[derive(Debug, Drop, Error)]
+pub enum BuildError {
+    /// No file of the directory belongs to a build.
+    #[error("no package")]
+    NoPackage,
+    /// An allocation was refused.
+    #[error("memory")]
+    Memory,
+}
+
+/// What a build says of a directory.
+#[derive(Drop)]
+pub enum Verdict {
+    Good,
+    /// It imports one that is faulty or blocked.
+    Blocked,
+    Faulty(Fault),
+}
+
+impl Verdict {
+    /// Whether the directory is good.
+    pub fn is_good(&self) -> bool
+        ensures { result ≡ is_good self.now }
+    {
+        match self {
+            Verdict::Good => true,
+            Verdict::Blocked | Verdict::Faulty(_) => false,
+        }
+    }
+}
+
+/// What a build says of each directory that it reaches, in order, and how many actions it compiled.
+#[derive(Drop)]
+pub struct Report {
+    pub directories: Vec<(String, Verdict)>,
+    pub compiled: u64,
+}
+
+/// What is held at each path, and what is compiled.
+#[derive(Drop)]
+pub struct Replica {
+    registers: Registers,
+    cache: Cache,
+}
+
+impl Model for Replica {
+    ghost use Rattle.ws_replica.specs.Holdings as holdings;
+
+    ghost Value = { holdings.Replica };
+
+    ghost coded = { holdings.replica_code };
+
+    ghost view = { λ a. record { registers = a.registers; cache = a.cache } };
+}
+
+impl Replica {
+    /// A replica that took nothing.
+    pub fn new(alloc: Global) -> Replica
+        ensures stands { ReplicaStandsFor result [] [] }
+    {
+        Replica {
+            registers: Registers::new(alloc),
+            cache: Cache::new(alloc),
+        }
+    }
+
+    /// What is held at a path, a removal too.
+    pub fn get(&self, path: &str) -> Option<&Held>
+        ensures { (writes : List Write) (actions : List AnAction) → ReplicaStandsFor self.now writes actions → StandsAt held_cmp writes path.now (option_copied result) }
+    {
+        self.registers.get(path)
+    }
+
+    /// The greatest counter of the writes, and 0 for none.
+    pub fn greatest_counter(&self) -> u64
+        ensures stands { (writes : List Write) (actions : List AnAction) → ReplicaStandsFor self.now writes actions → result ≡ top writes }
+    {
+        self.registers.greatest_counter()
+    }
+
+    /// The replica with that number writes a text at a path: one more than the greatest counter is
+    /// its counter. An `Err` changes nothing.
+    pub fn edit(&mut self, path: String, source: Source, number: u32) -> Result<(), EditError>
+        ensures refused { (writes : List Write) (actions : List AnAction) → ReplicaStandsFor self.old writes actions → IfErr result (λ error. IsRefusal error (edit_refusal (top writes) (string_bytes path) source.name)) }
+        ensures allowed { (writes : List Write) (actions : List AnAction) → ReplicaStandsFor self.old writes actions → OnOk result (edit_refusal (top writes) (string_bytes path) source.name ≡ None) }
+        ensures err { OnErr result (self.new ≡ self.old) }
+        ensures stands { OnOk result ((writes : List Write) (actions : List AnAction) → ReplicaStandsFor self.old writes actions → ReplicaStandsFor self.new (writes ++ (string_bytes path, edited (top writes) number source.text) ∷ []) actions) }
+    {
+        // So that the counter is known as that of the writes.
+        let _greatest = self.registers.greatest_counter();
+        self.registers.edit(path, source, number)
+    }
+}
+
+impl Join for Replica {
+    ghost use Rattle.ws_replica.specs.Holdings.{both, both-commutative, both-associative, both-idempotent};
+
+    ghost joined = { both };
+
+    ghost commutative = { both-commutative };
+
+    ghost associative = { both-associative };
+
+    ghost idempotent = { both-idempotent };
+
+    fn copy(&self) -> Result<Replica, AllocError> {
+        let registers = self.registers.copy()?;
+        let cache = self.cache.copy()?;
+        Ok(Replica { registers, cache })
+    }
+
+    fn merge(&mut self, other: &Replica) -> Result<(), AllocError>
+        ensures ok { OnOk result (self.new ≡ both self.old other.now) }
+        ensures err { OnErr result (self.new ≡ self.old) }
+        ensures stands { OnOk result ((V W : List Write) (E F : List AnAction) → ReplicaStandsFor self.old V E → ReplicaStandsFor other.now W F → ReplicaStandsFor self.new (V ++ W) (E ++ F)) }
+    {
+        let mut cache = self.cache.copy()?;
+        cache.merge(&other.cache)?;
+        self.registers.merge(&other.registers)?;
+        self.cache = cache;
+        Ok(())
+    }
+}
+
+fn verdict_of(outcome: &Outcome) -> Result<Verdict, AllocError>
+    ensures { IfOk result (λ verdict. seen verdict ≡ verdict_of outcome.now) }
+{
+    match outcome {
+        Outcome::Good => Ok(Verdict::Good),
+        Outcome::Faulty(fault) => Ok(Verdict::Faulty(fault.copy()?)),
+    }
+}
+
+fn report_of(
+    alloc: Global,
+    directory: String,
+    verdict: Verdict,
+    compiled: u64,
+) -> Result<Report, AllocError>
+    ensures rows { IfOk result (λ report. rows report.directories.items ≡ (string_bytes directory, seen verdict) ∷ []) }
+    ensures compiled { IfOk result (λ report. report.compiled ≡ compiled) }
+{
+    let mut directories = Vec::new(alloc);
+    directories.push((directory, verdict))?;
+    Ok(Report {
+        directories,
+        compiled,
+    })
+}
+
+// Compiles what the cache lacks.
+fn run_action(alloc: Global, action: Action, cache: &Cache) -> Result<Built, AllocError>
+    ensures { IfOk result (λ built. RunsTo (opening cache.now (action ∷ [])) built) }
+{
+    let mut actions = Vec::new(alloc);
+    actions.push(action)?;
+    let board = Board::open(alloc, actions, cache.copy()?)?;
+    let built = drive(board)?;
+    Ok(built)
+}
+
+// The report of a directory all of whose files parse, with the cache that goes with it.
+fn build_sound(
+    alloc: Global,
+    cache: &Cache,
+    directory: String,
+    parsed: Vec<Parsed>,
+    edition: Edition,
+) -> Result<(Report, Cache), BuildError>
+    ensures ok { IfOk result (λ built. (actions : List AnAction) → CacheStandsFor cache.now actions → AllSized actions → IsBuilt actions (action_of (edition_number edition) (string_bytes directory) parsed.items) (string_bytes directory) built.0 built.1) }
+    ensures memory { IfErr result (λ error. error ≡ BuildError.Memory) }
+{
+    let Ok(path) = directory.clone() else {
+        return Err(BuildError::Memory);
+    };
+    // The plan's files are in order of their names and have one package name.
+    let Ok(action) = Action::new(alloc, edition, path, parsed) else {
+        return Err(BuildError::Memory);
+    };
+    let Ok(built) = run_action(alloc, action, cache) else {
+        return Err(BuildError::Memory);
+    };
+    let Some(outcome) = built.result(0) else {
+        unreachable!();
+    };
+    let Ok(verdict) = verdict_of(outcome) else {
+        return Err(BuildError::Memory);
+    };
+    let compiled = built.compiled() as u64;
+    let Ok(report) = report_of(alloc, directory, verdict, compiled) else {
+        return Err(BuildError::Memory);
+    };
+    Ok((report, built.into_cache()))
+}
+
+/// Builds a directory: the report depends on the replica's sources alone, and what was compiled is
+/// put into its cache. `NoPackage` comes where the directory has no files that belong to a build.
+/// An `Err` changes nothing.
+pub fn build(
+    alloc: Global,
+    replica: &mut Replica,
+    directory: &str,
+    edition: Edition,
+) -> Result<Report, BuildError>
+    ensures ok { IfOk result (λ report. (W : List Write) (E : List AnAction) → ReplicaStandsFor replica.old W E → AllSized E → (planned : Planned) × IsPlanOf W directory.now planned × (planned ≢ NoFiles) × AllSized (actions_of (edition_number edition) directory.now planned) × (NoClash (hashed_actions (E ++ actions_of (edition_number edition) directory.now planned)) → IsReport (edition_number edition) directory.now planned (rows report.directories.items) × (report.compiled ≡ compiled_count E (actions_of (edition_number edition) directory.now planned)) × ReplicaStandsFor replica.new W (E ++ actions_of (edition_number edition) directory.now planned))) }
+    ensures registers { replica.new.registers ≡ replica.old.registers }
+    ensures none { result ≡ Err BuildError.NoPackage → (W : List Write) (E : List AnAction) → ReplicaStandsFor replica.old W E → IsPlanOf W directory.now NoFiles }
+    ensures err { OnErr result (replica.new ≡ replica.old) }
+{
+    let plan = match plan(alloc, &replica.registers, directory) {
+        Ok(plan) => plan,
+        Err(PlanError::NoPackage) => return Err(BuildError::NoPackage),
+        Err(PlanError::Memory) => return Err(BuildError::Memory),
+    };
+    let (path, node) = plan.into_parts();
+    match node {
+        Node::Faulty(fault) => {
+            let Ok(report) = report_of(alloc, path, Verdict::Faulty(fault), 0) else {
+                return Err(BuildError::Memory);
+            };
+            Ok(report)
+        }
+        Node::Sound(parsed) => {
+            match build_sound(alloc, &replica.cache, path, parsed, edition) {
+                Ok((report, cache)) => {
+                    replica.cache = cache;
+                    Ok(report)
+                }
+                Err(_) => Err(BuildError::Memory),
+            }
+        }
+    }
+}
+
+/// A plan has one report.
+pub fn law_one_report()
+    ensures { (edition : ℕ) (directory : List ℕ) (planned : Planned) (r s : List (List ℕ × AVerdict)) → IsReport edition directory planned r → IsReport edition directory planned s → r ≡ s }
+{}
