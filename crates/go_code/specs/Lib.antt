@@ -1,0 +1,9 @@
+pub mod Finals
+pub mod Functions
+pub mod Images
+pub mod Lines
+pub mod Machine
+pub mod Packages
+pub mod Steps
+pub mod Symbols
+pub mod Weight
