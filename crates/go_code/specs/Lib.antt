@@ -1,0 +1,11 @@
+pub mod Finals
+pub mod Follows
+pub mod Functions
+pub mod Images
+pub mod Lines
+pub mod Machine
+pub mod Packages
+pub mod Stands
+pub mod Steps
+pub mod Symbols
+pub mod Weight

@@ -1,0 +1,31 @@
+//! How programs end.
+
+use crate::cell::Text;
+
+/// Why a program panics.
+#[derive(Drop)]
+pub enum PanicKind {
+    /// A division by zero.
+    Divide,
+    /// An index out of range.
+    Index,
+    /// A negative shift count.
+    Shift,
+    /// More open calls than there may be.
+    Depth,
+    /// A text longer than texts may be.
+    Long,
+    /// The program's own, with its text.
+    User(Text),
+}
+
+/// How a program ends that is given some ticks.
+#[derive(Drop)]
+pub enum Ending {
+    /// Each start step has returned.
+    Ended,
+    /// A tick was wanted and none was left.
+    Cut,
+    /// The program panicked.
+    Panicked(PanicKind),
+}
