@@ -24,8 +24,8 @@ unfoldable pub IsParse : List ℕ → Parse → Type 0
 IsParse text (Derived file) = (ts : List Token) × Lexes text ts × Derives (lexemes text ts) file
 IsParse text (Stopped place) = (ts : List Token) × Lexes text ts × StopsAt (lexemes text ts) (place_at text (length text)) place
 
--- a source that is a file: the file's name, the text, and the name in the package clause
+-- a source that is a file: the file's name, the text, and its tree
 pub record Parsed : Type 0 where
   pub name : List ℕ
   pub text : List ℕ
-  pub «package» : Name
+  pub file : File

@@ -23,7 +23,7 @@ impl Model for Parsed {
 
     ghost Value = { parses.Parsed };
 
-    ghost view = { λ a. record { name = a.source.name; text = a.source.text; «package» = a.file.package } };
+    ghost view = { λ a. record { name = a.source.name; text = a.source.text; file = a.file } };
 
     ghost invariant = { λ a. parses.IsParse a.source.text (parses.Derived a.file) };
 }
@@ -53,10 +53,17 @@ impl Parsed {
         self.source.text()
     }
 
+    /// The file that the text is.
+    pub fn file(&self) -> &File
+        ensures value { result.now ≡ self.now.file }
+        ensures parse { IsParse self.now.text (Derived self.now.file) }
+    {
+        &self.file
+    }
+
     /// The name in the file's package clause.
     pub fn package(&self) -> &Name
-        ensures value { result.now ≡ self.now.package }
-        ensures parse { IsParse self.now.text (Derived (record { «package» = self.now.package })) }
+        ensures { result.now ≡ self.now.file.package }
     {
         self.file.package()
     }

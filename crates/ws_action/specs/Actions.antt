@@ -50,7 +50,7 @@ ascends (first ∷ files) = ascends_from first.name files
 -- each has the package name of the first
 abbrev pub has_one_name : List Parsed → Bool
 has_one_name [] = true
-has_one_name (first ∷ files) = list_all (λ file. bytes_eq file.package.text first.package.text) files
+has_one_name (first ∷ files) = list_all (λ file. bytes_eq file.file.package.text first.file.package.text) files
 
 -- the first that holds: no file, names not strictly ascending, package names that differ
 abbrev pub action_refusal : List Parsed → Option ActionError

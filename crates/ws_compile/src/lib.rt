@@ -26,7 +26,7 @@ fn outcome_of(action: &Action) -> Result<Outcome, AllocError>
     ensures { IfOk result (λ outcome. Compiles action.now outcome) }
 {
     let first = &action.files()[0];
-    let package = first.package();
+    let package = first.file().package();
     if package.text() != "main" {
         return Ok(Outcome::Good);
     }

@@ -7,7 +7,7 @@ use Rattle.ws_version.specs.Writes.{Write}
 use Rattle.ws_version.specs.Kept.{SameMembers}
 use Rattle.ws_register.specs.Sources.{package_files}
 use Rattle.ws_register.specs.Laws.{same_sources}
-use Rattle.go_parse.specs.Grammar.{Name, File}
+use Rattle.go_parse.specs.Grammar.{File}
 use Rattle.go_parse.specs.Parse.{Parse, Parsed, Derived, Stopped, IsParse}
 use Rattle.ws_graph.specs.Plan.{Planned, NoFiles, Faulty, Sound, source_of, AllParsed, AreParsed, AllNamed, StopsIn, DiffersIn, IsSound, IsPlan, IsPlanOf}
 use Rattle.go_parse.proofs.Once.{one_parse}
@@ -20,17 +20,17 @@ place_of : Place → Parse → Place
 place_of p (Derived file) = p
 place_of p (Stopped place) = place
 
-name_of : Name → Parse → Name
-name_of n (Derived file) = file.«package»
-name_of n (Stopped place) = n
+file_in : File → Parse → File
+file_in other (Derived file) = file
+file_in other (Stopped place) = other
 
 one_place : (t : List ℕ) (p q : Place) → IsParse t (Stopped p) → IsParse t (Stopped q) → p ≡ q
 unfolding place_of
 one_place t p q g h = ap (place_of p) (one_parse t (Stopped p) (Stopped q) g h)
 
-one_name : (t : List ℕ) (m n : Name) → IsParse t (Derived (record { «package» = m })) → IsParse t (Derived (record { «package» = n })) → m ≡ n
-unfolding name_of
-one_name t m n g h = ap (name_of m) (one_parse t (Derived (record { «package» = m })) (Derived (record { «package» = n })) g h)
+one_file : (t : List ℕ) (a b : File) → IsParse t (Derived a) → IsParse t (Derived b) → a ≡ b
+unfolding file_in
+one_file t a b g h = ap (file_in a) (one_parse t (Derived a) (Derived b) g h)
 
 not_both : (t : List ℕ) (p : Place) (file : File) → IsParse t (Stopped p) → IsParse t (Derived file) → ⊥
 not_both t p file g h = let e = one_parse t (Stopped p) (Derived file) g h in cc
@@ -41,7 +41,7 @@ no_stop [] [] n t rest place e all stops = cc
 no_stop [] (p ∷ ps) n t rest place e all stops =
     let heads : source_of p ≡ (n, t) = cc in
     let texts : p.text ≡ t = ap (λ (s : Pair). s.1) heads in
-    not_both t place (record { «package» = p.package }) stops (subst (λ z. IsParse z (Derived (record { «package» = p.package }))) texts all.0)
+    not_both t place p.file stops (subst (λ z. IsParse z (Derived p.file)) texts all.0)
 no_stop (f ∷ front) [] n t rest place e all stops = cc
 no_stop (f ∷ front) (p ∷ ps) n t rest place e all stops =
     let tails : map source_of ps ≡ map source_of front ++ (n, t) ∷ rest = cc in
@@ -58,10 +58,10 @@ one_stop [] [] n t m s rest left p q e f b g h =
     record { names = ap (λ (z : Pair). z.0) heads; places = one_place s p q (subst (λ z. IsParse z (Stopped p)) (ap (λ (z : Pair). z.1) heads) g) h }
 one_stop [] (x ∷ back) n t m s rest left p q e f b g h =
     let heads : (n, t) ≡ source_of x = cc in
-    absurd (not_both x.text p (record { «package» = x.package }) (subst (λ z. IsParse z (Stopped p)) (ap (λ (z : Pair). z.1) heads) g) b.0)
+    absurd (not_both x.text p x.file (subst (λ z. IsParse z (Stopped p)) (ap (λ (z : Pair). z.1) heads) g) b.0)
 one_stop (x ∷ front) [] n t m s rest left p q e f b g h =
     let heads : source_of x ≡ (m, s) = cc in
-    absurd (not_both x.text q (record { «package» = x.package }) (subst (λ z. IsParse z (Stopped q)) (sym (ap (λ (z : Pair). z.1) heads)) h) f.0)
+    absurd (not_both x.text q x.file (subst (λ z. IsParse z (Stopped q)) (sym (ap (λ (z : Pair). z.1) heads)) h) f.0)
 one_stop (x ∷ front) (y ∷ back) n t m s rest left p q e f b g h =
     let tails : map source_of front ++ (n, t) ∷ rest ≡ map source_of back ++ (m, s) ∷ left = cc in
     one_stop front back n t m s rest left p q tails f.1 b.1 g h
@@ -76,24 +76,24 @@ one_list (p ∷ ps) (q ∷ qs) e f g =
     let tails : map source_of ps ≡ map source_of qs = cc in
     let names : p.name ≡ q.name = ap (λ (z : Pair). z.0) heads in
     let texts : p.text ≡ q.text = ap (λ (z : Pair). z.1) heads in
-    let packages : p.package ≡ q.package = one_name q.text p.package q.package (subst (λ z. IsParse z (Derived (record { «package» = p.package }))) texts f.0) g.0 in
-    let same : p ≡ q = λ i. record { name = names i; text = texts i; «package» = packages i } in
+    let trees : p.file ≡ q.file = one_file q.text p.file q.file (subst (λ z. IsParse z (Derived p.file)) texts f.0) g.0 in
+    let same : p ≡ q = λ i. record { name = names i; text = texts i; file = trees i } in
     ap (λ z. z ∷ ps) same ∙ ap (λ z. q ∷ z) (one_list ps qs tails f.1 g.1)
 
 pub one_parsed : (files : List Pair) (ps qs : List Parsed) → AreParsed files ps → AreParsed files qs → ps ≡ qs
 one_parsed files ps qs g h = one_list ps qs (g.sources ∙ sym h.sources) g.parses h.parses
 
 -- the first that is named otherwise is one
-one_other : (name : List ℕ) (front back : List Parsed) (p q : Parsed) (rest left : List Parsed) → front ++ p ∷ rest ≡ back ++ q ∷ left → AllNamed name front → AllNamed name back → p.package.text ≢ name → q.package.text ≢ name → p ≡ q
+one_other : (name : List ℕ) (front back : List Parsed) (p q : Parsed) (rest left : List Parsed) → front ++ p ∷ rest ≡ back ++ q ∷ left → AllNamed name front → AllNamed name back → p.file.package.text ≢ name → q.file.package.text ≢ name → p ≡ q
 one_other name [] [] p q rest left e f b g h = cc
-one_other name [] (y ∷ back) p q rest left e f b g h = let heads : p ≡ y = cc in absurd (g (ap (λ (z : Parsed). z.package.text) heads ∙ b.0))
-one_other name (x ∷ front) [] p q rest left e f b g h = let heads : x ≡ q = cc in absurd (h (sym (ap (λ (z : Parsed). z.package.text) heads) ∙ f.0))
+one_other name [] (y ∷ back) p q rest left e f b g h = let heads : p ≡ y = cc in absurd (g (ap (λ (z : Parsed). z.file.package.text) heads ∙ b.0))
+one_other name (x ∷ front) [] p q rest left e f b g h = let heads : x ≡ q = cc in absurd (h (sym (ap (λ (z : Parsed). z.file.package.text) heads) ∙ f.0))
 one_other name (x ∷ front) (y ∷ back) p q rest left e f b g h =
     let tails : front ++ p ∷ rest ≡ back ++ q ∷ left = cc in
     one_other name front back p q rest left tails f.1 b.1 g h
 
 -- none is named otherwise where all have the name
-named_among : (name : List ℕ) (front : List Parsed) (p : Parsed) (rest : List Parsed) → AllNamed name (front ++ p ∷ rest) → p.package.text ≡ name
+named_among : (name : List ℕ) (front : List Parsed) (p : Parsed) (rest : List Parsed) → AllNamed name (front ++ p ∷ rest) → p.file.package.text ≡ name
 named_among name [] p rest h = h.0
 named_among name (x ∷ front) p rest h = named_among name front p rest h.1
 
@@ -122,17 +122,17 @@ differs_once files f g a b =
     let same : a.first ∷ (a.front ++ a.other ∷ a.rest) ≡ b.first ∷ (b.front ++ b.other ∷ b.rest) = one_parsed files _ _ a.parsed b.parsed in
     let heads : a.first ≡ b.first = cc in
     let tails : a.front ++ a.other ∷ a.rest ≡ b.front ++ b.other ∷ b.rest = cc in
-    let names : b.first.package.text ≡ a.first.package.text = ap (λ (p : Parsed). p.package.text) (sym heads) in
-    let other : a.other ≡ b.other = one_other a.first.package.text a.front b.front a.other b.other a.rest b.rest tails a.named (subst (λ n. AllNamed n b.front) names b.named) a.differs (λ e. b.differs (e ∙ sym names)) in
-    a.is ∙ ap (λ (p : Parsed). let f : Fault = record { file = p.name; place = p.package.place; kind = PackageName } in f) other ∙ sym b.is
+    let names : b.first.file.package.text ≡ a.first.file.package.text = ap (λ (p : Parsed). p.file.package.text) (sym heads) in
+    let other : a.other ≡ b.other = one_other a.first.file.package.text a.front b.front a.other b.other a.rest b.rest tails a.named (subst (λ n. AllNamed n b.front) names b.named) a.differs (λ e. b.differs (e ∙ sym names)) in
+    a.is ∙ ap (λ (p : Parsed). let f : Fault = record { file = p.name; place = p.file.package.place; kind = PackageName } in f) other ∙ sym b.is
 
 differs_or_sound : (files : List Pair) (f : Fault) (ps : List Parsed) → DiffersIn files f → IsSound files ps → ⊥
 differs_or_sound files f ps a b =
     let same : a.first ∷ (a.front ++ a.other ∷ a.rest) ≡ b.first ∷ b.rest = one_parsed files _ _ a.parsed b.parses ∙ b.is in
     let heads : a.first ≡ b.first = cc in
     let tails : a.front ++ a.other ∷ a.rest ≡ b.rest = cc in
-    let names : AllNamed b.first.package.text (a.front ++ a.other ∷ a.rest) = subst (AllNamed b.first.package.text) (sym tails) b.named in
-    a.differs (named_among b.first.package.text a.front a.other a.rest names ∙ ap (λ (p : Parsed). p.package.text) (sym heads))
+    let names : AllNamed b.first.file.package.text (a.front ++ a.other ∷ a.rest) = subst (AllNamed b.first.file.package.text) (sym tails) b.named in
+    a.differs (named_among b.first.file.package.text a.front a.other a.rest names ∙ ap (λ (p : Parsed). p.file.package.text) (sym heads))
 
 pub one_plan : (files : List Pair) (p q : Planned) → IsPlan files p → IsPlan files q → p ≡ q
 one_plan files NoFiles NoFiles g h = refl

@@ -17,26 +17,26 @@ pub record Leads (name : List ℕ) (left all : List Parsed) : Type 0 where
 pub leads_all : (name : List ℕ) (all : List Parsed) → Leads name all all
 leads_all name all = record { named = λ h. h; other = λ other h. h }
 
-pub leads_more : (name : List ℕ) (p : Parsed) (left all : List Parsed) → p.package.text ≡ name → Leads name (p ∷ left) all → Leads name left all
+pub leads_more : (name : List ℕ) (p : Parsed) (left all : List Parsed) → p.file.package.text ≡ name → Leads name (p ∷ left) all → Leads name left all
 leads_more name p left all here h = record {
   named = λ n. h.named (here, n);
   other = λ other o. h.other other (record { front = p ∷ o.front; rest = o.rest; whole = ap (λ z. p ∷ z) o.whole; named = (here, o.named); differs = o.differs });
 }
 
-pub other_here : (name : List ℕ) (p : Parsed) (left all : List Parsed) → p.package.text ≢ name → Leads name (p ∷ left) all → HasOther name all p
+pub other_here : (name : List ℕ) (p : Parsed) (left all : List Parsed) → p.file.package.text ≢ name → Leads name (p ∷ left) all → HasOther name all p
 other_here name p left all differs h = h.other p (record { front = []; rest = left; whole = refl; named = tt; differs = differs })
 
 -- the element that is read is the head of what is left
 left_here : (ps : List Parsed) (i : ℕ) (p : Parsed) → p ≡ get_or ps i p → i < length ps → drop i ps ≡ p ∷ drop (i + 1) ps
 left_here ps i p is inside = rw add-one (drop-cons ps i p inside ∙ ap (λ q. q ∷ drop (suc i) ps) (sym is))
 
-pub leads_next : (name : List ℕ) (ps : List Parsed) (i : ℕ) (p : Parsed) → p ≡ get_or ps i p → i < length ps → p.package.text ≡ name → Leads name (drop i ps) ps → Leads name (drop (i + 1) ps) ps
+pub leads_next : (name : List ℕ) (ps : List Parsed) (i : ℕ) (p : Parsed) → p ≡ get_or ps i p → i < length ps → p.file.package.text ≡ name → Leads name (drop i ps) ps → Leads name (drop (i + 1) ps) ps
 leads_next name ps i p is inside here h = leads_more name p (drop (i + 1) ps) ps here (subst (λ z. Leads name z ps) (left_here ps i p is inside) h)
 
-pub other_next : (name : List ℕ) (ps : List Parsed) (i : ℕ) (p : Parsed) → p ≡ get_or ps i p → i < length ps → p.package.text ≢ name → Leads name (drop i ps) ps → HasOther name ps p
+pub other_next : (name : List ℕ) (ps : List Parsed) (i : ℕ) (p : Parsed) → p ≡ get_or ps i p → i < length ps → p.file.package.text ≢ name → Leads name (drop i ps) ps → HasOther name ps p
 other_next name ps i p is inside differs h = other_here name p (drop (i + 1) ps) ps differs (subst (λ z. Leads name z ps) (left_here ps i p is inside) h)
 
-pub parsed_more : (ps : List Parsed) (p : Parsed) → AllParsed ps → IsParse p.text (Derived (record { «package» = p.package })) → AllParsed (ps ++ p ∷ [])
+pub parsed_more : (ps : List Parsed) (p : Parsed) → AllParsed ps → IsParse p.text (Derived p.file) → AllParsed (ps ++ p ∷ [])
 parsed_more [] p h here = (here, tt)
 parsed_more (q ∷ ps) p h here = (h.0, parsed_more ps p h.1 here)
 
@@ -58,7 +58,7 @@ map_pushed [] p rest = refl
 map_pushed (q ∷ ps) p rest = ap (λ z. source_of q ∷ z) (map_pushed ps p rest)
 
 -- one more file is parsed
-pub parsed_next : (ps new : List Parsed) (p : Parsed) (s : Source) (left rest files : List Source) → new ≡ ps ++ p ∷ [] → left ≡ s ∷ rest → source_of p ≡ pair_of s → IsParse p.text (Derived (record { «package» = p.package })) → (map source_of ps ++ map pair_of left ≡ map pair_of files) × AllParsed ps → (map source_of new ++ map pair_of rest ≡ map pair_of files) × AllParsed new
+pub parsed_next : (ps new : List Parsed) (p : Parsed) (s : Source) (left rest files : List Source) → new ≡ ps ++ p ∷ [] → left ≡ s ∷ rest → source_of p ≡ pair_of s → IsParse p.text (Derived p.file) → (map source_of ps ++ map pair_of left ≡ map pair_of files) × AllParsed ps → (map source_of new ++ map pair_of rest ≡ map pair_of files) × AllParsed new
 parsed_next ps new p s left rest files pushed taken is here h =
     subst (λ z. (map source_of z ++ map pair_of rest ≡ map pair_of files) × AllParsed z) (sym pushed)
     (map_pushed ps p (map pair_of rest) ∙ ap (λ z. map source_of ps ++ z ∷ map pair_of rest) is ∙ sym (ap (λ z. map source_of ps ++ map pair_of z) taken) ∙ h.0, parsed_more ps p h.1 here)

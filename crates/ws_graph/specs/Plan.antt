@@ -24,7 +24,7 @@ source_of p = (p.name, p.text)
 -- each is what its text parses to
 abbrev pub AllParsed : List Parsed → Type 0
 AllParsed [] = Unit {0}
-AllParsed (p ∷ ps) = IsParse p.text (Derived (record { «package» = p.package })) × AllParsed ps
+AllParsed (p ∷ ps) = IsParse p.text (Derived p.file) × AllParsed ps
 
 -- the files parse to these
 pub record AreParsed (files : List (List ℕ × List ℕ)) (parsed : List Parsed) : Type 0 where
@@ -34,7 +34,7 @@ pub record AreParsed (files : List (List ℕ × List ℕ)) (parsed : List Parsed
 -- all have the package name of the first
 abbrev pub AllNamed : List ℕ → List Parsed → Type 0
 AllNamed name [] = Unit {0}
-AllNamed name (p ∷ ps) = (p.package.text ≡ name) × AllNamed name ps
+AllNamed name (p ∷ ps) = (p.file.package.text ≡ name) × AllNamed name ps
 
 -- the first file that doesn't parse stops there
 pub record StopsIn (files : List (List ℕ × List ℕ)) (fault : Fault) : Type 0 where
@@ -54,7 +54,7 @@ pub record HasOther (name : List ℕ) (parsed : List Parsed) (other : Parsed) : 
   pub rest : List Parsed
   pub whole : parsed ≡ front ++ other ∷ rest
   pub named : AllNamed name front
-  pub differs : other.package.text ≢ name
+  pub differs : other.file.package.text ≢ name
 
 -- all files parse, and this is the first whose package name isn't the first file's
 pub record DiffersIn (files : List (List ℕ × List ℕ)) (fault : Fault) : Type 0 where
@@ -63,9 +63,9 @@ pub record DiffersIn (files : List (List ℕ × List ℕ)) (fault : Fault) : Typ
   pub other : Parsed
   pub rest : List Parsed
   pub parsed : AreParsed files (first ∷ front ++ other ∷ rest)
-  pub named : AllNamed first.package.text front
-  pub differs : other.package.text ≢ first.package.text
-  pub is : fault ≡ record { file = other.name; place = other.package.place; kind = PackageName }
+  pub named : AllNamed first.file.package.text front
+  pub differs : other.file.package.text ≢ first.file.package.text
+  pub is : fault ≡ record { file = other.name; place = other.file.package.place; kind = PackageName }
 
 -- all files parse, and have one package name
 pub record IsSound (files : List (List ℕ × List ℕ)) (parsed : List Parsed) : Type 0 where
@@ -73,7 +73,7 @@ pub record IsSound (files : List (List ℕ × List ℕ)) (parsed : List Parsed) 
   pub rest : List Parsed
   pub is : parsed ≡ first ∷ rest
   pub parses : AreParsed files parsed
-  pub named : AllNamed first.package.text rest
+  pub named : AllNamed first.file.package.text rest
 
 -- A file that doesn't parse comes before names that differ. Without imports nothing else is a plan's fault.
 abbrev pub IsPlan : List (List ℕ × List ℕ) → Planned → Type 0

@@ -30,7 +30,7 @@ enum FileError {
 }
 
 fn parsed_file(alloc: Global, source: Source) -> Result<Parsed, FileError>
-    ensures ok { IfOk result (λ p. (source_of p ≡ pair_of source) × IsParse p.text (Derived (record { «package» = p.package }))) }
+    ensures ok { IfOk result (λ p. (source_of p ≡ pair_of source) × IsParse p.text (Derived p.file)) }
     ensures stopped { (fault : AFault) → result ≡ Err (FileError.Stopped fault) → (place : APlace) × IsParse source.text (Stopped place) × (fault ≡ record { file = source.name; place = place; kind = kind.LeftOut }) }
 {
     let Ok(name) = String::from_str(alloc, source.name()) else {
@@ -39,7 +39,7 @@ fn parsed_file(alloc: Global, source: Source) -> Result<Parsed, FileError>
     match Parsed::new(alloc, source) {
         Ok(parsed) => {
             // The accessor is what says that this is what the text parses to.
-            let _package = parsed.package();
+            let _file = parsed.file();
             Ok(parsed)
         }
         Err(ParseError::LeftOut(place)) => {
@@ -68,8 +68,8 @@ fn parsed_files(alloc: Global, files: Vec<Source>) -> Result<Vec<Parsed>, FileEr
 }
 
 fn is_named(name: &str, parsed: &Parsed) -> bool
-    ensures named { OnTrue result (parsed.now.package.text ≡ name.now) }
-    ensures other { OnFalse result (parsed.now.package.text ≢ name.now) }
+    ensures named { OnTrue result (parsed.now.file.package.text ≡ name.now) }
+    ensures other { OnFalse result (parsed.now.file.package.text ≢ name.now) }
 {
     parsed.package().text() == name
 }

@@ -41,10 +41,10 @@ Read files = ((parsed : List Parsed) × AreParsed files parsed) ⊎ ((fault : Fa
 
 read_one : (name text : List ℕ) (files : List (List ℕ × List ℕ)) (parse : Parse) → IsParse text parse → Read files → Read ((name, text) ∷ files)
 read_one name text files (Derived file) h (inl ps) =
-    let new : Parsed = record { name = name; text = text; «package» = file.«package» } in
+    let new : Parsed = record { name = name; text = text; file = file } in
     inl (new ∷ ps.0, record { sources = ap (λ (z : List (List ℕ × List ℕ)). (name, text) ∷ z) ps.1.sources; parses = (h, ps.1.parses) })
 read_one name text files (Derived file) h (inr stop) =
-    let new : Parsed = record { name = name; text = text; «package» = file.«package» } in
+    let new : Parsed = record { name = name; text = text; file = file } in
     let s = stop.1 in
     inr (
       stop.0,
@@ -83,15 +83,15 @@ read (file ∷ files) = let p = parse_exists file.1 in read_one file.0 file.1 fi
 abbrev Named : List ℕ → List Parsed → Type 0
 Named name ps = AllNamed name ps ⊎ ((other : Parsed) × HasOther name ps other)
 
-named_one : (name : List ℕ) (p : Parsed) (ps : List Parsed) (b : Bool) → bytes_eq p.package.text name ≡ b → Named name ps → Named name (p ∷ ps)
-named_one name p ps true e (inl n) = inl ((bytes_eq-Decides p.package.text name).0 e, n)
+named_one : (name : List ℕ) (p : Parsed) (ps : List Parsed) (b : Bool) → bytes_eq p.file.package.text name ≡ b → Named name ps → Named name (p ∷ ps)
+named_one name p ps true e (inl n) = inl ((bytes_eq-Decides p.file.package.text name).0 e, n)
 named_one name p ps true e (inr o) = inr (
   o.0,
   record {
     front = p ∷ o.1.front;
     rest = o.1.rest;
     whole = ap (λ (z : List Parsed). p ∷ z) o.1.whole;
-    named = ((bytes_eq-Decides p.package.text name).0 e, o.1.named);
+    named = ((bytes_eq-Decides p.file.package.text name).0 e, o.1.named);
     differs = o.1.differs;
   },
 )
@@ -102,19 +102,19 @@ named_one name p ps false e n = inr (
     rest = ps;
     whole = refl;
     named = tt;
-    differs = λ q. let t = (bytes_eq-Decides p.package.text name).1 q in cc;
+    differs = λ q. let t = (bytes_eq-Decides p.file.package.text name).1 q in cc;
   },
 )
 
 names : (name : List ℕ) (ps : List Parsed) → Named name ps
 names name [] = inl tt
-names name (p ∷ ps) = named_one name p ps (bytes_eq p.package.text name) refl (names name ps)
+names name (p ∷ ps) = named_one name p ps (bytes_eq p.file.package.text name) refl (names name ps)
 
-plan_named : (files : List (List ℕ × List ℕ)) (first : Parsed) (rest : List Parsed) → AreParsed files (first ∷ rest) → Named first.package.text rest → (p : Planned) × IsPlan files p
+plan_named : (files : List (List ℕ × List ℕ)) (first : Parsed) (rest : List Parsed) → AreParsed files (first ∷ rest) → Named first.file.package.text rest → (p : Planned) × IsPlan files p
 plan_named files first rest a (inl n) = (Sound (first ∷ rest), record { first = first; rest = rest; is = refl; parses = a; named = n })
 plan_named files first rest a (inr o) =
     let h = o.1 in (
-      Faulty (record { file = o.0.name; place = o.0.package.place; kind = PackageName }),
+      Faulty (record { file = o.0.name; place = o.0.file.package.place; kind = PackageName }),
       inr (record {
         first = first;
         front = h.front;
@@ -129,7 +129,7 @@ plan_named files first rest a (inr o) =
 
 plan_parsed : (file : List ℕ × List ℕ) (files : List (List ℕ × List ℕ)) (parsed : List Parsed) → AreParsed (file ∷ files) parsed → (p : Planned) × IsPlan (file ∷ files) p
 plan_parsed file files [] a = let none = a.sources in cc
-plan_parsed file files (first ∷ rest) a = plan_named (file ∷ files) first rest a (names first.package.text rest)
+plan_parsed file files (first ∷ rest) a = plan_named (file ∷ files) first rest a (names first.file.package.text rest)
 
 plan_read : (file : List ℕ × List ℕ) (files : List (List ℕ × List ℕ)) → Read (file ∷ files) → (p : Planned) × IsPlan (file ∷ files) p
 plan_read file files (inl ps) = plan_parsed file files ps.0 ps.1
@@ -155,10 +155,9 @@ outcome_by file name false e = (outcome.Good, record { main = λ is. let t = (by
 
 some_outcome : (parsed : List Parsed) (first : Parsed) (rest : List Parsed) → parsed ≡ first ∷ rest → AllParsed parsed → (o : Outcome) × CompilesFirst (map source_of parsed) o
 some_outcome parsed first rest e h =
-    let o = outcome_by first.name first.package (bytes_eq first.package.text (codes "main")) refl in
+    let o = outcome_by first.name first.file.package (bytes_eq first.file.package.text (codes "main")) refl in
     let all : AllParsed (first ∷ rest) = subst AllParsed e h in
-    let file : File = record { «package» = first.package } in
-    (o.0, subst (λ ps. CompilesFirst (map source_of ps) o.0) (sym e) (file, (all.0, o.1)))
+    (o.0, subst (λ ps. CompilesFirst (map source_of ps) o.0) (sym e) (first.file, (all.0, o.1)))
 
 pub some_report : (edition : ℕ) (directory : List ℕ) (files : List (List ℕ × List ℕ)) (p : Planned) → IsPlan files p → (r : List (List ℕ × Verdict)) × IsReport edition directory p r
 some_report edition directory files NoFiles h = ([], refl)
