@@ -2,9 +2,11 @@ pub mod Finals
 pub mod Follows
 pub mod Functions
 pub mod Images
+pub mod Kinds
 pub mod Lines
 pub mod Machine
 pub mod Packages
+pub mod Referred
 pub mod Stands
 pub mod Steps
 pub mod Symbols

@@ -1,4 +1,6 @@
 //! How programs end.
+ghost use Rattle.std.specs.Prelude.{◌≡◌};
+ghost use Rattle.go_code.specs.Kinds.{panic_word};
 
 use crate::cell::Text;
 
@@ -17,6 +19,22 @@ pub enum PanicKind {
     Long,
     /// The program's own, with its text.
     User(Text),
+}
+
+impl PanicKind {
+    /// The kind's word, as a run is told.
+    pub fn word(&self) -> &'static str
+        ensures { result.now ≡ panic_word self.now }
+    {
+        match self {
+            PanicKind::Divide => "divide",
+            PanicKind::Index => "index",
+            PanicKind::Shift => "shift",
+            PanicKind::Depth => "depth",
+            PanicKind::Long => "long",
+            PanicKind::User(_) => "user",
+        }
+    }
 }
 
 /// How a program ends that is given some ticks.

@@ -1,98 +1,13 @@
 //! Images: programs whose functions are known by number.
-ghost use Rattle.std.specs.Prelude.{◌≡◌, ◌<◌, ◌^◌, length};
+ghost use Rattle.std.specs.Prelude.{◌≡◌};
+
+pub mod function;
+pub mod setup;
 
 use crate::cell::Cell;
-use crate::instr::Instr;
+use crate::image::function::Function;
+use crate::image::setup::Setup;
 use std::marker::Model;
-
-/// A function: how many cells its parameters take, how many its frame has, the parameters
-/// among them, and its code.
-#[derive(Drop)]
-pub struct Function {
-    parameters: usize,
-    cells: usize,
-    code: Vec<Instr<usize>>,
-}
-
-impl Model for Function {
-    ghost use Rattle.go_code.specs.Functions as functions;
-
-    ghost Value = { functions.Function };
-
-    ghost view = { λ a. record { parameters = a.parameters; cells = a.cells; code = a.code.items } };
-}
-
-impl Function {
-    /// The function of so many parameter cells, so many frame cells and a code.
-    pub fn new(parameters: usize, cells: usize, code: Vec<Instr<usize>>) -> Function
-        ensures { result ≡ record { parameters = parameters; cells = cells; code = code.items } }
-    {
-        Function {
-            parameters,
-            cells,
-            code,
-        }
-    }
-
-    /// How many cells the parameters take.
-    pub fn parameters(&self) -> usize
-        ensures { result ≡ self.now.parameters }
-    {
-        self.parameters
-    }
-
-    /// How many cells the frame has, those of the parameters among them.
-    pub fn cells(&self) -> usize
-        ensures { result ≡ self.now.cells }
-    {
-        self.cells
-    }
-
-    /// The code.
-    pub fn code(&self) -> &[Instr<usize>]
-        ensures { result.now ≡ self.now.code }
-    {
-        self.code.as_slice()
-    }
-}
-
-/// What gives some package variables their values: how many cells its frame has, and its code.
-#[derive(Drop)]
-pub struct Setup {
-    cells: usize,
-    code: Vec<Instr<usize>>,
-}
-
-impl Model for Setup {
-    ghost use Rattle.go_code.specs.Functions as functions;
-
-    ghost Value = { functions.Setup };
-
-    ghost view = { λ a. record { cells = a.cells; code = a.code.items } };
-}
-
-impl Setup {
-    /// The setup of so many frame cells and a code.
-    pub fn new(cells: usize, code: Vec<Instr<usize>>) -> Setup
-        ensures { result ≡ record { cells = cells; code = code.items } }
-    {
-        Setup { cells, code }
-    }
-
-    /// How many cells the frame has.
-    pub fn cells(&self) -> usize
-        ensures { result ≡ self.now.cells }
-    {
-        self.cells
-    }
-
-    /// The code.
-    pub fn code(&self) -> &[Instr<usize>]
-        ensures { result.now ≡ self.now.code }
-    {
-        self.code.as_slice()
-    }
-}
 
 /// A step of a program's start.
 #[derive(Drop)]

@@ -54,7 +54,8 @@ impl Symbol {
 }
 
 /// One instruction. `R` is what it refers to functions by: a `Symbol` in an object, and in an
-/// image the function's number.
+/// image the function's number. What is about the frame alone, about globals, the operators and
+/// the jumps are to join as enums of their own, each with one definition and one function.
 #[derive(Drop)]
 pub enum Instr<R> {
     /// The cell goes on top of the stack.

@@ -1,4 +1,24 @@
 //! Code for the machine: cells, instructions, objects and images, and what an image does.
+//!
+//! A package is compiled to an [`object::Object`], whose instructions refer to functions by
+//! symbols; linked objects are an [`image::Image`], which refers to them by number. What an
+//! image does that is given some ticks is `MachineMeaning` in `specs/Machine.antt`:
+//!
+//! - The start steps run in order. A setup takes no tick and is no open call. A function is
+//!   called as by an instruction, from an empty stack, so it has no parameters. A start step's
+//!   own `Return` ends the step, and its cells go nowhere. When each has returned, the program
+//!   has ended.
+//! - A frame has cells, the parameters first and 0 in the others as it opens, and a stack.
+//! - A call takes a tick, and without one the program is cut. Then it panics if it makes more
+//!   than 1,000 open calls. A panic and a cut keep what was printed.
+//! - Code that makes no sense is `BadCode`: an instruction that wants more cells than the stack
+//!   has, a number below -2^63 or above 2^64-1 that is pushed, a function that the image hasn't
+//!   or that has more parameter cells than frame cells, the end of code without a `Return`. An
+//!   instruction that makes no sense is `BadCode` also where no tick is left or too many calls
+//!   are open. What is never reached may make no sense.
+//!
+//! Each image that is given some ticks comes to an end, and to one alone ([`law`]). How the
+//! machine follows each instruction is in `specs/Follows.antt`, as lemmas for crates above.
 #![tactic(auto)]
 
 pub mod cell;
@@ -7,3 +27,5 @@ pub mod image;
 pub mod instr;
 pub mod law;
 pub mod object;
+#[cfg(test)]
+mod tests;

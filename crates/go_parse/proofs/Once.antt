@@ -4,15 +4,15 @@ use Rattle.go_text.specs.declared.place.Place.{Place}
 use Rattle.go_text.specs.Places.{place_at}
 use Rattle.go_scan.specs.declared.token.Token.{Token}
 use Rattle.go_scan.proofs.Rows.{one_list}
-use Rattle.go_parse.specs.Grammar.{File, Lexeme, file_of, Derives, Begins, Stops, StopsAt}
+use Rattle.go_ast.specs.Trees.{File}
+use Rattle.go_ast.specs.Grammar.{Lexeme, Derives, Begins, Stops, StopsAt}
+use Rattle.go_ast.specs.Machine.{Done}
+use Rattle.go_parse.proofs.Runs.{derives_done}
 use Rattle.go_parse.specs.Parse.{Parse, Derived, Stopped, IsParse, lexemes}
 
 -- tokens are one file
 one_file : (ts : List Lexeme) (f g : File) → Derives ts f → Derives ts g → f ≡ g
-one_file ts f g d e =
-    let both : d.0 ∷ d.1 ∷ d.2 ∷ [] ≡ e.0 ∷ e.1 ∷ e.2 ∷ [] = sym d.3 ∙ e.3 in
-    let name : d.1 ≡ e.1 = cc in
-    d.7 ∙ ap file_of name ∙ sym e.7
+one_file ts f g d e = let both : Done f ≡ Done g = sym (derives_done ts f d) ∙ derives_done ts g e in cc (both)
 
 -- what begins a file, begins it at each earlier point too
 earlier : (xs ys : List Lexeme) → Begins (xs ++ ys) → Begins xs

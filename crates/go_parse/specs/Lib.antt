@@ -1,3 +1,3 @@
 -- The parser's definitions.
-pub mod Grammar
 pub mod Parse
+pub mod Reads

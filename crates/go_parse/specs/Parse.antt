@@ -4,7 +4,11 @@ use Rattle.go_text.specs.declared.place.Place.{Place}
 use Rattle.go_text.specs.Places.{place_at}
 use Rattle.go_scan.specs.declared.token.Token.{Token}
 use Rattle.go_scan.specs.Lex.{Lexes}
-use Rattle.go_parse.specs.Grammar.{Name, File, Lexeme, Derives, StopsAt}
+use Rattle.std.proofs.Common.{refl}
+use Rattle.std.specs.Coded.{Coded, code_by, coded×, coded_ℕ, coded_list}
+use Rattle.go_ast.specs.Codes.{file_code}
+use Rattle.go_ast.specs.Trees.{File}
+use Rattle.go_ast.specs.Grammar.{Lexeme, Derives, StopsAt}
 
 -- a token of a text, with its bytes
 abbrev pub lexeme : List ℕ → Token → Lexeme
@@ -29,3 +33,8 @@ pub record Parsed : Type 0 where
   pub name : List ℕ
   pub text : List ℕ
   pub file : File
+
+abbrev pub parsed_code : Coded Parsed
+parsed_code =
+    code_by (List ℕ × (List ℕ × File)) (coded× (coded_list coded_ℕ) (coded× (coded_list coded_ℕ) file_code))
+    (λ p. (p.name, (p.text, p.file))) (λ q. record { name = q.0; text = q.1.0; file = q.1.1 }) (λ _. refl)

@@ -1,11 +1,13 @@
 //! Sources that are files.
 ghost use Rattle.std.specs.Prelude.{◌≡◌, IfOk, Err};
 ghost use Rattle.go_text.specs.declared.place.Place.{Place};
+ghost use Rattle.go_ast.specs.Views.{file_of};
 ghost use Rattle.go_parse.specs.Parse.{Derived, Stopped, IsParse};
 ghost use Rattle.go_parse.specs.declared.parser.ParseError.TheVariants.{LeftOut};
 
-use super::parser::{ParseError, parse};
-use super::tree::{File, Name};
+use crate::parser::{ParseError, parse};
+use go_ast::file::File;
+use go_ast::name::Name;
 use go_text::source::Source;
 use go_text::text::Text;
 use std::alloc::{AllocError, Global};
@@ -19,13 +21,16 @@ pub struct Parsed {
 }
 
 impl Model for Parsed {
+    ghost use Rattle.go_ast.specs.Views.{file_of};
     ghost use Rattle.go_parse.specs.Parse as parses;
 
     ghost Value = { parses.Parsed };
 
-    ghost view = { λ a. record { name = a.source.name; text = a.source.text; file = a.file } };
+    ghost coded = { parses.parsed_code };
 
-    ghost invariant = { λ a. parses.IsParse a.source.text (parses.Derived a.file) };
+    ghost view = { λ a. record { name = a.source.name; text = a.source.text; file = file_of a.file } };
+
+    ghost invariant = { λ a. parses.IsParse a.source.text (parses.Derived (file_of a.file)) };
 }
 
 impl Parsed {
@@ -55,7 +60,7 @@ impl Parsed {
 
     /// The file that the text is.
     pub fn file(&self) -> &File
-        ensures value { result.now ≡ self.now.file }
+        ensures value { file_of result.now ≡ self.now.file }
         ensures parse { IsParse self.now.text (Derived self.now.file) }
     {
         &self.file
@@ -65,7 +70,7 @@ impl Parsed {
     pub fn package(&self) -> &Name
         ensures { result.now ≡ self.now.file.package }
     {
-        self.file.package()
+        &self.file.package
     }
 
     /// Another of equal value, which shares the text. An `Err` only where memory ran out.
@@ -73,7 +78,7 @@ impl Parsed {
         ensures { IfOk result (λ copy. copy ≡ self.now) }
     {
         let source = self.source.copy()?;
-        let file = self.file.copy()?;
+        let file = self.file.copy(*self.file.imports.allocator())?;
         Ok(Parsed { source, file })
     }
 }

@@ -1,14 +1,18 @@
-//! Reads a file from its tokens.
-ghost use Rattle.std.specs.Prelude.{◌≡◌, ◌≤◌, ◌↔◌, [], length, IfOk, IfErr, IsTrue, Ok, Err, string_bytes, slice_range, true, codes};
-ghost use Rattle.std.specs.List.{All};
+//! Reads a file.
+ghost use Rattle.std.specs.Prelude.{◌≡◌, ◌∷◌, [], ◌<◌, ℕ, List, length, IfOk, OnOk, IsTrue, ◌↔◌, Ok, Err, codes};
 ghost use Rattle.go_text.specs.declared.place.Place.{Place};
-ghost use Rattle.go_scan.specs.Lex.{StandsIn, is_word};
-ghost use Rattle.go_parse.specs.Grammar.{Derives, StopsAt, file_of};
-ghost use Rattle.go_parse.specs.Parse.{Derived, Stopped, IsParse, lexeme, lexemes};
+ghost use Rattle.go_ast.specs.Trees as trees;
+ghost use Rattle.go_ast.specs.Machine.{State, Outcome, Done, Refused, run, start, due, kept, package_name, path, parts, functions, ended, function_behind};
+ghost use Rattle.go_ast.specs.Views.{import_of, imports_of, declarations_of, function_of, file_of};
+ghost use Rattle.go_parse.specs.Parse.{Derived, Stopped, IsParse, lexemes};
+ghost use Rattle.go_parse.specs.Reads.{Reads, Stands, Ends, left, place_before};
 ghost use Rattle.go_parse.specs.declared.parser.ParseError.TheVariants.{Memory, LeftOut};
 
-use super::tree::{File, Name};
+use crate::reader::{Reader, Refusal};
+use go_ast::file::{Decl, File, Function, ImportSpec};
+use go_ast::name::Name;
 use go_scan::keyword::Keyword;
+use go_scan::punctuation::Punctuation;
 use go_scan::scanner::{ScanError, scan};
 use go_scan::token::{Token, TokenKind};
 use go_text::place::{Place, place_at};
@@ -45,96 +49,155 @@ impl From<ScanError> for ParseError {
     }
 }
 
-/// The bytes of a token.
-fn spelling(text: &[u8], token: Token) -> &[u8]
-    requires order { token.start ≤ token.end }
-    requires within { token.end ≤ length text.now }
-    ensures { result.now ≡ slice_range text.now token.start token.end }
+/// Whether imports and functions may stand in a package of this name.
+fn is_main(package: &Name) -> bool
+    ensures { IsTrue result ↔ («package».now.text ≡ codes "main") }
 {
-    &text[token.start..token.end]
+    package.text() == "main"
 }
 
-fn is_package(token: Token) -> bool
-    ensures { IsTrue result ↔ (token.kind ≡ TokenKind.Keyword Keyword.Package) }
-{
-    matches!(token.kind, TokenKind::Keyword(Keyword::Package))
-}
-
-fn is_name(token: Token) -> bool
-    ensures { IsTrue result ↔ (token.kind ≡ TokenKind.Name) }
-{
-    matches!(token.kind, TokenKind::Name)
-}
-
-/// Whether the bytes are the name that names nothing.
-fn is_blank_name(bytes: &[u8]) -> bool
-    ensures { IsTrue result ↔ (bytes.now ≡ codes "_") }
-{
-    matches!(bytes, b"_")
-}
-
-fn is_semicolon(token: Token) -> bool
-    ensures { IsTrue result ↔ (token.kind ≡ TokenKind.Semicolon) }
-{
-    matches!(token.kind, TokenKind::Semicolon)
-}
-
-/// The token that names the package, if the tokens are a file's. An `Err` has the place where
-/// they stop being a file: that of the first token that doesn't fit, or `end`.
-fn package_name(text: &[u8], tokens: &[Token], end: Place) -> Result<Token, Place>
-    requires { All (StandsIn text.now) tokens.now }
-    ensures stands { IfOk result (StandsIn text.now) }
-    ensures name { IfOk result (λ t. t.kind ≡ TokenKind.Name) }
-    ensures ok { IfOk result (λ t. Derives (lexemes text.now tokens.now) (file_of (lexeme text.now t))) }
-    ensures err { IfErr result (StopsAt (lexemes text.now tokens.now) end) }
-{
-    let [package, rest @ ..] = tokens else {
-        return Err(end);
-    };
-    if !is_package(*package) {
-        return Err(package.place);
+impl<'a> Reader<'a> {
+    /// Reads the name of a package.
+    fn package_name(&mut self) -> Result<Name, Refusal>
+        requires { Stands self.old }
+        ensures reads { (next : trees.Name → State) → Reads (package_name next) next self.old result self.new }
+        ensures rest { OnOk result (Stands self.new) }
+    {
+        if self.is_next_named(b"_") {
+            return Err(Refusal::LeftOut);
+        }
+        let token = self.expect(TokenKind::Name)?;
+        self.name(token)
     }
-    let [name, rest @ ..] = rest else {
-        return Err(end);
-    };
-    if !is_name(*name) || is_blank_name(spelling(text, *name)) {
-        return Err(name.place);
+
+    /// Reads the package clause.
+    fn clause(&mut self) -> Result<Name, Refusal>
+        requires { Stands self.old }
+        ensures reads { Reads start parts self.old result self.new }
+        ensures rest { OnOk result (Stands self.new) }
+    {
+        self.expect(TokenKind::Keyword(Keyword::Package))?;
+        let name = self.package_name()?;
+        self.expect(TokenKind::Punctuation(Punctuation::Semicolon))?;
+        Ok(name)
     }
-    let [semicolon, rest @ ..] = rest else {
-        return Err(end);
-    };
-    if !is_semicolon(*semicolon) {
-        return Err(semicolon.place);
+
+    /// Reads the path of an import.
+    fn path(&mut self) -> Result<ImportSpec, Refusal>
+        requires { Stands self.old }
+        ensures reads { (next : trees.ImportSpec → State) → Reads (path next) (λ i. next (import_of i)) self.old result self.new }
+        ensures rest { OnOk result (Stands self.new) }
+    {
+        if !self.is_next_string(b"fmt") {
+            return Err(Refusal::LeftOut);
+        }
+        let token = self.expect(TokenKind::String)?;
+        Ok(ImportSpec {
+            place: token.place,
+            name: None,
+            path: self.value_of(token)?,
+            path_place: token.place,
+        })
     }
-    match rest {
-        [] => Ok(*name),
-        [other, ..] => Err(other.place),
+
+    /// Reads the imports of a package.
+    fn imports(&mut self, package: &Name) -> Result<Vec<ImportSpec>, Refusal>
+        requires { Stands self.old }
+        ensures reads { Reads (parts «package».now) (λ is. functions «package».now (imports_of is.items)) self.old result self.new }
+        ensures rest { OnOk result (Stands self.new) }
+    {
+        let import = TokenKind::Keyword(Keyword::Import);
+        let mut imports = Vec::new(self.alloc);
+        if is_main(package) && self.is_next(import) {
+            self.expect(import)?;
+            imports.push(self.path()?)?;
+            self.expect(TokenKind::Punctuation(Punctuation::Semicolon))?;
+        }
+        Ok(imports)
+    }
+
+    /// Reads a function.
+    fn function(&mut self) -> Result<Function, Refusal>
+        requires { Stands self.old }
+        ensures reads { (next : trees.Function → State) → Reads (kept (TokenKind.Keyword Keyword.Func) (function_behind next)) (λ f. next (function_of f)) self.old result self.new }
+        ensures rest { OnOk result (Stands self.new) }
+    {
+        let word = self.expect(TokenKind::Keyword(Keyword::Func))?;
+        let name = self.expect_named(b"main")?;
+        let name = self.name(name)?;
+        self.expect(TokenKind::Punctuation(Punctuation::OpenParenthesis))?;
+        self.expect(TokenKind::Punctuation(Punctuation::CloseParenthesis))?;
+        let body = self.block()?;
+        Ok(Function {
+            place: word.place,
+            name,
+            body,
+        })
+    }
+
+    /// Reads the functions of a package.
+    fn declarations(&mut self, package: &Name) -> Result<Vec<Decl>, Refusal>
+        requires { Stands self.old }
+        ensures reads { (is : List trees.ImportSpec) → Reads (functions «package».now is) (λ ds. ended (record { «package» = «package».now; imports = is; declarations = declarations_of ds.items })) self.old result self.new }
+        ensures rest { OnOk result (Stands self.new) }
+    {
+        let mut declarations = Vec::new(self.alloc);
+        if is_main(package) && self.is_next(TokenKind::Keyword(Keyword::Func)) {
+            declarations.push(Decl::Function(self.function()?))?;
+            self.expect(TokenKind::Punctuation(Punctuation::Semicolon))?;
+        }
+        Ok(declarations)
+    }
+
+    /// Reads a file to its end.
+    fn file(&mut self) -> Result<File, Refusal>
+        requires { Stands self.old }
+        ensures { Ends self.old result self.new }
+    {
+        let package = self.clause()?;
+        let imports = self.imports(&package)?;
+        let declarations = self.declarations(&package)?;
+        if !self.tokens.is_empty() {
+            return Err(Refusal::LeftOut);
+        }
+        Ok(File {
+            package,
+            imports,
+            declarations,
+        })
     }
 }
 
-/// The text of a name.
-fn name_text(alloc: Global, bytes: &[u8]) -> Result<String, AllocError>
-    requires { is_word bytes.now ≡ true }
-    ensures { IfOk result (λ s. string_bytes s ≡ bytes.now) }
+/// The place of the first token, or the end.
+fn place_before(tokens: &[Token], end: Place) -> Place
+    ensures { (text : List ℕ) → result ≡ place_before (lexemes text tokens.now) end }
 {
-    let text = str::from_utf8(bytes).unwrap();
-    String::from_str(alloc, text)
+    match tokens {
+        [token, ..] => token.place,
+        [] => end,
+    }
 }
 
 /// The file that a source's text is. An `Err` has the place where the text stops being a file, or
 /// says that memory ran out.
 #[tactic(auto, unfolding(crate::specs::Parse::IsParse))]
 pub fn parse(alloc: Global, source: &Source) -> Result<File, ParseError>
-    ensures ok { IfOk result (λ file. IsParse source.now.text (Derived file)) }
+    ensures ok { IfOk result (λ file. IsParse source.now.text (Derived (file_of file))) }
     ensures err { (p : Place) → result ≡ Err (ParseError.LeftOut p) → IsParse source.now.text (Stopped p) }
 {
     let tokens = scan(alloc, source)?;
     let text = source.text().as_str().as_bytes();
-    let end = place_at(text, text.len());
-    let name = match package_name(text, &tokens, end) {
-        Ok(name) => name,
-        Err(place) => return Err(ParseError::LeftOut(place)),
+    let mut reader = Reader {
+        alloc,
+        text,
+        tokens: &tokens,
     };
-    let package = Name::new(name_text(alloc, spelling(text, name))?, name.place);
-    Ok(File::new(package))
+    match reader.file() {
+        Ok(file) => Ok(file),
+        Err(Refusal::Memory) => Err(ParseError::Memory),
+        Err(Refusal::LeftOut) => {
+            let end = place_at(text, text.len());
+            Err(ParseError::LeftOut(place_before(reader.tokens, end)))
+        }
+    }
 }

@@ -1,6 +1,11 @@
 -- A text is cut in one way, and so has one list of tokens.
-use Rattle.std.proofs.Common.{◌≡◌, ℕ, Bool, true, false, ◌&&◌, List, [], ◌∷◌, ◌++◌, length, length-append, Option, Some, None, refl, sym, ap, ◌∙◌, subst, arith}
-use Rattle.std.specs.List.{find}
+use Rattle.std.proofs.Common.{◌≡◌, ℕ, inl, inr, Bool, true, false, cond, nat_eq, List, [], ◌∷◌, ◌++◌, length, length-append, Option, Some, None, refl, sym, ap, ◌∙◌, subst, arith}
+use Rattle.std.specs.List.{find, list_all}
+use Rattle.std.specs.Char.{is_ascii_digit}
+use Rattle.std.proofs.lemmas.Slice.Eq.{bytes_eq-Decides}
+use Rattle.go_scan.specs.declared.punctuation.Punctuation.{Punctuation}
+use Rattle.go_scan.specs.declared.punctuation.Punctuation.TheVariants as marks
+use Rattle.go_scan.specs.Punctuations.{punctuation_spelling, IsNoPunctuation}
 use Rattle.std.specs.Str.{bytes_eq}
 use Rattle.go_scan.specs.declared.keyword.Keyword.{Keyword}
 use Rattle.go_scan.specs.declared.keyword.Keyword.TheVariants as keywords
@@ -8,11 +13,11 @@ use Rattle.go_scan.specs.declared.token.Token.{Token}
 use Rattle.go_scan.specs.declared.token.TokenKind.{TokenKind}
 use Rattle.go_scan.specs.declared.token.TokenKind.TheVariants as kinds
 use Rattle.go_text.specs.Places.{mark_size}
-use Rattle.go_scan.specs.Keywords.{spelling}
-use Rattle.go_scan.specs.Lex.{is_blank, is_letter, is_word, Spells, Piece, Begins, IsRow, tokens_of, with_semis, Lexes}
-use Rattle.go_scan.proofs.Fronts.{keyword_is_word, blank_no_letter, spelled_some}
+use Rattle.go_scan.specs.Keywords.{spelling, IsNoKeyword}
+use Rattle.go_scan.specs.Lex.{is_blank, is_letter, is_inside, is_word, begins_number, is_in_number, is_number, is_decimal, Spells, Piece, Begins, IsRow, tokens_of, with_semis, Lexes}
+use Rattle.go_scan.proofs.Fronts.{and_left, keyword_is_word, blank_no_letter, number_no_blank, number_no_letter, decimal_is_number, spelled_some}
 
-abbrev pub all_keywords : List Keyword
+abbrev all_keywords : List Keyword
 all_keywords =
     keywords.Break ∷ keywords.Case ∷ keywords.Chan ∷ keywords.Const ∷ keywords.Continue ∷ keywords.Default ∷ keywords.Defer ∷ keywords.Else ∷ keywords.Fallthrough ∷ keywords.For ∷ keywords.Func ∷ keywords.Go ∷ keywords.Goto ∷ keywords.If ∷ keywords.Import ∷ keywords.Interface ∷ keywords.Map ∷ keywords.Package ∷ keywords.Range ∷ keywords.Return ∷ keywords.Select ∷ keywords.Struct ∷ keywords.Switch ∷ keywords.Type ∷ keywords.Var ∷ []
 
@@ -47,62 +52,154 @@ is_found keywords.Switch = refl
 is_found keywords.Type = refl
 is_found keywords.Var = refl
 
-keywords_differ : (j k : Keyword) → spelling j ≡ spelling k → j ≡ k
-keywords_differ j k e = let both : Some j ≡ Some k = sym (is_found j) ∙ ap keyword_in e ∙ is_found k in cc
+-- keywords differ in their spelling
+pub keyword_of_spelling : (j k : Keyword) → spelling j ≡ spelling k → j ≡ k
+keyword_of_spelling j k e = let both : Some j ≡ Some k = sym (is_found j) ∙ ap keyword_in e ∙ is_found k in cc (both)
 
-one_no_word : (b : ℕ) (bytes : List ℕ) → bytes ≡ b ∷ [] → is_letter b ≡ false → is_word bytes ≡ true → ⊥
-one_no_word b bytes one other word = by_test (is_letter b) refl
+abbrev all_punctuation : List Punctuation
+all_punctuation =
+    marks.Period ∷ marks.Comma ∷ marks.Semicolon ∷ marks.OpenParenthesis ∷ marks.CloseParenthesis ∷ marks.OpenBrace ∷ marks.CloseBrace ∷ []
+
+-- operators and punctuation from their spelling
+abbrev pub punctuation_in : List ℕ → Option Punctuation
+punctuation_in bytes = find (λ p. bytes_eq (punctuation_spelling p) bytes) all_punctuation
+
+-- what a search finds passes its test
+found_passes : {A : Type 0} (p : A → Bool) (xs : List A) (a : A) → find p xs ≡ Some a → p a ≡ true
+found_passes p [] a e = cc
+found_passes p (x ∷ xs) a e = by_test (p x) refl (found_passes p xs a) e
   where
-    by_test : (c : Bool) → is_letter b ≡ c → ⊥
-    by_test true e = let same : true ≡ false = sym e ∙ other in cc
-    by_test false e = let same : is_word (b ∷ []) ≡ true = ap is_word (sym one) ∙ word in
-        let both : false ≡ true = ap (λ x. x && true) (sym e) ∙ same in cc
+    by_test : (c : Bool) → p x ≡ c → (find p xs ≡ Some a → p a ≡ true) → cond c (Some x) (find p xs) ≡ Some a → p a ≡ true
+    by_test true t next q = let same : x ≡ a = cc in subst (λ y. p y ≡ true) same t
+    by_test false t next q = next q
 
-blank_other : (b : ℕ) → is_blank b ≡ true → is_letter b ≡ false
-blank_other b e = by_test (is_letter b) refl
+pub keyword_found : (bytes : List ℕ) (k : Keyword) → keyword_in bytes ≡ Some k → bytes ≡ spelling k
+keyword_found bytes k e = sym ((bytes_eq-Decides (spelling k) bytes).0 (found_passes (λ j. bytes_eq (spelling j) bytes) all_keywords k e))
+
+pub keyword_missed : (bytes : List ℕ) → keyword_in bytes ≡ None → IsNoKeyword bytes
+keyword_missed bytes e k same = let both : None ≡ Some k = sym e ∙ ap keyword_in same ∙ is_found k in cc (both)
+
+no_keyword_in : (bytes : List ℕ) → IsNoKeyword bytes → keyword_in bytes ≡ None
+no_keyword_in bytes never = by_found (keyword_in bytes) refl
   where
-    by_test : (c : Bool) → is_letter b ≡ c → c ≡ false
-    by_test false f = refl
-    by_test true f = absurd (blank_no_letter b e f)
+    by_found : (o : Option Keyword) → keyword_in bytes ≡ o → o ≡ None
+    by_found None e = refl
+    by_found (Some k) e = absurd (never k (keyword_found bytes k e))
 
-blank_no_word : (bytes : List ℕ) → Spells None bytes → is_word bytes ≡ true → ⊥
-blank_no_word bytes d word = one_no_word d.0 bytes d.1 (blank_other d.0 d.2) word
+is_found_mark : (p : Punctuation) → punctuation_in (punctuation_spelling p) ≡ Some p
+is_found_mark marks.Period = refl
+is_found_mark marks.Comma = refl
+is_found_mark marks.Semicolon = refl
+is_found_mark marks.OpenParenthesis = refl
+is_found_mark marks.CloseParenthesis = refl
+is_found_mark marks.OpenBrace = refl
+is_found_mark marks.CloseBrace = refl
 
-unknown_no_word : (bytes : List ℕ) → Spells (Some kinds.Unknown) bytes → is_word bytes ≡ true → ⊥
-unknown_no_word bytes d word = one_no_word d.0 bytes d.1 d.3 word
+-- so do operators and punctuation
+pub punctuation_of_spelling : (p q : Punctuation) → punctuation_spelling p ≡ punctuation_spelling q → p ≡ q
+punctuation_of_spelling p q e = let both : Some p ≡ Some q = sym (is_found_mark p) ∙ ap punctuation_in e ∙ is_found_mark q in cc (both)
 
-unknown_no_blank : (bytes : List ℕ) → Spells (Some kinds.Unknown) bytes → Spells None bytes → ⊥
-unknown_no_blank bytes d e =
-    let same : d.0 ∷ [] ≡ e.0 ∷ [] = sym d.1 ∙ e.1 in
-    let byte : d.0 ≡ e.0 = cc in
-    let both : false ≡ true = sym d.2 ∙ ap is_blank byte ∙ e.2 in cc
+pub punctuation_found : (bytes : List ℕ) (p : Punctuation) → punctuation_in bytes ≡ Some p → bytes ≡ punctuation_spelling p
+punctuation_found bytes p e = sym ((bytes_eq-Decides (punctuation_spelling p) bytes).0 (found_passes (λ q. bytes_eq (punctuation_spelling q) bytes) all_punctuation p e))
 
-spelled_word : (k : Keyword) (bytes : List ℕ) → bytes ≡ spelling k → is_word bytes ≡ true
-spelled_word k bytes e = ap is_word e ∙ keyword_is_word k
+pub punctuation_missed : (bytes : List ℕ) → punctuation_in bytes ≡ None → IsNoPunctuation bytes
+punctuation_missed bytes e p same = let both : None ≡ Some p = sym e ∙ ap punctuation_in same ∙ is_found_mark p in cc (both)
 
--- bytes are spelled as one kind alone
+no_punctuation_in : (bytes : List ℕ) → IsNoPunctuation bytes → punctuation_in bytes ≡ None
+no_punctuation_in bytes never = by_found (punctuation_in bytes) refl
+  where
+    by_found : (o : Option Punctuation) → punctuation_in bytes ≡ o → o ≡ None
+    by_found None e = refl
+    by_found (Some p) e = absurd (never p (punctuation_found bytes p e))
+
+-- the kind of a spelling, by its first byte
+abbrev word_kind : Option Keyword → TokenKind
+word_kind None = kinds.Name
+word_kind (Some k) = kinds.Keyword k
+
+abbrev quoted_kind : List ℕ → TokenKind
+quoted_kind [] = kinds.Unknown
+quoted_kind (b ∷ bs) = kinds.String
+
+abbrev mark_kind : Option Punctuation → TokenKind
+mark_kind None = kinds.Unknown
+mark_kind (Some p) = kinds.Punctuation p
+
+abbrev other_kind : ℕ → List ℕ → TokenKind
+other_kind b bs = cond (nat_eq b 34) (quoted_kind bs) (mark_kind (punctuation_in (b ∷ bs)))
+
+abbrev number_kind : ℕ → List ℕ → TokenKind
+number_kind b bs = cond (begins_number (b ∷ bs)) (cond (is_decimal (b ∷ bs)) kinds.Integer kinds.Unknown) (other_kind b bs)
+
+abbrev kind_of : List ℕ → Option TokenKind
+kind_of [] = None
+kind_of (b ∷ bs) = cond (is_blank b) None (Some (cond (is_letter b) (word_kind (keyword_in (b ∷ bs))) (number_kind b bs)))
+
+letter_no_blank : (b : ℕ) → is_letter b ≡ true → is_blank b ≡ false
+letter_no_blank b e = by_test (is_blank b) refl
+  where
+    by_test : (c : Bool) → is_blank b ≡ c → c ≡ false
+    by_test false t = refl
+    by_test true t = absurd (blank_no_letter b t e)
+
+kind_of_word : (bytes : List ℕ) → is_word bytes ≡ true → kind_of bytes ≡ Some (word_kind (keyword_in bytes))
+kind_of_word [] w = cc
+kind_of_word (b ∷ bs) w =
+    let letter = and_left (is_letter b) (list_all is_inside bs) w in
+    ap (λ x. cond x None (Some (cond (is_letter b) (word_kind (keyword_in (b ∷ bs))) (number_kind b bs)))) (letter_no_blank b letter)
+    ∙ ap (λ x. Some (cond x (word_kind (keyword_in (b ∷ bs))) (number_kind b bs))) letter
+
+kind_of_number : (bytes : List ℕ) → is_number bytes ≡ true → kind_of bytes ≡ Some (cond (is_decimal bytes) kinds.Integer kinds.Unknown)
+kind_of_number [] w = cc
+kind_of_number (b ∷ bs) w =
+    let begins = and_left (begins_number (b ∷ bs)) (list_all is_in_number (b ∷ bs)) w in
+    ap (λ x. cond x None (Some (cond (is_letter b) (word_kind (keyword_in (b ∷ bs))) (number_kind b bs)))) (number_no_blank b bs begins)
+    ∙ ap (λ x. Some (cond x (word_kind (keyword_in (b ∷ bs))) (number_kind b bs))) (number_no_letter b bs begins)
+    ∙ ap (λ x. Some (cond x (cond (is_decimal (b ∷ bs)) kinds.Integer kinds.Unknown) (other_kind b bs))) begins
+
+kind_of_string : (inner : List ℕ) → kind_of (34 ∷ inner ++ 34 ∷ []) ≡ Some kinds.String
+kind_of_string [] = refl
+kind_of_string (b ∷ bs) = refl
+
+kind_of_mark : (p : Punctuation) → kind_of (punctuation_spelling p) ≡ Some (kinds.Punctuation p)
+kind_of_mark marks.Period = refl
+kind_of_mark marks.Comma = refl
+kind_of_mark marks.Semicolon = refl
+kind_of_mark marks.OpenParenthesis = refl
+kind_of_mark marks.CloseParenthesis = refl
+kind_of_mark marks.OpenBrace = refl
+kind_of_mark marks.CloseBrace = refl
+
+kind_of_stray : (b : ℕ) → is_blank b ≡ false → is_letter b ≡ false → is_ascii_digit b ≡ false → IsNoPunctuation (b ∷ []) → kind_of (b ∷ []) ≡ Some kinds.Unknown
+kind_of_stray b blank letter digit never =
+    ap (λ x. cond x None (Some (cond (is_letter b) (word_kind (keyword_in (b ∷ []))) (number_kind b [])))) blank
+    ∙ ap (λ x. Some (cond x (word_kind (keyword_in (b ∷ []))) (number_kind b []))) letter
+    ∙ ap (λ x. Some (cond x (cond (is_decimal (b ∷ [])) kinds.Integer kinds.Unknown) (other_kind b []))) digit
+    ∙ ap (λ x. Some (cond (nat_eq b 34) kinds.Unknown (mark_kind x))) (no_punctuation_in (b ∷ []) never)
+    ∙ either (nat_eq b 34)
+  where
+    either : (c : Bool) → Some (cond c kinds.Unknown kinds.Unknown) ≡ Some kinds.Unknown
+    either true = refl
+    either false = refl
+
+-- bytes that spell a kind have it
+spelled_kind : (kind : Option TokenKind) (bytes : List ℕ) → Spells kind bytes → kind_of bytes ≡ kind
+spelled_kind None bytes d =
+    ap kind_of d.1 ∙ ap (λ x. cond x None (Some (cond (is_letter d.0) (word_kind (keyword_in (d.0 ∷ []))) (number_kind d.0 [])))) d.2
+spelled_kind (Some kinds.Name) bytes d = kind_of_word bytes d.0 ∙ ap (λ o. Some (word_kind o)) (no_keyword_in bytes d.1)
+spelled_kind (Some (kinds.Keyword k)) bytes d =
+    kind_of_word bytes (ap is_word d ∙ keyword_is_word k) ∙ ap (λ o. Some (word_kind o)) (ap keyword_in d ∙ is_found k)
+spelled_kind (Some kinds.Integer) bytes d = kind_of_number bytes (decimal_is_number bytes d) ∙ ap (λ x. Some (cond x kinds.Integer kinds.Unknown)) d
+spelled_kind (Some kinds.String) bytes d = ap kind_of d.1 ∙ kind_of_string d.0
+spelled_kind (Some (kinds.Punctuation p)) bytes d = ap kind_of d ∙ kind_of_mark p
+spelled_kind (Some kinds.Unknown) bytes d = elim d [
+  | inl number ↦ kind_of_number bytes number.0 ∙ ap (λ x. Some (cond x kinds.Integer kinds.Unknown)) number.1
+  | inr stray ↦ ap kind_of stray.1 ∙ kind_of_stray stray.0 stray.2 stray.3 stray.4 (subst IsNoPunctuation stray.1 stray.5)
+]
+
+-- so they spell one kind
 spelled_once : (a b : Option TokenKind) (bytes : List ℕ) → Spells a bytes → Spells b bytes → a ≡ b
-spelled_once None None bytes d e = refl
-spelled_once None (Some kinds.Name) bytes d e = absurd (blank_no_word bytes d e.0)
-spelled_once None (Some (kinds.Keyword k)) bytes d e = absurd (blank_no_word bytes d (spelled_word k bytes e))
-spelled_once None (Some kinds.Unknown) bytes d e = absurd (unknown_no_blank bytes e d)
-spelled_once None (Some kinds.Semicolon) bytes d e = absurd e
-spelled_once (Some kinds.Name) None bytes d e = absurd (blank_no_word bytes e d.0)
-spelled_once (Some kinds.Name) (Some kinds.Name) bytes d e = refl
-spelled_once (Some kinds.Name) (Some (kinds.Keyword k)) bytes d e = absurd (d.1 k e)
-spelled_once (Some kinds.Name) (Some kinds.Unknown) bytes d e = absurd (unknown_no_word bytes e d.0)
-spelled_once (Some kinds.Name) (Some kinds.Semicolon) bytes d e = absurd e
-spelled_once (Some (kinds.Keyword j)) None bytes d e = absurd (blank_no_word bytes e (spelled_word j bytes d))
-spelled_once (Some (kinds.Keyword j)) (Some kinds.Name) bytes d e = absurd (e.1 j d)
-spelled_once (Some (kinds.Keyword j)) (Some (kinds.Keyword k)) bytes d e = ap (λ x. Some (kinds.Keyword x)) (keywords_differ j k (sym d ∙ e))
-spelled_once (Some (kinds.Keyword j)) (Some kinds.Unknown) bytes d e = absurd (unknown_no_word bytes e (spelled_word j bytes d))
-spelled_once (Some (kinds.Keyword j)) (Some kinds.Semicolon) bytes d e = absurd e
-spelled_once (Some kinds.Unknown) None bytes d e = absurd (unknown_no_blank bytes d e)
-spelled_once (Some kinds.Unknown) (Some kinds.Name) bytes d e = absurd (unknown_no_word bytes d e.0)
-spelled_once (Some kinds.Unknown) (Some (kinds.Keyword k)) bytes d e = absurd (unknown_no_word bytes d (spelled_word k bytes e))
-spelled_once (Some kinds.Unknown) (Some kinds.Unknown) bytes d e = refl
-spelled_once (Some kinds.Unknown) (Some kinds.Semicolon) bytes d e = absurd e
-spelled_once (Some kinds.Semicolon) b bytes d e = absurd d
+spelled_once a b bytes d e = sym (spelled_kind a bytes d) ∙ spelled_kind b bytes e
 
 prefix_same : (xs ys rs ss : List ℕ) → length xs ≡ length ys → xs ++ rs ≡ ys ++ ss → (xs ≡ ys) × (rs ≡ ss)
 prefix_same [] [] rs ss n e = (refl, e)

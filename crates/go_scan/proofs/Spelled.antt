@@ -1,7 +1,7 @@
 -- Tokens stand in their text.
-use Rattle.std.proofs.Common.{◌≡◌, ℕ, ◌+◌, ◌-◌, ◌<◌, Bool, true, false, cond, ◌&&◌, zero, suc, List, [], ◌∷◌, ◌++◌, length, take, drop, length-append, length-drop, Option, Some, None, refl, sym, ap, ◌∙◌, subst, arith}
+use Rattle.std.proofs.Common.{◌≡◌, ℕ, ◌+◌, ◌-◌, inl, inr, Bool, true, false, cond, List, [], ◌∷◌, ◌++◌, length, take, drop, length-append, length-drop, Option, Some, None, refl, sym, ap, ◌∙◌, subst, arith}
 use Rattle.std.specs.Prelude.{nat_lt}
-use Rattle.std.specs.List.{All, list_all, slice_range}
+use Rattle.std.specs.List.{All, slice_range}
 use Rattle.std.proofs.lemmas.List.{drop-drop}
 use Rattle.std.proofs.lemmas.List.Elements.{All-nil, All-cons, All-head, All-tail, All-append, All-same}
 use Rattle.std.proofs.Math.Seq.{drop-append_seam, take-append_seam}
@@ -9,16 +9,17 @@ use Rattle.go_text.specs.Places.{place_at, mark_size}
 use Rattle.go_scan.specs.declared.token.Token.{Token}
 use Rattle.go_scan.specs.declared.token.TokenKind.{TokenKind}
 use Rattle.go_scan.specs.declared.token.TokenKind.TheVariants as kinds
-use Rattle.go_scan.specs.Lex.{is_letter, is_inside, is_word, Spells, MaySpell, StandsIn, Piece, IsRow, token_of, with_token, tokens_of, ends_statement, due_behind, due_before, with_semis, Lexes}
-use Rattle.std.specs.Str.{IsAscii}
-use Rattle.std.proofs.lemmas.Bool.Decides.{nat_tests}
-use Rattle.go_scan.proofs.Fronts.{spelled_some, and_left, and_right, letter_is_inside}
+use Rattle.go_scan.specs.declared.punctuation.Punctuation.TheVariants as marks
+use Rattle.go_scan.specs.Lex.{Spells, MaySpell, StandsIn, Piece, IsRow, token_of, with_token, tokens_of, ends_statement, due_behind, due_before, with_semis, Lexes}
+use Rattle.go_scan.proofs.Fronts.{spelled_some}
 
 may_spell : (kind : TokenKind) (bytes : List ℕ) → Spells (Some kind) bytes → MaySpell kind bytes
 may_spell kinds.Name bytes d = d
 may_spell (kinds.Keyword k) bytes d = d
+may_spell kinds.Integer bytes d = d
+may_spell kinds.String bytes d = d
+may_spell (kinds.Punctuation p) bytes d = inl d
 may_spell kinds.Unknown bytes d = d
-may_spell kinds.Semicolon bytes d = absurd d
 
 -- the token of a piece
 piece_stands : (text : List ℕ) (at : ℕ) (kind : TokenKind) (bytes rest : List ℕ) → Spells (Some kind) bytes → drop at text ≡ bytes ++ rest → StandsIn text (token_of text at kind (length bytes))
@@ -50,22 +51,22 @@ row_stands text at (p ∷ ps) row =
 semicolon_stands : (text : List ℕ) (t : Token) (ts : List Token) → StandsIn text t → All (StandsIn text) (due_before (due_behind t (place_at text t.end)) ts)
 semicolon_stands text t ts s = by_test (ends_statement t.kind) ts
   where
-    stands : StandsIn text (record { kind = kinds.Semicolon; start = t.end; end = t.end; place = place_at text t.end })
+    stands : StandsIn text (record { kind = kinds.Punctuation marks.Semicolon; start = t.end; end = t.end; place = place_at text t.end })
     stands = record {
       order = omega arith;
       within = s.within;
       place = refl;
-      spelled = ap (λ k. take k (drop t.end text)) (let none : t.end - t.end ≡ 0 = omega arith in none);
+      spelled = inr (refl, ap (λ k. take k (drop t.end text)) (let none : t.end - t.end ≡ 0 = omega arith in none));
     }
 
-    one : All (StandsIn text) (record { kind = kinds.Semicolon; start = t.end; end = t.end; place = place_at text t.end } ∷ [])
+    one : All (StandsIn text) (record { kind = kinds.Punctuation marks.Semicolon; start = t.end; end = t.end; place = place_at text t.end } ∷ [])
     one = All-cons (StandsIn text) _ [] stands (All-nil (StandsIn text))
 
-    by_line : (c : Bool) → All (StandsIn text) (cond c (record { kind = kinds.Semicolon; start = t.end; end = t.end; place = place_at text t.end } ∷ []) [])
+    by_line : (c : Bool) → All (StandsIn text) (cond c (record { kind = kinds.Punctuation marks.Semicolon; start = t.end; end = t.end; place = place_at text t.end } ∷ []) [])
     by_line true = one
     by_line false = All-nil (StandsIn text)
 
-    by_test : (c : Bool) (us : List Token) → All (StandsIn text) (due_before (cond c (Some (record { kind = kinds.Semicolon; start = t.end; end = t.end; place = place_at text t.end })) None) us)
+    by_test : (c : Bool) (us : List Token) → All (StandsIn text) (due_before (cond c (Some (record { kind = kinds.Punctuation marks.Semicolon; start = t.end; end = t.end; place = place_at text t.end })) None) us)
     by_test false us = All-nil (StandsIn text)
     by_test true [] = one
     by_test true (u ∷ us) = by_line (nat_lt (place_at text t.end).line u.place.line)
@@ -82,21 +83,3 @@ semis_stand text (t ∷ ts) all =
 pub tokens_stand : (text : List ℕ) (ts : List Token) → Lexes text ts → All (StandsIn text) ts
 tokens_stand text ts lexes =
     All-same (StandsIn text) ts _ lexes.2 (semis_stand text (tokens_of text (mark_size text) lexes.0) (row_stands text (mark_size text) lexes.0 lexes.1))
-
-inside_is_ascii : (b : ℕ) → is_inside b ≡ true → b < 128
-inside_is_ascii b e = grind (arith, nat_tests)
-
-ascii_behind : (b : ℕ) (bs : List ℕ) → b < 128 → IsAscii bs → IsAscii (b ∷ bs)
-ascii_behind b bs first all zero = first
-ascii_behind b bs first all (suc i) = all i
-
-all_ascii : (bytes : List ℕ) → list_all is_inside bytes ≡ true → IsAscii bytes
-all_ascii [] e = λ i. omega arith
-all_ascii (b ∷ bs) e =
-    ascii_behind b bs (inside_is_ascii b (and_left (is_inside b) (list_all is_inside bs) e)) (all_ascii bs (and_right (is_inside b) (list_all is_inside bs) e))
-
--- words are ASCII
-pub word_is_ascii : (bytes : List ℕ) → is_word bytes ≡ true → IsAscii bytes
-word_is_ascii [] e = λ i. omega arith
-word_is_ascii (b ∷ bs) e =
-    all_ascii (b ∷ bs) (ap (λ x. x && list_all is_inside bs) (letter_is_inside b (and_left (is_letter b) (list_all is_inside bs) e)) ∙ and_right (is_letter b) (list_all is_inside bs) e)

@@ -3,5 +3,8 @@
 
 pub mod keyword;
 pub mod law;
+pub mod punctuation;
 pub mod scanner;
+#[cfg(test)]
+mod tests;
 pub mod token;

@@ -1,5 +1,6 @@
 //! Tokens.
 use crate::keyword::Keyword;
+use crate::punctuation::Punctuation;
 use go_text::place::Place;
 
 /// The kinds of tokens.
@@ -9,14 +10,21 @@ pub enum TokenKind {
     Name,
     /// A word that no name may be.
     Keyword(Keyword),
-    /// A semicolon that is inserted where a line ends.
-    Semicolon,
-    /// One byte that begins no other token.
+    /// A decimal literal: `0`, or a digit from 1 to 9 and then digits.
+    Integer,
+    /// An interpreted string literal without escapes: between two `"`, bytes other than newline,
+    /// `"` and `\`.
+    String,
+    /// An operator or punctuation. A semicolon may also be inserted, where a line ends.
+    Punctuation(Punctuation),
+    /// What is no other token: letters, digits, `_` and `.` that begin as a number does and are
+    /// no decimal literal, or one byte that begins no other token.
     Unknown,
 }
 
 /// A token: its kind, the offsets in bytes of its text's start and end in the source's text, and
-/// the place of its first byte. An inserted semicolon has no text, and stands behind a token.
+/// the place of its first byte. A written semicolon has the text `;`. An inserted one has no text, and
+/// stands behind a token.
 #[derive(Clone, Copy, PartialEq, Eq, Debug)]
 pub struct Token {
     /// What kind of token it is.

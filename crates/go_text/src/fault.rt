@@ -13,6 +13,16 @@ pub enum FaultKind {
     LeftOut,
     /// A package name that differs from that of the package's first file.
     PackageName,
+    /// A name that its block declares already.
+    Redeclared,
+    /// A name that nothing declares where it is used.
+    Undeclared,
+    /// An import that its file doesn't use.
+    UnusedImport,
+    /// A constant outside its type.
+    Range,
+    /// A constant of no type that lies outside 128 bits.
+    Constant,
     /// A program with no function main.
     Main,
 }
@@ -25,6 +35,11 @@ impl FaultKind {
         match self {
             FaultKind::LeftOut => 2,
             FaultKind::PackageName => 6,
+            FaultKind::Redeclared => 10,
+            FaultKind::Undeclared => 11,
+            FaultKind::UnusedImport => 12,
+            FaultKind::Range => 14,
+            FaultKind::Constant => 15,
             FaultKind::Main => 23,
         }
     }
@@ -36,13 +51,18 @@ impl FaultKind {
         match self {
             FaultKind::LeftOut => "leftout",
             FaultKind::PackageName => "packagename",
+            FaultKind::Redeclared => "redeclared",
+            FaultKind::Undeclared => "undeclared",
+            FaultKind::UnusedImport => "unusedimport",
+            FaultKind::Range => "range",
+            FaultKind::Constant => "constant",
             FaultKind::Main => "main",
         }
     }
 }
 
 /// A fault: its kind and where it stands, by the file's name and the place in the file.
-#[derive(Drop)]
+#[derive(Debug, Drop)]
 pub struct Fault {
     file: String,
     place: Place,

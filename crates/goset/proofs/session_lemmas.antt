@@ -3,6 +3,8 @@ pub mod Growth
 pub mod OneText
 pub mod Places
 pub mod Reaches
+pub mod RunTelling
+pub mod Runs
 pub mod Settling
 pub mod SomeText
 pub mod Standings

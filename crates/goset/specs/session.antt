@@ -6,6 +6,7 @@ pub mod Pieces
 pub mod Seen
 pub mod Refusals
 pub mod Printing
+pub mod RunPrinting
 pub mod World
 pub mod Standing
 pub mod Text

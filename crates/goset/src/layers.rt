@@ -57,7 +57,7 @@ fn entries_are_found(rt: HostRuntime) -> Result<(), Fail> {
 fn entries_hold_what_they_are_made_of(rt: HostRuntime) -> Result<(), Fail> {
     let entry = entry(rt.alloc(), "package p\n")?;
     assert_eq!(rt; entry.action().path(), "p");
-    assert!(rt; matches!(entry.outcome().copy()?, Outcome::Good));
+    assert!(rt; matches!(entry.outcome().copy()?, Outcome::Good(_)));
     Ok(())
 }
 
@@ -65,7 +65,7 @@ fn entries_hold_what_they_are_made_of(rt: HostRuntime) -> Result<(), Fail> {
 fn package_without_main_is_good(rt: HostRuntime) -> Result<(), Fail> {
     let action = action(rt.alloc(), &[("x.go", "package p\n")])?;
     let entry = compile(action).ok().ok_or("out of memory")?;
-    assert!(rt; matches!(entry.outcome(), Outcome::Good));
+    assert!(rt; matches!(entry.outcome(), Outcome::Good(_)));
     Ok(())
 }
 

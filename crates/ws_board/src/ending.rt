@@ -2,7 +2,7 @@
 ghost use Rattle.std.specs.Prelude.{◌≡◌, ℕ, List, option_copied, IfSome, IfNone};
 ghost use Rattle.std.specs.List.{count_by};
 ghost use Rattle.ws_action.specs.Actions.{Action as AnAction};
-ghost use Rattle.ws_cache.specs.Compiles.{Compiles};
+ghost use Rattle.ws_cache.specs.Compiles.{Compiles, compiled_of};
 ghost use Rattle.ws_board.specs.Machine.{is_finish, IsHeldFor};
 
 use crate::work::{Event, Job};
@@ -41,7 +41,7 @@ impl Built {
     /// What compiling the job's action gives, by the entry that the cache holds for its id: none
     /// if it holds none, or there is no such job.
     pub fn result(&self, job: usize) -> Option<&Outcome>
-        ensures some { IfSome result (λ outcome. (held : AnAction) × IsHeldFor self.now job (Some held) × Compiles held outcome.now) }
+        ensures some { IfSome result (λ outcome. (held : AnAction) × IsHeldFor self.now job (Some held) × Compiles held (compiled_of outcome.now)) }
         ensures none { IfNone result ((held : AnAction) → ¬ (IsHeldFor self.now job (Some held))) }
     {
         let job = self.jobs.get(job)?;

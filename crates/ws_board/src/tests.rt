@@ -85,7 +85,7 @@ fn one_job(rt: HostRuntime) -> Result<(), Fail> {
     assert_eq!(rt; finishes(&mut board, &second, &first)?, "done");
     assert_eq!(rt; asks(&mut board, &first)?, "idle");
     let built = board.built();
-    assert!(rt; matches!(built.result(0), Some(Outcome::Good)));
+    assert!(rt; matches!(built.result(0), Some(Outcome::Good(_))));
     assert!(rt; built.result(1).is_none());
     assert_eq!(rt; built.compiled(), 1);
     let events = [

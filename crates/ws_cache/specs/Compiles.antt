@@ -1,23 +1,28 @@
 -- What compiling a package gives.
-use Rattle.std.specs.Prelude.{◌≡◌, ◌≢◌, ℕ, List, [], ◌∷◌, codes}
-use Rattle.go_text.specs.declared.fault.FaultKind.TheVariants.{Main}
-use Rattle.go_parse.specs.Grammar.{Name, File}
-use Rattle.go_parse.specs.Parse.{IsParse, Derived}
+use Rattle.std.specs.Prelude.{◌≡◌}
+use Rattle.std.specs.Arc.{arc_value}
+use Rattle.go_text.specs.Faults.{Fault}
+use Rattle.go_code.specs.Packages.{Object}
+use Rattle.go_check.specs.Typed.{Typed}
+use Rattle.go_check.specs.Packages as answers
+use Rattle.go_check.specs.Sources.{IsAnswerOf}
+use Rattle.go_gen.specs.Translation.{object_of}
 use Rattle.ws_action.specs.Actions.{Action}
 use Rattle.ws_cache.specs.declared.Outcome.{Outcome}
-use Rattle.ws_cache.specs.declared.Outcome.TheVariants.{Good, Faulty}
+use Rattle.ws_cache.specs.declared.Outcome.TheVariants as outcome
 
--- The outcome for a package of that name, by its first file. Files hold a package clause and nothing else, so
--- that a package named main has no function main: it is faulty at the name.
-pub record IsOutcome (file : List ℕ) (name : Name) (outcome : Outcome) : Type 0 where
-  pub main : name.text ≡ codes "main" → outcome ≡ Faulty (record { file = file; place = name.place; kind = Main })
-  pub other : name.text ≢ codes "main" → outcome ≡ Good
+-- the object of a good package, or the fault to report
+pub data Compiled : Type 0 where
+  Good : Object → Compiled
+  Faulty : Fault → Compiled
 
--- by the first of the files, as its text is parsed
-abbrev pub CompilesFirst : List (List ℕ × List ℕ) → Outcome → Type 0
-CompilesFirst [] outcome = ⊥
-CompilesFirst (first ∷ files) outcome = (file : File) × (IsParse first.1 (Derived file) × IsOutcome first.0 file.«package» outcome)
+-- which of them an outcome is
+abbrev pub compiled_of : Outcome → Compiled
+compiled_of (outcome.Good object) = Good (arc_value object)
+compiled_of (outcome.Faulty fault) = Faulty fault
 
--- compiling the action gives the outcome
-abbrev pub Compiles : Action → Outcome → Type 0
-Compiles action outcome = CompilesFirst action.files outcome
+-- Compiling the action gives this, by its path and its files' names and texts alone: the fault that is answered of them, or the
+-- object of the typed package that they are.
+abbrev pub Compiles : Action → Compiled → Type 0
+Compiles action (Faulty fault) = IsAnswerOf action.path action.files (answers.Faulty fault)
+Compiles action (Good object) = (typed : Typed) × IsAnswerOf action.path action.files (answers.Good typed) × (object ≡ object_of typed)

@@ -2,7 +2,7 @@
 use Rattle.std.specs.Prelude.{◌≡◌, ℕ, suc, Bool, true, false, ◌||◌, if◌then◌else◌, List, [], ◌∷◌, ◌++◌, map, refl, Option, Some, None, is_some, ◌≢◌}
 use Rattle.std.specs.List.{Contains, list_any}
 use Rattle.std.specs.Str.{bytes_eq}
-use Rattle.std.specs.Bool.{one_answer}
+use Rattle.std.specs.Bool.{one_answer, Decides}
 use Rattle.std.specs.declared.cmp.Ordering.{Ordering}
 use Rattle.std.specs.declared.cmp.Ordering.TheVariants.{Less, Equal, Greater}
 use Rattle.std.specs.Ordering.{is_eq}
@@ -63,8 +63,14 @@ false_from false h = refl
 abbrev same_id : Action → Action → Bool
 same_id a b = bytes_eq (action_id a) (action_id b)
 
-abbrev same_action : Action → Action → Bool
+abbrev pub same_action : Action → Action → Bool
 same_action a b = is_eq (action_cmp a b)
+
+pub same_action-Decides : (a b : Action) → Decides (same_action a b) (a ≡ b)
+same_action-Decides a b = (
+  λ e. action_cmp-IsAntisymmetric a b (equal_from (action_cmp a b) e),
+  λ e. subst (λ z. same_action a z ≡ true) e (ap is_eq (tied_itself action_cmp_total a)),
+)
 
 ids_equal : (s t : List ℕ) → bytes_eq s t ≡ true → s ≡ t
 ids_equal s t e = id_cmp-IsAntisymmetric s t (equal_from (id_cmp s t) (is_eq-slice_cmp s t ∙ e))
@@ -77,10 +83,7 @@ module _ (T : List (List ℕ)) (U : List Action) (clear : NoClash T) (among : In
   tests_agree a b p q = one_answer {P = a ≡ b} (same_id a b) (same_action a b) (
     λ e. one_action T U clear among sized a b p q (ids_equal (action_id a) (action_id b) e),
     λ e. subst (λ z. same_id a z ≡ true) e (ids_tied (action_id a)),
-  ) (
-    λ e. action_cmp-IsAntisymmetric a b (equal_from (action_cmp a b) e),
-    λ e. subst (λ z. same_action a z ≡ true) e (ap is_eq (tied_itself action_cmp_total a)),
-  )
+  ) (same_action-Decides a b)
 
   any_agree : (a : Action) → Contains U a → (seen : List Action) → Includes U seen → list_any (bytes_eq (action_id a)) (map action_id seen) ≡ list_any (same_action a) seen
   any_agree a p [] h = refl

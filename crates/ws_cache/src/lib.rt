@@ -9,36 +9,37 @@ ghost use Rattle.ws_version.specs.Kept.{SameMembers, taken, joined as joined_by}
 ghost use Rattle.ws_version.specs.Gathered.{is_news, gathered};
 ghost use Rattle.ws_action.specs.Actions.{Action as AnAction, action_id};
 ghost use Rattle.ws_action.specs.Clash.{NoClash, Includes, hashed_actions, AllSized};
-ghost use Rattle.ws_cache.specs.declared.Outcome.{Outcome as AnOutcome};
-ghost use Rattle.ws_cache.specs.Compiles.{Compiles};
+ghost use Rattle.ws_cache.specs.Compiles.{Compiled, Compiles, compiled_of};
 ghost use Rattle.ws_cache.specs.Count.{compiled_count, new_actions_count};
 ghost use Rattle.ws_cache.specs.Held.{IsHeld, CacheStandsFor, id_cmp};
 ghost use Rattle.ws_cache.specs.Joined.{downwards, lesser};
 
+use go_code::object::Object;
 use go_text::fault::Fault;
 use std::alloc::{AllocError, Global};
 use std::cmp::Ordering;
 use std::collections::BTreeMap;
 use std::marker::Model;
+use std::sync::Arc;
 use ws_action::Action;
 use ws_version::Join;
 
 /// What compiling a package gives.
 #[derive(Drop)]
 pub enum Outcome {
-    /// The package is good.
-    Good,
+    /// The package is good, and translated to this object.
+    Good(Arc<Object>),
     /// The package has the fault, which is the first to report.
     Faulty(Fault),
 }
 
 impl Outcome {
-    /// Another of equal contents. An `Err` only where memory ran out.
+    /// Another of equal contents, which shares the object. An `Err` only where memory ran out.
     pub fn copy(&self) -> Result<Outcome, AllocError>
-        ensures { IfOk result (λ copy. copy ≡ self.now) }
+        ensures { IfOk result (λ copy. compiled_of copy ≡ compiled_of self.now) }
     {
         match self {
-            Outcome::Good => Ok(Outcome::Good),
+            Outcome::Good(object) => Ok(Outcome::Good(object.clone()?)),
             Outcome::Faulty(fault) => Ok(Outcome::Faulty(fault.copy()?)),
         }
     }
@@ -63,14 +64,14 @@ impl Model for Entry {
 
     ghost view = { λ a. a.action };
 
-    ghost invariant = { λ a. (a.id ≡ actions.action_id a.action) × compiles.Compiles a.action a.outcome };
+    ghost invariant = { λ a. (a.id ≡ actions.action_id a.action) × compiles.Compiles a.action (compiles.compiled_of a.outcome) };
 }
 
 impl Entry {
     /// The entry of an action and what compiling it gives. An `Err`, for want of memory, gives
     /// the action back.
     pub fn new(action: Action, outcome: Outcome) -> Result<Entry, Action>
-        requires { Compiles action outcome }
+        requires { Compiles action (compiled_of outcome) }
         ensures ok { IfOk result (λ entry. entry ≡ action) }
         ensures err { IfErr result (λ back. back ≡ action) }
     {
@@ -100,7 +101,7 @@ impl Entry {
 
     /// What compiling the action gives.
     pub fn outcome(&self) -> &Outcome
-        ensures { Compiles self.now result.now }
+        ensures { Compiles self.now (compiled_of result.now) }
     {
         &self.outcome
     }
@@ -264,7 +265,7 @@ impl Join for Cache {
 
 /// Compiling an action gives one outcome.
 pub fn law_one_outcome()
-    ensures { (action : AnAction) (a b : AnOutcome) → Compiles action a → Compiles action b → a ≡ b }
+    ensures { (action : AnAction) (a b : Compiled) → Compiles action a → Compiles action b → a ≡ b }
 {}
 
 /// Caches that stand for the same actions are one, however each came about.

@@ -2,10 +2,13 @@
 #![tactic(auto)]
 
 ghost use Rattle.std.specs.Prelude.{◌≡◌, IfOk, IfErr};
-ghost use Rattle.ws_cache.specs.Compiles.{Compiles};
+ghost use Rattle.ws_cache.specs.Compiles.{Compiles, compiled_of};
 
-use go_text::fault::{Fault, FaultKind};
+use go_check::error::CheckError;
+use go_check::package::check;
+use go_gen::generate::generate;
 use std::alloc::AllocError;
+use std::sync::Arc;
 use ws_action::Action;
 use ws_cache::{Entry, Outcome};
 
@@ -21,15 +24,18 @@ pub fn compile(action: Action) -> Result<Entry, Action>
     }
 }
 
-/// What compiling an action gives, by the first of its files. An `Err` only where memory ran out.
+/// What compiling an action gives: its package's first fault, or its object. An `Err` only where
+/// memory ran out.
 fn outcome_of(action: &Action) -> Result<Outcome, AllocError>
-    ensures { IfOk result (λ outcome. Compiles action.now outcome) }
+    ensures { IfOk result (λ outcome. Compiles action.now (compiled_of outcome)) }
 {
-    let first = &action.files()[0];
-    let package = first.file().package();
-    if package.text() != "main" {
-        return Ok(Outcome::Good);
+    let alloc = action.allocator();
+    match check(alloc, action.path(), action.files()) {
+        Ok(typed) => {
+            let object = generate(alloc, &typed)?;
+            Ok(Outcome::Good(Arc::new(alloc, object)?))
+        }
+        Err(CheckError::Faulty(fault)) => Ok(Outcome::Faulty(fault)),
+        Err(CheckError::Memory) => Err(AllocError),
     }
-    let file = String::from_str(action.allocator(), first.name())?;
-    Ok(Outcome::Faulty(Fault::new(file, package.place(), FaultKind::Main)))
 }

@@ -7,7 +7,7 @@ use Rattle.ws_version.specs.Writes.{Write}
 use Rattle.ws_version.specs.Kept.{SameMembers}
 use Rattle.ws_register.specs.Sources.{package_files}
 use Rattle.ws_register.specs.Laws.{same_sources}
-use Rattle.go_parse.specs.Grammar.{File}
+use Rattle.go_ast.specs.Trees.{File}
 use Rattle.go_parse.specs.Parse.{Parse, Parsed, Derived, Stopped, IsParse}
 use Rattle.ws_graph.specs.Plan.{Planned, NoFiles, Faulty, Sound, source_of, AllParsed, AreParsed, AllNamed, StopsIn, DiffersIn, IsSound, IsPlan, IsPlanOf}
 use Rattle.go_parse.proofs.Once.{one_parse}

@@ -13,11 +13,6 @@ pub data Planned : Type 0 where
   Faulty : Fault → Planned
   Sound : List Parsed → Planned
 
--- a directory, and what becomes of its files
-pub record Plan : Type 0 where
-  pub directory : List ℕ
-  pub planned : Planned
-
 abbrev pub source_of : Parsed → List ℕ × List ℕ
 source_of p = (p.name, p.text)
 

@@ -109,8 +109,8 @@ fn judged(alloc: Global, parsed: Vec<Parsed>) -> Result<Node, PlanError>
 /// has another name than the first file's.
 /// `NoPackage` comes where the directory has no such file, and `Memory` for a refused allocation.
 pub fn plan(alloc: Global, registers: &Registers, directory: &str) -> Result<Plan, PlanError>
-    ensures directory { IfOk result (λ plan. plan.directory ≡ directory.now) }
-    ensures ok { (writes : List Write) → StandsFor held_cmp registers.now writes → IfOk result (λ plan. IsPlanOf writes directory.now plan.planned × (plan.planned ≢ NoFiles)) }
+    ensures directory { IfOk result (λ plan. string_bytes plan.directory ≡ directory.now) }
+    ensures ok { (writes : List Write) → StandsFor held_cmp registers.now writes → IfOk result (λ plan. IsPlanOf writes directory.now (planned_of plan.node) × (planned_of plan.node ≢ NoFiles)) }
     ensures none { (writes : List Write) → StandsFor held_cmp registers.now writes → result ≡ Err PlanError.NoPackage → IsPlanOf writes directory.now NoFiles }
 {
     let Ok(name) = String::from_str(alloc, directory) else {

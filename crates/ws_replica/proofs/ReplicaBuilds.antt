@@ -19,8 +19,7 @@ use Rattle.go_parse.specs.Parse.{Parsed}
 use Rattle.ws_graph.specs.Plan.{Faulty, Sound, IsPlanOf}
 use Rattle.ws_action.specs.Clash.{NoClash, AllSized, hashed_actions, none_in_empty, head_or_later}
 use Rattle.ws_cache.specs.Held.{id_cmp, IsLeast, IsHeld, CacheStandsFor}
-use Rattle.ws_cache.specs.Compiles.{Compiles}
-use Rattle.ws_cache.specs.declared.Outcome.{Outcome}
+use Rattle.ws_cache.specs.Compiles.{Compiled, Compiles}
 use Rattle.ws_cache.specs.Joined.{lesser, id_cmp_total, cache_stands, taken_stands}
 use Rattle.ws_cache.specs.Laws.{put_again, found_itself, found_no_other, count_of_one}
 use Rattle.ws_board.specs.declared.work.Status.{Status}
@@ -133,14 +132,14 @@ stands_by a m E h clear sized (Some b) e =
     let among : Contains E a = subst (λ (z : Action). Contains E z) same least.among in
     subst (λ (n : FinMap id_cmp Action). CacheStandsFor n (E ++ a ∷ [])) (put_again m E a h among) (taken_stands m (taken lesser m (action_id a) a) E a refl h)
 
-sized_more : (E : List Action) (a : Action) → AllSized E → IsSized a → AllSized (E ++ a ∷ [])
+pub sized_more : (E : List Action) (a : Action) → AllSized E → IsSized a → AllSized (E ++ a ∷ [])
 sized_more E a h s b c = elim (Contains-push_cases E a b c) [ inl l ↦ h b l | inr e ↦ subst (λ (z : Action). IsSized z) e s ]
 
 unwrapped : Action → Option Action → Action
 unwrapped a None = a
 unwrapped a (Some b) = b
 
-pub is_built : (a : Action) (m : FinMap id_cmp Action) (E : List Action) → CacheStandsFor m E → AllSized E → IsSized a → (end : State) → RunsTo (opening m (a ∷ [])) end → (outcome : Outcome) → ((held : Action) × IsHeldFor end 0 (Some held) × Compiles held outcome) → (directory : List ℕ) (verdict : RustVerdict) (report : Report) (cache : FinMap id_cmp Action) → rows report.directories.items ≡ (directory, seen verdict) ∷ [] → seen verdict ≡ verdict_of outcome → report.compiled ≡ count_by is_finish end.history → cache ≡ end.cache → IsBuilt E a directory report cache
+pub is_built : (a : Action) (m : FinMap id_cmp Action) (E : List Action) → CacheStandsFor m E → AllSized E → IsSized a → (end : State) → RunsTo (opening m (a ∷ [])) end → (outcome : Compiled) → ((held : Action) × IsHeldFor end 0 (Some held) × Compiles held outcome) → (directory : List ℕ) (verdict : RustVerdict) (report : Report) (cache : FinMap id_cmp Action) → rows report.directories.items ≡ (directory, seen verdict) ∷ [] → seen verdict ≡ verdict_of outcome → report.compiled ≡ count_by is_finish end.history → cache ≡ end.cache → IsBuilt E a directory report cache
 unfolding action_at unwrapped
 is_built a m E h sized its end runs outcome held directory verdict report cache row told compiled cache_is = record {
   sized = its;

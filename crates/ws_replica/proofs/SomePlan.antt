@@ -11,12 +11,17 @@ use Rattle.ws_version.specs.Kept.{StandsFor, taken}
 use Rattle.ws_version.specs.Gathered.{stands_for-taken}
 use Rattle.ws_register.specs.Edits.{Contents}
 use Rattle.ws_register.specs.Sources.{texts_of, IsSources, package_files}
-use Rattle.go_parse.specs.Grammar.{Name, File}
+use Rattle.go_ast.specs.Trees.{Name, File}
 use Rattle.go_parse.specs.Parse.{Parse, Derived, Stopped, IsParse, Parsed}
 use Rattle.ws_graph.specs.Plan.{Planned, NoFiles, Faulty, Sound, source_of, AllParsed, AreParsed, AllNamed, HasOther, StopsIn, IsPlan, IsPlanOf}
-use Rattle.ws_cache.specs.Compiles.{IsOutcome, CompilesFirst}
-use Rattle.ws_cache.specs.declared.Outcome.{Outcome}
-use Rattle.ws_cache.specs.declared.Outcome.TheVariants as outcome
+use Rattle.go_check.specs.Packages.{NamedFile, Answer}
+use Rattle.go_check.specs.Packages as answers
+use Rattle.go_check.specs.Sources.{AreTreesOf, IsAnswerOf}
+use Rattle.go_check.proofs.Trees.{some_answer_of}
+use Rattle.go_gen.specs.Translation.{object_of}
+use Rattle.ws_action.specs.Actions.{action_of}
+use Rattle.ws_cache.specs.Compiles.{Compiled, Compiles}
+use Rattle.ws_cache.specs.Compiles as compiled
 use Rattle.ws_replica.specs.Reports.{Verdict, Wrong, verdict_of, IsReport}
 use Rattle.ws_replica.proofs.ReplicaBuilds.{nothing_stands}
 use Rattle.go_parse.proofs.Exists.{parse_exists}
@@ -147,21 +152,30 @@ some_plan_of W directory =
 
 -- ---- the report of a plan
 
-outcome_by : (file : List ℕ) (name : Name) (b : Bool) → bytes_eq name.text (codes "main") ≡ b → (o : Outcome) × IsOutcome file name o
-outcome_by file name true e =
-    let is = (bytes_eq-Decides name.text (codes "main")).0 e in
-    (outcome.Faulty (record { file = file; place = name.place; kind = Main }), record { main = λ _. refl; other = λ no_main. absurd (no_main is) })
-outcome_by file name false e = (outcome.Good, record { main = λ is. let t = (bytes_eq-Decides name.text (codes "main")).1 is in cc; other = λ _. refl })
+pub trees_of : (parsed : List Parsed) → AllParsed parsed → (trees : List NamedFile) × AreTreesOf (map source_of parsed) trees
+trees_of [] h = ([], tt)
+trees_of (p ∷ parsed) h =
+    let rest = trees_of parsed h.1 in
+    (record { name = p.name; tree = p.file } ∷ rest.0, (record { name = refl; parse = h.0 }, rest.1))
 
-some_outcome : (parsed : List Parsed) (first : Parsed) (rest : List Parsed) → parsed ≡ first ∷ rest → AllParsed parsed → (o : Outcome) × CompilesFirst (map source_of parsed) o
-some_outcome parsed first rest e h =
-    let o = outcome_by first.name first.file.package (bytes_eq first.file.package.text (codes "main")) refl in
-    let all : AllParsed (first ∷ rest) = subst AllParsed e h in
-    (o.0, subst (λ ps. CompilesFirst (map source_of ps) o.0) (sym e) (first.file, (all.0, o.1)))
+given_by : (path : List ℕ) (files : List (List ℕ × List ℕ)) (answer : Answer) → IsAnswerOf path files answer → (c : Compiled) × Compiles (record { edition = 0; path = path; files = files }) c
+given_by path files (answers.Good typed) h = (compiled.Good (object_of typed), (typed, h, refl))
+given_by path files (answers.Faulty fault) h = (compiled.Faulty fault, h)
+
+same_compiled : (edition : ℕ) (path : List ℕ) (files : List (List ℕ × List ℕ)) (c : Compiled) → Compiles (record { edition = 0; path = path; files = files }) c → Compiles (record { edition = edition; path = path; files = files }) c
+same_compiled edition path files (compiled.Good object) h = h
+same_compiled edition path files (compiled.Faulty fault) h = h
+
+some_outcome : (edition : ℕ) (directory : List ℕ) (parsed : List Parsed) → AllParsed parsed → (c : Compiled) × Compiles (action_of edition directory parsed) c
+some_outcome edition directory parsed h =
+    let trees = trees_of parsed h in
+    let answer = some_answer_of directory (map source_of parsed) trees.0 trees.1 in
+    let c = given_by directory (map source_of parsed) answer.0 answer.1 in
+    (c.0, same_compiled edition directory (map source_of parsed) c.0 c.1)
 
 pub some_report : (edition : ℕ) (directory : List ℕ) (files : List (List ℕ × List ℕ)) (p : Planned) → IsPlan files p → (r : List (List ℕ × Verdict)) × IsReport edition directory p r
 some_report edition directory files NoFiles h = ([], refl)
 some_report edition directory files (Faulty fault) h = ((directory, Wrong fault) ∷ [], refl)
 some_report edition directory files (Sound parsed) h =
-    let o = some_outcome parsed h.first h.rest h.is h.parses.parses in
+    let o = some_outcome edition directory parsed h.parses.parses in
     ((directory, verdict_of o.0) ∷ [], (o.0, o.1, refl))

@@ -5,8 +5,7 @@ use Rattle.ws_action.specs.Actions.{Action, IsSized}
 use Rattle.ws_action.specs.Clash.{NoClash, AllSized, hashed_actions}
 use Rattle.ws_cache.specs.Held.{id_cmp, CacheStandsFor}
 use Rattle.ws_cache.specs.Count.{compiled_count}
-use Rattle.ws_cache.specs.Compiles.{Compiles}
-use Rattle.ws_cache.specs.declared.Outcome.{Outcome}
+use Rattle.ws_cache.specs.Compiles.{Compiled, Compiles}
 use Rattle.ws_replica.specs.declared.Report.{Report}
 use Rattle.ws_replica.specs.Reports.{rows, verdict_of, actions_of, IsReport}
 use Rattle.ws_replica.specs.Holdings.{Replica, ReplicaStandsFor}
@@ -15,7 +14,7 @@ use Rattle.ws_version.specs.Writes.{Write}
 
 -- where texts don't clash: the directory's row says what compiling gives, the count is right, and the cache takes the action
 pub record IsRight (actions : List Action) (action : Action) (directory : List ℕ) (report : Report) (cache : FinMap id_cmp Action) : Type 0 where
-  pub result : Outcome
+  pub result : Compiled
   pub compiles : Compiles action result
   pub row : rows report.directories.items ≡ (directory, verdict_of result) ∷ []
   pub compiled : report.compiled ≡ compiled_count actions (action ∷ [])

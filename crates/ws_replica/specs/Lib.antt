@@ -1,3 +1,4 @@
 pub mod Holdings
 pub mod Reports
 pub mod Builds
+pub mod Programs

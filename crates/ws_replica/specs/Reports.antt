@@ -3,9 +3,8 @@ use Rattle.std.specs.Prelude.{◌≡◌, ℕ, List, [], ◌∷◌, Bool, true, f
 use Rattle.std.specs.Global.{Global}
 use Rattle.go_text.specs.Faults.{Fault}
 use Rattle.ws_action.specs.Actions.{Action, action_of}
-use Rattle.ws_cache.specs.Compiles.{Compiles}
-use Rattle.ws_cache.specs.declared.Outcome.{Outcome}
-use Rattle.ws_cache.specs.declared.Outcome.TheVariants as outcome
+use Rattle.ws_cache.specs.Compiles.{Compiled, Compiles}
+use Rattle.ws_cache.specs.Compiles as compiled
 use Rattle.ws_graph.specs.Plan.{Planned, NoFiles, Faulty, Sound}
 use Rattle.ws_replica.specs.declared.Verdict.{Verdict as RustVerdict}
 use Rattle.ws_replica.specs.declared.Verdict.TheVariants as rust
@@ -16,9 +15,9 @@ pub data Verdict : Type 0 where
   Blocked : Verdict
   Wrong : Fault → Verdict
 
-abbrev pub verdict_of : Outcome → Verdict
-verdict_of outcome.Good = Good
-verdict_of (outcome.Faulty fault) = Wrong fault
+abbrev pub verdict_of : Compiled → Verdict
+verdict_of (compiled.Good object) = Good
+verdict_of (compiled.Faulty fault) = Wrong fault
 
 -- the actions of a plan
 abbrev pub actions_of : ℕ → List ℕ → Planned → List Action
@@ -31,7 +30,7 @@ actions_of edition directory (Sound parsed) = action_of edition directory parsed
 abbrev pub IsReport : ℕ → List ℕ → Planned → List (List ℕ × Verdict) → Type 0
 IsReport edition directory NoFiles report = report ≡ []
 IsReport edition directory (Faulty fault) report = report ≡ (directory, Wrong fault) ∷ []
-IsReport edition directory (Sound parsed) report = (result : Outcome) × Compiles (action_of edition directory parsed) result × (report ≡ (directory, verdict_of result) ∷ [])
+IsReport edition directory (Sound parsed) report = (result : Compiled) × Compiles (action_of edition directory parsed) result × (report ≡ (directory, verdict_of result) ∷ [])
 
 abbrev pub seen : RustVerdict → Verdict
 seen rust.Good = Good

@@ -1,7 +1,7 @@
 //! Replicas: what is written and what is compiled, and builds.
 #![tactic(auto)]
 
-ghost use Rattle.std.specs.Prelude.{◌≡◌, ◌≢◌, ℕ, ◌++◌, ◌∷◌, [], List, if◌then◌else◌, is_some, IfOk, IfErr, OnOk, OnErr, Err, None, string_bytes, option_copied};
+ghost use Rattle.std.specs.Prelude.{◌≡◌, ◌≢◌, ℕ, ◌++◌, ◌∷◌, [], List, if◌then◌else◌, is_some, IfOk, IfErr, IfSome, OnOk, OnErr, Err, None, string_bytes, option_copied};
 ghost use Rattle.std.specs.FinMap as map;
 ghost use Rattle.std.specs.List.{count_by, slice_get};
 ghost use Rattle.go_text.specs.Editions.{edition_number};
@@ -13,25 +13,33 @@ ghost use Rattle.ws_action.specs.Clash.{AllSized, NoClash, hashed_actions};
 ghost use Rattle.ws_cache.specs.Held.{IsHeld, CacheStandsFor};
 ghost use Rattle.ws_cache.specs.Joined.{lesser};
 ghost use Rattle.ws_cache.specs.Count.{compiled_count};
-ghost use Rattle.ws_cache.specs.Compiles.{Compiles};
+ghost use Rattle.ws_cache.specs.Compiles.{Compiles, compiled_of};
 ghost use Rattle.ws_graph.specs.Plan.{Planned, Sound, NoFiles, IsPlanOf};
 ghost use Rattle.ws_board.specs.Machine.{opening, is_finish};
 ghost use Rattle.ws_pool.specs.Runs.{RunsTo};
 ghost use Rattle.ws_replica.specs.Holdings.{ReplicaStandsFor, both};
 ghost use Rattle.ws_replica.specs.Builds.{IsBuilt};
+ghost use Rattle.ws_replica.specs.Programs.{IsTranslated, IsLinked, IsImageHeld, IsImage, MeansProgram};
+ghost use Rattle.go_check.specs.Typed.{Typed, IsWellTyped};
+ghost use Rattle.go_check.specs.Meaning.{IsProgram};
+ghost use Rattle.std.specs.Arc.{arc_value};
 ghost use Rattle.ws_replica.specs.Reports.{Verdict as AVerdict, actions_of, verdict_of, IsReport, seen, is_good, rows};
 
+use go_code::image::Image;
+use go_code::object::Object;
+use go_link::link::{LinkError, link};
 use go_parse::Parsed;
 use go_text::edition::Edition;
 use go_text::fault::Fault;
 use go_text::source::Source;
 use std::alloc::{AllocError, Global};
 use std::marker::Model;
+use std::sync::Arc;
 use thiserror::Error;
 use ws_action::Action;
 use ws_board::{Board, Built};
 use ws_cache::{Cache, Outcome};
-use ws_graph::{Node, PlanError, plan};
+use ws_graph::{Node, Plan, PlanError, plan};
 use ws_pool::drive;
 use ws_register::{EditError, Registers};
 use ws_version::{Held, Join};
@@ -165,10 +173,10 @@ impl Join for Replica {
 }
 
 fn verdict_of(outcome: &Outcome) -> Result<Verdict, AllocError>
-    ensures { IfOk result (λ verdict. seen verdict ≡ verdict_of outcome.now) }
+    ensures { IfOk result (λ verdict. seen verdict ≡ verdict_of (compiled_of outcome.now)) }
 {
     match outcome {
-        Outcome::Good => Ok(Verdict::Good),
+        Outcome::Good(_) => Ok(Verdict::Good),
         Outcome::Faulty(fault) => Ok(Verdict::Faulty(fault.copy()?)),
     }
 }
@@ -254,7 +262,10 @@ pub fn build(
         Err(PlanError::NoPackage) => return Err(BuildError::NoPackage),
         Err(PlanError::Memory) => return Err(BuildError::Memory),
     };
-    let (path, node) = plan.into_parts();
+    let Plan {
+        directory: path,
+        node,
+    } = plan;
     match node {
         Node::Faulty(fault) => {
             let Ok(report) = report_of(alloc, path, Verdict::Faulty(fault), 0) else {
@@ -271,6 +282,71 @@ pub fn build(
                 Err(_) => Err(BuildError::Memory),
             }
         }
+    }
+}
+
+/// The image of an object; none where it is no program's.
+fn linked(alloc: Global, object: &Arc<Object>) -> Result<Option<Image>, AllocError>
+    requires { IsTranslated (arc_value object.now) }
+    ensures { IfOk result (λ image. IsLinked (arc_value object.now) image) }
+{
+    let objects = Vec::from_array(alloc, [object.clone()?])?;
+    match link(alloc, &objects, &[0]) {
+        Ok(image) => Ok(Some(image)),
+        Err(LinkError::NoMain) => Ok(None),
+        Err(LinkError::NameMissing) => unreachable!(),
+        Err(LinkError::Memory) => Err(AllocError),
+    }
+}
+
+/// The image of an action that the cache holds with a good outcome; none where it doesn't, or
+/// where the package is no program.
+fn held_image(alloc: Global, cache: &Cache, action: &Action) -> Result<Option<Image>, AllocError>
+    ensures { IfOk result (λ image. IsImageHeld cache.now action.now image) }
+{
+    let Some(entry) = cache.get(&action.id()?) else {
+        return Ok(None);
+    };
+    match entry.outcome() {
+        Outcome::Good(object) => linked(alloc, object),
+        Outcome::Faulty(_) => Ok(None),
+    }
+}
+
+/// The image of the program in a directory, linked from what the replica holds compiled. None
+/// where the package isn't compiled as it stands, or has a fault, or is no program. `NoPackage`
+/// comes where the directory has no files that belong to a build.
+///
+/// For every number of ticks the image does what the replica's sources mean.
+pub fn image(
+    alloc: Global,
+    replica: &Replica,
+    directory: &str,
+    edition: Edition,
+) -> Result<Option<Image>, BuildError>
+    ensures ok { IfOk result (λ image. (W : List Write) (E : List AnAction) → ReplicaStandsFor replica.now W E → AllSized E → IsImage (edition_number edition) W E directory.now image) }
+    ensures program { IfOk result (λ image. IfSome image (λ image. (typed : Typed) × IsWellTyped typed × IsProgram typed × MeansProgram image typed)) }
+    ensures none { result ≡ Err BuildError.NoPackage → (W : List Write) (E : List AnAction) → ReplicaStandsFor replica.now W E → IsPlanOf W directory.now NoFiles }
+{
+    let registers = &replica.registers;
+    let plan = match plan(alloc, registers, directory) {
+        Ok(plan) => plan,
+        Err(PlanError::NoPackage) => return Err(BuildError::NoPackage),
+        Err(_) => return Err(BuildError::Memory),
+    };
+    let Plan {
+        directory: path,
+        node,
+    } = plan;
+    let Node::Sound(parsed) = node else {
+        return Ok(None);
+    };
+    let Ok(action) = Action::new(alloc, edition, path, parsed) else {
+        return Err(BuildError::Memory);
+    };
+    match held_image(alloc, &replica.cache, &action) {
+        Ok(image) => Ok(image),
+        Err(_) => Err(BuildError::Memory),
     }
 }
 

@@ -1,15 +1,19 @@
 -- A script has one session text.
-use Rattle.std.proofs.Common.{◌≡◌, ℕ, zero, suc, List, [], ◌∷◌, ◌++◌, Option, None, Some, sym, ap, ◌∙◌, subst}
+use Rattle.std.proofs.Common.{◌≡◌, ℕ, zero, suc, List, [], ◌∷◌, ◌++◌, Option, None, Some, sym, ap, ◌∙◌, subst, inl, inr}
 use Rattle.ws_version.specs.Writes.{Write as AWrite}
 use Rattle.ws_action.specs.Actions.{Action}
 use Rattle.ws_cache.specs.Count.{compiled_count}
 use Rattle.ws_graph.specs.Plan.{Planned, NoFiles, Faulty, Sound, IsPlanOf}
 use Rattle.ws_replica.specs.Reports.{Verdict, IsReport, actions_of}
 use Rattle.goset.specs.declared.session.refusal.Refusal.{Refusal}
-use Rattle.goset.specs.session.Commands.{Command, Nothing, Bad, Create, Write, Merge, Build, command_of, text_lines, text_of}
+use Rattle.goset.specs.session.Commands.{Command, Nothing, Bad, Create, Write, Merge, Build, Run, command_of, text_lines, text_of}
 use Rattle.goset.specs.session.Refusals.{first_of}
 use Rattle.goset.specs.session.Printing.{report_text}
-use Rattle.goset.specs.session.World.{World, opening, writes_of, actions_held, taking, with_replicas, refusals, Accepted, AfterBy, After, Answers, PrintsBy, Prints, Told}
+use Rattle.goset.specs.session.RunPrinting.{run_text}
+use Rattle.go_check.specs.Meaning.{SourceMeaning}
+use Rattle.go_check.specs.Sound.{source_once}
+use Rattle.ws_replica.proofs.OneProgram.{one_program}
+use Rattle.goset.specs.session.World.{World, opening, writes_of, actions_held, taking, with_replicas, seeking, refusals, Accepted, AfterBy, After, Answers, PrintsBy, Prints, Told, Ran, RanOr}
 use Rattle.goset.specs.session.Text.{TextFrom, SessionText}
 
 module _ (one_plan : (W : List AWrite) (directory : List ℕ) (p q : Planned) → IsPlanOf W directory p → IsPlanOf W directory q → p ≡ q)
@@ -23,10 +27,27 @@ module _ (one_plan : (W : List AWrite) (directory : List ℕ) (p q : Planned) �
   one_told edition name directory held (Faulty fault) a b g h = one_report_text edition name directory held (Faulty fault) g.0 h.0 a b g.1 h.1 g.2 h.2
   one_told edition name directory held (Sound parsed) a b g h = one_report_text edition name directory held (Sound parsed) g.0 h.0 a b g.1 h.1 g.2 h.2
 
+  ran_once : (edition : ℕ) (name directory : List ℕ) (ticks : ℕ) (held : List Action) (planned : Planned) (a b : List ℕ) → RanOr edition name directory ticks held planned a → RanOr edition name directory ticks held planned b → a ≡ b
+  ran_once edition name directory ticks held planned a b (inl g) (inl h) =
+      let same : h.0 ≡ g.0 = one_program edition directory held planned h.0 g.0 h.1 g.1 in
+      let means = source_once g.0 ticks g.2 h.2 g.3 h.3 g.4 (subst (λ t. SourceMeaning t ticks h.2 h.3) same h.4) in
+      g.5 ∙ ap (λ e. run_text name directory e g.3) means.0 ∙ ap (run_text name directory h.2) means.1 ∙ sym h.5
+  ran_once edition name directory ticks held planned a b (inl g) (inr h) = absurd (h.0 g.0 g.1)
+  ran_once edition name directory ticks held planned a b (inr g) (inl h) = absurd (g.0 h.0 h.1)
+  ran_once edition name directory ticks held planned a b (inr g) (inr h) = g.1 ∙ sym h.1
+
+  one_ran : (edition : ℕ) (name directory : List ℕ) (ticks : ℕ) (held : List Action) (planned : Planned) (a b : List ℕ) → Ran edition name directory ticks held planned a → Ran edition name directory ticks held planned b → a ≡ b
+  one_ran edition name directory ticks held NoFiles a b g h = g ∙ sym h
+  one_ran edition name directory ticks held (Faulty fault) a b g h = ran_once edition name directory ticks held (Faulty fault) a b g h
+  one_ran edition name directory ticks held (Sound parsed) a b g h = ran_once edition name directory ticks held (Sound parsed) a b g h
+
   one_answer : (command : Command) (world : World) (a b : List ℕ) → Answers command world a → Answers command world b → a ≡ b
   one_answer (Build name directory) world a b g h =
       let same : h.0 ≡ g.0 = one_plan (writes_of name world) directory h.0 g.0 h.1 g.1 in
       one_told world.edition name directory (actions_held name world) g.0 a b g.2 (subst (λ p. Told world.edition name directory (actions_held name world) p b) same h.2)
+  one_answer (Run name directory ticks) world a b g h =
+      let same : h.0 ≡ g.0 = one_plan (writes_of name world) directory h.0 g.0 h.1 g.1 in
+      one_ran world.edition name directory ticks (actions_held name world) g.0 a b g.2 (subst (λ p. Ran world.edition name directory ticks (actions_held name world) p b) same h.2)
   one_answer Nothing world a b g h = g ∙ sym h
   one_answer Bad world a b g h = g ∙ sym h
   one_answer (Create name) world a b g h = g ∙ sym h
@@ -45,6 +66,9 @@ module _ (one_plan : (W : List AWrite) (directory : List ℕ) (p q : Planned) �
   one_accepted (Build name directory) text world a b g h =
       let same : g.0 ≡ h.0 = one_plan (writes_of name world) directory g.0 h.0 g.1 h.1 in
       g.2 ∙ ap (λ p. with_replicas world (taking name [] (actions_of world.edition directory p) world.replicas)) same ∙ sym h.2
+  one_accepted (Run name directory ticks) text world a b g h =
+      let same : g.0 ≡ h.0 = one_plan (writes_of name world) directory g.0 h.0 g.1 h.1 in
+      g.2 ∙ ap (λ p. seeking world (actions_of world.edition directory p)) same ∙ sym h.2
   one_accepted Nothing text world a b g h = g ∙ sym h
   one_accepted Bad text world a b g h = g ∙ sym h
   one_accepted (Create name) text world a b g h = g ∙ sym h

@@ -62,10 +62,10 @@ held name writes actions (q ∷ rs) r e = held_by_test name writes actions q rs 
 clear_held : (name : List ℕ) (actions : List Action) (world : World) (r : Replica) → replica_at name world.replicas ≡ Some r → NoClash (hashed (with_replicas world (taking name [] actions world.replicas))) → NoClash (hashed_actions (r.actions ++ actions))
 unfolding hashed
 clear_held name actions world r e clear s t c d q =
-    let at = λ (x : List ℕ) (g : Contains (hashed_actions (r.actions ++ actions)) x). held name [] actions world.replicas r e x (Contains-append_right (flat_map (λ w. text_list w.1.text) (r.writes ++ [])) (hashed_actions (r.actions ++ actions)) x g) in
+    let at = λ (x : List ℕ) (g : Contains (hashed_actions (r.actions ++ actions)) x). Contains-append_left (flat_map texts_of_replica (taking name [] actions world.replicas)) (hashed_actions world.sought) x (held name [] actions world.replicas r e x (Contains-append_right (flat_map (λ w. text_list w.1.text) (r.writes ++ [])) (hashed_actions (r.actions ++ actions)) x g)) in
     clear s t (at s c) (at t d) q
 
-build_row : (a b c d : Bool) → a ≡ c → b ≡ d → first_of ((not a, Unknown) ∷ (not b, NoPackage) ∷ []) ≡ cond (not c) (Some Unknown) (cond (not d) (Some NoPackage) None)
+pub build_row : (a b c d : Bool) → a ≡ c → b ≡ d → first_of ((not a, Unknown) ∷ (not b, NoPackage) ∷ []) ≡ cond (not c) (Some Unknown) (cond (not d) (Some NoPackage) None)
 build_row a b c d e f = ap (λ z. cond (not z) (Some Unknown) (cond (not b) (Some NoPackage) None)) e ∙ ap (λ z. cond (not c) (Some Unknown) (cond (not z) (Some NoPackage) None)) f
 
 told_of_plan : (edition : ℕ) (name directory : List ℕ) (actions : List Action) (planned : Planned) (report : List (List ℕ × Verdict)) (told : List ℕ) → planned ≢ NoFiles → IsReport edition directory planned report → told ≡ report_text name directory report (compiled_count actions (actions_of edition directory planned)) → Told edition name directory actions planned told

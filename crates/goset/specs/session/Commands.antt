@@ -4,7 +4,7 @@ use Rattle.std.specs.Str.{bytes_eq}
 use Rattle.std.specs.Option.{option_map}
 use Rattle.goset.specs.session.Lines.{words_of, number_of, without_return, is_digit}
 
--- a command with its words: names, a path, a directory and a number of lines
+-- a command with its words: names, a path, a directory, and a number of lines or of ticks
 pub data Command : Type 0 where
   Nothing : Command
   Bad : Command
@@ -12,6 +12,7 @@ pub data Command : Type 0 where
   Write : List ℕ → List ℕ → ℕ → Command
   Merge : List ℕ → List ℕ → Command
   Build : List ℕ → List ℕ → Command
+  Run : List ℕ → List ℕ → ℕ → Command
 
 abbrev pub is_name_byte : ℕ → Bool
 is_name_byte b = is_digit b || (nat_lt 96 b && nat_lt b 123) || (nat_lt 64 b && nat_lt b 91) || (b == 95) || (b == 45)
@@ -40,7 +41,9 @@ of_words (word ∷ a ∷ []) = cond (bytes_eq word (codes "replica")) (if_good (
 of_words (word ∷ a ∷ b ∷ []) =
     cond (bytes_eq word (codes "merge")) (if_good (is_name a && is_name b) (Merge a b))
     (cond (bytes_eq word (codes "build")) (if_good (is_name a) (Build a b)) Bad)
-of_words (word ∷ a ∷ b ∷ c ∷ []) = cond (bytes_eq word (codes "write")) (if_good (is_name a) (if_number (number_of c) (Write a b))) Bad
+of_words (word ∷ a ∷ b ∷ c ∷ []) =
+    cond (bytes_eq word (codes "write")) (if_good (is_name a) (if_number (number_of c) (Write a b)))
+    (cond (bytes_eq word (codes "run")) (if_good (is_name a) (if_number (number_of c) (Run a b))) Bad)
 of_words (word ∷ a ∷ b ∷ c ∷ d ∷ words) = Bad
 
 abbrev pub command_of : List ℕ → Command
@@ -54,6 +57,7 @@ text_lines Bad = 0
 text_lines (Create name) = 0
 text_lines (Merge name other) = 0
 text_lines (Build name directory) = 0
+text_lines (Run name directory ticks) = 0
 
 -- the text of the first n lines, each with a newline, where there are so many
 abbrev pub text_of : ℕ → List (List ℕ) → Option (List ℕ)

@@ -1,7 +1,7 @@
 -- What is printed for a command that is refused.
 use Rattle.std.specs.Prelude.{ℕ, Bool, cond, List, [], ◌∷◌, ◌++◌, Option, None, Some, codes}
 use Rattle.goset.specs.declared.session.refusal.Refusal.{Refusal}
-use Rattle.goset.specs.declared.session.refusal.Refusal.TheVariants.{BadCommand, Unknown, Exists, BadPath, CounterFull, BadText, NoPackage}
+use Rattle.goset.specs.declared.session.refusal.Refusal.TheVariants.{BadCommand, Unknown, Exists, BadPath, CounterFull, BadText, NoPackage, NotBuilt}
 
 abbrev pub refused : Refusal → List ℕ
 refused BadCommand = codes "refused 1 command" ++ 10 ∷ []
@@ -11,6 +11,7 @@ refused BadPath = codes "refused 4 path" ++ 10 ∷ []
 refused CounterFull = codes "refused 6 counter" ++ 10 ∷ []
 refused BadText = codes "refused 7 text" ++ 10 ∷ []
 refused NoPackage = codes "refused 8 nopackage" ++ 10 ∷ []
+refused NotBuilt = codes "refused 9 notbuilt" ++ 10 ∷ []
 
 -- of reasons in the order of their numbers, each with whether it holds, the first that does
 abbrev pub first_of : List (Bool × Refusal) → Option Refusal

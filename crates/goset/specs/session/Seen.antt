@@ -1,5 +1,5 @@
 -- A command without where its words lie.
-use Rattle.goset.specs.session.Commands.{Command, Nothing, Bad, Create, Write, Merge, Build}
+use Rattle.goset.specs.session.Commands.{Command, Nothing, Bad, Create, Write, Merge, Build, Run}
 use Rattle.goset.specs.declared.session.commands.Asked.{Asked}
 use Rattle.goset.specs.declared.session.commands.Asked.TheVariants as asked
 
@@ -11,3 +11,4 @@ seen (asked.Create name) = Create name.now
 seen (asked.Write name path lines) = Write name.now path.now lines
 seen (asked.Merge name other) = Merge name.now other.now
 seen (asked.Build name directory) = Build name.now directory.now
+seen (asked.Run name directory ticks) = Run name.now directory.now ticks

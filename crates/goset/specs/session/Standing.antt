@@ -13,6 +13,10 @@ use Rattle.ws_cache.specs.Count.{compiled_count}
 use Rattle.ws_graph.specs.Plan.{Planned, NoFiles, IsPlanOf}
 use Rattle.ws_replica.specs.Reports.{Verdict, IsReport, actions_of}
 use Rattle.ws_replica.specs.Holdings.{ReplicaStandsFor}
+use Rattle.ws_replica.specs.Programs.{IsPlannedProgram}
+use Rattle.go_check.specs.Typed.{Typed}
+use Rattle.go_check.specs.Meaning.{SourceMeaning}
+use Rattle.go_vm.specs.Outcomes.{Outcome}
 use Rattle.goset.specs.session.Refusals.{refused, first_of}
 use Rattle.goset.specs.session.Commands.{Command}
 use Rattle.goset.specs.session.World.{World, Replica, refusals, AfterBy, After, Prints, hashed}
@@ -100,3 +104,22 @@ pub record Built (edition : ℕ) (directory : List ℕ) (report : List (List ℕ
   pub name : new.name.items ≡ old.name.items
   pub number : new.number ≡ old.number
   pub builds : (W : List Write) (E : List Action) → ReplicaStandsFor old.replica W E → AllSized E → BuildOf edition directory report compiled new W E
+
+-- what a run came to: an outcome that the sources mean, if there is a compiled program, and none if there is none
+abbrev pub IsOutcome : ℕ → List ℕ → ℕ → List Action → Planned → Option Outcome → Type 0
+IsOutcome edition directory ticks held planned None = (typed : Typed) → IsPlannedProgram edition directory held planned typed → ⊥
+IsOutcome edition directory ticks held planned (Some outcome) =
+    (typed : Typed) × IsPlannedProgram edition directory held planned typed × SourceMeaning typed ticks outcome.ending outcome.output
+
+-- what is known of a run
+pub record RunOf (edition : ℕ) (directory : List ℕ) (ticks : ℕ) (W : List Write) (E : List Action) (outcome : Option Outcome) : Type 0 where
+  pub planned : Planned
+  pub plan : IsPlanOf W directory planned
+  pub some : planned ≢ NoFiles
+  pub ran : NoClash (hashed_actions (E ++ actions_of edition directory planned)) → IsOutcome edition directory ticks E planned outcome
+
+-- the replica at a place ran a directory, with this outcome
+abbrev pub RanAt : ℕ → List ℕ → ℕ → List Named → ℕ → Option Outcome → Type 0
+RanAt edition directory ticks named place outcome =
+    (n : Named) (W : List Write) (E : List Action) → n ≡ slice_index_or named place n → ReplicaStandsFor n.replica W E → AllSized E
+    → RunOf edition directory ticks W E outcome

@@ -1,5 +1,5 @@
 -- The world of a session: replicas, each a set of writes and a set of actions.
-use Rattle.std.specs.Prelude.{◌≡◌, ℕ, ◌+◌, ◌==◌, ◌&&◌, not, nat_lt, Bool, true, false, cond, List, [], ◌∷◌, ◌++◌, length, Option, None, Some, is_some, is_none}
+use Rattle.std.specs.Prelude.{◌≡◌, ℕ, ◌⊎◌, ◌+◌, ◌==◌, ◌&&◌, not, nat_lt, Bool, true, false, cond, List, [], ◌∷◌, ◌++◌, length, Option, None, Some, is_some, is_none}
 use Rattle.std.specs.List.{flat_map}
 use Rattle.std.specs.Str.{bytes_eq, is_utf8}
 use Rattle.go_text.specs.Texts.{text_error}
@@ -9,13 +9,18 @@ use Rattle.ws_register.specs.Sources.{top}
 use Rattle.ws_action.specs.Actions.{Action}
 use Rattle.ws_action.specs.Clash.{hashed_actions}
 use Rattle.ws_cache.specs.Count.{compiled_count}
-use Rattle.ws_graph.specs.Plan.{Planned, NoFiles, IsPlanOf}
+use Rattle.ws_graph.specs.Plan.{Planned, NoFiles, Faulty, Sound, IsPlanOf}
 use Rattle.ws_replica.specs.Reports.{Verdict, actions_of, IsReport}
+use Rattle.ws_replica.specs.Programs.{IsPlannedProgram}
+use Rattle.go_check.specs.Typed.{Typed}
+use Rattle.go_check.specs.Meaning.{SourceMeaning}
+use Rattle.go_code.specs.declared.ending.Ending.{Ending}
 use Rattle.goset.specs.declared.session.refusal.Refusal.{Refusal}
-use Rattle.goset.specs.declared.session.refusal.Refusal.TheVariants.{BadCommand, Unknown, Exists, BadPath, CounterFull, BadText, NoPackage}
+use Rattle.goset.specs.declared.session.refusal.Refusal.TheVariants.{BadCommand, Unknown, Exists, BadPath, CounterFull, BadText, NoPackage, NotBuilt}
 use Rattle.goset.specs.session.Refusals.{refused, first_of}
 use Rattle.goset.specs.session.Printing.{report_text}
-use Rattle.goset.specs.session.Commands.{Command, Nothing, Bad, Create, Write, Merge, Build}
+use Rattle.goset.specs.session.RunPrinting.{run_text}
+use Rattle.goset.specs.session.Commands.{Command, Nothing, Bad, Create, Write, Merge, Build, Run}
 
 -- A replica: what it took, as two sets that are read by membership. A number is never given twice.
 pub record Replica : Type 0 where
@@ -24,13 +29,15 @@ pub record Replica : Type 0 where
   pub writes : List AWrite
   pub actions : List Action
 
--- the replicas in order of creation, and the edition that all is built in
+-- The replicas in order of creation, the edition that all is built in, and the actions that runs looked for, which no command
+-- reads: their texts are hashed too.
 pub record World : Type 0 where
   pub edition : ℕ
   pub replicas : List Replica
+  pub sought : List Action
 
 abbrev pub opening : ℕ → World
-opening edition = record { edition = edition; replicas = [] }
+opening edition = record { edition = edition; replicas = []; sought = [] }
 
 -- the replica of that name
 abbrev pub replica_at : List ℕ → List Replica → Option Replica
@@ -91,13 +98,18 @@ refusals (Write name path lines) text world =
     (not (knows name world), Unknown) ∷ (not (is_path_word path), BadPath) ∷ (top (writes_of name world) == 18446744073709551615, CounterFull) ∷ (not (is_text text), BadText) ∷ []
 refusals (Merge name other) text world = (not (knows name world && knows other world), Unknown) ∷ []
 refusals (Build name directory) text world = (not (knows name world), Unknown) ∷ (not (is_utf8 directory), NoPackage) ∷ []
+refusals (Run name directory ticks) text world = (not (knows name world), Unknown) ∷ (not (is_utf8 directory), NoPackage) ∷ []
 
 abbrev pub text_in : Option (List ℕ) → List ℕ
 text_in None = []
 text_in (Some text) = text
 
 abbrev pub with_replicas : World → List Replica → World
-with_replicas world replicas = record { edition = world.edition; replicas = replicas }
+with_replicas world replicas = record { edition = world.edition; replicas = replicas; sought = world.sought }
+
+-- the world in which these actions were looked for
+abbrev pub seeking : World → List Action → World
+seeking world actions = record { edition = world.edition; replicas = world.replicas; sought = world.sought ++ actions }
 
 -- the world after a command that isn't refused
 abbrev pub Accepted : Command → Option (List ℕ) → World → World → Type 0
@@ -112,6 +124,8 @@ Accepted (Merge name other) text world next =
 Accepted (Build name directory) text world next =
     (planned : Planned) × IsPlanOf (writes_of name world) directory planned
     × (next ≡ with_replicas world (taking name [] (actions_of world.edition directory planned) world.replicas))
+Accepted (Run name directory ticks) text world next =
+    (planned : Planned) × IsPlanOf (writes_of name world) directory planned × (next ≡ seeking world (actions_of world.edition directory planned))
 
 abbrev pub AfterBy : Option Refusal → Command → Option (List ℕ) → World → World → Type 0
 AfterBy None command text world next = Accepted command text world next
@@ -128,10 +142,25 @@ Told edition name directory held planned told =
     (report : List (List ℕ × Verdict)) × IsReport edition directory planned report
     × (told ≡ report_text name directory report (compiled_count held (actions_of edition directory planned)))
 
+-- for so many ticks what the sources mean, if they are a program that the replica holds compiled, and else a refusal
+abbrev pub RanOr : ℕ → List ℕ → List ℕ → ℕ → List Action → Planned → List ℕ → Type 0
+RanOr edition name directory ticks held planned told =
+    ((typed : Typed) × IsPlannedProgram edition directory held planned typed
+    × (ending : Ending) × (output : List ℕ) × SourceMeaning typed ticks ending output × (told ≡ run_text name directory ending output))
+    ⊎ (((typed : Typed) → IsPlannedProgram edition directory held planned typed → ⊥) × (told ≡ refused NotBuilt))
+
+-- what a run prints
+abbrev pub Ran : ℕ → List ℕ → List ℕ → ℕ → List Action → Planned → List ℕ → Type 0
+Ran edition name directory ticks held NoFiles told = told ≡ refused NoPackage
+Ran edition name directory ticks held (Faulty fault) told = RanOr edition name directory ticks held (Faulty fault) told
+Ran edition name directory ticks held (Sound parsed) told = RanOr edition name directory ticks held (Sound parsed) told
+
 -- what a command that isn't refused prints
 abbrev pub Answers : Command → World → List ℕ → Type 0
 Answers (Build name directory) world told =
     (planned : Planned) × IsPlanOf (writes_of name world) directory planned × Told world.edition name directory (actions_held name world) planned told
+Answers (Run name directory ticks) world told =
+    (planned : Planned) × IsPlanOf (writes_of name world) directory planned × Ran world.edition name directory ticks (actions_held name world) planned told
 Answers Nothing world told = told ≡ []
 Answers Bad world told = told ≡ []
 Answers (Create name) world told = told ≡ []
@@ -153,6 +182,6 @@ text_list (Some text) = text ∷ []
 abbrev pub texts_of_replica : Replica → List (List ℕ)
 texts_of_replica r = flat_map (λ w. text_list w.1.text) r.writes ++ hashed_actions r.actions
 
--- The texts that are hashed: of the files written and compiled, and of the actions.
+-- The texts that are hashed: of the files written and compiled, and of the actions, also of those that runs looked for.
 unfoldable pub hashed : World → List (List ℕ)
-hashed world = flat_map texts_of_replica world.replicas
+hashed world = flat_map texts_of_replica world.replicas ++ hashed_actions world.sought

@@ -1,5 +1,5 @@
 //! What a command line asks for.
-ghost use Rattle.std.specs.Prelude.{◌≡◌, ◌<◌, ◌&&◌, map};
+ghost use Rattle.std.specs.Prelude.{◌≡◌, ◌<◌, ◌&&◌, ◌∷◌, []};
 ghost use Rattle.goset.specs.session.Commands.{is_name, is_name_byte, of_words, command_of, text_lines};
 ghost use Rattle.goset.specs.session.Seen.{seen};
 
@@ -20,6 +20,8 @@ pub enum Asked<'a> {
     Merge(&'a [u8], &'a [u8]),
     /// `build R DIR`
     Build(&'a [u8], &'a [u8]),
+    /// `run R DIR TICKS`
+    Run(&'a [u8], &'a [u8], u64),
 }
 
 impl Asked<'_> {
@@ -59,47 +61,46 @@ pub fn is_name(word: &[u8]) -> bool
     true
 }
 
-fn asked_by<'a>(words: &[&'a [u8]]) -> Asked<'a>
-    ensures { seen result ≡ of_words (map (λ word. word.now) words.now) }
+fn asked_of_one<'a>(word: &[u8], a: &'a [u8]) -> Asked<'a>
+    ensures { seen result ≡ of_words (word.now ∷ a.now ∷ []) }
 {
-    match words {
-        [] => Asked::Nothing,
-        [word, a] => {
-            if *word == b"replica".as_slice() && is_name(a) {
-                Asked::Create(a)
-            } else {
-                Asked::Bad
-            }
-        }
-        [word, a, b] => {
-            if *word == b"merge".as_slice() {
-                if is_name(a) && is_name(b) {
-                    Asked::Merge(a, b)
-                } else {
-                    Asked::Bad
-                }
-            } else if *word == b"build".as_slice() {
-                if is_name(a) {
-                    Asked::Build(a, b)
-                } else {
-                    Asked::Bad
-                }
-            } else {
-                Asked::Bad
-            }
-        }
-        [word, a, b, c] => {
-            if *word == b"write".as_slice() && is_name(a) {
-                match number(c) {
-                    Some(lines) => Asked::Write(a, b, lines),
-                    None => Asked::Bad,
-                }
-            } else {
-                Asked::Bad
-            }
-        }
-        _ => Asked::Bad,
+    if word == b"replica".as_slice() && is_name(a) {
+        return Asked::Create(a);
     }
+    Asked::Bad
+}
+
+fn asked_of_two<'a>(word: &[u8], a: &'a [u8], b: &'a [u8]) -> Asked<'a>
+    ensures { seen result ≡ of_words (word.now ∷ a.now ∷ b.now ∷ []) }
+{
+    if word == b"merge".as_slice() {
+        if is_name(a) && is_name(b) {
+            return Asked::Merge(a, b);
+        }
+        return Asked::Bad;
+    }
+    if word == b"build".as_slice() && is_name(a) {
+        return Asked::Build(a, b);
+    }
+    Asked::Bad
+}
+
+fn asked_of_three<'a>(word: &[u8], a: &'a [u8], b: &'a [u8], c: &'a [u8]) -> Asked<'a>
+    ensures { seen result ≡ of_words (word.now ∷ a.now ∷ b.now ∷ c.now ∷ []) }
+{
+    let Some(count) = number(c) else {
+        return Asked::Bad;
+    };
+    if !is_name(a) {
+        return Asked::Bad;
+    }
+    if word == b"write".as_slice() {
+        return Asked::Write(a, b, count);
+    }
+    if word == b"run".as_slice() {
+        return Asked::Run(a, b, count);
+    }
+    Asked::Bad
 }
 
 /// What a line asks for.
@@ -113,13 +114,13 @@ pub fn ask(line: &[u8]) -> Asked<'_>
         return Asked::Bad;
     };
     let Some((b, rest)) = first_word(rest) else {
-        return asked_by(&[word, a]);
+        return asked_of_one(word, a);
     };
     let Some((c, rest)) = first_word(rest) else {
-        return asked_by(&[word, a, b]);
+        return asked_of_two(word, a, b);
     };
     if first_word(rest).is_some() {
         return Asked::Bad;
     }
-    asked_by(&[word, a, b, c])
+    asked_of_three(word, a, b, c)
 }

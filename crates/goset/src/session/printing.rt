@@ -1,10 +1,12 @@
-//! What a build prints.
+//! What builds and runs print.
 ghost use Rattle.std.specs.Prelude.{◌≡◌, ◌++◌, OnOk, IfOk, count_by, map};
 ghost use Rattle.std.specs.Fmt.{decimal};
 ghost use Rattle.std.specs.List.{flat_map};
 ghost use Rattle.goset.specs.session.Printing.{place_text, kind_text, fault_text, blocked_text, row_text, is_bad, summary_text, target_text, report_text};
+ghost use Rattle.goset.specs.session.RunPrinting.{panic_word, ending_text, panic_size, panic_text, run_target_text, head_text, run_text};
 ghost use Rattle.ws_replica.specs.Reports.{rows, row};
 
+use go_code::ending::{Ending, PanicKind};
 use go_text::fault::{Fault, FaultKind};
 use go_text::place::Place;
 use std::alloc::{AllocError, Global};
@@ -143,5 +145,103 @@ pub fn report_lines(
     push_number(alloc, &mut out, b" compiled ", report.compiled)?;
     push(&mut out, b"\n")?;
     push_rows(alloc, &mut out, rows)?;
+    Ok(out)
+}
+
+/// The word of a kind of panic.
+fn panic_word(kind: &PanicKind) -> &'static [u8]
+    ensures { result.now ≡ panic_word kind.now }
+{
+    match kind {
+        PanicKind::Divide => b"divide",
+        PanicKind::Index => b"index",
+        PanicKind::Shift => b"shift",
+        PanicKind::Depth => b"depth",
+        PanicKind::Long => b"long",
+        PanicKind::User(_) => b"user",
+    }
+}
+
+/// Adds how a program ended.
+fn push_ending(out: &mut Vec<u8>, ending: &Ending) -> Result<(), AllocError>
+    ensures { OnOk result (out.new.items ≡ out.old.items ++ ending_text ending.now) }
+{
+    match ending {
+        Ending::Ended => push(out, b" ended "),
+        Ending::Cut => push(out, b" cut "),
+        Ending::Panicked(kind) => {
+            push(out, b" panic ")?;
+            push(out, panic_word(kind))?;
+            push(out, b" ")
+        }
+    }
+}
+
+/// Adds how long the text of the program's own panic is, if it ended so.
+fn push_panic_size(alloc: Global, out: &mut Vec<u8>, ending: &Ending) -> Result<(), AllocError>
+    ensures { OnOk result (out.new.items ≡ out.old.items ++ panic_size ending.now) }
+{
+    match ending {
+        Ending::Panicked(PanicKind::User(text)) => {
+            push_number(alloc, out, b" ", text.bytes().len() as u64)
+        }
+        _ => Ok(()),
+    }
+}
+
+/// Adds the text of the program's own panic, if it ended so, and a newline.
+fn push_panic_text(out: &mut Vec<u8>, ending: &Ending) -> Result<(), AllocError>
+    ensures { OnOk result (out.new.items ≡ out.old.items ++ panic_text ending.now) }
+{
+    match ending {
+        Ending::Panicked(PanicKind::User(text)) => {
+            push(out, text.bytes())?;
+            push(out, b"\n")
+        }
+        _ => Ok(()),
+    }
+}
+
+fn push_run_target(out: &mut Vec<u8>, name: &[u8], directory: &str) -> Result<(), AllocError>
+    ensures { OnOk result (out.new.items ≡ out.old.items ++ run_target_text name.now directory.now) }
+{
+    push(out, b"run ")?;
+    push(out, name)?;
+    push(out, b" ")?;
+    push(out, directory.as_bytes())
+}
+
+/// Adds how a program ended, and how much it printed.
+#[tactic(auto, unfolding(crate::specs::session::RunPrinting::head_text))]
+fn push_head(
+    alloc: Global,
+    out: &mut Vec<u8>,
+    ending: &Ending,
+    size: usize,
+) -> Result<(), AllocError>
+    ensures { OnOk result (out.new.items ≡ out.old.items ++ head_text ending.now size) }
+{
+    push_ending(out, ending)?;
+    push_number(alloc, out, b"", size as u64)?;
+    push_panic_size(alloc, out, ending)?;
+    push(out, b"\n")
+}
+
+/// The lines of a run: the first one, and then what the program printed.
+#[tactic(auto, unfolding(crate::specs::session::RunPrinting::run_text))]
+pub fn run_lines(
+    alloc: Global,
+    name: &[u8],
+    directory: &str,
+    ending: &Ending,
+    output: &[u8],
+) -> Result<Vec<u8>, AllocError>
+    ensures { IfOk result (λ text. text.items ≡ run_text name.now directory.now ending.now output.now) }
+{
+    let mut out = Vec::new(alloc);
+    push_run_target(&mut out, name, directory)?;
+    push_head(alloc, &mut out, ending, output.len())?;
+    push(&mut out, output)?;
+    push_panic_text(&mut out, ending)?;
     Ok(out)
 }

@@ -21,6 +21,8 @@ pub enum Refusal {
     BadText,
     /// 8: the directory has no files of a package.
     NoPackage,
+    /// 9: no program, or its packages aren't all compiled and good.
+    NotBuilt,
 }
 
 /// The line that is printed for a refused command.
@@ -35,6 +37,7 @@ pub fn refused(alloc: Global, refusal: Refusal) -> Result<Vec<u8>, AllocError>
         Refusal::CounterFull => b"refused 6 counter\n",
         Refusal::BadText => b"refused 7 text\n",
         Refusal::NoPackage => b"refused 8 nopackage\n",
+        Refusal::NotBuilt => b"refused 9 notbuilt\n",
     };
     Vec::from_slice(alloc, line)
 }

@@ -10,20 +10,21 @@ ghost use Rattle.ws_action.specs.Actions.{Action as AnAction};
 ghost use Rattle.ws_graph.specs.Plan.{NoFiles, IsPlanOf};
 ghost use Rattle.ws_replica.specs.Holdings.{ReplicaStandsFor};
 ghost use Rattle.ws_replica.specs.Reports.{rows};
-ghost use Rattle.goset.specs.session.Standing.{StandFor, place_of, AllStand, Settles, Tells, told_of, ChangedAt, Edited, MergedFrom, Built};
+ghost use Rattle.goset.specs.session.Standing.{StandFor, place_of, AllStand, Settles, Tells, told_of, ChangedAt, Edited, MergedFrom, Built, RanAt};
 ghost use Rattle.goset.specs.session.World.{World, opening, is_text, is_path_word};
-ghost use Rattle.goset.specs.session.Commands.{Create, Write, Merge, Build};
+ghost use Rattle.goset.specs.session.Commands.{Create, Write, Merge, Build, Run};
 
 use crate::session::commands::Asked;
-use crate::session::printing::report_lines;
+use crate::session::printing::{report_lines, run_lines};
 use crate::session::refusal::{Refusal, refused};
 use crate::session::running::Steps;
 use go_text::edition::Edition;
 use go_text::source::Source;
 use go_text::text::TextError;
+use go_vm::run::{Outcome, RunError, run};
 use std::alloc::{AllocError, Global};
 use std::{mem, str};
-use ws_replica::{BuildError, Replica, Report, build};
+use ws_replica::{BuildError, Replica, Report, build, image};
 use ws_version::Join;
 use ws_version::path::{file_name, is_path};
 
@@ -253,6 +254,54 @@ fn build_target(
     }
 }
 
+/// What a run of a directory by the replica at a place comes to; none where no program is built.
+fn run_at(
+    alloc: Global,
+    edition: Edition,
+    named: &Vec<Named>,
+    place: usize,
+    directory: &str,
+    ticks: u64,
+) -> Result<Option<Outcome>, BuildError>
+    requires { place < vec_len named.now }
+    ensures ok { IfOk result (λ outcome. RanAt (edition_number edition) directory.now ticks named.now.items place outcome) }
+    ensures none { result ≡ Err BuildError.NoPackage → (n : ANamed) (W : List AWrite) (E : List AnAction) → n ≡ slice_index_or named.now.items place n → ReplicaStandsFor n.replica W E → IsPlanOf W directory.now NoFiles }
+{
+    let Some(image) = image(alloc, &named[place].replica, directory, edition)? else {
+        return Ok(None);
+    };
+    match run(alloc, &image, ticks) {
+        Ok(outcome) => Ok(Some(outcome)),
+        Err(RunError::Memory) => Err(BuildError::Memory),
+        Err(RunError::BadCode) => unreachable!(),
+    }
+}
+
+/// A run of a directory by the replica of that name, and what it prints.
+fn run_target(
+    alloc: Global,
+    edition: Edition,
+    named: &Vec<Named>,
+    name: &[u8],
+    word: &[u8],
+    ticks: u64,
+) -> Result<Vec<u8>, AllocError>
+    ensures { IfOk result (λ told. (text : Option (List ℕ)) (world : World) → edition_number edition ≡ world.edition → AllStand named.now.items world.replicas → Tells (Run name.now word.now ticks) text world told.items named.now.items) }
+{
+    let Some(place) = place_of(named.as_slice(), name) else {
+        return refused(alloc, Refusal::Unknown);
+    };
+    let Ok(directory) = str::from_utf8(word) else {
+        return refused(alloc, Refusal::NoPackage);
+    };
+    match run_at(alloc, edition, named, place, directory, ticks) {
+        Ok(Some(outcome)) => run_lines(alloc, name, directory, outcome.ending(), outcome.output()),
+        Ok(None) => refused(alloc, Refusal::NotBuilt),
+        Err(BuildError::NoPackage) => refused(alloc, Refusal::NoPackage),
+        Err(BuildError::Memory) => Err(AllocError),
+    }
+}
+
 /// What is printed for a command that prints no more than its refusal.
 fn told(alloc: Global, refusal: Option<Refusal>) -> Result<Vec<u8>, AllocError>
     ensures { IfOk result (λ line. line.items ≡ told_of refusal) }
@@ -300,6 +349,9 @@ impl Steps for Replicas {
             }
             Asked::Build(name, directory) => {
                 build_target(alloc, self.edition, &mut self.named, name, directory)
+            }
+            Asked::Run(name, directory, ticks) => {
+                run_target(alloc, self.edition, &self.named, name, directory, *ticks)
             }
         }
     }

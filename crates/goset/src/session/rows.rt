@@ -97,8 +97,8 @@ fn files(rt: HostRuntime) -> Result<(), Fail> {
 fn refusals(rt: HostRuntime) -> Result<(), Fail> {
     let rows: [(&[u8], &[u8]); 16] = [
         (
-            b"what\nshow a\nsettle\nremove a p/x.go\nrun a p 1\napply a p/x.go 1 1 0\nids a p\nreplica\nreplica a b\n",
-            b"refused 1 command\nrefused 1 command\nrefused 1 command\nrefused 1 command\nrefused 1 command\nrefused 1 command\nrefused 1 command\nrefused 1 command\nrefused 1 command\n",
+            b"what\nshow a\nsettle\nremove a p/x.go\napply a p/x.go 1 1 0\nids a p\nreplica\nreplica a b\n",
+            b"refused 1 command\nrefused 1 command\nrefused 1 command\nrefused 1 command\nrefused 1 command\nrefused 1 command\nrefused 1 command\nrefused 1 command\n",
         ),
         (
             b"replica a.b\nreplica a\tb\n",
@@ -184,4 +184,71 @@ fn sixty_four_replicas(rt: HostRuntime) -> Result<(), Fail> {
         told.as_slice() == b"refused 1 command\nrefused 1 command\nrefused 2 replica\n".as_slice()
     );
     Ok(())
+}
+
+#[test]
+fn runs(rt: HostRuntime) -> Result<(), Fail> {
+    let rows: [(&[u8], &[u8]); 6] = [
+        (
+            b"replica a\nwrite a app/main.go 3\npackage main\nimport \"fmt\"\nfunc main() { fmt.Println(\"hi\", 3) }\nrun a app 1\nbuild a app\nrun a app 1\nrun a app 0\nrun a app 18446744073709551615\n",
+            b"refused 9 notbuilt\nbuild a app ok 1 compiled 1\nrun a app ended 5\nhi 3\nrun a app cut 0\nrun a app ended 5\nhi 3\n",
+        ),
+        (
+            b"replica a\nwrite a app/main.go 3\npackage main\nimport \"fmt\"\nfunc main() { fmt.Println() }\nbuild a app\nrun a app 1\n",
+            b"build a app ok 1 compiled 1\nrun a app ended 1\n\n",
+        ),
+        // The greatest int, and statements on lines of their own.
+        (
+            b"replica a\nwrite a app/main.go 6\npackage main\nimport \"fmt\"\nfunc main() {\n\tfmt.Println(9223372036854775807)\n\tfmt.Println(\"\", 0,)\n}\nbuild a app\nrun a app 1\n",
+            b"build a app ok 1 compiled 1\nrun a app ended 23\n9223372036854775807\n 0\n",
+        ),
+        // Another replica runs what it was given, and what is edited must be built again.
+        (
+            b"replica a\nreplica b\nwrite a app/main.go 2\npackage main\nfunc main() {}\nbuild a app\nmerge b a\nrun b app 1\nwrite b app/main.go 2\npackage main; func main() {}\n\nrun b app 1\nrun a app 1\n",
+            b"build a app ok 1 compiled 1\nrun b app ended 0\nrefused 9 notbuilt\nrun a app ended 0\n",
+        ),
+        // A package that is no program, and one with a fault.
+        (
+            b"replica a\nwrite a p/x.go 1\npackage p\nbuild a p\nrun a p 1\nwrite a q/x.go 1\npackage main\nbuild a q\nrun a q 1\n",
+            b"build a p ok 1 compiled 1\nrefused 9 notbuilt\nbuild a q faults 1 compiled 1\nfault q/x.go:1:9 23 main\nrefused 9 notbuilt\n",
+        ),
+        (
+            b"run a app 1\nreplica a\nrun z app 1\nrun a app\nrun a app -1\nrun a none 1\n",
+            b"refused 2 replica\nrefused 2 replica\nrefused 1 command\nrefused 1 command\nrefused 8 nopackage\n",
+        ),
+    ];
+    compare(&rt, rt.alloc(), &rows)
+}
+
+#[test]
+fn program_faults(rt: HostRuntime) -> Result<(), Fail> {
+    let rows: [(&[u8], &[u8]); 6] = [
+        (
+            b"replica a\nwrite a app/main.go 3\npackage main\nimport \"fmt\"\nfunc main() { fmt.Println(9223372036854775808) }\nbuild a app\nrun a app 1\n",
+            b"build a app faults 1 compiled 1\nfault app/main.go:3:15 14 range\nrefused 9 notbuilt\n",
+        ),
+        // An operand comes before its call.
+        (
+            b"replica a\nwrite a app/main.go 3\npackage main\nimport \"fmt\"\nfunc main() { fmt.Println(9223372036854775808, 170141183460469231731687303715884105728) }\nbuild a app\n",
+            b"build a app faults 1 compiled 1\nfault app/main.go:3:48 15 constant\n",
+        ),
+        (
+            b"replica a\nwrite a app/main.go 3\npackage main\nimport \"fmt\"\nfunc main() {}\nbuild a app\n",
+            b"build a app faults 1 compiled 1\nfault app/main.go:2:8 12 unusedimport\n",
+        ),
+        (
+            b"replica a\nwrite a app/main.go 2\npackage main\nfunc main() { fmt.Println(1) }\nbuild a app\n",
+            b"build a app faults 1 compiled 1\nfault app/main.go:2:15 11 undeclared\n",
+        ),
+        (
+            b"replica a\nwrite a app/a.go 2\npackage main\nfunc main() {}\nwrite a app/b.go 2\npackage main\nfunc main() {}\nbuild a app\n",
+            b"build a app faults 1 compiled 1\nfault app/b.go:2:6 10 redeclared\n",
+        ),
+        // What isn't of the form comes before all of these.
+        (
+            b"replica a\nwrite a app/main.go 3\npackage main\nimport \"fmt\"\nfunc main() { fmt.Print(1) }\nbuild a app\nrun a app 1\n",
+            b"build a app faults 1 compiled 0\nfault app/main.go:3:19 2 leftout\nrefused 9 notbuilt\n",
+        ),
+    ];
+    compare(&rt, rt.alloc(), &rows)
 }

@@ -21,8 +21,8 @@ returns-in-Ok-build_sound-clause-ok c W E h sized =
     let new : Replica = record { registers = c.replica.inside.registers; cache = c.in-Ok-build_sound.cache } in
     let registers : c.replica.inside.registers ≡ old.registers = ap (λ (r : Replica). r.registers) c.replica.view_is in
     let cache : c.replica.inside.cache ≡ old.cache = ap (λ (r : Replica). r.cache) c.replica.view_is in
-    let path : string_bytes c.into_parts-path.result.0 ≡ directory = c.into_parts-path.ensures.directory ∙ c.in-Ok.ensures.directory in
-    let planned : c.in-Ok.plan.planned ≡ Sound c.in-Sound.parsed.items = sym c.into_parts-path.ensures.planned ∙ ap planned_of c.in-Sound.is in
+    let path : string_bytes c.in-Ok.plan.directory ≡ directory = c.in-Ok.ensures.directory in
+    let planned : planned_of c.in-Ok.plan.node ≡ Sound c.in-Sound.parsed.items = ap planned_of c.in-Sound.is in
     let plan : IsPlanOf W directory (Sound c.in-Sound.parsed.items) = subst (λ (p : Planned). IsPlanOf W directory p) planned (c.in-Ok.ensures.ok W (subst (λ (m : Contents). StandsFor held_cmp m W) (sym registers) h.registers)).0 in
     let built : IsBuilt E (action_of number directory c.in-Sound.parsed.items) directory c.in-Ok-build_sound.report c.in-Ok-build_sound.cache =
     subst (λ (d : List ℕ). IsBuilt E (action_of number d c.in-Sound.parsed.items) d c.in-Ok-build_sound.report c.in-Ok-build_sound.cache) path

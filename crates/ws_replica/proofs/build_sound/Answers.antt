@@ -1,6 +1,7 @@
 use Rattle.std.proofs.Common.{◌≡◌, ◌∙◌, ap, subst, rules, string_bytes, List, ℕ}
 use Rattle.go_text.specs.Editions.{edition_number}
 use Rattle.ws_action.specs.Actions.{Action, action_of}
+use Rattle.ws_cache.specs.Compiles.{compiled_of}
 use Rattle.ws_replica.specs.Builds.{IsBuilt}
 use Rattle.ws_replica.proofs.ReplicaBuilds.{never_none, is_built}
 use Rattle.ws_replica.proofs.build_sound.Goals as goal
@@ -16,5 +17,5 @@ returns-clause-ok c E h sized =
     let is : c.in-Ok-new.action ≡ action_of number directory c.args.parsed.items = c.in-Ok-new.ensures.ok ∙ ap (λ p. action_of number p c.args.parsed.items) paths in
     subst (λ (a : Action). IsBuilt E a directory c.in-Ok-report_of.report c.into_cache.result) is
     (is_built c.in-Ok-new.action c.args.cache.now E h sized c.in-Ok-new.ensures.sized c.in-Ok-run_action.built c.in-Ok-run_action.ensures
-    c.in-Some.outcome.now c.in-Some.ensures.some directory c.in-Ok-verdict_of.verdict c.in-Ok-report_of.report c.into_cache.result
+    (compiled_of c.in-Some.outcome.now) c.in-Some.ensures.some directory c.in-Ok-verdict_of.verdict c.in-Ok-report_of.report c.into_cache.result
     c.in-Ok-report_of.ensures.rows c.in-Ok-verdict_of.ensures (c.in-Ok-report_of.ensures.compiled ∙ c.compiled-compiled.ensures) c.into_cache.ensures)

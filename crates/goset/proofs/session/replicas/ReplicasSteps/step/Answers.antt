@@ -3,7 +3,7 @@ use Rattle.std.specs.Option.{option_map}
 use Rattle.goset.specs.declared.session.refusal.Refusal.TheVariants.{BadCommand}
 use Rattle.goset.specs.declared.session.replicas.Replicas.{Replicas}
 use Rattle.goset.specs.declared.session.replicas.Named.{Named}
-use Rattle.goset.specs.session.Commands.{Nothing, Bad, Create, Write, Merge, Build}
+use Rattle.goset.specs.session.Commands.{Nothing, Bad, Create, Write, Merge, Build, Run}
 use Rattle.goset.specs.session.Seen.{seen}
 use Rattle.goset.proofs.session_lemmas.Standings.{if_ok_map}
 use Rattle.goset.proofs.session_lemmas.Telling.{settled_tells, stepped, prints_nothing, prints_bad, prints_create, prints_write, prints_merge, nothing_settles, bad_settles}
@@ -57,3 +57,10 @@ returns-in-Build c = λ world h. if_ok_map c.build_target.result (λ told t.
     let directory = c.in-Build.directory.now in
     stepped (with_named c.args.self.now c.build_target.new.named) (seen c.args.asked.now) (Build name directory) (given c.args.text) world told.items (ap seen c.in-Build.is) h.edition
     (t (given c.args.text) world h.edition h.replicas)) c.build_target.ensures
+
+pub returns-in-Run : goal.returns-in-Run
+returns-in-Run c = λ world h. if_ok_map c.run_target.result (λ told t.
+    let name = c.in-Run.name.now in
+    let directory = c.in-Run.directory.now in
+    stepped c.args.self.now (seen c.args.asked.now) (Run name directory c.in-Run.ticks) (given c.args.text) world told.items (ap seen c.in-Run.is) h.edition
+    (t (given c.args.text) world h.edition h.replicas)) c.run_target.ensures

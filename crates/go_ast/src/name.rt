@@ -1,0 +1,56 @@
+//! Names.
+ghost use Rattle.std.specs.Prelude.{◌≡◌, IfOk, string_bytes};
+
+use go_text::place::Place;
+use std::alloc::AllocError;
+use std::marker::Model;
+
+/// A name where it is written.
+#[derive(Drop)]
+pub struct Name {
+    text: String,
+    place: Place,
+}
+
+impl Model for Name {
+    ghost use Rattle.std.specs.Prelude.{string_bytes};
+    ghost use Rattle.go_ast.specs.Trees as trees;
+
+    ghost Value = { trees.Name };
+
+    ghost view = { λ a. record { text = string_bytes a.text; place = a.place } };
+}
+
+impl Name {
+    /// A name at a place.
+    pub fn new(text: String, place: Place) -> Name
+        ensures { result ≡ record { text = string_bytes text; place = place } }
+    {
+        Name { text, place }
+    }
+
+    /// The name's text.
+    pub fn text(&self) -> &str
+        ensures { result.now ≡ self.now.text }
+    {
+        self.text.as_str()
+    }
+
+    /// The place of the name's first byte.
+    pub fn place(&self) -> Place
+        ensures { result ≡ self.now.place }
+    {
+        self.place
+    }
+
+    /// Another equal name. An `Err` only where memory ran out.
+    pub fn copy(&self) -> Result<Name, AllocError>
+        ensures { IfOk result (λ copy. copy ≡ self.now) }
+    {
+        let text = self.text.clone()?;
+        Ok(Name {
+            text,
+            place: self.place,
+        })
+    }
+}

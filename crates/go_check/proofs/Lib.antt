@@ -1,0 +1,11 @@
+pub mod Answered
+pub mod Brought
+pub mod Files
+pub mod Fineness
+pub mod Forms
+pub mod Lists
+pub mod Nodes
+pub mod Numerals
+pub mod Sound
+pub mod Standing
+pub mod Trees

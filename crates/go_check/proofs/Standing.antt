@@ -1,0 +1,121 @@
+-- Each fault stands in a file of the package.
+use Rattle.std.proofs.Common.{◌≡◌, ℕ, Bool, true, false, cond, List, [], ◌∷◌, ◌++◌, map, refl, sym, ap, ◌∙◌, subst}
+use Rattle.std.specs.Prelude.{◌||◌}
+use Rattle.std.specs.List.{All, Contains}
+use Rattle.std.proofs.lemmas.List.Elements.{All-nil, All-cons, All-append, All-weaker, All-head, Contains-append_left, Contains-append_right, Contains-push}
+use Rattle.go_text.specs.declared.place.Place.{Place}
+use Rattle.go_text.specs.declared.fault.FaultKind.TheVariants.{Main}
+use Rattle.go_text.specs.Faults.{Fault}
+use Rattle.go_ast.specs.Trees.{Expr, Exprs, name, integer, string, selector, call, none, some, place_of, Stmt, expression, ImportSpec, Decl, function}
+use Rattle.go_check.specs.Rules.{value, declared, brought, is_library}
+use Rattle.go_check.specs.Verdicts.{Scope, Verdict, Fine, Breaks, Passed, ruled, fine, asked, verdict, broken, fault_at, faults, argument_faults, statement_verdict, statement_faults, body_faults}
+use Rattle.go_check.specs.Packages.{NamedFile, scope_of, uses_library, imports_faults, declared_name, declaration_faults, declarations_faults, file_names, file_faults, files_faults, main_faults, FaultOf, Faulty}
+use Rattle.go_check.specs.Sources.{AreTreesOf, IsAnswerOf}
+
+-- a fault stands in a file
+abbrev StandsIn : List ℕ → Fault → Type 0
+StandsIn x f = f.file ≡ x
+
+broken_in : {A : Type 0} (s : Scope) (p : Place) (v : Verdict A) → All (StandsIn s.file) (broken s p v)
+broken_in s p (Fine x) = All-nil (StandsIn s.file)
+broken_in s p (Breaks kind) = All-cons (StandsIn s.file) (fault_at s p kind) [] refl (All-nil (StandsIn s.file))
+broken_in s p Passed = All-nil (StandsIn s.file)
+
+both_in : (x : List ℕ) (fs gs : List Fault) → All (StandsIn x) fs → All (StandsIn x) gs → All (StandsIn x) (fs ++ gs)
+both_in x fs gs a b = All-append (StandsIn x) fs gs a b
+
+mutual
+  expression_in : (s : Scope) (e : Expr) → All (StandsIn s.file) (faults s e)
+  expression_in s (name p x) = broken_in s p (verdict s (name p x))
+  expression_in s (integer p digits) = broken_in s p (verdict s (integer p digits))
+  expression_in s (string p bytes) = All-nil (StandsIn s.file)
+  expression_in s (selector p operand field) =
+      both_in s.file (faults s operand) (broken s p (verdict s (selector p operand field))) (expression_in s operand) (broken_in s p (verdict s (selector p operand field)))
+  expression_in s (call p callee arguments) =
+      both_in s.file (faults s callee ++ argument_faults s arguments) (broken s p (verdict s (call p callee arguments)))
+      (both_in s.file (faults s callee) (argument_faults s arguments) (expression_in s callee) (arguments_in s arguments))
+      (broken_in s p (verdict s (call p callee arguments)))
+
+  arguments_in : (s : Scope) (es : Exprs) → All (StandsIn s.file) (argument_faults s es)
+  arguments_in s none = All-nil (StandsIn s.file)
+  arguments_in s (some e es) =
+      let due = asked value (fine (verdict s e)) in
+      both_in s.file (faults s e ++ broken s (place_of e) due) (argument_faults s es)
+      (both_in s.file (faults s e) (broken s (place_of e) due) (expression_in s e) (broken_in s (place_of e) due))
+      (arguments_in s es)
+
+statement_in : (s : Scope) (st : Stmt) → All (StandsIn s.file) (statement_faults s st)
+statement_in s (expression p e) =
+    both_in s.file (faults s e) (broken s p (statement_verdict s (expression p e))) (expression_in s e) (broken_in s p (statement_verdict s (expression p e)))
+
+body_in : (s : Scope) (statements : List Stmt) → All (StandsIn s.file) (body_faults s statements)
+body_in s [] = All-nil (StandsIn s.file)
+body_in s (st ∷ sts) = both_in s.file (statement_faults s st) (body_faults s sts) (statement_in s st) (body_in s sts)
+
+imports_in : (s : Scope) (before referred : Bool) (specs : List ImportSpec) → All (StandsIn s.file) (imports_faults s before referred specs)
+imports_in s before referred [] = All-nil (StandsIn s.file)
+imports_in s before referred (spec ∷ specs) =
+    both_in s.file (broken s spec.place (ruled (brought before referred spec))) (imports_faults s (before || is_library spec) referred specs)
+    (broken_in s spec.place (ruled (brought before referred spec))) (imports_in s (before || is_library spec) referred specs)
+
+declaration_in : (before : List (List ℕ)) (s : Scope) (d : Decl) → All (StandsIn s.file) (declaration_faults before s d)
+declaration_in before s (function f) =
+    both_in s.file (broken s f.name.place (ruled (declared before f.name.text))) (body_faults s f.body.statements)
+    (broken_in s f.name.place (ruled (declared before f.name.text))) (body_in s f.body.statements)
+
+declarations_in : (before : List (List ℕ)) (s : Scope) (ds : List Decl) → All (StandsIn s.file) (declarations_faults before s ds)
+declarations_in before s [] = All-nil (StandsIn s.file)
+declarations_in before s (d ∷ ds) =
+    both_in s.file (declaration_faults before s d) (declarations_faults (before ++ declared_name d ∷ []) s ds)
+    (declaration_in before s d) (declarations_in (before ++ declared_name d ∷ []) s ds)
+
+file_in : (before : List (List ℕ)) (file : NamedFile) → All (StandsIn file.name) (file_faults before file)
+file_in before file =
+    both_in file.name (imports_faults (scope_of file) false (uses_library file.tree) file.tree.imports) (declarations_faults before (scope_of file) file.tree.declarations)
+    (imports_in (scope_of file) false (uses_library file.tree) file.tree.imports) (declarations_in before (scope_of file) file.tree.declarations)
+
+-- the names of files
+abbrev names : List NamedFile → List (List ℕ)
+names files = map (λ f. f.name) files
+
+-- a fault stands in one of them
+abbrev Stands : List NamedFile → Fault → Type 0
+Stands files f = Contains (names files) f.file
+
+here : (file : NamedFile) (files : List NamedFile) (f : Fault) → StandsIn file.name f → Stands (file ∷ files) f
+here file files f e =
+    subst (Contains (names (file ∷ files))) (sym e) (Contains-append_left (file.name ∷ []) (names files) file.name (Contains-push [] file.name))
+
+files_in : (before : List (List ℕ)) (files : List NamedFile) → All (Stands files) (files_faults before files)
+files_in before [] = All-nil (Stands [])
+files_in before (file ∷ files) =
+    All-append (Stands (file ∷ files)) (file_faults before file) (files_faults (before ++ file_names file) files)
+    (All-weaker (StandsIn file.name) (Stands (file ∷ files)) (here file files) (file_faults before file) (file_in before file))
+    (All-weaker (Stands files) (Stands (file ∷ files)) (λ f h. Contains-append_right (file.name ∷ []) (names files) f.file h) (files_faults (before ++ file_names file) files) (files_in (before ++ file_names file) files))
+
+chosen_in : (P : Fault → Type 0) (b : Bool) (f : Fault) → P f → All P (cond b (f ∷ []) [])
+chosen_in P true f h = All-cons P f [] h (All-nil P)
+chosen_in P false f h = All-nil P
+
+main_in : (files : List NamedFile) → All (Stands files) (main_faults files)
+main_in [] = All-nil (Stands [])
+main_in (first ∷ rest) =
+    let fault = fault_at (scope_of first) first.tree.package.place Main in
+    chosen_in (Stands (first ∷ rest)) _ fault (here first rest fault refl)
+
+-- the fault of a package stands in one of its files
+fault_in : (files : List NamedFile) (fault : Fault) → FaultOf files fault → Stands files fault
+fault_in files fault h =
+    All-head (Stands files) fault h.0
+    (subst (All (Stands files)) h.1 (All-append (Stands files) (files_faults [] files) (main_faults files) (files_in [] files) (main_in files)))
+
+same_names : (sources : List (List ℕ × List ℕ)) (files : List NamedFile) → AreTreesOf sources files → names files ≡ map (λ source. source.0) sources
+same_names [] [] h = refl
+same_names [] (f ∷ fs) h = absurd h
+same_names (s ∷ ss) [] h = absurd h
+same_names (s ∷ ss) (f ∷ fs) h = ap (λ x. x ∷ names fs) h.0.name ∙ ap (λ xs. s.0 ∷ xs) (same_names ss fs h.1)
+
+-- and in one of its source files
+pub fault_stands : (path : List ℕ) (sources : List (List ℕ × List ℕ)) (fault : Fault) → IsAnswerOf path sources (Faulty fault) → Contains (map (λ source. source.0) sources) fault.file
+fault_stands path sources fault h =
+    subst (λ (xs : List (List ℕ)). Contains xs fault.file) (same_names sources h.files h.trees) (fault_in h.files fault h.is)

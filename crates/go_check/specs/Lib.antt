@@ -1,0 +1,11 @@
+pub mod Meaning
+pub mod Packages
+pub mod Programs
+pub mod Rules
+pub mod Seen
+pub mod Sound
+pub mod Sources
+pub mod Typed
+pub mod Verdicts
+pub mod Views
+pub mod Written

@@ -1,0 +1,129 @@
+-- What the rules say of each node of a file, and the faults of the nodes in their order.
+use Rattle.std.specs.Prelude.{ℕ, Bool, false, ◌||◌, Option, Some, None, Result, Ok, Err, List, [], ◌∷◌, ◌++◌, map}
+use Rattle.std.specs.List.{flat_map}
+use Rattle.std.specs.Str.{bytes_eq}
+use Rattle.go_text.specs.declared.place.Place.{Place}
+use Rattle.go_text.specs.declared.fault.FaultKind.{FaultKind}
+use Rattle.go_text.specs.Faults.{Fault}
+use Rattle.go_ast.specs.Trees.{Expr, Exprs, name, integer, string, selector, call, none, some, place_of, Stmt, expression}
+use Rattle.go_check.specs.Typed as typed
+use Rattle.go_check.specs.Rules.{Known, untyped, literal, integer_constant, named, selected, value, called, stated}
+
+-- Of a node: it is fine, and this is known of it; it breaks a rule; or it isn't asked, since a part of it isn't fine.
+pub data Verdict (A : Type 0) : Type 0 where
+  Fine : A → Verdict A
+  Breaks : FaultKind → Verdict A
+  Passed : Verdict A
+
+-- the verdict of a rule
+abbrev pub ruled : {A : Type 0} → Result A FaultKind → Verdict A
+ruled (Ok x) = Fine x
+ruled (Err kind) = Breaks kind
+
+abbrev pub fine : {A : Type 0} → Verdict A → Option A
+fine (Fine x) = Some x
+fine (Breaks kind) = None
+fine Passed = None
+
+-- a rule over parts, which is asked where they are fine
+abbrev pub asked : {A B : Type 0} → (A → Result B FaultKind) → Option A → Verdict B
+asked rule None = Passed
+asked rule (Some x) = ruled (rule x)
+
+abbrev pub both : {A B : Type 0} → Option A → Option B → Option (A × B)
+both None b = None
+both (Some x) None = None
+both (Some x) (Some y) = Some (x, y)
+
+-- one more, where each is known
+abbrev pub with_first : {A : Type 0} → Option A → Option (List A) → Option (List A)
+with_first None xs = None
+with_first (Some x) None = None
+with_first (Some x) (Some xs) = Some (x ∷ xs)
+
+-- all of them, where each is known
+abbrev pub all_known : {A : Type 0} → List (Option A) → Option (List A)
+all_known [] = Some []
+all_known (x ∷ xs) = with_first x (all_known xs)
+
+-- the file that a node stands in: its name, and whether it imports the library
+pub record Scope : Type 0 where
+  pub file : List ℕ
+  pub library : Bool
+
+-- ---- expressions
+
+-- what an expression is, and what arguments are where values are due
+abbrev mutual
+  pub verdict : Scope → Expr → Verdict Known
+  verdict s (name p x) = ruled (named s.library x)
+  verdict s (integer p digits) = ruled (integer_constant (literal digits))
+  verdict s (string p bytes) = Fine (untyped (typed.text bytes))
+  verdict s (selector p operand field) = asked (selected field.text) (fine (verdict s operand))
+  verdict s (call p callee arguments) = asked (λ parts. called parts.0 parts.1) (both (fine (verdict s callee)) (values s arguments))
+
+  pub values : Scope → Exprs → Option (List typed.Constant)
+  values s none = Some []
+  values s (some e es) = with_first (fine (asked value (fine (verdict s e)))) (values s es)
+
+abbrev pub fault_at : Scope → Place → FaultKind → Fault
+fault_at s p kind = record { file = s.file; place = p; kind = kind }
+
+-- the fault of a node at a place, if it breaks a rule
+abbrev pub broken : {A : Type 0} → Scope → Place → Verdict A → List Fault
+broken s p (Fine x) = []
+broken s p (Breaks kind) = fault_at s p kind ∷ []
+broken s p Passed = []
+
+-- the faults of an expression's nodes: parts first, left to right; a value is due of an argument
+abbrev mutual
+  pub faults : Scope → Expr → List Fault
+  faults s (name p x) = broken s p (verdict s (name p x))
+  faults s (integer p digits) = broken s p (verdict s (integer p digits))
+  faults s (string p bytes) = []
+  faults s (selector p operand field) = faults s operand ++ broken s p (verdict s (selector p operand field))
+  faults s (call p callee arguments) = faults s callee ++ argument_faults s arguments ++ broken s p (verdict s (call p callee arguments))
+
+  pub argument_faults : Scope → Exprs → List Fault
+  argument_faults s none = []
+  argument_faults s (some e es) = faults s e ++ broken s (place_of e) (asked value (fine (verdict s e))) ++ argument_faults s es
+
+-- ---- statements
+
+abbrev pub statement_verdict : Scope → Stmt → Verdict typed.Stmt
+statement_verdict s (expression p e) = asked stated (fine (verdict s e))
+
+abbrev pub statement_faults : Scope → Stmt → List Fault
+statement_faults s (expression p e) = faults s e ++ broken s p (statement_verdict s (expression p e))
+
+-- a body's statements, where each is fine
+abbrev pub body_known : Scope → List Stmt → Option (List typed.Stmt)
+body_known s statements = all_known (map (λ st. fine (statement_verdict s st)) statements)
+
+abbrev pub body_faults : Scope → List Stmt → List Fault
+body_faults s statements = flat_map (statement_faults s) statements
+
+-- ---- references
+
+-- a name is written before a dot of an expression, whether or not that breaks a rule
+abbrev pub is_name : List ℕ → Expr → Bool
+is_name x (name p y) = bytes_eq y x
+is_name x (integer p digits) = false
+is_name x (string p bytes) = false
+is_name x (selector p operand field) = false
+is_name x (call p callee arguments) = false
+
+abbrev mutual
+  pub refers : List ℕ → Expr → Bool
+  refers x (name p y) = false
+  refers x (integer p digits) = false
+  refers x (string p bytes) = false
+  refers x (selector p operand field) = is_name x operand || refers x operand
+  refers x (call p callee arguments) = refers x callee || one_refers x arguments
+
+  pub one_refers : List ℕ → Exprs → Bool
+  one_refers x none = false
+  one_refers x (some e es) = refers x e || one_refers x es
+
+abbrev pub statement_refers : List ℕ → Stmt → Bool
+statement_refers x (expression p e) = refers x e

@@ -1,0 +1,32 @@
+//! What holds of what is answered of source files.
+ghost use Rattle.std.specs.Prelude.{◌≡◌, ◌≢◌, ℕ, List, [], map};
+ghost use Rattle.std.specs.List.{Contains};
+ghost use Rattle.go_text.specs.Faults.{Fault};
+ghost use Rattle.go_text.specs.declared.fault.FaultKind.TheVariants.{LeftOut, Main};
+ghost use Rattle.go_check.specs.Packages.{Answer, Faulty, NamedFile, files_faults};
+ghost use Rattle.go_check.specs.Sources.{AreTreesOf, IsAnswerOf};
+
+/// Source files are answered in one way alone.
+pub fn law_one_answer()
+    ensures { (path : List ℕ) (sources : List (List ℕ × List ℕ)) (a b : Answer) → IsAnswerOf path sources a → IsAnswerOf path sources b → a ≡ b }
+{}
+
+/// Source files that parse are answered.
+pub fn law_some_answer()
+    ensures { (path : List ℕ) (sources : List (List ℕ × List ℕ)) (files : List NamedFile) → AreTreesOf sources files → (answer : Answer) × IsAnswerOf path sources answer }
+{}
+
+/// The fault of source files stands in one of them.
+pub fn law_fault_stands()
+    ensures { (path : List ℕ) (sources : List (List ℕ × List ℕ)) (fault : Fault) → IsAnswerOf path sources (Faulty fault) → Contains (map (λ source. source.0) sources) fault.file }
+{}
+
+/// No form is left out of source files that parse: the checker brings all that the parser accepts.
+pub fn law_nothing_left_out()
+    ensures { (path : List ℕ) (sources : List (List ℕ × List ℕ)) (fault : Fault) → IsAnswerOf path sources (Faulty fault) → fault.kind ≢ LeftOut }
+{}
+
+/// That a program has no function main is the last of faults: no node of its files has one.
+pub fn law_main_comes_last()
+    ensures { (path : List ℕ) (sources : List (List ℕ × List ℕ)) (files : List NamedFile) (fault : Fault) → AreTreesOf sources files → IsAnswerOf path sources (Faulty fault) → fault.kind ≡ Main → files_faults [] files ≡ [] }
+{}

@@ -1,0 +1,34 @@
+//! Why a package isn't given.
+ghost use Rattle.std.specs.Prelude.{◌≡◌};
+ghost use Rattle.go_check.specs.declared.error.CheckError.TheVariants.{Memory};
+
+use go_text::fault::Fault;
+use std::alloc::{AllocError, AllocFailed};
+use thiserror::Error;
+
+/// Why a package isn't given.
+#[derive(Debug, Drop, Error)]
+pub enum CheckError {
+    /// It has a fault, of which this is the first.
+    #[error("the package has a fault")]
+    Faulty(Fault),
+    /// Memory ran out.
+    #[error("out of memory")]
+    Memory,
+}
+
+impl<T: Drop> From<AllocFailed<T>> for CheckError {
+    ghost from_gives = { λ _ e. e ≡ Memory };
+
+    fn from(_e: AllocFailed<T>) -> CheckError {
+        CheckError::Memory
+    }
+}
+
+impl From<AllocError> for CheckError {
+    ghost from_gives = { λ _ e. e ≡ Memory };
+
+    fn from(_e: AllocError) -> CheckError {
+        CheckError::Memory
+    }
+}

@@ -1,0 +1,169 @@
+//! The checker of expressions.
+ghost use Rattle.std.specs.Prelude.{◌≡◌, ◌++◌, [], Some, map};
+ghost use Rattle.go_ast.specs.Trees.{pack, place_of};
+ghost use Rattle.go_ast.specs.Views.{expression_of, expressions_of};
+ghost use Rattle.go_check.specs.Views.{constant_of};
+ghost use Rattle.go_check.specs.Typed.{text};
+ghost use Rattle.go_check.specs.Rules.{untyped, println, named, selected, value, called};
+ghost use Rattle.go_check.specs.Verdicts.{ruled, fine, asked, broken, verdict, values, faults, argument_faults};
+ghost use Rattle.go_check.specs.Seen.{known_of, ruling_of, Answers, AnswersAt};
+
+use crate::error::CheckError;
+use crate::known::{Known, all_defaulted, all_fit, literal};
+use crate::scope::Scope;
+use crate::typed::Const;
+use go_ast::expression::{Expr, ExprKind};
+use go_text::fault::FaultKind;
+use go_text::place::Place;
+use std::alloc::Global;
+
+/// What a name finds: the library, where it is the library's and the file imports it.
+fn named(scope: &Scope, name: &str) -> Result<Known, FaultKind>
+    ensures { ruling_of result ≡ named scope.now.library name.now }
+{
+    if name != "fmt" {
+        Err(FaultKind::LeftOut)
+    } else if scope.library {
+        Ok(Known::Library)
+    } else {
+        Err(FaultKind::Undeclared)
+    }
+}
+
+/// What a name selects from an operand: the function Println from the library.
+fn selected(field: &str, operand: &Known) -> Result<Known, FaultKind>
+    ensures { ruling_of result ≡ selected field.now (known_of operand.now) }
+{
+    match operand {
+        Known::Library if field == "Println" => Ok(Known::Println),
+        _ => Err(FaultKind::LeftOut),
+    }
+}
+
+/// What is known of a node at a place that is asked, or its fault.
+fn answer(
+    scope: &Scope,
+    place: Place,
+    ruling: Result<Known, FaultKind>,
+) -> Result<Known, CheckError>
+    ensures { AnswersAt known_of result scope.now place (ruled (ruling_of ruling)) }
+{
+    match ruling {
+        Ok(known) => Ok(known),
+        Err(kind) => Err(scope.fault(place, kind)),
+    }
+}
+
+/// What is known of a call of Println at a place with some arguments, or its fault.
+fn print_call(
+    alloc: Global,
+    scope: &Scope,
+    place: Place,
+    arguments: Vec<Const>,
+) -> Result<Known, CheckError>
+    ensures { AnswersAt known_of result scope.now place (ruled (called println (map constant_of arguments.items))) }
+{
+    if !all_fit(&arguments) {
+        return Err(scope.fault(place, FaultKind::Range));
+    }
+    Ok(Known::Printed(all_defaulted(alloc, arguments)?))
+}
+
+/// What is known of a call at a place by what its callee and its arguments are, or its fault.
+fn called(
+    alloc: Global,
+    scope: &Scope,
+    place: Place,
+    callee: &Known,
+    arguments: Vec<Const>,
+) -> Result<Known, CheckError>
+    ensures { AnswersAt known_of result scope.now place (ruled (called (known_of callee.now) (map constant_of arguments.items))) }
+{
+    match callee {
+        Known::Println => print_call(alloc, scope, place, arguments),
+        _ => Err(scope.fault(place, FaultKind::LeftOut)),
+    }
+}
+
+/// The constant of a string literal.
+fn text_constant(alloc: Global, bytes: &[u8]) -> Result<Known, CheckError>
+    ensures { Answers known_of result [] (Some (untyped (text bytes.now))) }
+{
+    let bytes = Vec::from_slice(alloc, bytes)?;
+    Ok(Known::Untyped(Const::Text(bytes)))
+}
+
+/// The constant that is known at a place where a value is due, or the fault there.
+fn value_due(scope: &Scope, place: Place, known: Known) -> Result<Const, CheckError>
+    ensures { AnswersAt constant_of result scope.now place (ruled (value (known_of known))) }
+{
+    match known {
+        Known::Untyped(constant) => Ok(constant),
+        _ => Err(scope.fault(place, FaultKind::LeftOut)),
+    }
+}
+
+/// What is known of an expression, or the first fault in it.
+#[cycle(check)]
+pub(crate) fn check_expression(alloc: Global, scope: &Scope, e: &Expr) -> Result<Known, CheckError>
+    ensures { Answers known_of result (faults scope.now (expression_of e.now)) (fine (verdict scope.now (expression_of e.now))) }
+{
+    match &e.kind {
+        ExprKind::Name(name) => answer(scope, e.place, named(scope, name.as_str())),
+        ExprKind::Integer(digits) => match literal(digits.as_str()) {
+            Ok(value) => Ok(Known::Untyped(Const::Integer(value))),
+            Err(kind) => Err(scope.fault(e.place, kind)),
+        },
+        ExprKind::String(bytes) => text_constant(alloc, bytes),
+        ExprKind::Selector(operand, field) => {
+            let operand = check_expression(alloc, scope, operand)?;
+            answer(scope, e.place, selected(field.text(), &operand))
+        }
+        ExprKind::Call(callee, arguments) => {
+            let callee = check_expression(alloc, scope, callee)?;
+            check_call(alloc, scope, e.place, &callee, arguments)
+        }
+    }
+}
+
+/// What is known of a call at a place of a callee with some arguments, or the first fault in
+/// the arguments or of the call.
+#[cycle(check)]
+fn check_call(
+    alloc: Global,
+    scope: &Scope,
+    place: Place,
+    callee: &Known,
+    arguments: &[Expr],
+) -> Result<Known, CheckError>
+    ensures { Answers known_of result (argument_faults scope.now (pack (expressions_of arguments.now)) ++ broken scope.now place (asked (called (known_of callee.now)) (values scope.now (pack (expressions_of arguments.now))))) (fine (asked (called (known_of callee.now)) (values scope.now (pack (expressions_of arguments.now))))) }
+{
+    let arguments = check_arguments(alloc, scope, arguments)?;
+    called(alloc, scope, place, callee, arguments)
+}
+
+/// The constant that an argument is, or the first fault in it.
+#[cycle(check)]
+fn check_argument(alloc: Global, scope: &Scope, e: &Expr) -> Result<Const, CheckError>
+    ensures { Answers constant_of result (faults scope.now (expression_of e.now) ++ broken scope.now (place_of (expression_of e.now)) (asked value (fine (verdict scope.now (expression_of e.now))))) (fine (asked value (fine (verdict scope.now (expression_of e.now))))) }
+{
+    let known = check_expression(alloc, scope, e)?;
+    value_due(scope, e.place, known)
+}
+
+/// The constants that arguments are, in their order, or the first fault in them.
+#[cycle(check)]
+fn check_arguments(
+    alloc: Global,
+    scope: &Scope,
+    arguments: &[Expr],
+) -> Result<Vec<Const>, CheckError>
+    ensures { Answers (λ all. map constant_of all.items) result (argument_faults scope.now (pack (expressions_of arguments.now))) (values scope.now (pack (expressions_of arguments.now))) }
+{
+    let mut all = Vec::with_capacity(alloc, arguments.len())?;
+    for argument in arguments {
+        let constant = check_argument(alloc, scope, argument)?;
+        all.push(constant)?;
+    }
+    Ok(all)
+}

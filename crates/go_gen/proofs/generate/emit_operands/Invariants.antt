@@ -1,0 +1,7 @@
+use Rattle.std.proofs.Common.{◌≡◌, ◌++◌, drop, map}
+use Rattle.go_check.specs.Views.{expression_of}
+use Rattle.go_gen.specs.Translation.{operands_code}
+use Rattle.go_gen.proofs.generate.emit_operands.Given as goal
+
+abbrev pub invariant-loop-i : goal.invariant-loop-i
+invariant-loop-i l = l.code ≡ operands_code (map expression_of (drop l.i l.operands)) ++ l.initial.code

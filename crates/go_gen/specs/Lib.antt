@@ -1,0 +1,4 @@
+pub mod Equality
+pub mod Linking
+pub mod Runs
+pub mod Translation

@@ -1,0 +1,25 @@
+-- What was answered of packages, said of the objects in their order.
+use Rattle.std.proofs.Common.{◌≡◌, List, true, false, not, Some, None, Result, Ok, Err, IfOk, IfErr, OnOk, ap, ◌∙◌, subst}
+use Rattle.std.specs.Prelude.{if◌then◌else◌}
+use Rattle.std.specs.List.{flat_map, list_any}
+use Rattle.go_code.specs.Symbols.{Symbol}
+use Rattle.go_code.specs.Images.{Image}
+use Rattle.go_code.specs.Packages.{Object}
+use Rattle.go_link.specs.Links.{IsRefusal, code_of, has_main, is_missing, link_refusal, linked, name_missing, names}
+use Rattle.go_link.specs.declared.link.LinkError.{LinkError}
+use Rattle.go_link.specs.declared.link.LinkError.TheVariants.{NoMain, NameMissing}
+
+pub linked_as : (r : Result Image LinkError) (xs ys : List Object) → xs ≡ ys → IfOk r (λ image. image ≡ linked xs) → OnOk r (link_refusal xs ≡ None) → IfOk r (λ image. (link_refusal ys ≡ None) × (image ≡ linked ys))
+linked_as (Ok image) xs ys e is allowed = (subst (λ zs. link_refusal zs ≡ None) e allowed, subst (λ zs. image ≡ linked zs) e is)
+linked_as (Err error) xs ys e is allowed = tt
+
+pub refused_as : (r : Result Image LinkError) (xs ys : List Object) → xs ≡ ys → IfErr r (λ error. IsRefusal error (link_refusal xs)) → IfErr r (λ error. IsRefusal error (link_refusal ys))
+refused_as (Ok image) xs ys e is = tt
+refused_as (Err error) xs ys e is = subst (λ zs. IsRefusal error (link_refusal zs)) e is
+
+-- packages with a main and with no name missing are not refused
+pub allowed_by : (packages : List Object) (all : List Symbol) → has_main packages ≡ true → all ≡ names packages → list_any (is_missing all) (flat_map code_of packages) ≡ false → link_refusal packages ≡ None
+allowed_by packages all main same whole =
+    let missing : name_missing packages ≡ false = subst (λ ns. list_any (is_missing ns) (flat_map code_of packages) ≡ false) same whole in
+    ap (λ b. if not b then Some NoMain else (if name_missing packages then Some NameMissing else None)) main
+    ∙ ap (λ b. if b then Some NameMissing else None) missing

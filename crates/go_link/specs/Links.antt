@@ -1,0 +1,119 @@
+-- What objects are linked to.
+use Rattle.std.specs.Prelude.{◌≡◌, ℕ, ◌-◌, Bool, false, ◌&&◌, not, if◌then◌else◌, List, [], ◌∷◌, ◌++◌, length, map, slice_get, codes, Option, Some, None}
+use Rattle.std.specs.List.{filter, filter_map, flat_map, list_any, position_or_len, starts_with}
+use Rattle.std.specs.Str.{bytes_eq}
+use Rattle.std.specs.Prelude.{nat_eq}
+use Rattle.go_code.specs.declared.cell.Cell.{Cell}
+use Rattle.go_code.specs.declared.image.Start.{Start}
+use Rattle.go_code.specs.declared.image.Start.TheVariants.{Setup as Set_up, Function as Run}
+use Rattle.go_code.specs.declared.instr.Instr.{Instr}
+use Rattle.go_code.specs.declared.instr.Instr.TheVariants.{Push, Print, Call, Return}
+use Rattle.go_code.specs.Functions.{Function}
+use Rattle.go_code.specs.Images.{Image}
+use Rattle.go_code.specs.Packages.{Object, PackageFunction, PackageSetup}
+use Rattle.go_code.specs.Referred.{refer}
+use Rattle.go_code.specs.Symbols.{Symbol}
+use Rattle.go_link.specs.declared.link.LinkError.{LinkError}
+use Rattle.go_link.specs.declared.link.LinkError.TheVariants.{Memory, NoMain, NameMissing}
+
+-- the objects at these places
+abbrev pub in_order : List Object → List ℕ → List Object
+in_order objects order = filter_map (slice_get objects) order
+
+-- ---- names
+
+abbrev pub same_symbol : Symbol → Symbol → Bool
+same_symbol s t = bytes_eq s.path t.path && bytes_eq s.name t.name
+
+abbrev pub symbol_of : Object → List ℕ → Symbol
+symbol_of o name = record { path = o.path; name = name }
+
+-- the functions, one package's behind another's, each package's in declaration order
+abbrev pub names : List Object → List Symbol
+names packages = flat_map (λ o. map (λ f. symbol_of o f.name) o.functions) packages
+
+-- the number of the function that a symbol names: its place among all
+abbrev pub number_of : List Symbol → Symbol → ℕ
+number_of names s = position_or_len (same_symbol s) names
+
+-- the instruction refers to none of the functions
+abbrev pub is_missing : List Symbol → Instr Symbol → Bool
+is_missing names (Push cell) = false
+is_missing names (Print count) = false
+is_missing names (Call s) = not (list_any (same_symbol s) names)
+is_missing names (Return count) = false
+
+-- all code of a package
+abbrev pub code_of : Object → List (Instr Symbol)
+code_of o = flat_map (λ f. f.code) o.functions ++ flat_map (λ s. s.code) o.setups
+
+-- some instruction of the packages refers to no function
+abbrev pub name_missing : List Object → Bool
+name_missing packages = list_any (is_missing (names packages)) (flat_map code_of packages)
+
+-- ---- main
+
+abbrev pub last_package : List Object → Option Object
+last_package packages = slice_get packages (length packages - 1)
+
+abbrev pub has_main_in : Option Object → Bool
+has_main_in None = false
+has_main_in (Some o) = bytes_eq o.name (codes "main") && list_any (λ f. bytes_eq f.name (codes "main")) o.functions
+
+-- the last package is named main and has a function main
+abbrev pub has_main : List Object → Bool
+has_main packages = has_main_in (last_package packages)
+
+-- why packages are not linked: the first that holds
+abbrev pub link_refusal : List Object → Option LinkError
+link_refusal packages =
+    if not (has_main packages) then Some NoMain
+    else (if name_missing packages then Some NameMissing
+    else None)
+
+-- memory may run out for any objects; each other answer is right
+abbrev pub IsRefusal : LinkError → Option LinkError → Type 0
+IsRefusal Memory wrong = Unit {0}
+IsRefusal NoMain wrong = wrong ≡ Some NoMain
+IsRefusal NameMissing wrong = wrong ≡ Some NameMissing
+
+-- ---- the image
+
+abbrev pub linked_code : List Symbol → List (Instr Symbol) → List (Instr ℕ)
+linked_code names code = map (refer (number_of names)) code
+
+abbrev pub linked_function : List Symbol → PackageFunction → Function
+linked_function names f = record { parameters = f.parameters; cells = f.cells; code = linked_code names f.code }
+
+abbrev pub linked_setup : List Symbol → PackageSetup → Start
+linked_setup names s = Set_up (record { cells = s.cells; code = linked_code names s.code })
+
+-- a function that is called as its package is initialized: the name is `init.` and a number
+abbrev pub is_init : PackageFunction → Bool
+is_init f = starts_with nat_eq f.name (codes "init.")
+
+abbrev pub start_of : List Symbol → Object → List ℕ → Start
+start_of names o name = Run (number_of names (symbol_of o name))
+
+-- a package's setups, then its inits
+abbrev pub package_starts : List Symbol → Object → List Start
+package_starts names o = map (linked_setup names) o.setups ++ map (λ f. start_of names o f.name) (filter is_init o.functions)
+
+abbrev pub main_start : List Symbol → Option Object → List Start
+main_start names None = []
+main_start names (Some o) = start_of names o (codes "main") ∷ []
+
+abbrev pub zeros_of : Object → List Cell
+zeros_of o = flat_map (λ v. v.zero) o.variables
+
+-- variables and functions package by package, each package's in declaration order; the start steps package by package, and main at last
+abbrev pub linked : List Object → Image
+linked packages = record {
+  globals = flat_map zeros_of packages;
+  functions = flat_map (λ o. map (linked_function (names packages)) o.functions) packages;
+  starts = flat_map (package_starts (names packages)) packages ++ main_start (names packages) (last_package packages);
+}
+
+-- the image that objects are linked to, the packages in an order
+abbrev pub Links : List Object → List ℕ → Image → Type 0
+Links objects order image = (link_refusal (in_order objects order) ≡ None) × (image ≡ linked (in_order objects order))

@@ -1,0 +1,115 @@
+//! Linked code.
+ghost use Rattle.std.specs.Prelude.{◌≡◌, ◌++◌, OnOk, IfOk, map};
+ghost use Rattle.std.specs.Arc.{arc_value};
+ghost use Rattle.std.specs.List.{flat_map};
+ghost use Rattle.go_code.specs.Referred.{refer};
+ghost use Rattle.go_link.specs.Links.{number_of, linked_code, linked_function, zeros_of};
+
+use crate::names::Names;
+use go_code::cell::Cell;
+use go_code::image::function::Function;
+use go_code::instr::{Instr, Symbol};
+use go_code::object::Object;
+use go_code::object::function::PackageFunction;
+use go_code::object::variable::PackageVariable;
+use std::alloc::{AllocError, Global};
+use std::sync::Arc;
+
+/// The instruction with the number of the function in place of its symbol.
+fn link_instr<'a>(names: &Names<'a>, instr: &'a Instr<Symbol>) -> Result<Instr<usize>, AllocError>
+    ensures { IfOk result (λ linked. linked ≡ refer (number_of names.now) instr.now) }
+{
+    match instr {
+        Instr::Push(cell) => Ok(Instr::Push(cell.copy()?)),
+        Instr::Print(count) => Ok(Instr::Print(*count)),
+        Instr::Call(symbol) => Ok(Instr::Call(names.place(symbol.path(), symbol.name()))),
+        Instr::Return(count) => Ok(Instr::Return(*count)),
+    }
+}
+
+/// The code with numbers of functions in place of symbols. An `Err` only where memory ran out.
+pub(crate) fn link_code<'a>(
+    alloc: Global,
+    names: &Names<'a>,
+    code: &'a [Instr<Symbol>],
+) -> Result<Vec<Instr<usize>>, AllocError>
+    ensures { IfOk result (λ linked. linked.items ≡ linked_code names.now code.now) }
+{
+    let mut linked = Vec::new(alloc);
+    for instr in code {
+        linked.push(link_instr(names, instr)?)?;
+    }
+    Ok(linked)
+}
+
+fn link_function<'a>(
+    alloc: Global,
+    names: &Names<'a>,
+    function: &'a PackageFunction,
+) -> Result<Function, AllocError>
+    ensures { IfOk result (λ linked. linked ≡ linked_function names.now function.now) }
+{
+    let code = link_code(alloc, names, function.code())?;
+    Ok(Function::new(function.parameters(), function.cells(), code))
+}
+
+/// A package's functions come behind the linked ones.
+fn push_functions<'a>(
+    alloc: Global,
+    linked: &mut Vec<Function>,
+    names: &Names<'a>,
+    functions: &'a [PackageFunction],
+) -> Result<(), AllocError>
+    ensures { OnOk result (linked.new.items ≡ linked.old.items ++ map (linked_function names.now) functions.now) }
+{
+    for function in functions {
+        linked.push(link_function(alloc, names, function)?)?;
+    }
+    Ok(())
+}
+
+/// The functions of the packages. An `Err` only where memory ran out.
+pub(crate) fn link_functions<'a>(
+    alloc: Global,
+    names: &Names<'a>,
+    packages: &'a [Arc<Object>],
+) -> Result<Vec<Function>, AllocError>
+    ensures { IfOk result (λ linked. linked.items ≡ flat_map (λ o. map (linked_function names.now) o.functions) (map arc_value packages.now)) }
+{
+    let mut linked = Vec::new(alloc);
+    for object in packages {
+        push_functions(alloc, &mut linked, names, object.functions())?;
+    }
+    Ok(linked)
+}
+
+/// Cells come behind others.
+fn push_copies(cells: &mut Vec<Cell>, others: &[Cell]) -> Result<(), AllocError>
+    ensures { OnOk result (cells.new.items ≡ cells.old.items ++ others.now) }
+{
+    for cell in others {
+        cells.push(cell.copy()?)?;
+    }
+    Ok(())
+}
+
+/// The zero cells of a package's variables come behind others.
+fn push_zeros(cells: &mut Vec<Cell>, variables: &[PackageVariable]) -> Result<(), AllocError>
+    ensures { OnOk result (cells.new.items ≡ cells.old.items ++ flat_map (λ v. v.zero) variables.now) }
+{
+    for variable in variables {
+        push_copies(cells, variable.zero())?;
+    }
+    Ok(())
+}
+
+/// The zero cells of the packages' variables. An `Err` only where memory ran out.
+pub(crate) fn link_globals(alloc: Global, packages: &[Arc<Object>]) -> Result<Vec<Cell>, AllocError>
+    ensures { IfOk result (λ globals. globals.items ≡ flat_map zeros_of (map arc_value packages.now)) }
+{
+    let mut globals = Vec::new(alloc);
+    for object in packages {
+        push_zeros(&mut globals, object.variables())?;
+    }
+    Ok(globals)
+}

@@ -1,0 +1,22 @@
+//! What holds of linked packages.
+ghost use Rattle.std.specs.Prelude.{◌≡◌, ℕ, List, Some, None, codes, slice_get};
+ghost use Rattle.go_code.specs.Packages.{Object, PackageFunction};
+ghost use Rattle.go_code.specs.Symbols.{Symbol};
+ghost use Rattle.go_code.specs.declared.instr.Instr.TheVariants.{Call};
+ghost use Rattle.go_link.specs.Found.{Found, IsDeclared};
+ghost use Rattle.go_link.specs.Links.{code_of, last_package, link_refusal, symbol_of};
+
+/// The number of a package's function is that of a function with its path and its name.
+pub fn law_functions_are_found()
+    ensures { (packages : List Object) (o : Object) (f : PackageFunction) → IsDeclared packages o f → Found packages (symbol_of o f.name) }
+{}
+
+/// A call in linked packages goes to a function with the path and the name that the call names.
+pub fn law_calls_are_found()
+    ensures { (packages : List Object) (i j : ℕ) (o : Object) (s : Symbol) → link_refusal packages ≡ None → slice_get packages i ≡ Some o → slice_get (code_of o) j ≡ Some (Call s) → Found packages s }
+{}
+
+/// The last of linked packages has a function main, which is in the image.
+pub fn law_main_is_found()
+    ensures { (packages : List Object) (o : Object) → link_refusal packages ≡ None → last_package packages ≡ Some o → Found packages (symbol_of o (codes "main")) }
+{}

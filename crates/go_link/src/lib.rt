@@ -1,0 +1,10 @@
+//! The linker: makes an image of the objects of packages.
+#![tactic(auto)]
+
+mod code;
+pub mod law;
+pub mod link;
+mod names;
+mod starts;
+#[cfg(test)]
+mod tests;

@@ -1,0 +1,108 @@
+//! Linking: objects become an image.
+ghost use Rattle.std.specs.Prelude.{◌≡◌, ◌<◌, length, map, IfOk, IfErr, OnOk, slice_get, Some, None};
+ghost use Rattle.std.specs.Arc.{arc_value};
+ghost use Rattle.std.specs.List.{All};
+ghost use Rattle.go_link.specs.Links.{IsRefusal, Links, in_order, link_refusal, linked, names as names_of};
+ghost use Rattle.go_link.specs.declared.link.LinkError.TheVariants.{Memory};
+
+use crate::code::{link_functions, link_globals};
+use crate::names::{Names, collect_names, name_missing};
+use crate::starts::{has_main, link_starts};
+use go_code::image::Image;
+use go_code::object::Object;
+use std::alloc::{AllocError, Global};
+use std::sync::Arc;
+use thiserror::Error;
+
+/// Why objects are not linked.
+#[derive(Debug, Drop, Error)]
+pub enum LinkError {
+    /// There is no object, or the last one isn't of a package named main with a function main.
+    #[error("no main")]
+    NoMain,
+    /// An instruction refers to a function that no object has.
+    #[error("a name is missing")]
+    NameMissing,
+    /// Memory ran out.
+    #[error("out of memory")]
+    Memory,
+}
+
+impl From<AllocError> for LinkError {
+    ghost from_gives = { λ _ e. e ≡ Memory };
+
+    fn from(_e: AllocError) -> LinkError {
+        LinkError::Memory
+    }
+}
+
+/// Another owner of the object at a place.
+fn object_at(objects: &[Arc<Object>], place: usize) -> Result<Arc<Object>, AllocError>
+    requires { place < length objects.now }
+    ensures { IfOk result (λ object. slice_get (map arc_value objects.now) place ≡ Some (arc_value object)) }
+{
+    objects[place].clone()
+}
+
+/// The objects at these places, which share the contents. An `Err` only where memory ran out.
+fn packages_in_order(
+    alloc: Global,
+    objects: &[Arc<Object>],
+    order: &[usize],
+) -> Result<Vec<Arc<Object>>, AllocError>
+    requires { All (λ place. place < length objects.now) order.now }
+    ensures { IfOk result (λ packages. map arc_value packages.items ≡ in_order (map arc_value objects.now) order.now) }
+{
+    let mut packages = Vec::new(alloc);
+    for place in order {
+        packages.push(object_at(objects, *place)?)?;
+    }
+    Ok(packages)
+}
+
+/// The image of packages, once it is known that they have a main and that no name is missing.
+fn image_of<'a>(
+    alloc: Global,
+    names: &Names<'a>,
+    packages: &'a [Arc<Object>],
+) -> Result<Image, AllocError>
+    requires { names.now ≡ names_of (map arc_value packages.now) }
+    ensures { IfOk result (λ image. image ≡ linked (map arc_value packages.now)) }
+{
+    let globals = link_globals(alloc, packages)?;
+    let functions = link_functions(alloc, names, packages)?;
+    let starts = link_starts(alloc, names, packages)?;
+    Ok(Image::new(globals, functions, starts))
+}
+
+/// The image of packages in their order.
+fn link_packages(alloc: Global, packages: &[Arc<Object>]) -> Result<Image, LinkError>
+    ensures linked { IfOk result (λ image. image ≡ linked (map arc_value packages.now)) }
+    ensures allowed { OnOk result (link_refusal (map arc_value packages.now) ≡ None) }
+    ensures refused { IfErr result (λ e. IsRefusal e (link_refusal (map arc_value packages.now))) }
+{
+    if !has_main(packages) {
+        return Err(LinkError::NoMain);
+    }
+    let names = collect_names(alloc, packages)?;
+    if name_missing(&names, packages) {
+        return Err(LinkError::NameMissing);
+    }
+    Ok(image_of(alloc, &names, packages)?)
+}
+
+/// The image of a program's objects, in the order in which their packages are initialized, by
+/// their places. The image has the variables and the functions package by package, and the start
+/// steps: each package's setups and inits, package by package, and then the last one's main.
+///
+/// An `Err` is the first that holds of `NoMain` and `NameMissing`, or says that memory ran out.
+/// A symbol means the first function of its path and name; where the paths of packages and the
+/// names of a package's functions differ there is one at most.
+pub fn link(alloc: Global, objects: &[Arc<Object>], order: &[usize]) -> Result<Image, LinkError>
+    requires places { All (λ place. place < length objects.now) order.now }
+    ensures linked { IfOk result (λ image. Links (map arc_value objects.now) order.now image) }
+    ensures refused { IfErr result (λ e. IsRefusal e (link_refusal (in_order (map arc_value objects.now) order.now))) }
+{
+    let packages = packages_in_order(alloc, objects, order)?;
+    link_packages(alloc, &packages)
+}

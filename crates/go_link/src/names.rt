@@ -1,0 +1,175 @@
+//! The functions of packages by name and by number.
+ghost use Rattle.std.specs.Prelude.{◌≡◌, ◌++◌, ◌∷◌, [], List, length, OnOk, IfOk, map, not};
+ghost use Rattle.std.specs.List.{flat_map, list_any, position};
+ghost use Rattle.std.specs.Arc.{arc_value};
+ghost use Rattle.go_code.specs.Symbols.{Symbol as ASymbol};
+ghost use Rattle.go_link.specs.Links.{same_symbol, symbol_of, names, number_of, is_missing, code_of, name_missing};
+ghost use Rattle.go_link.specs.Named.{Numbers, symbol_at};
+
+use go_code::instr::{Instr, Symbol};
+use go_code::object::Object;
+use go_code::object::function::PackageFunction;
+use go_code::object::setup::PackageSetup;
+use std::alloc::{AllocError, Global};
+use std::collections::BTreeMap;
+use std::marker::Model;
+use std::sync::Arc;
+
+/// A function by its package's path and its name.
+type Name<'a> = (&'a str, &'a str);
+
+/// The functions of packages in the image's order, and the number of each by its name: its
+/// place, or that of the first with the same path and name.
+#[derive(Drop)]
+pub(crate) struct Names<'a> {
+    all: Vec<Name<'a>>,
+    numbers: BTreeMap<Name<'a>, usize>,
+}
+
+impl<'a> Model for Names<'a> {
+    ghost use Rattle.std.specs.Prelude.{List, map};
+    ghost use Rattle.go_code.specs.Symbols.{Symbol as ASymbol};
+    ghost use Rattle.go_link.specs.Named.{Numbers, symbol_at};
+
+    ghost Value = { List ASymbol };
+
+    ghost view = { λ a. map symbol_at a.all.items };
+
+    ghost invariant = { λ a. Numbers a.numbers (map symbol_at a.all.items) };
+}
+
+impl<'a> Names<'a> {
+    /// The number of the function of a path and a name, if there is one.
+    pub(crate) fn number(&self, path: &'a str, name: &'a str) -> Option<usize>
+        ensures { result ≡ position (same_symbol (record { path = path.now; name = name.now })) self.now }
+    {
+        self.numbers.get(&(path, name)).copied()
+    }
+
+    /// The number of the function of a path and a name, or how many functions there are if it is
+    /// none of them.
+    pub(crate) fn place(&self, path: &'a str, name: &'a str) -> usize
+        ensures { result ≡ number_of self.now (record { path = path.now; name = name.now }) }
+    {
+        match self.number(path, name) {
+            Some(number) => number,
+            None => self.all.len(),
+        }
+    }
+}
+
+/// A name gets its number, unless there is one of the same path and name.
+fn add_name<'a>(
+    numbers: &mut BTreeMap<Name<'a>, usize>,
+    name: Name<'a>,
+    number: usize,
+) -> Result<(), AllocError>
+    ensures { OnOk result ((before : List ASymbol) → number ≡ length before → Numbers numbers.old before → Numbers numbers.new (before ++ symbol_at name.entry ∷ [])) }
+{
+    if !numbers.contains_key(&name) {
+        numbers.insert(name, number)?;
+    }
+    Ok(())
+}
+
+/// The first place of each name.
+fn numbers_of<'a>(
+    alloc: Global,
+    names: &[Name<'a>],
+) -> Result<BTreeMap<Name<'a>, usize>, AllocError>
+    ensures { IfOk result (λ numbers. Numbers numbers (map symbol_at names.now)) }
+{
+    let mut numbers = BTreeMap::new(alloc);
+    for (number, name) in names.iter().enumerate() {
+        add_name(&mut numbers, *name, number)?;
+    }
+    Ok(numbers)
+}
+
+/// A package's functions come behind the names.
+fn push_names<'a>(names: &mut Vec<Name<'a>>, object: &'a Object) -> Result<(), AllocError>
+    ensures { OnOk result (map symbol_at names.new.items ≡ map symbol_at names.old.items ++ map (λ f. symbol_of object.now f.name) object.now.functions) }
+{
+    let functions = object.functions();
+    for function in functions {
+        names.push((object.path(), function.name()))?;
+    }
+    Ok(())
+}
+
+/// The functions of packages in the image's order. An `Err` only where memory ran out.
+pub(crate) fn collect_names<'a>(
+    alloc: Global,
+    packages: &'a [Arc<Object>],
+) -> Result<Names<'a>, AllocError>
+    ensures { IfOk result (λ all. all ≡ names (map arc_value packages.now)) }
+{
+    let mut all = Vec::new(alloc);
+    for object in packages {
+        push_names(&mut all, object)?;
+    }
+    let numbers = numbers_of(alloc, &all)?;
+    Ok(Names { all, numbers })
+}
+
+/// Whether an instruction refers to none of the functions.
+fn is_missing<'a>(names: &Names<'a>, instr: &'a Instr<Symbol>) -> bool
+    ensures { result ≡ is_missing names.now instr.now }
+{
+    match instr {
+        Instr::Call(symbol) => names.number(symbol.path(), symbol.name()).is_none(),
+        Instr::Push(_) | Instr::Print(_) | Instr::Return(_) => false,
+    }
+}
+
+/// Whether an instruction of a code refers to none of the functions.
+fn code_misses<'a>(names: &Names<'a>, code: &'a [Instr<Symbol>]) -> bool
+    ensures { result ≡ list_any (is_missing names.now) code.now }
+{
+    for instr in code {
+        if is_missing(names, instr) {
+            return true;
+        }
+    }
+    false
+}
+
+fn functions_miss<'a>(names: &Names<'a>, functions: &'a [PackageFunction]) -> bool
+    ensures { result ≡ list_any (is_missing names.now) (flat_map (λ f. f.code) functions.now) }
+{
+    for function in functions {
+        if code_misses(names, function.code()) {
+            return true;
+        }
+    }
+    false
+}
+
+fn setups_miss<'a>(names: &Names<'a>, setups: &'a [PackageSetup]) -> bool
+    ensures { result ≡ list_any (is_missing names.now) (flat_map (λ s. s.code) setups.now) }
+{
+    for setup in setups {
+        if code_misses(names, setup.code()) {
+            return true;
+        }
+    }
+    false
+}
+
+fn object_misses<'a>(names: &Names<'a>, object: &'a Object) -> bool
+    ensures { result ≡ list_any (is_missing names.now) (code_of object.now) }
+{
+    functions_miss(names, object.functions()) || setups_miss(names, object.setups())
+}
+
+/// Whether some instruction of the packages refers to none of the functions.
+pub(crate) fn name_missing<'a>(names: &Names<'a>, packages: &'a [Arc<Object>]) -> bool
+    ensures { result ≡ list_any (is_missing names.now) (flat_map code_of (map arc_value packages.now)) }
+{
+    for object in packages {
+        if object_misses(names, object) {
+            return true;
+        }
+    }
+    false
+}

@@ -1,0 +1,14 @@
+use Rattle.std.proofs.Common.{◌≡◌, [], drop, refl, sym, subst}
+use Rattle.std.proofs.lemmas.List.{drop_all}
+use Rattle.go_code.specs.Finals.{Ends}
+use Rattle.go_code.specs.Follows.{ended_leads}
+use Rattle.go_code.specs.Machine.{Leads}
+use Rattle.go_vm.specs.Told.{between}
+use Rattle.go_vm.proofs.run.run.Goals as goal
+
+pub returns : goal.returns
+returns c =
+    let none : drop c.loop-start.start-index c.starts-starts.result.now ≡ [] = drop_all c.loop-start.start-index c.starts-starts.result.now c.loop-start-test.false in
+    let s = between (drop c.loop-start.start-index c.starts-starts.result.now) c.loop-start.world in
+    c.loop-start.invariant (Ends c.outcome_of-2.result.ending c.outcome_of-2.result.output)
+    (subst (λ o. Leads c.args.image.now s (Ends o.ending o.output)) (sym c.outcome_of-2.ensures) (ended_leads c.args.image.now s refl none))

@@ -1,0 +1,5 @@
+pub mod Answers
+pub mod Open
+pub mod Outcomes
+pub mod Told
+pub mod View

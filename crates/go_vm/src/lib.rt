@@ -1,0 +1,9 @@
+//! The virtual machine: runs images.
+#![tactic(auto)]
+
+mod frames;
+mod line;
+mod machine;
+pub mod run;
+#[cfg(test)]
+mod tests;

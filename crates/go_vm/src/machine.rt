@@ -1,0 +1,212 @@
+//! The machine: what one instruction does, and how a start step begins.
+ghost use Rattle.std.specs.Prelude.{◌≡◌, ◌+◌, ◌-◌, ◌<◌, ◌≤◌, ◌^◌, ◌∷◌, ◌++◌, [], List, length, take, drop, pos, negsuc, IfOk, OnOk, MatchOption, IsTrue, slice_get, Some, None};
+ghost use Rattle.go_code.specs.declared.image.Start.{Start as AStart};
+ghost use Rattle.go_code.specs.Lines.{cell_fits, line_text};
+ghost use Rattle.go_code.specs.Machine.{act, begin, call, give_back, print, push, split_top, step, with_stack, with_top};
+ghost use Rattle.go_vm.specs.Told.{state_of, between, told, told_begun};
+
+use crate::frames::Frames;
+use crate::line::push_line;
+use go_code::cell::Cell;
+use go_code::ending::{Ending, PanicKind};
+use go_code::image::function::Function;
+use go_code::image::{Image, Start};
+use go_code::instr::Instr;
+use std::alloc::{AllocError, Global};
+
+/// How many calls may be open.
+pub(crate) const MOST_OPEN: usize = 1000;
+
+/// What outlives frames: the ticks left, and the output so far.
+#[derive(Drop)]
+pub(crate) struct World {
+    pub(crate) ticks: u64,
+    pub(crate) output: Vec<u8>,
+}
+
+/// Why a start step doesn't go on.
+#[derive(Drop)]
+pub(crate) enum Exit {
+    /// It has returned.
+    Returned,
+    /// The program ends.
+    Ends(Ending),
+    /// The code makes no sense.
+    BadCode,
+}
+
+/// What comes behind an instruction.
+#[derive(Drop)]
+pub(crate) enum Flow {
+    /// The next instruction of the newest frame.
+    GoesOn,
+    /// No instruction of this start step.
+    Leaves(Exit),
+}
+
+/// What the beginning of a start step comes to.
+#[derive(Drop)]
+pub(crate) enum Begun<'a> {
+    /// Its first frame is open.
+    Open(Frames<'a>),
+    /// It doesn't begin.
+    Leaves(Exit),
+}
+
+/// Whether the machine knows the cell: a number is from -2^63 to 2^64-1.
+#[inline(always)]
+fn cell_fits(cell: &Cell) -> bool
+    ensures { result ≡ cell_fits cell.now }
+{
+    match cell {
+        Cell::Int(number) => (-0x8000_0000_0000_0000..=0xFFFF_FFFF_FFFF_FFFF).contains(number),
+        _ => true,
+    }
+}
+
+/// A function of an image, by its number.
+#[inline(always)]
+fn find(image: &Image, number: usize) -> Option<&Function>
+    ensures { MatchOption result (slice_get image.now.functions number ≡ None) (λ f. slice_get image.now.functions number ≡ Some f.now) }
+{
+    image.functions().get(number)
+}
+
+#[inline(always)]
+fn push_cell(frames: &mut Frames<'_>, world: &World, cell: &Cell) -> Result<Flow, AllocError>
+    ensures { IfOk result (λ flow. (starts : List AStart) → push (state_of frames.old starts world.now) frames.old.newest frames.old.callers cell.now ≡ told flow (state_of frames.new starts world.now)) }
+{
+    if !cell_fits(cell) {
+        return Ok(Flow::Leaves(Exit::BadCode));
+    }
+    frames.push(cell.copy()?)?;
+    Ok(Flow::GoesOn)
+}
+
+fn print_top(frames: &mut Frames<'_>, world: &mut World, count: usize) -> Result<Flow, AllocError>
+    ensures { IfOk result (λ flow. (starts : List AStart) → print (state_of frames.old starts world.old) frames.old.newest frames.old.callers count ≡ told flow (state_of frames.new starts world.new)) }
+{
+    let Some(row) = frames.top(count) else {
+        return Ok(Flow::Leaves(Exit::BadCode));
+    };
+    push_line(&mut world.output, row)?;
+    frames.drop_top(count);
+    Ok(Flow::GoesOn)
+}
+
+#[inline(always)]
+#[tactic(auto, unfolding(go_code::specs::Machine::most_open))]
+fn call_function<'a>(
+    frames: &mut Frames<'a>,
+    world: &mut World,
+    image: &'a Image,
+    number: usize,
+) -> Result<Flow, AllocError>
+    ensures { IfOk result (λ flow. (starts : List AStart) → call (state_of frames.old starts world.old) (λ rest. with_stack frames.old.newest rest ∷ frames.old.callers) (frames.old.newest.depth + 1) frames.old.newest.stack (slice_get image.now.functions number) ≡ told flow (state_of frames.new starts world.new)) }
+{
+    let Some(function) = find(image, number) else {
+        return Ok(Flow::Leaves(Exit::BadCode));
+    };
+    if function.parameters() > function.cells() || function.parameters() > frames.height() {
+        return Ok(Flow::Leaves(Exit::BadCode));
+    }
+    if world.ticks == 0 {
+        return Ok(Flow::Leaves(Exit::Ends(Ending::Cut)));
+    }
+    if frames.depth() >= MOST_OPEN {
+        return Ok(Flow::Leaves(Exit::Ends(Ending::Panicked(PanicKind::Depth))));
+    }
+    frames.call(function)?;
+    world.ticks -= 1;
+    Ok(Flow::GoesOn)
+}
+
+#[inline(always)]
+fn return_top(frames: &mut Frames<'_>, world: &World, count: usize) -> Flow
+    ensures { (starts : List AStart) → with_top (split_top count frames.old.newest.stack) (λ rest row. give_back (state_of frames.old starts world.now) frames.old.callers row) ≡ told result (state_of frames.new starts world.now) }
+{
+    if count > frames.height() {
+        return Flow::Leaves(Exit::BadCode);
+    }
+    if frames.give_back(count) {
+        Flow::GoesOn
+    } else {
+        Flow::Leaves(Exit::Returned)
+    }
+}
+
+/// What an instruction of the newest frame does, which is past it already.
+#[inline(always)]
+fn perform<'a>(
+    frames: &mut Frames<'a>,
+    world: &mut World,
+    image: &'a Image,
+    instr: &Instr<usize>,
+) -> Result<Flow, AllocError>
+    ensures { IfOk result (λ flow. (starts : List AStart) → act image.now (state_of frames.old starts world.old) frames.old.newest frames.old.callers (Some instr.now) ≡ told flow (state_of frames.new starts world.new)) }
+{
+    match instr {
+        Instr::Push(cell) => push_cell(frames, world, cell),
+        Instr::Print(count) => print_top(frames, world, *count),
+        Instr::Call(number) => call_function(frames, world, image, *number),
+        Instr::Return(count) => Ok(return_top(frames, world, *count)),
+    }
+}
+
+/// One step of a start step. An `Err` only where memory ran out.
+#[inline(always)]
+pub(crate) fn one_step<'a>(
+    frames: &mut Frames<'a>,
+    world: &mut World,
+    image: &'a Image,
+) -> Result<Flow, AllocError>
+    ensures { IfOk result (λ flow. (starts : List AStart) → step image.now (state_of frames.old starts world.old) ≡ told flow (state_of frames.new starts world.new)) }
+{
+    let Some(instr) = frames.fetch() else {
+        return Ok(Flow::Leaves(Exit::BadCode));
+    };
+    perform(frames, world, image, instr)
+}
+
+/// A function is called by no frame.
+#[tactic(auto, unfolding(go_code::specs::Machine::most_open))]
+fn begin_function<'a>(
+    alloc: Global,
+    world: &mut World,
+    image: &'a Image,
+    number: usize,
+) -> Result<Begun<'a>, AllocError>
+    ensures { IfOk result (λ begun. (starts : List AStart) → call (between starts world.old) (λ rest. []) 1 [] (slice_get image.now.functions number) ≡ told_begun begun starts world.new) }
+{
+    let Some(function) = find(image, number) else {
+        return Ok(Begun::Leaves(Exit::BadCode));
+    };
+    if function.parameters() > 0 {
+        return Ok(Begun::Leaves(Exit::BadCode));
+    }
+    if world.ticks == 0 {
+        return Ok(Begun::Leaves(Exit::Ends(Ending::Cut)));
+    }
+    let frames = Frames::open(alloc, 1, function.code(), function.cells())?;
+    world.ticks -= 1;
+    Ok(Begun::Open(frames))
+}
+
+/// A start step begins: a setup's frame is opened, or a function is called. An `Err` only where
+/// memory ran out.
+pub(crate) fn begin<'a>(
+    alloc: Global,
+    world: &mut World,
+    image: &'a Image,
+    start: &'a Start,
+) -> Result<Begun<'a>, AllocError>
+    ensures { IfOk result (λ begun. (starts : List AStart) → begin image.now (between (start.now ∷ starts) world.old) (start.now ∷ starts) ≡ told_begun begun starts world.new) }
+{
+    match start {
+        Start::Setup(setup) => {
+            let frames = Frames::open(alloc, 0, setup.code(), setup.cells())?;
+            Ok(Begun::Open(frames))
+        }
+        Start::Function(number) => begin_function(alloc, world, image, *number),
+    }
+}

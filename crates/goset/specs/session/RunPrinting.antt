@@ -1,0 +1,60 @@
+-- What a run prints.
+use Rattle.std.specs.Prelude.{ℕ, List, [], ◌∷◌, ◌++◌, length, codes}
+use Rattle.std.specs.Fmt.{decimal}
+use Rattle.go_code.specs.declared.ending.Ending.{Ending}
+use Rattle.go_code.specs.declared.ending.Ending.TheVariants.{Ended, Cut, Panicked}
+use Rattle.go_code.specs.declared.ending.PanicKind.{PanicKind}
+use Rattle.go_code.specs.declared.ending.PanicKind.TheVariants.{Divide, Index, Shift, Depth, Long, User}
+
+abbrev pub panic_word : PanicKind → List ℕ
+panic_word Divide = codes "divide"
+panic_word Index = codes "index"
+panic_word Shift = codes "shift"
+panic_word Depth = codes "depth"
+panic_word Long = codes "long"
+panic_word (User text) = codes "user"
+
+-- how the program ended
+abbrev pub ending_text : Ending → List ℕ
+ending_text Ended = codes " ended "
+ending_text Cut = codes " cut "
+ending_text (Panicked kind) = codes " panic " ++ panic_word kind ++ codes " "
+
+-- how long the text of the program's own panic is
+abbrev pub kind_size : PanicKind → List ℕ
+kind_size Divide = []
+kind_size Index = []
+kind_size Shift = []
+kind_size Depth = []
+kind_size Long = []
+kind_size (User text) = codes " " ++ decimal (length text)
+
+abbrev pub panic_size : Ending → List ℕ
+panic_size Ended = []
+panic_size Cut = []
+panic_size (Panicked kind) = kind_size kind
+
+-- and that text, which a newline follows
+abbrev pub kind_text : PanicKind → List ℕ
+kind_text Divide = []
+kind_text Index = []
+kind_text Shift = []
+kind_text Depth = []
+kind_text Long = []
+kind_text (User text) = text ++ 10 ∷ []
+
+abbrev pub panic_text : Ending → List ℕ
+panic_text Ended = []
+panic_text Cut = []
+panic_text (Panicked kind) = kind_text kind
+
+abbrev pub run_target_text : List ℕ → List ℕ → List ℕ
+run_target_text name directory = codes "run " ++ name ++ codes " " ++ directory
+
+-- how the program ended, and how many bytes of output there are
+unfoldable pub head_text : Ending → ℕ → List ℕ
+head_text ending size = ending_text ending ++ decimal size ++ panic_size ending ++ 10 ∷ []
+
+-- the target, the rest of its line, and then the output
+unfoldable pub run_text : List ℕ → List ℕ → Ending → List ℕ → List ℕ
+run_text name directory ending output = run_target_text name directory ++ head_text ending (length output) ++ output ++ panic_text ending
