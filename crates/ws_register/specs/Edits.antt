@@ -1,11 +1,12 @@
--- What a replica holds, its greatest counter, and what edits refuse and write.
-use Rattle.std.specs.Prelude.{◌≡◌, ◌≤◌, ℕ, ◌+◌, Bool, cond, not, ◌&&◌, eqb, max, List, [], ◌∷◌, ◌⊎◌, Option, Some, None}
+-- What a replica holds, its greatest counter, and what edits and removals refuse and write.
+use Rattle.std.specs.Prelude.{◌≡◌, ◌≤◌, ℕ, ◌+◌, Bool, true, cond, not, ◌&&◌, eqb, max, List, [], ◌∷◌, ◌⊎◌, Option, Some, None, is_none}
 use Rattle.std.specs.Str.{bytes_eq}
 use Rattle.std.specs.FinMap.{FinMap, get, entries}
 use Rattle.ws_version.specs.Paths.{is_path, file_name}
-use Rattle.ws_version.specs.Writes.{Held, Write, path_cmp}
+use Rattle.ws_version.specs.Greater.{joined_option}
+use Rattle.ws_version.specs.Writes.{Held, Write, path_cmp, greater_held}
 use Rattle.ws_register.specs.declared.EditError.{EditError}
-use Rattle.ws_register.specs.declared.EditError.TheVariants.{BadPath, CounterFull, Memory}
+use Rattle.ws_register.specs.declared.EditError.TheVariants.{BadPath, NoFile, CounterFull, Memory}
 
 -- what is held at each path
 abbrev pub Contents : Type 0
@@ -15,6 +16,11 @@ Contents = FinMap path_cmp Held
 abbrev pub top : List Write → ℕ
 top [] = 0
 top (w ∷ ws) = max w.1.counter (top ws)
+
+-- the greatest of the writes to a path, if there is one
+abbrev pub greatest_at : List ℕ → List Write → Option Held
+greatest_at path [] = None
+greatest_at path (w ∷ ws) = cond (bytes_eq w.0 path) (joined_option greater_held (Some w.1) (greatest_at path ws)) (greatest_at path ws)
 
 -- on any path, and 0 where nothing is held
 abbrev pub greatest_counter : Contents → ℕ
@@ -33,6 +39,15 @@ fits path name = is_path path && bytes_eq name (file_name path)
 abbrev pub edit_refusal : ℕ → List ℕ → List ℕ → Option EditError
 edit_refusal greatest path name = cond (not (fits path name)) (Some BadPath) (cond (eqb greatest 18446744073709551615) (Some CounterFull) None)
 
+-- nothing is held there, or a removal
+abbrev pub is_missing : Option Held → Bool
+is_missing None = true
+is_missing (Some held) = is_none held.text
+
+-- Of a removal where that counter is the greatest and this is held at the path: the least that holds.
+abbrev pub removal_refusal : ℕ → List ℕ → Option Held → Option EditError
+removal_refusal greatest path held = cond (not (is_path path)) (Some BadPath) (cond (is_missing held) (Some NoFile) (cond (eqb greatest 18446744073709551615) (Some CounterFull) None))
+
 -- memory may be wanted in the place of any other answer
 abbrev pub IsRefusal : EditError → Option EditError → Type 0
 IsRefusal Memory refusal = Unit {0}
@@ -41,3 +56,7 @@ IsRefusal error refusal = refusal ≡ Some error
 -- what an edit writes where that counter is the greatest, by the replica with that number
 abbrev pub edited : ℕ → ℕ → List ℕ → Held
 edited greatest number text = record { counter = greatest + 1; number = number; text = Some text }
+
+-- what a removal writes where that counter is the greatest, by the replica with that number
+abbrev pub removed : ℕ → ℕ → Held
+removed greatest number = record { counter = greatest + 1; number = number; text = None }

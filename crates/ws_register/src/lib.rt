@@ -4,7 +4,7 @@
 ghost use Rattle.std.specs.Prelude.{◌≡◌, ℕ, ◌+◌, ◌++◌, ◌∷◌, [], List, OnOk, OnErr, IfOk, IfErr, true, false, Some, None, string_bytes, option_copied, option_map, string_cmp, map as map_list};
 ghost use Rattle.std.specs.FinMap as map;
 ghost use Rattle.std.specs.List.{Contains};
-ghost use Rattle.std.specs.Ordering.{is_gt};
+ghost use Rattle.std.specs.Ordering.{is_gt, is_lt};
 ghost use Rattle.std.specs.BTreeMap.{IsOrdered};
 ghost use Rattle.std.specs.BTreeMap.Range.{IsLeBy, IsLtBy, entries_between};
 ghost use Rattle.std.specs.Range.Bound.{IsForward};
@@ -14,9 +14,10 @@ ghost use Rattle.ws_version.specs.Gathered.{is_news, gathered};
 ghost use Rattle.ws_register.specs.Texted.{texted};
 ghost use Rattle.ws_register.specs.Between.{is_between};
 ghost use Rattle.ws_register.specs.Sources.{texts_of, is_built, is_package_path, package_file, package_files, package_files_of, pair_of, IsShown, IsSources};
-ghost use Rattle.ws_register.specs.Edits.{top, greatest_counter, fits, edit_refusal, IsRefusal, edited};
+ghost use Rattle.ws_register.specs.Edits.{top, greatest_at, greatest_counter, fits, is_missing, edit_refusal, removal_refusal, IsRefusal, edited, removed};
 
 use go_text::source::Source;
+use go_text::text::Text;
 use std::alloc::{AllocError, Global};
 use std::cmp::Ordering;
 use std::collections::BTreeMap;
@@ -26,12 +27,15 @@ use thiserror::Error;
 use ws_version::path::{directory as directory_of, file_name, is_path};
 use ws_version::{Held, Join, Version, Write};
 
-/// Why an edit is refused.
+/// Why an edit or a removal is refused.
 #[derive(Debug, Drop, Error)]
 pub enum EditError {
     /// The path isn't one, or the source's name isn't the name of the file there.
     #[error("no path of a file")]
     BadPath,
+    /// Nothing is held at the path, or a removal.
+    #[error("no such file")]
+    NoFile,
     /// No counter is left above the greatest that is held.
     #[error("the counter is full")]
     CounterFull,
@@ -147,6 +151,16 @@ impl Registers {
         Ok(writes)
     }
 
+    /// Copies of the sources: path and text of each held write that is no removal, in path order.
+    /// An `Err` is for want of memory.
+    pub fn sources(&self) -> Result<Vec<(String, Text)>, AllocError>
+        ensures ok { IfOk result (λ sources. texted sources.items ≡ texts_of (map.entries self.now)) }
+        ensures stands { IfOk result (λ sources. (W : List AWrite) → StandsFor held_cmp self.now W → IsSources W (texted sources.items)) }
+    {
+        let sources = sources_of(self.alloc, &self.held)?;
+        Ok(sources)
+    }
+
     /// Copies of the sources of a directory that are part of a build, in the order of their names:
     /// no removals, no name that begins with `.` or `_`, and none that ends in `_test.go`. An
     /// `Err` is for want of memory.
@@ -187,6 +201,49 @@ impl Registers {
             Err(_) => Err(EditError::Memory),
         }
     }
+
+    /// Whether nothing is held at a path, or a removal.
+    fn is_missing(&self, path: &str) -> bool
+        ensures { result ≡ is_missing (map.get self.now path.now) }
+    {
+        match self.get(path) {
+            None => true,
+            Some(held) => held.is_removed(),
+        }
+    }
+
+    /// The replica with that number removes the file at a path, with one more than the greatest
+    /// counter.
+    ///
+    /// It is `BadPath` if the path isn't one, else `NoFile` if nothing is held there or a
+    /// removal, else `CounterFull` if the greatest counter is the last, and `Memory` may come in
+    /// the place of any answer. An `Err` changes nothing.
+    pub fn remove(&mut self, path: String, number: u32) -> Result<(), EditError>
+        ensures refused { IfErr result (λ error. IsRefusal error (removal_refusal (greatest_counter self.old) (string_bytes path) (map.get self.old (string_bytes path)))) }
+        ensures allowed { OnOk result (removal_refusal (greatest_counter self.old) (string_bytes path) (map.get self.old (string_bytes path)) ≡ None) }
+        ensures ok { OnOk result (self.new ≡ taken greater_held self.old (string_bytes path) (removed (greatest_counter self.old) number)) }
+        ensures err { OnErr result (self.new ≡ self.old) }
+        ensures stands { OnOk result ((W : List AWrite) → StandsFor held_cmp self.old W → StandsFor held_cmp self.new (W ++ (string_bytes path, removed (top W) number) ∷ [])) }
+    {
+        if !is_path(path.as_str()) {
+            return Err(EditError::BadPath);
+        }
+        if self.is_missing(path.as_str()) {
+            return Err(EditError::NoFile);
+        }
+        let last = self.greatest_counter();
+        if last == u64::MAX {
+            return Err(EditError::CounterFull);
+        }
+        let version = Version {
+            counter: last + 1,
+            number,
+        };
+        match self.apply(Write::new(path, Held::new(version, None))) {
+            Ok(()) => Ok(()),
+            Err(_) => Err(EditError::Memory),
+        }
+    }
 }
 
 /// Whether a path is one, and this the name of the file there.
@@ -223,6 +280,19 @@ pub fn law_same_sources()
     ensures members { (V W : List AWrite) → (S T : List (List ℕ × List ℕ)) → SameMembers V W → IsSources V S → IsSources W T → S ≡ T }
 {}
 
+/// What a set of writes has at a path is what replicas that took it hold there, and a matter of
+/// membership alone.
+pub fn law_greatest_at()
+    ensures held { (m : map.FinMap path_cmp AHeld) → (W : List AWrite) → (path : List ℕ) → StandsFor held_cmp m W → map.get m path ≡ greatest_at path W }
+    ensures members { (V W : List AWrite) → (path : List ℕ) → SameMembers V W → greatest_at path V ≡ greatest_at path W }
+{}
+
+/// Where a removal was taken, a text that is held there is of a write above it: a removal never
+/// brings an older text back.
+pub fn law_removal_stays()
+    ensures { (m : map.FinMap path_cmp AHeld) → (W : List AWrite) → (w : AWrite) → (h : AHeld) → StandsFor held_cmp m W → Contains W w → w.1.text ≡ None → map.get m w.0 ≡ Some h → is_missing (Some h) ≡ false → is_lt (held_cmp w.1 h) ≡ true }
+{}
+
 fn take_entries(all: &mut Registers, entries: &BTreeMap<String, Held>) -> Result<(), AllocError>
     ensures ok { OnOk result (all.new ≡ gathered greater_held all.old (texted entries.now.entries)) }
     ensures ordered { IsOrdered string_cmp entries.now }
@@ -242,6 +312,22 @@ fn list_of(alloc: Global, entries: &BTreeMap<String, Held>) -> Result<Vec<Write>
         writes.push(Write::new(path.clone()?, held.copy()?))?;
     }
     Ok(writes)
+}
+
+fn sources_of(
+    alloc: Global,
+    entries: &BTreeMap<String, Held>,
+) -> Result<Vec<(String, Text)>, AllocError>
+    ensures ok { IfOk result (λ sources. texted sources.items ≡ texts_of (texted entries.now.entries)) }
+    ensures ordered { IsOrdered string_cmp entries.now }
+{
+    let mut sources = Vec::new(alloc);
+    for (path, held) in entries {
+        if let Some(text) = held.text() {
+            sources.push((path.clone()?, text.copy()?))?;
+        }
+    }
+    Ok(sources)
 }
 
 fn files_of(

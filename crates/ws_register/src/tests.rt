@@ -1,5 +1,4 @@
 use super::*;
-use go_text::text::Text;
 use std::test::Fail;
 
 /// A path, a counter, a number, and a text or none for a removal.
@@ -89,6 +88,163 @@ fn edits_are_refused(rt: HostRuntime) -> Result<(), Fail> {
     assert!(rt; edited(alloc, &mut registers, "q/y.go", "y.go")?.is_ok());
     let edited = edited(alloc, &mut registers, "q/y.go", "y.go")?;
     assert!(rt; matches!(edited, Err(EditError::CounterFull)));
+    Ok(())
+}
+
+fn removed(alloc: Global, registers: &mut Registers, path: &str) -> Result<&'static str, Fail> {
+    let removed = match registers.remove(String::from_str(alloc, path)?, 7) {
+        Ok(()) => "removed",
+        Err(EditError::BadPath) => "bad path",
+        Err(EditError::NoFile) => "no file",
+        Err(EditError::CounterFull) => "counter full",
+        Err(EditError::Memory) => "memory",
+    };
+    Ok(removed)
+}
+
+#[test]
+fn removals_count_up(rt: HostRuntime) -> Result<(), Fail> {
+    let alloc = rt.alloc();
+    let mut registers = taken(
+        alloc,
+        &[("p/x.go", 1, 1, Some("x")), ("q/y.go", 41, 3, Some("y"))],
+    )?;
+    assert_eq!(rt; removed(alloc, &mut registers, "p/x.go")?, "removed");
+    assert_eq!(rt;
+        shown(alloc, &registers)?.as_str(),
+        "p/x.go 42.7 removed;q/y.go 41.3 y;"
+    );
+    assert!(rt; edited(alloc, &mut registers, "p/x.go", "x.go")?.is_ok());
+    assert_eq!(rt; removed(alloc, &mut registers, "q/y.go")?, "removed");
+    assert_eq!(rt;
+        shown(alloc, &registers)?.as_str(),
+        "p/x.go 43.7 new;q/y.go 44.7 removed;"
+    );
+    assert_eq!(rt; registers.greatest_counter(), 44);
+    Ok(())
+}
+
+/// With a file and a removal at paths, and a file where no path is.
+const FILES: [Row<'static>; 3] = [
+    ("p/gone.go", 2, 1, None),
+    ("p/x.go", 1, 1, Some("x")),
+    ("x.go", 1, 1, Some("x")),
+];
+
+#[test]
+fn removals_are_refused(rt: HostRuntime) -> Result<(), Fail> {
+    let alloc = rt.alloc();
+    let mut registers = taken(alloc, &FILES)?;
+    let cases = [
+        ("x.go", "bad path"),
+        ("p/none.go", "no file"),
+        ("p/gone.go", "no file"),
+    ];
+    for (path, want) in cases {
+        assert_eq!(rt; removed(alloc, &mut registers, path)?, want);
+    }
+    assert_eq!(rt;
+        shown(alloc, &registers)?.as_str(),
+        "p/gone.go 2.1 removed;p/x.go 1.1 x;x.go 1.1 x;"
+    );
+    Ok(())
+}
+
+#[test]
+fn removals_are_refused_least_first(rt: HostRuntime) -> Result<(), Fail> {
+    let alloc = rt.alloc();
+    let mut registers = taken(alloc, &FILES)?;
+    take(alloc, &mut registers, &[("q/y.go", u64::MAX, 1, Some("y"))])?;
+    let cases = [
+        ("x.go", "bad path"),
+        ("y.go", "bad path"),
+        ("p/none.go", "no file"),
+        ("p/gone.go", "no file"),
+        ("p/x.go", "counter full"),
+        ("q/y.go", "counter full"),
+    ];
+    for (path, want) in cases {
+        assert_eq!(rt; removed(alloc, &mut registers, path)?, want);
+    }
+    let mut registers = taken(alloc, &[("p/x.go", u64::MAX - 1, 1, Some("x"))])?;
+    assert_eq!(rt; removed(alloc, &mut registers, "p/x.go")?, "removed");
+    assert_eq!(rt; removed(alloc, &mut registers, "p/x.go")?, "no file");
+    assert_eq!(rt; registers.greatest_counter(), u64::MAX);
+    Ok(())
+}
+
+#[test]
+fn merges_bring_no_removed_text_back(rt: HostRuntime) -> Result<(), Fail> {
+    let alloc = rt.alloc();
+    let mut first = taken(alloc, &[("p/x.go", 1, 9, Some("old"))])?;
+    let mut second = first.copy()?;
+    assert_eq!(rt; removed(alloc, &mut first, "p/x.go")?, "removed");
+    first.merge(&second)?;
+    assert_eq!(rt; shown(alloc, &first)?.as_str(), "p/x.go 2.7 removed;");
+    second.merge(&first)?;
+    assert_eq!(rt; shown(alloc, &second)?.as_str(), "p/x.go 2.7 removed;");
+    assert!(rt; edited(alloc, &mut second, "p/x.go", "x.go")?.is_ok());
+    first.merge(&second)?;
+    assert_eq!(rt; shown(alloc, &first)?.as_str(), "p/x.go 3.7 new;");
+    Ok(())
+}
+
+#[test]
+fn one_version_keeps_the_greater_text(rt: HostRuntime) -> Result<(), Fail> {
+    let alloc = rt.alloc();
+    let cases = [
+        (Some("a"), Some("b"), "p/x.go 1.1 b;"),
+        (Some("b"), Some("ba"), "p/x.go 1.1 ba;"),
+        (Some("b"), Some("aaa"), "p/x.go 1.1 b;"),
+        (None, Some(""), "p/x.go 1.1 ;"),
+    ];
+    for (one, other, want) in cases {
+        let (one, other) = (("p/x.go", 1, 1, one), ("p/x.go", 1, 1, other));
+        let registers = taken(alloc, &[one, other])?;
+        assert_eq!(rt; shown(alloc, &registers)?.as_str(), want);
+        let registers = taken(alloc, &[other, one])?;
+        assert_eq!(rt; shown(alloc, &registers)?.as_str(), want);
+    }
+    Ok(())
+}
+
+/// The sources, each as `PATH=TEXT;`.
+fn listed(alloc: Global, registers: &Registers) -> Result<String, Fail> {
+    let mut all = String::new(alloc);
+    for (path, text) in registers.sources()? {
+        let (path, text) = (path.as_str(), text.as_str());
+        let line = format!(in alloc; "{path}={text};")?;
+        all.push_str(line.as_str())?;
+    }
+    Ok(all)
+}
+
+#[test]
+fn lists_sources(rt: HostRuntime) -> Result<(), Fail> {
+    let alloc = rt.alloc();
+    let mut registers = Registers::new(alloc);
+    assert_eq!(rt; listed(alloc, &registers)?.as_str(), "");
+    take(
+        alloc,
+        &mut registers,
+        &[
+            ("q/b.go", 1, 1, Some("b")),
+            ("p/a.go", 2, 1, Some("a")),
+            ("p/gone.go", 3, 1, None),
+            ("p/t_test.go", 1, 2, Some("t")),
+            ("p/_x.go", 1, 2, Some("x")),
+            ("p/a.go", 1, 4, Some("older")),
+        ],
+    )?;
+    assert_eq!(rt;
+        listed(alloc, &registers)?.as_str(),
+        "p/_x.go=x;p/a.go=a;p/t_test.go=t;q/b.go=b;"
+    );
+    assert_eq!(rt; removed(alloc, &mut registers, "p/a.go")?, "removed");
+    assert_eq!(rt;
+        listed(alloc, &registers)?.as_str(),
+        "p/_x.go=x;p/t_test.go=t;q/b.go=b;"
+    );
     Ok(())
 }
 
