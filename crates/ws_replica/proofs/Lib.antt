@@ -1,6 +1,10 @@
+pub mod Crossing
 pub mod HeldImages
+pub mod JoinedLists
 pub mod LinkedPrograms
 pub mod OneProgram
 pub mod OneReport
+pub mod Removals
 pub mod ReplicaBuilds
 pub mod SomePlan
+pub mod SettledReplicas

@@ -1,5 +1,6 @@
 -- What a replica holds, and for which writes and actions it stands.
-use Rattle.std.specs.Prelude.{◌≡◌, List, refl}
+use Rattle.std.specs.Prelude.{◌≡◌, List, [], ◌∷◌, refl}
+use Rattle.std.specs.List.{flat_map}
 use Rattle.std.specs.Coded.{Coded, code_by, coded×, coded_ℕ, coded_list}
 use Rattle.std.specs.FinMap.{FinMap, code}
 use Rattle.ws_version.specs.Writes.{Write, held_code, held_cmp, path_cmp_total, path_cmp-IsAntisymmetric, held-semilattice, greater_held}
@@ -21,6 +22,22 @@ replica_code = code_by (Contents × FinMap id_cmp Action) (coded× (code (coded_
 pub record ReplicaStandsFor (replica : Replica) (writes : List Write) (actions : List Action) : Type 0 where
   pub registers : StandsFor held_cmp replica.registers writes
   pub cache : CacheStandsFor replica.cache actions
+
+-- what a replica took
+pub record Took : Type 0 where
+  pub writes : List Write
+  pub actions : List Action
+
+-- each replica took its own
+abbrev pub AllStandFor : List Replica → List Took → Type 0
+AllStandFor [] [] = Unit {0}
+AllStandFor [] (took ∷ others) = ⊥
+AllStandFor (replica ∷ rest) [] = ⊥
+AllStandFor (replica ∷ rest) (took ∷ others) = ReplicaStandsFor replica took.writes took.actions × AllStandFor rest others
+
+-- all that any of them took
+abbrev pub all_taken : List Took → Took
+all_taken took = record { writes = flat_map (λ t. t.writes) took; actions = flat_map (λ t. t.actions) took }
 
 -- what two hold together: part by part
 abbrev pub both : Replica → Replica → Replica

@@ -5,9 +5,11 @@ ghost use Rattle.std.specs.Prelude.{◌≡◌, ◌≢◌, ℕ, ◌++◌, ◌∷�
 ghost use Rattle.std.specs.FinMap as map;
 ghost use Rattle.std.specs.List.{count_by, slice_get};
 ghost use Rattle.go_text.specs.Editions.{edition_number};
-ghost use Rattle.ws_version.specs.Writes.{Write, held_cmp};
+ghost use Rattle.ws_version.specs.Writes.{Write as AWrite, held_cmp};
 ghost use Rattle.ws_version.specs.Kept.{StandsAt};
-ghost use Rattle.ws_register.specs.Edits.{top, edit_refusal, IsRefusal, edited};
+ghost use Rattle.ws_register.specs.Edits.{top, greatest_at, edit_refusal, removal_refusal, IsRefusal, edited, removed};
+ghost use Rattle.ws_register.specs.Sources.{IsShown, IsSources};
+ghost use Rattle.ws_register.specs.Texted.{texted};
 ghost use Rattle.ws_action.specs.Actions.{Action as AnAction, action_of, action_id, IsSized};
 ghost use Rattle.ws_action.specs.Clash.{AllSized, NoClash, hashed_actions};
 ghost use Rattle.ws_cache.specs.Held.{IsHeld, CacheStandsFor};
@@ -32,6 +34,7 @@ use go_parse::Parsed;
 use go_text::edition::Edition;
 use go_text::fault::Fault;
 use go_text::source::Source;
+use go_text::text::Text;
 use std::alloc::{AllocError, Global};
 use std::marker::Model;
 use std::sync::Arc;
@@ -42,8 +45,9 @@ use ws_cache::{Cache, Outcome};
 use ws_graph::{Node, Plan, PlanError, plan};
 use ws_pool::drive;
 use ws_register::{EditError, Registers};
-use ws_version::{Held, Join};
+use ws_version::{Held, Join, Write};
 
+pub mod join;
 #[cfg(test)]
 mod tests;
 
@@ -116,14 +120,14 @@ impl Replica {
 
     /// What is held at a path, a removal too.
     pub fn get(&self, path: &str) -> Option<&Held>
-        ensures { (writes : List Write) (actions : List AnAction) → ReplicaStandsFor self.now writes actions → StandsAt held_cmp writes path.now (option_copied result) }
+        ensures { (writes : List AWrite) (actions : List AnAction) → ReplicaStandsFor self.now writes actions → StandsAt held_cmp writes path.now (option_copied result) }
     {
         self.registers.get(path)
     }
 
     /// The greatest counter of the writes, and 0 for none.
     pub fn greatest_counter(&self) -> u64
-        ensures stands { (writes : List Write) (actions : List AnAction) → ReplicaStandsFor self.now writes actions → result ≡ top writes }
+        ensures stands { (writes : List AWrite) (actions : List AnAction) → ReplicaStandsFor self.now writes actions → result ≡ top writes }
     {
         self.registers.greatest_counter()
     }
@@ -131,14 +135,55 @@ impl Replica {
     /// The replica with that number writes a text at a path: one more than the greatest counter is
     /// its counter. An `Err` changes nothing.
     pub fn edit(&mut self, path: String, source: Source, number: u32) -> Result<(), EditError>
-        ensures refused { (writes : List Write) (actions : List AnAction) → ReplicaStandsFor self.old writes actions → IfErr result (λ error. IsRefusal error (edit_refusal (top writes) (string_bytes path) source.name)) }
-        ensures allowed { (writes : List Write) (actions : List AnAction) → ReplicaStandsFor self.old writes actions → OnOk result (edit_refusal (top writes) (string_bytes path) source.name ≡ None) }
+        ensures refused { (writes : List AWrite) (actions : List AnAction) → ReplicaStandsFor self.old writes actions → IfErr result (λ error. IsRefusal error (edit_refusal (top writes) (string_bytes path) source.name)) }
+        ensures allowed { (writes : List AWrite) (actions : List AnAction) → ReplicaStandsFor self.old writes actions → OnOk result (edit_refusal (top writes) (string_bytes path) source.name ≡ None) }
         ensures err { OnErr result (self.new ≡ self.old) }
-        ensures stands { OnOk result ((writes : List Write) (actions : List AnAction) → ReplicaStandsFor self.old writes actions → ReplicaStandsFor self.new (writes ++ (string_bytes path, edited (top writes) number source.text) ∷ []) actions) }
+        ensures stands { OnOk result ((writes : List AWrite) (actions : List AnAction) → ReplicaStandsFor self.old writes actions → ReplicaStandsFor self.new (writes ++ (string_bytes path, edited (top writes) number source.text) ∷ []) actions) }
     {
         // So that the counter is known as that of the writes.
         let _greatest = self.registers.greatest_counter();
         self.registers.edit(path, source, number)
+    }
+
+    /// The replica with that number removes the file at a path: one more than the greatest counter
+    /// is its counter.
+    ///
+    /// It is `BadPath` if the path isn't one, else `NoFile` if nothing is held there or a removal,
+    /// else `CounterFull` if the greatest counter is the last, and `Memory` may come in the place
+    /// of any answer. An `Err` changes nothing.
+    pub fn remove(&mut self, path: String, number: u32) -> Result<(), EditError>
+        ensures refused { (writes : List AWrite) (actions : List AnAction) → ReplicaStandsFor self.old writes actions → IfErr result (λ error. IsRefusal error (removal_refusal (top writes) (string_bytes path) (greatest_at (string_bytes path) writes))) }
+        ensures allowed { (writes : List AWrite) (actions : List AnAction) → ReplicaStandsFor self.old writes actions → OnOk result (removal_refusal (top writes) (string_bytes path) (greatest_at (string_bytes path) writes) ≡ None) }
+        ensures err { OnErr result (self.new ≡ self.old) }
+        ensures stands { OnOk result ((writes : List AWrite) (actions : List AnAction) → ReplicaStandsFor self.old writes actions → ReplicaStandsFor self.new (writes ++ (string_bytes path, removed (top writes) number) ∷ []) actions) }
+    {
+        self.registers.remove(path, number)
+    }
+
+    /// Takes one write, of any replica: it is kept if it is above what is held at its path. An
+    /// `Err`, for want of memory, changes nothing.
+    pub fn apply(&mut self, write: Write) -> Result<(), AllocError>
+        ensures err { OnErr result (self.new ≡ self.old) }
+        ensures stands { OnOk result ((writes : List AWrite) (actions : List AnAction) → ReplicaStandsFor self.old writes actions → ReplicaStandsFor self.new (writes ++ write ∷ []) actions) }
+    {
+        self.registers.apply(write)
+    }
+
+    /// Copies of the held writes, removals too, in path order. An `Err` is for want of memory.
+    pub fn writes(&self) -> Result<Vec<Write>, AllocError>
+        ensures { IfOk result (λ held. (writes : List AWrite) (actions : List AnAction) → ReplicaStandsFor self.now writes actions → IsShown writes held.items) }
+    {
+        let writes = self.registers.writes()?;
+        Ok(writes)
+    }
+
+    /// Copies of the sources: path and text of each held write that is no removal, in path order.
+    /// An `Err` is for want of memory.
+    pub fn sources(&self) -> Result<Vec<(String, Text)>, AllocError>
+        ensures { IfOk result (λ sources. (writes : List AWrite) (actions : List AnAction) → ReplicaStandsFor self.now writes actions → IsSources writes (texted sources.items)) }
+    {
+        let sources = self.registers.sources()?;
+        Ok(sources)
     }
 }
 
@@ -162,7 +207,7 @@ impl Join for Replica {
     fn merge(&mut self, other: &Replica) -> Result<(), AllocError>
         ensures ok { OnOk result (self.new ≡ both self.old other.now) }
         ensures err { OnErr result (self.new ≡ self.old) }
-        ensures stands { OnOk result ((V W : List Write) (E F : List AnAction) → ReplicaStandsFor self.old V E → ReplicaStandsFor other.now W F → ReplicaStandsFor self.new (V ++ W) (E ++ F)) }
+        ensures stands { OnOk result ((V W : List AWrite) (E F : List AnAction) → ReplicaStandsFor self.old V E → ReplicaStandsFor other.now W F → ReplicaStandsFor self.new (V ++ W) (E ++ F)) }
     {
         let mut cache = self.cache.copy()?;
         cache.merge(&other.cache)?;
@@ -252,9 +297,9 @@ pub fn build(
     directory: &str,
     edition: Edition,
 ) -> Result<Report, BuildError>
-    ensures ok { IfOk result (λ report. (W : List Write) (E : List AnAction) → ReplicaStandsFor replica.old W E → AllSized E → (planned : Planned) × IsPlanOf W directory.now planned × (planned ≢ NoFiles) × AllSized (actions_of (edition_number edition) directory.now planned) × (NoClash (hashed_actions (E ++ actions_of (edition_number edition) directory.now planned)) → IsReport (edition_number edition) directory.now planned (rows report.directories.items) × (report.compiled ≡ compiled_count E (actions_of (edition_number edition) directory.now planned)) × ReplicaStandsFor replica.new W (E ++ actions_of (edition_number edition) directory.now planned))) }
+    ensures ok { IfOk result (λ report. (W : List AWrite) (E : List AnAction) → ReplicaStandsFor replica.old W E → AllSized E → (planned : Planned) × IsPlanOf W directory.now planned × (planned ≢ NoFiles) × AllSized (actions_of (edition_number edition) directory.now planned) × (NoClash (hashed_actions (E ++ actions_of (edition_number edition) directory.now planned)) → IsReport (edition_number edition) directory.now planned (rows report.directories.items) × (report.compiled ≡ compiled_count E (actions_of (edition_number edition) directory.now planned)) × ReplicaStandsFor replica.new W (E ++ actions_of (edition_number edition) directory.now planned))) }
     ensures registers { replica.new.registers ≡ replica.old.registers }
-    ensures none { result ≡ Err BuildError.NoPackage → (W : List Write) (E : List AnAction) → ReplicaStandsFor replica.old W E → IsPlanOf W directory.now NoFiles }
+    ensures none { result ≡ Err BuildError.NoPackage → (W : List AWrite) (E : List AnAction) → ReplicaStandsFor replica.old W E → IsPlanOf W directory.now NoFiles }
     ensures err { OnErr result (replica.new ≡ replica.old) }
 {
     let plan = match plan(alloc, &replica.registers, directory) {
@@ -324,9 +369,9 @@ pub fn image(
     directory: &str,
     edition: Edition,
 ) -> Result<Option<Image>, BuildError>
-    ensures ok { IfOk result (λ image. (W : List Write) (E : List AnAction) → ReplicaStandsFor replica.now W E → AllSized E → IsImage (edition_number edition) W E directory.now image) }
+    ensures ok { IfOk result (λ image. (W : List AWrite) (E : List AnAction) → ReplicaStandsFor replica.now W E → AllSized E → IsImage (edition_number edition) W E directory.now image) }
     ensures program { IfOk result (λ image. IfSome image (λ image. (typed : Typed) × IsWellTyped typed × IsProgram typed × MeansProgram image typed)) }
-    ensures none { result ≡ Err BuildError.NoPackage → (W : List Write) (E : List AnAction) → ReplicaStandsFor replica.now W E → IsPlanOf W directory.now NoFiles }
+    ensures none { result ≡ Err BuildError.NoPackage → (W : List AWrite) (E : List AnAction) → ReplicaStandsFor replica.now W E → IsPlanOf W directory.now NoFiles }
 {
     let registers = &replica.registers;
     let plan = match plan(alloc, registers, directory) {
