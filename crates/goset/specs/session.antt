@@ -7,6 +7,7 @@ pub mod Seen
 pub mod Refusals
 pub mod Printing
 pub mod RunPrinting
+pub mod ShowPrinting
 pub mod World
 pub mod Standing
 pub mod Text

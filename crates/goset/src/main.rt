@@ -2,6 +2,8 @@
 #![tactic(auto)]
 
 #[cfg(test)]
+mod groupings;
+#[cfg(test)]
 mod layers;
 mod session;
 

@@ -6,15 +6,23 @@ use Rattle.ws_cache.specs.Count.{compiled_count}
 use Rattle.ws_graph.specs.Plan.{Planned, NoFiles, Faulty, Sound, IsPlanOf}
 use Rattle.ws_replica.specs.Reports.{Verdict, IsReport, actions_of}
 use Rattle.goset.specs.declared.session.refusal.Refusal.{Refusal}
-use Rattle.goset.specs.session.Commands.{Command, Nothing, Bad, Create, Write, Merge, Build, Run, command_of, text_lines, text_of}
+use Rattle.goset.specs.session.Commands.{Command, Nothing, Bad, Create, Write, Remove, Apply, Merge, Settle, Build, Run, Show, command_of, text_lines, text_of}
 use Rattle.goset.specs.session.Refusals.{first_of}
 use Rattle.goset.specs.session.Printing.{report_text}
 use Rattle.goset.specs.session.RunPrinting.{run_text}
+use Rattle.goset.specs.session.ShowPrinting.{show_text}
+use Rattle.std.specs.FinMap.{entries}
+use Rattle.ws_register.specs.Edits.{Contents}
+use Rattle.ws_register.specs.Sources.{IsShown}
+use Rattle.ws_register.specs.Laws.{one_contents, SameMembers-itself}
 use Rattle.go_check.specs.Meaning.{SourceMeaning}
 use Rattle.go_check.specs.Sound.{source_once}
 use Rattle.ws_replica.proofs.OneProgram.{one_program}
 use Rattle.goset.specs.session.World.{World, opening, writes_of, actions_held, taking, with_replicas, seeking, refusals, Accepted, AfterBy, After, Answers, PrintsBy, Prints, Told, Ran, RanOr}
 use Rattle.goset.specs.session.Text.{TextFrom, SessionText}
+
+one_shown : (W s t : List AWrite) → IsShown W s → IsShown W t → s ≡ t
+one_shown W s t g h = g.2 ∙ ap (λ (m : Contents). entries m) (one_contents g.0 h.0 W W (SameMembers-itself W) g.1 h.1) ∙ sym h.2
 
 module _ (one_plan : (W : List AWrite) (directory : List ℕ) (p q : Planned) → IsPlanOf W directory p → IsPlanOf W directory q → p ≡ q)
     (one_report : (edition : ℕ) (directory : List ℕ) (p : Planned) (r s : List (List ℕ × Verdict)) → IsReport edition directory p r → IsReport edition directory p s → r ≡ s) where
@@ -52,7 +60,11 @@ module _ (one_plan : (W : List AWrite) (directory : List ℕ) (p q : Planned) �
   one_answer Bad world a b g h = g ∙ sym h
   one_answer (Create name) world a b g h = g ∙ sym h
   one_answer (Write name path lines) world a b g h = g ∙ sym h
+  one_answer (Remove name path) world a b g h = g ∙ sym h
+  one_answer (Apply name path counter number lines) world a b g h = g ∙ sym h
   one_answer (Merge name other) world a b g h = g ∙ sym h
+  one_answer Settle world a b g h = g ∙ sym h
+  one_answer (Show name) world a b g h = g.2 ∙ ap (show_text name) (one_shown (writes_of name world) g.0 h.0 g.1 h.1) ∙ sym h.2
 
   one_print_by : (refusal : Option Refusal) (command : Command) (world : World) (a b : List ℕ) → PrintsBy refusal command world a → PrintsBy refusal command world b → a ≡ b
   one_print_by None command world a b g h = one_answer command world a b g h
@@ -73,7 +85,11 @@ module _ (one_plan : (W : List AWrite) (directory : List ℕ) (p q : Planned) �
   one_accepted Bad text world a b g h = g ∙ sym h
   one_accepted (Create name) text world a b g h = g ∙ sym h
   one_accepted (Write name path lines) text world a b g h = g ∙ sym h
+  one_accepted (Remove name path) text world a b g h = g ∙ sym h
+  one_accepted (Apply name path counter number lines) text world a b g h = g ∙ sym h
   one_accepted (Merge name other) text world a b g h = g ∙ sym h
+  one_accepted Settle text world a b g h = g ∙ sym h
+  one_accepted (Show name) text world a b g h = g ∙ sym h
 
   one_after_by : (refusal : Option Refusal) (command : Command) (text : Option (List ℕ)) (world a b : World) → AfterBy refusal command text world a → AfterBy refusal command text world b → a ≡ b
   one_after_by None command text world a b g h = one_accepted command text world a b g h

@@ -7,10 +7,13 @@ use Rattle.ws_graph.specs.Plan.{Planned, NoFiles, Faulty, Sound, IsPlan}
 use Rattle.ws_replica.specs.Reports.{actions_of}
 use Rattle.goset.specs.declared.session.refusal.Refusal.{Refusal}
 use Rattle.goset.specs.declared.session.refusal.Refusal.TheVariants.{NoPackage, NotBuilt}
-use Rattle.goset.specs.session.Commands.{Command, Nothing, Bad, Create, Write, Merge, Build, Run, command_of, text_lines, text_of}
+use Rattle.goset.specs.session.Commands.{Command, Nothing, Bad, Create, Write, Remove, Apply, Merge, Settle, Build, Run, Show, command_of, text_lines, text_of}
 use Rattle.goset.specs.session.Refusals.{first_of, refused}
 use Rattle.goset.specs.session.Printing.{report_text}
 use Rattle.goset.specs.session.RunPrinting.{run_text}
+use Rattle.goset.specs.session.ShowPrinting.{show_text}
+use Rattle.std.specs.FinMap.{entries}
+use Rattle.ws_register.specs.Exists.{some_contents}
 use Rattle.goset.specs.session.Lines.{lines_of}
 use Rattle.goset.specs.session.World.{World, opening, writes_of, actions_held, taking, with_replicas, seeking, refusals, Accepted, AfterBy, After, Answers, PrintsBy, Prints, Told, Ran, RanOr}
 use Rattle.goset.specs.session.Text.{TextFrom, SessionText}
@@ -55,7 +58,13 @@ some_answer Nothing world = ([], refl)
 some_answer Bad world = ([], refl)
 some_answer (Create name) world = ([], refl)
 some_answer (Write name path lines) world = ([], refl)
+some_answer (Remove name path) world = ([], refl)
+some_answer (Apply name path counter number lines) world = ([], refl)
 some_answer (Merge name other) world = ([], refl)
+some_answer Settle world = ([], refl)
+some_answer (Show name) world =
+    let m = some_contents (writes_of name world) in
+    (show_text name (entries m.0), (entries m.0, (m.0, m.1, refl), refl))
 
 some_print_by : (refusal : Option Refusal) (command : Command) (world : World) → (told : List ℕ) × PrintsBy refusal command world told
 some_print_by None command world = some_answer command world
@@ -76,7 +85,11 @@ some_accepted Nothing text world = (world, refl)
 some_accepted Bad text world = (world, refl)
 some_accepted (Create name) text world = (_, refl)
 some_accepted (Write name path lines) text world = (_, refl)
+some_accepted (Remove name path) text world = (_, refl)
+some_accepted (Apply name path counter number lines) text world = (_, refl)
 some_accepted (Merge name other) text world = (_, refl)
+some_accepted Settle text world = (_, refl)
+some_accepted (Show name) text world = (world, refl)
 
 some_after_by : (refusal : Option Refusal) (command : Command) (text : Option (List ℕ)) (world : World) → (next : World) × AfterBy refusal command text world next
 some_after_by None command text world = some_accepted command text world

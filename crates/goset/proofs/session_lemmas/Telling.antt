@@ -17,7 +17,7 @@ use Rattle.goset.specs.declared.session.refusal.Refusal.{Refusal}
 use Rattle.goset.specs.declared.session.refusal.Refusal.TheVariants.{BadCommand, Unknown, NoPackage}
 use Rattle.go_text.specs.Editions.{edition_number}
 use Rattle.goset.specs.declared.session.replicas.Replicas.{Replicas}
-use Rattle.goset.specs.session.Commands.{Command, Nothing, Bad, Create, Write, Merge, Build}
+use Rattle.goset.specs.session.Commands.{Command, Nothing, Bad, Create, Write, Remove, Apply, Merge, Settle, Build}
 use Rattle.goset.specs.session.Refusals.{first_of, refused}
 use Rattle.goset.specs.session.Printing.{report_text}
 use Rattle.goset.specs.session.World.{World, Replica, replica_at, writes_in, writes_of, actions_in, actions_held, taking, grown, with_replicas, refusals, AfterBy, After, PrintsBy, Prints, Told, hashed, texts_of_replica, text_list}
@@ -36,7 +36,7 @@ settled_tells command text world refusal told ns prints e s = record {
   clear = λ _. (subst (λ r. PrintsBy r command world told) (sym s.refuses) (prints told e), s.stand);
 }
 
-set_same : {X : Type 0} (xs : List X) (k : ℕ) (x : X) → x ≡ get_or xs k x → set xs k x ≡ xs
+pub set_same : {X : Type 0} (xs : List X) (k : ℕ) (x : X) → x ≡ get_or xs k x → set xs k x ≡ xs
 set_same [] k x e = refl
 set_same (y ∷ xs) zero x e = ap (λ z. z ∷ xs) e
 set_same (y ∷ xs) (suc k) x e = ap (λ zs. y ∷ zs) (set_same xs k x e)
@@ -165,6 +165,18 @@ prints_write name path lines world (Some r) t e = e
 pub prints_merge : (name other : List ℕ) (world : World) (r : Option Refusal) (t : List ℕ) → t ≡ told_of r → PrintsBy r (Merge name other) world t
 prints_merge name other world None t e = e
 prints_merge name other world (Some r) t e = e
+
+pub prints_remove : (name path : List ℕ) (world : World) (r : Option Refusal) (t : List ℕ) → t ≡ told_of r → PrintsBy r (Remove name path) world t
+prints_remove name path world None t e = e
+prints_remove name path world (Some r) t e = e
+
+pub prints_apply : (name path : List ℕ) (counter number : ℕ) (lines : Option ℕ) (world : World) (r : Option Refusal) (t : List ℕ) → t ≡ told_of r → PrintsBy r (Apply name path counter number lines) world t
+prints_apply name path counter number lines world None t e = e
+prints_apply name path counter number lines world (Some r) t e = e
+
+pub prints_settle : (world : World) (r : Option Refusal) (t : List ℕ) → t ≡ told_of r → PrintsBy r Settle world t
+prints_settle world None t e = e
+prints_settle world (Some r) t e = e
 
 pub nothing_settles : (text : Option (List ℕ)) (world : World) (ns : List Named) → AllStand ns world.replicas → Settles Nothing text world None ns
 nothing_settles text world ns h = record { refuses = refl; next = world; after = refl; edition = refl; stand = h }

@@ -1,5 +1,5 @@
 -- A command without where its words lie.
-use Rattle.goset.specs.session.Commands.{Command, Nothing, Bad, Create, Write, Merge, Build, Run}
+use Rattle.goset.specs.session.Commands.{Command, Nothing, Bad, Create, Write, Remove, Apply, Merge, Settle, Build, Run, Show}
 use Rattle.goset.specs.declared.session.commands.Asked.{Asked}
 use Rattle.goset.specs.declared.session.commands.Asked.TheVariants as asked
 
@@ -9,6 +9,10 @@ seen asked.Nothing = Nothing
 seen asked.Bad = Bad
 seen (asked.Create name) = Create name.now
 seen (asked.Write name path lines) = Write name.now path.now lines
+seen (asked.Remove name path) = Remove name.now path.now
+seen (asked.Apply name path counter number lines) = Apply name.now path.now counter number lines
+seen asked.Settle = Settle
+seen (asked.Show name) = Show name.now
 seen (asked.Merge name other) = Merge name.now other.now
 seen (asked.Build name directory) = Build name.now directory.now
 seen (asked.Run name directory ticks) = Run name.now directory.now ticks

@@ -1,5 +1,6 @@
 -- What the replicas of a session stand for.
-use Rattle.std.specs.Prelude.{◌≡◌, ◌≢◌, ℕ, ◌+◌, suc, cond, List, [], ◌∷◌, ◌++◌, slice_set, slice_index_or, Option, None, Some}
+use Rattle.std.specs.Prelude.{◌≡◌, ◌≢◌, ℕ, ◌+◌, ◌==◌, suc, cond, true, false, is_some, List, [], ◌∷◌, ◌++◌, map, slice_set, slice_index_or, Option, None, Some, Result, Ok, Err, Vec}
+use Rattle.std.specs.Global.{Global}
 use Rattle.std.specs.Str.{bytes_eq}
 use Rattle.std.specs.Option.{option_map}
 use Rattle.go_text.specs.Editions.{edition_number}
@@ -7,11 +8,13 @@ use Rattle.goset.specs.declared.session.replicas.Named.{Named}
 use Rattle.goset.specs.declared.session.replicas.Replicas.{Replicas}
 use Rattle.ws_version.specs.Writes.{Write}
 use Rattle.ws_register.specs.Sources.{top}
+use Rattle.ws_register.specs.Edits.{greatest_at, is_missing, removed}
 use Rattle.ws_action.specs.Actions.{Action}
 use Rattle.ws_action.specs.Clash.{AllSized, NoClash, hashed_actions}
 use Rattle.ws_cache.specs.Count.{compiled_count}
 use Rattle.ws_graph.specs.Plan.{Planned, NoFiles, IsPlanOf}
 use Rattle.ws_replica.specs.Reports.{Verdict, IsReport, actions_of}
+use Rattle.ws_replica.specs.Holdings as holdings
 use Rattle.ws_replica.specs.Holdings.{ReplicaStandsFor}
 use Rattle.ws_replica.specs.Programs.{IsPlannedProgram}
 use Rattle.go_check.specs.Typed.{Typed}
@@ -19,8 +22,9 @@ use Rattle.go_check.specs.Meaning.{SourceMeaning}
 use Rattle.go_vm.specs.Outcomes.{Outcome}
 use Rattle.goset.specs.session.Refusals.{refused, first_of}
 use Rattle.goset.specs.session.Commands.{Command}
-use Rattle.goset.specs.session.World.{World, Replica, refusals, AfterBy, After, Prints, hashed}
+use Rattle.goset.specs.session.World.{World, Replica, refusals, AfterBy, After, Prints, hashed, is_content, content_in}
 use Rattle.goset.specs.declared.session.refusal.Refusal.{Refusal}
+use Rattle.goset.specs.declared.session.refusal.Refusal.TheVariants.{NoFile, CounterFull, BadText}
 
 -- the first place of that name
 abbrev pub place_of : List ℕ → List Named → Option ℕ
@@ -77,6 +81,43 @@ pub record Edited (path text : List ℕ) (old new : Named) : Type 0 where
   pub number : new.number ≡ old.number
   pub holds : (W : List Write) (E : List Action) → ReplicaStandsFor old.replica W E
       → ReplicaStandsFor new.replica (W ++ (path, record { counter = top W + 1; number = old.number; text = Some text }) ∷ []) E
+
+-- it took a removal of its own
+pub record Removed (path : List ℕ) (old new : Named) : Type 0 where
+  pub name : new.name.items ≡ old.name.items
+  pub number : new.number ≡ old.number
+  pub holds : (W : List Write) (E : List Action) → ReplicaStandsFor old.replica W E → ReplicaStandsFor new.replica (W ++ (path, removed (top W) old.number) ∷ []) E
+
+-- why a replica that took these writes removes no file at a path
+abbrev pub removal_row : List ℕ → List Write → Option Refusal
+removal_row path W = first_of ((is_missing (greatest_at path W), NoFile) ∷ (top W == 18446744073709551615, CounterFull) ∷ [])
+
+abbrev pub RemovedOr : List ℕ → List Named → ℕ → Option Refusal → List Named → Type 0
+RemovedOr path old place None new = ChangedAt (Removed path) old place new
+RemovedOr path old place (Some refusal) new = new ≡ old
+
+-- a removal by the replica at a place: refused as what it took says, with no change, or taken
+pub record Removal (path : List ℕ) (old : List Named) (place : ℕ) (refusal : Option Refusal) (new : List Named) : Type 0 where
+  pub refuses : (n : Named) (W : List Write) (E : List Action) → n ≡ slice_index_or old place n → ReplicaStandsFor n.replica W E → removal_row path W ≡ refusal
+  pub changes : RemovedOr path old place refusal new
+
+-- it took that write
+pub record Applied (write : Write) (old new : Named) : Type 0 where
+  pub name : new.name.items ≡ old.name.items
+  pub number : new.number ≡ old.number
+  pub holds : (W : List Write) (E : List Action) → ReplicaStandsFor old.replica W E → ReplicaStandsFor new.replica (W ++ write ∷ []) E
+
+-- what is applied, or that it is no content
+abbrev pub IsContent : Option ℕ → Option (List ℕ) → Result (Option (List ℕ)) Refusal → Type 0
+IsContent lines text (Ok content) = (is_content lines text ≡ true) × (content ≡ content_in lines text)
+IsContent lines text (Err refusal) = (is_content lines text ≡ false) × (refusal ≡ BadText)
+
+-- names with their numbers
+abbrev pub labels_of : List Named → List (Vec ℕ Global × ℕ)
+labels_of ns = map (λ n. (n.name, n.number)) ns
+
+abbrev pub replicas_of : List Named → List holdings.Replica
+replicas_of ns = map (λ n. n.replica) ns
 
 -- it took what the replica at that place holds
 pub record MergedFrom (named : List Named) (theirs : ℕ) (old new : Named) : Type 0 where

@@ -1,11 +1,12 @@
 -- The world of a session: replicas, each a set of writes and a set of actions.
-use Rattle.std.specs.Prelude.{◌≡◌, ℕ, ◌⊎◌, ◌+◌, ◌==◌, ◌&&◌, not, nat_lt, Bool, true, false, cond, List, [], ◌∷◌, ◌++◌, length, Option, None, Some, is_some, is_none}
+use Rattle.std.specs.Prelude.{◌≡◌, ℕ, ◌⊎◌, ◌+◌, ◌==◌, ◌&&◌, not, nat_lt, Bool, true, false, cond, List, [], ◌∷◌, ◌++◌, length, map, Option, None, Some, is_some, is_none}
 use Rattle.std.specs.List.{flat_map}
 use Rattle.std.specs.Str.{bytes_eq, is_utf8}
 use Rattle.go_text.specs.Texts.{text_error}
 use Rattle.ws_version.specs.Writes.{Write as AWrite}
 use Rattle.ws_version.specs.Paths.{is_path}
-use Rattle.ws_register.specs.Sources.{top}
+use Rattle.ws_register.specs.Sources.{top, IsShown}
+use Rattle.ws_register.specs.Edits.{greatest_at, is_missing}
 use Rattle.ws_action.specs.Actions.{Action}
 use Rattle.ws_action.specs.Clash.{hashed_actions}
 use Rattle.ws_cache.specs.Count.{compiled_count}
@@ -16,11 +17,12 @@ use Rattle.go_check.specs.Typed.{Typed}
 use Rattle.go_check.specs.Meaning.{SourceMeaning}
 use Rattle.go_code.specs.declared.ending.Ending.{Ending}
 use Rattle.goset.specs.declared.session.refusal.Refusal.{Refusal}
-use Rattle.goset.specs.declared.session.refusal.Refusal.TheVariants.{BadCommand, Unknown, Exists, BadPath, CounterFull, BadText, NoPackage, NotBuilt}
+use Rattle.goset.specs.declared.session.refusal.Refusal.TheVariants.{BadCommand, Unknown, Exists, BadPath, NoFile, CounterFull, BadText, NoPackage, NotBuilt}
 use Rattle.goset.specs.session.Refusals.{refused, first_of}
 use Rattle.goset.specs.session.Printing.{report_text}
 use Rattle.goset.specs.session.RunPrinting.{run_text}
-use Rattle.goset.specs.session.Commands.{Command, Nothing, Bad, Create, Write, Merge, Build, Run}
+use Rattle.goset.specs.session.ShowPrinting.{show_text}
+use Rattle.goset.specs.session.Commands.{Command, Nothing, Bad, Create, Write, Remove, Apply, Merge, Settle, Build, Run, Show}
 
 -- A replica: what it took, as two sets that are read by membership. A number is never given twice.
 pub record Replica : Type 0 where
@@ -79,10 +81,23 @@ number_in (Some r) = r.number
 abbrev pub edit_of : List ℕ → List ℕ → List ℕ → World → AWrite
 edit_of name path text world = (path, record { counter = top (writes_of name world) + 1; number = number_in (replica_at name world.replicas); text = Some text })
 
+-- A removal by the replica of that name: one more than the greatest counter that it took, and its number.
+abbrev pub removal_of : List ℕ → List ℕ → World → AWrite
+removal_of name path world = (path, record { counter = top (writes_of name world) + 1; number = number_in (replica_at name world.replicas); text = None })
+
+-- the replica of that name holds no text at the path
+abbrev pub lacks : List ℕ → List ℕ → World → Bool
+lacks name path world = is_missing (greatest_at path (writes_of name world))
+
 -- a whole text: there are so many lines, they are UTF-8, and a source may hold them
 abbrev pub is_text : Option (List ℕ) → Bool
 is_text None = false
 is_text (Some text) = is_utf8 text && is_none (text_error text)
+
+-- what is applied: a removal, or a whole text
+abbrev pub is_content : Option ℕ → Option (List ℕ) → Bool
+is_content None text = true
+is_content (Some lines) text = is_text text
 
 -- a word that is UTF-8 and spells a path
 abbrev pub is_path_word : List ℕ → Bool
@@ -96,6 +111,12 @@ refusals Bad text world = (true, BadCommand) ∷ []
 refusals (Create name) text world = (nat_lt 63 (length world.replicas), BadCommand) ∷ (knows name world, Exists) ∷ []
 refusals (Write name path lines) text world =
     (not (knows name world), Unknown) ∷ (not (is_path_word path), BadPath) ∷ (top (writes_of name world) == 18446744073709551615, CounterFull) ∷ (not (is_text text), BadText) ∷ []
+refusals (Remove name path) text world =
+    (not (knows name world), Unknown) ∷ (not (is_path_word path), BadPath) ∷ (lacks name path world, NoFile) ∷ (top (writes_of name world) == 18446744073709551615, CounterFull) ∷ []
+refusals (Apply name path counter number lines) text world =
+    (not (knows name world), Unknown) ∷ (not (is_path_word path), BadPath) ∷ (not (is_content lines text), BadText) ∷ []
+refusals Settle text world = []
+refusals (Show name) text world = (not (knows name world), Unknown) ∷ []
 refusals (Merge name other) text world = (not (knows name world && knows other world), Unknown) ∷ []
 refusals (Build name directory) text world = (not (knows name world), Unknown) ∷ (not (is_utf8 directory), NoPackage) ∷ []
 refusals (Run name directory ticks) text world = (not (knows name world), Unknown) ∷ (not (is_utf8 directory), NoPackage) ∷ []
@@ -103,6 +124,15 @@ refusals (Run name directory ticks) text world = (not (knows name world), Unknow
 abbrev pub text_in : Option (List ℕ) → List ℕ
 text_in None = []
 text_in (Some text) = text
+
+-- the text of what is applied, and none where it is a removal
+abbrev pub content_in : Option ℕ → Option (List ℕ) → Option (List ℕ)
+content_in None text = None
+content_in (Some lines) text = Some (text_in text)
+
+-- every replica takes what all took
+abbrev pub settled : List Replica → List Replica
+settled rs = map (λ r. record { name = r.name; number = r.number; writes = flat_map (λ s. s.writes) rs; actions = flat_map (λ s. s.actions) rs }) rs
 
 abbrev pub with_replicas : World → List Replica → World
 with_replicas world replicas = record { edition = world.edition; replicas = replicas; sought = world.sought }
@@ -119,6 +149,12 @@ Accepted (Create name) text world next =
     next ≡ with_replicas world (world.replicas ++ record { name = name; number = length world.replicas + 1; writes = []; actions = [] } ∷ [])
 Accepted (Write name path lines) text world next =
     next ≡ with_replicas world (taking name (edit_of name path (text_in text) world ∷ []) [] world.replicas)
+Accepted (Remove name path) text world next =
+    next ≡ with_replicas world (taking name (removal_of name path world ∷ []) [] world.replicas)
+Accepted (Apply name path counter number lines) text world next =
+    next ≡ with_replicas world (taking name ((path, record { counter = counter; number = number; text = content_in lines text }) ∷ []) [] world.replicas)
+Accepted Settle text world next = next ≡ with_replicas world (settled world.replicas)
+Accepted (Show name) text world next = next ≡ world
 Accepted (Merge name other) text world next =
     next ≡ with_replicas world (taking name (writes_of other world) (actions_held other world) world.replicas)
 Accepted (Build name directory) text world next =
@@ -161,11 +197,15 @@ Answers (Build name directory) world told =
     (planned : Planned) × IsPlanOf (writes_of name world) directory planned × Told world.edition name directory (actions_held name world) planned told
 Answers (Run name directory ticks) world told =
     (planned : Planned) × IsPlanOf (writes_of name world) directory planned × Ran world.edition name directory ticks (actions_held name world) planned told
+Answers (Show name) world told = (shown : List AWrite) × IsShown (writes_of name world) shown × (told ≡ show_text name shown)
 Answers Nothing world told = told ≡ []
 Answers Bad world told = told ≡ []
 Answers (Create name) world told = told ≡ []
 Answers (Write name path lines) world told = told ≡ []
+Answers (Remove name path) world told = told ≡ []
+Answers (Apply name path counter number lines) world told = told ≡ []
 Answers (Merge name other) world told = told ≡ []
+Answers Settle world told = told ≡ []
 
 abbrev pub PrintsBy : Option Refusal → Command → World → List ℕ → Type 0
 PrintsBy None command world told = Answers command world told

@@ -1,6 +1,6 @@
 //! What a command line asks for.
 ghost use Rattle.std.specs.Prelude.{◌≡◌, ◌<◌, ◌&&◌, ◌∷◌, []};
-ghost use Rattle.goset.specs.session.Commands.{is_name, is_name_byte, of_words, command_of, text_lines};
+ghost use Rattle.goset.specs.session.Commands.{is_name, is_name_byte, is_version, if_good, apply_of, of_words, command_of, text_lines};
 ghost use Rattle.goset.specs.session.Seen.{seen};
 
 use crate::session::lines::{first_word, number, trimmed};
@@ -16,12 +16,26 @@ pub enum Asked<'a> {
     Create(&'a [u8]),
     /// `write R PATH LINES`
     Write(&'a [u8], &'a [u8], u64),
+    /// `remove R PATH`
+    Remove(&'a [u8], &'a [u8]),
+    /// `apply R PATH COUNTER NUMBER LINES`, or with `-` for LINES, a removal
+    Apply {
+        name: &'a [u8],
+        path: &'a [u8],
+        counter: u64,
+        number: u32,
+        lines: Option<u64>,
+    },
     /// `merge R S`
     Merge(&'a [u8], &'a [u8]),
+    /// `settle`
+    Settle,
     /// `build R DIR`
     Build(&'a [u8], &'a [u8]),
     /// `run R DIR TICKS`
     Run(&'a [u8], &'a [u8], u64),
+    /// `show R`
+    Show(&'a [u8]),
 }
 
 impl Asked<'_> {
@@ -31,6 +45,10 @@ impl Asked<'_> {
     {
         match self {
             Asked::Write(_, _, lines) => *lines,
+            Asked::Apply {
+                lines: Some(lines),
+                ..
+            } => *lines,
             _ => 0,
         }
     }
@@ -61,11 +79,23 @@ pub fn is_name(word: &[u8]) -> bool
     true
 }
 
+fn asked_of_none(word: &[u8]) -> Asked<'static>
+    ensures { seen result ≡ of_words (word.now ∷ []) }
+{
+    if word == b"settle".as_slice() {
+        return Asked::Settle;
+    }
+    Asked::Bad
+}
+
 fn asked_of_one<'a>(word: &[u8], a: &'a [u8]) -> Asked<'a>
     ensures { seen result ≡ of_words (word.now ∷ a.now ∷ []) }
 {
     if word == b"replica".as_slice() && is_name(a) {
         return Asked::Create(a);
+    }
+    if word == b"show".as_slice() && is_name(a) {
+        return Asked::Show(a);
     }
     Asked::Bad
 }
@@ -81,6 +111,9 @@ fn asked_of_two<'a>(word: &[u8], a: &'a [u8], b: &'a [u8]) -> Asked<'a>
     }
     if word == b"build".as_slice() && is_name(a) {
         return Asked::Build(a, b);
+    }
+    if word == b"remove".as_slice() && is_name(a) {
+        return Asked::Remove(a, b);
     }
     Asked::Bad
 }
@@ -103,6 +136,52 @@ fn asked_of_three<'a>(word: &[u8], a: &'a [u8], b: &'a [u8], c: &'a [u8]) -> Ask
     Asked::Bad
 }
 
+/// A write that is applied: a number of lines, or a removal.
+fn applied<'a>(name: &'a [u8], path: &'a [u8], counter: u64, writer: u64, word: &[u8]) -> Asked<'a>
+    ensures { seen result ≡ if_good (is_version counter writer) (apply_of name.now path.now counter writer word.now) }
+{
+    if counter == 0 || writer == 0 || writer > u32::MAX as u64 {
+        return Asked::Bad;
+    }
+    let lines = if word == b"-".as_slice() {
+        None
+    } else {
+        let Some(lines) = number(word) else {
+            return Asked::Bad;
+        };
+        Some(lines)
+    };
+    Asked::Apply {
+        name,
+        path,
+        counter,
+        number: writer as u32,
+        lines,
+    }
+}
+
+fn asked_of_five<'a>(
+    word: &[u8],
+    a: &'a [u8],
+    b: &'a [u8],
+    c: &[u8],
+    d: &[u8],
+    e: &[u8],
+) -> Asked<'a>
+    ensures { seen result ≡ of_words (word.now ∷ a.now ∷ b.now ∷ c.now ∷ d.now ∷ e.now ∷ []) }
+{
+    if word != b"apply".as_slice() || !is_name(a) {
+        return Asked::Bad;
+    }
+    let Some(counter) = number(c) else {
+        return Asked::Bad;
+    };
+    let Some(writer) = number(d) else {
+        return Asked::Bad;
+    };
+    applied(a, b, counter, writer, e)
+}
+
 /// What a line asks for.
 pub fn ask(line: &[u8]) -> Asked<'_>
     ensures { seen result ≡ command_of line.now }
@@ -111,7 +190,7 @@ pub fn ask(line: &[u8]) -> Asked<'_>
         return Asked::Nothing;
     };
     let Some((a, rest)) = first_word(rest) else {
-        return Asked::Bad;
+        return asked_of_none(word);
     };
     let Some((b, rest)) = first_word(rest) else {
         return asked_of_one(word, a);
@@ -119,8 +198,14 @@ pub fn ask(line: &[u8]) -> Asked<'_>
     let Some((c, rest)) = first_word(rest) else {
         return asked_of_two(word, a, b);
     };
+    let Some((d, rest)) = first_word(rest) else {
+        return asked_of_three(word, a, b, c);
+    };
+    let Some((e, rest)) = first_word(rest) else {
+        return Asked::Bad;
+    };
     if first_word(rest).is_some() {
         return Asked::Bad;
     }
-    asked_of_three(word, a, b, c)
+    asked_of_five(word, a, b, c, d, e)
 }

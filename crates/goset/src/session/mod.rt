@@ -14,4 +14,6 @@ pub mod running;
 pub mod script;
 #[cfg(test)]
 mod tests;
+#[cfg(test)]
+mod writes;
 pub mod writing;

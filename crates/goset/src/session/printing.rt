@@ -1,9 +1,10 @@
 //! What builds and runs print.
-ghost use Rattle.std.specs.Prelude.{◌≡◌, ◌++◌, OnOk, IfOk, count_by, map};
+ghost use Rattle.std.specs.Prelude.{◌≡◌, ◌++◌, OnOk, IfOk, count_by, map, codes};
 ghost use Rattle.std.specs.Fmt.{decimal};
 ghost use Rattle.std.specs.List.{flat_map};
 ghost use Rattle.goset.specs.session.Printing.{place_text, kind_text, fault_text, blocked_text, row_text, is_bad, summary_text, target_text, report_text};
 ghost use Rattle.goset.specs.session.RunPrinting.{panic_word, ending_text, panic_size, panic_text, run_target_text, head_text, run_text};
+ghost use Rattle.goset.specs.session.ShowPrinting.{content_text, write_text, show_text};
 ghost use Rattle.ws_replica.specs.Reports.{rows, row};
 
 use go_code::ending::{Ending, PanicKind};
@@ -11,6 +12,7 @@ use go_text::fault::{Fault, FaultKind};
 use go_text::place::Place;
 use std::alloc::{AllocError, Global};
 use ws_replica::{Report, Verdict};
+use ws_version::{Held, Write};
 
 fn push(out: &mut Vec<u8>, text: &[u8]) -> Result<(), AllocError>
     ensures { OnOk result (out.new.items ≡ out.old.items ++ text.now) }
@@ -243,5 +245,57 @@ pub fn run_lines(
     push_head(alloc, &mut out, ending, output.len())?;
     push(&mut out, output)?;
     push_panic_text(&mut out, ending)?;
+    Ok(out)
+}
+
+/// Adds how long a held text is, or that the file is removed.
+fn push_content(alloc: Global, out: &mut Vec<u8>, held: &Held) -> Result<(), AllocError>
+    ensures { OnOk result (out.new.items ≡ out.old.items ++ content_text held.now.text) }
+{
+    match held.text() {
+        None => push(out, b" removed"),
+        Some(text) => push_number(alloc, out, b" text ", text.as_str().len() as u64),
+    }
+}
+
+/// Adds the line of a held write.
+#[tactic(auto, unfolding(crate::specs::session::ShowPrinting::write_text))]
+fn push_write(alloc: Global, out: &mut Vec<u8>, write: &Write) -> Result<(), AllocError>
+    ensures { OnOk result (out.new.items ≡ out.old.items ++ write_text write.now) }
+{
+    let held = write.held();
+    push(out, write.path().as_bytes())?;
+    push_number(alloc, out, b" ", held.counter())?;
+    push_number(alloc, out, b".", u64::from(held.number()))?;
+    push_content(alloc, out, held)?;
+    push(out, b"\n")
+}
+
+fn push_writes(alloc: Global, out: &mut Vec<u8>, writes: &[Write]) -> Result<(), AllocError>
+    ensures { OnOk result (out.new.items ≡ out.old.items ++ flat_map write_text writes.now) }
+{
+    for write in writes {
+        push_write(alloc, out, write)?;
+    }
+    Ok(())
+}
+
+fn push_show_target(out: &mut Vec<u8>, name: &[u8]) -> Result<(), AllocError>
+    ensures { OnOk result (out.new.items ≡ out.old.items ++ (codes "show " ++ name.now)) }
+{
+    push(out, b"show ")?;
+    push(out, name)
+}
+
+/// The lines of what a replica holds: how many writes, and each of them.
+#[tactic(auto, unfolding(crate::specs::session::ShowPrinting::show_text))]
+pub fn show_lines(alloc: Global, name: &[u8], writes: &[Write]) -> Result<Vec<u8>, AllocError>
+    ensures { IfOk result (λ text. text.items ≡ show_text name.now writes.now) }
+{
+    let mut out = Vec::new(alloc);
+    push_show_target(&mut out, name)?;
+    push_number(alloc, &mut out, b" ", writes.len() as u64)?;
+    push(&mut out, b"\n")?;
+    push_writes(alloc, &mut out, writes)?;
     Ok(out)
 }

@@ -15,6 +15,8 @@ pub enum Refusal {
     Exists,
     /// 4: not a path of a file.
     BadPath,
+    /// 5: the replica holds nothing at the path, or a removal.
+    NoFile,
     /// 6: the replica holds the greatest counter that there is.
     CounterFull,
     /// 7: not UTF-8, truncated, or no text of a source.
@@ -34,6 +36,7 @@ pub fn refused(alloc: Global, refusal: Refusal) -> Result<Vec<u8>, AllocError>
         Refusal::Unknown => b"refused 2 replica\n",
         Refusal::Exists => b"refused 3 exists\n",
         Refusal::BadPath => b"refused 4 path\n",
+        Refusal::NoFile => b"refused 5 nofile\n",
         Refusal::CounterFull => b"refused 6 counter\n",
         Refusal::BadText => b"refused 7 text\n",
         Refusal::NoPackage => b"refused 8 nopackage\n",

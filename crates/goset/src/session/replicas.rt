@@ -10,23 +10,28 @@ ghost use Rattle.ws_action.specs.Actions.{Action as AnAction};
 ghost use Rattle.ws_graph.specs.Plan.{NoFiles, IsPlanOf};
 ghost use Rattle.ws_replica.specs.Holdings.{ReplicaStandsFor};
 ghost use Rattle.ws_replica.specs.Reports.{rows};
-ghost use Rattle.goset.specs.session.Standing.{StandFor, place_of, AllStand, Settles, Tells, told_of, ChangedAt, Edited, MergedFrom, Built, RanAt};
+ghost use Rattle.std.specs.Thread.{IsSync};
+ghost use Rattle.ws_version.specs.Paths.{is_path};
+ghost use Rattle.goset.specs.session.Standing.{StandFor, place_of, AllStand, Settles, Tells, told_of, ChangedAt, Edited, Removal, Applied, MergedFrom, Built, RanAt, replicas_of, labels_of, IsContent};
 ghost use Rattle.goset.specs.session.World.{World, opening, is_text, is_path_word};
-ghost use Rattle.goset.specs.session.Commands.{Create, Write, Merge, Build, Run};
+ghost use Rattle.goset.specs.session.Commands.{Create, Write, Remove, Apply, Merge, Settle, Build, Run, Show};
 
 use crate::session::commands::Asked;
-use crate::session::printing::{report_lines, run_lines};
+use crate::session::printing::{report_lines, run_lines, show_lines};
 use crate::session::refusal::{Refusal, refused};
 use crate::session::running::Steps;
 use go_text::edition::Edition;
 use go_text::source::Source;
-use go_text::text::TextError;
+use go_text::text::{Text, TextError};
 use go_vm::run::{Outcome, RunError, run};
 use std::alloc::{AllocError, Global};
+use std::thread::Threads;
 use std::{mem, str};
+use ws_register::EditError;
+use ws_replica::join::settle;
 use ws_replica::{BuildError, Replica, Report, build, image};
-use ws_version::Join;
 use ws_version::path::{file_name, is_path};
+use ws_version::{Held, Join, Version};
 
 /// How many replicas a session may have.
 const MOST_REPLICAS: usize = 64;
@@ -208,6 +213,181 @@ fn merge_itself(named: &mut Vec<Named>, place: usize) -> Result<(), AllocError>
     one.replica.merge(&other)
 }
 
+/// The replica at a place removes the file at a path; or why it doesn't.
+fn remove_at(
+    alloc: Global,
+    named: &mut Vec<Named>,
+    place: usize,
+    path: &str,
+) -> Result<Option<Refusal>, AllocError>
+    requires place { place < vec_len named.old }
+    requires path { is_path path.now ≡ true }
+    ensures { IfOk result (λ refusal. Removal path.now named.old.items place refusal named.new.items) }
+{
+    let path = String::from_str(alloc, path)?;
+    let one = &mut named[place];
+    let number = one.number;
+    match one.replica.remove(path, number) {
+        Ok(()) => Ok(None),
+        Err(EditError::BadPath) => Ok(Some(Refusal::BadPath)),
+        Err(EditError::NoFile) => Ok(Some(Refusal::NoFile)),
+        Err(EditError::CounterFull) => Ok(Some(Refusal::CounterFull)),
+        Err(EditError::Memory) => Err(AllocError),
+    }
+}
+
+/// A removal of the file at a path by the replica of that name.
+fn remove(
+    alloc: Global,
+    named: &mut Vec<Named>,
+    name: &[u8],
+    word: &[u8],
+) -> Result<Option<Refusal>, AllocError>
+    ensures { IfOk result (λ refusal. (text : Option (List ℕ)) (world : World) → AllStand named.old.items world.replicas → Settles (Remove name.now word.now) text world refusal named.new.items) }
+{
+    let Some(place) = place_of(named.as_slice(), name) else {
+        return Ok(Some(Refusal::Unknown));
+    };
+    let Some(path) = path_of(word) else {
+        return Ok(Some(Refusal::BadPath));
+    };
+    remove_at(alloc, named, place, path)
+}
+
+/// The replica at a place takes a write to a path.
+fn apply_at(
+    alloc: Global,
+    named: &mut Vec<Named>,
+    place: usize,
+    path: &str,
+    held: Held,
+) -> Result<(), AllocError>
+    requires { place < vec_len named.old }
+    ensures { OnOk result (ChangedAt (Applied (path.now, held)) named.old.items place named.new.items) }
+{
+    let path = String::from_str(alloc, path)?;
+    let one = &mut named[place];
+    one.replica.apply(ws_version::Write::new(path, held))
+}
+
+/// What is applied to a path: a text, or none for a removal; or why it isn't.
+fn content_of(
+    alloc: Global,
+    path: &str,
+    lines: Option<u64>,
+    text: Option<Vec<u8>>,
+) -> Result<Result<Option<Text>, Refusal>, AllocError>
+    ensures { IfOk result (λ content. IsContent lines (option_map (λ v. v.items) text) content) }
+{
+    if lines.is_none() {
+        return Ok(Ok(None));
+    }
+    let Some(source) = source_of(alloc, path, text)? else {
+        return Ok(Err(Refusal::BadText));
+    };
+    let (_, text) = source.into_parts();
+    Ok(Ok(Some(text)))
+}
+
+/// The replica of that name takes a write that another may have made.
+fn apply(
+    alloc: Global,
+    named: &mut Vec<Named>,
+    name: &[u8],
+    word: &[u8],
+    version: Version,
+    lines: Option<u64>,
+    text: Option<Vec<u8>>,
+) -> Result<Option<Refusal>, AllocError>
+    ensures { IfOk result (λ refusal. (world : World) → AllStand named.old.items world.replicas → Settles (Apply name.now word.now version.counter version.number lines) (option_map (λ v. v.items) text) world refusal named.new.items) }
+{
+    let Some(place) = place_of(named.as_slice(), name) else {
+        return Ok(Some(Refusal::Unknown));
+    };
+    let Some(path) = path_of(word) else {
+        return Ok(Some(Refusal::BadPath));
+    };
+    match content_of(alloc, path, lines, text)? {
+        Err(refusal) => Ok(Some(refusal)),
+        Ok(content) => {
+            apply_at(alloc, named, place, path, Held::new(version, content))?;
+            Ok(None)
+        }
+    }
+}
+
+/// What the replica of that name holds, and what is printed of it.
+fn show(alloc: Global, named: &Vec<Named>, name: &[u8]) -> Result<Vec<u8>, AllocError>
+    ensures { IfOk result (λ told. (text : Option (List ℕ)) (world : World) → AllStand named.now.items world.replicas → Tells (Show name.now) text world told.items named.now.items) }
+{
+    let Some(place) = place_of(named.as_slice(), name) else {
+        return refused(alloc, Refusal::Unknown);
+    };
+    let writes = named[place].replica.writes()?;
+    show_lines(alloc, name, writes.as_slice())
+}
+
+/// The names and numbers of replicas, and the replicas, each in its order.
+fn parted(
+    alloc: Global,
+    named: Vec<Named>,
+) -> Result<(Vec<(Vec<u8>, u32)>, Vec<Replica>), AllocError>
+    ensures labels { IfOk result (λ parts. parts.0.items ≡ labels_of named.items) }
+    ensures replicas { IfOk result (λ parts. parts.1.items ≡ replicas_of named.items) }
+{
+    let mut labels = Vec::new(alloc);
+    let mut replicas = Vec::new(alloc);
+    for one in named {
+        let Named {
+            name,
+            number,
+            replica,
+        } = one;
+        labels.push((name, number))?;
+        replicas.push(replica)?;
+    }
+    Ok((labels, replicas))
+}
+
+/// Replicas with their names and numbers again.
+fn rejoined(
+    alloc: Global,
+    labels: Vec<(Vec<u8>, u32)>,
+    replicas: Vec<Replica>,
+) -> Result<Vec<Named>, AllocError>
+    requires { vec_len labels ≡ vec_len replicas }
+    ensures labels { IfOk result (λ named. labels_of named.items ≡ labels.items) }
+    ensures replicas { IfOk result (λ named. replicas_of named.items ≡ replicas.items) }
+{
+    let mut named = Vec::new(alloc);
+    let mut labels = labels.into_iter();
+    for replica in replicas {
+        let Some((name, number)) = labels.next() else {
+            unreachable!();
+        };
+        named.push(Named {
+            name,
+            number,
+            replica,
+        })?;
+    }
+    Ok(named)
+}
+
+/// Every replica takes what all hold.
+fn settle_all<R: Threads + Sync>(
+    rt: &R,
+    alloc: Global,
+    named: &mut Vec<Named>,
+) -> Result<(), AllocError>
+    ensures { OnOk result ((text : Option (List ℕ)) (world : World) → AllStand named.old.items world.replicas → Settles Settle text world None named.new.items) }
+{
+    let (labels, mut replicas) = parted(alloc, mem::replace(named, Vec::new(alloc)))?;
+    settle(rt, alloc, replicas.as_mut_slice())?;
+    *named = rejoined(alloc, labels, replicas)?;
+    Ok(())
+}
+
 /// The replica of one name takes what that of the other holds.
 fn merge(
     alloc: Global,
@@ -330,7 +510,12 @@ impl Steps for Replicas {
 
     ghost stands_for = { StandFor };
 
-    fn step(&mut self, asked: &Asked<'_>, text: Option<Vec<u8>>) -> Result<Vec<u8>, AllocError> {
+    fn step<R: Threads + Sync>(
+        &mut self,
+        rt: &R,
+        asked: &Asked<'_>,
+        text: Option<Vec<u8>>,
+    ) -> Result<Vec<u8>, AllocError> {
         let alloc = self.alloc;
         match asked {
             Asked::Nothing => told(alloc, None),
@@ -343,6 +528,29 @@ impl Steps for Replicas {
                 let refusal = write(alloc, &mut self.named, name, path, text)?;
                 told(alloc, refusal)
             }
+            Asked::Remove(name, path) => {
+                let refusal = remove(alloc, &mut self.named, name, path)?;
+                told(alloc, refusal)
+            }
+            Asked::Apply {
+                name,
+                path,
+                counter,
+                number,
+                lines,
+            } => {
+                let version = Version {
+                    counter: *counter,
+                    number: *number,
+                };
+                let refusal = apply(alloc, &mut self.named, name, path, version, *lines, text)?;
+                told(alloc, refusal)
+            }
+            Asked::Settle => {
+                settle_all(rt, alloc, &mut self.named)?;
+                told(alloc, None)
+            }
+            Asked::Show(name) => show(alloc, &self.named, name),
             Asked::Merge(name, other) => {
                 let refusal = merge(alloc, &mut self.named, name, other)?;
                 told(alloc, refusal)

@@ -5,19 +5,24 @@ use go_text::edition::Edition;
 use std::alloc::Global;
 use std::process::Abort;
 use std::test::Fail;
+use std::thread::Threads;
 
 /// What a session prints for a script, where it ends well.
-fn session(alloc: Global, script: &[u8]) -> Result<Vec<u8>, Fail> {
+fn session<R: Threads + Sync>(rt: &R, alloc: Global, script: &[u8]) -> Result<Vec<u8>, Fail> {
     let mut reader = FakeIn::new(script, 4096);
     let mut writer = FakeOut::new(alloc, 4096);
-    run_session(alloc, Edition::One, &mut reader, &mut writer)?;
+    run_session(rt, alloc, Edition::One, &mut reader, &mut writer)?;
     Ok(writer.into_written())
 }
 
 /// Runs each script, and compares what it prints.
-fn compare(rt: &impl Abort, alloc: Global, rows: &[(&[u8], &[u8])]) -> Result<(), Fail> {
+pub fn compare<R: Abort + Threads + Sync>(
+    rt: &R,
+    alloc: Global,
+    rows: &[(&[u8], &[u8])],
+) -> Result<(), Fail> {
     for (script, told) in rows {
-        let printed = session(alloc, script)?;
+        let printed = session(rt, alloc, script)?;
         let script = String::from_utf8_lossy(alloc, script)?;
         let printed_text = String::from_utf8_lossy(alloc, printed.as_slice())?;
         assert!(rt; printed.as_slice() == *told, "{script}: {printed_text}");
@@ -97,7 +102,7 @@ fn files(rt: HostRuntime) -> Result<(), Fail> {
 fn refusals(rt: HostRuntime) -> Result<(), Fail> {
     let rows: [(&[u8], &[u8]); 16] = [
         (
-            b"what\nshow a\nsettle\nremove a p/x.go\napply a p/x.go 1 1 0\nids a p\nreplica\nreplica a b\n",
+            b"what\nids a p\nreplica\nreplica a b\nshow\nshow a b\nsettle a\nremove a\n",
             b"refused 1 command\nrefused 1 command\nrefused 1 command\nrefused 1 command\nrefused 1 command\nrefused 1 command\nrefused 1 command\nrefused 1 command\n",
         ),
         (
@@ -179,7 +184,7 @@ fn sixty_four_replicas(rt: HostRuntime) -> Result<(), Fail> {
         script.push_str(line.as_str())?;
     }
     script.push_str("replica r0\nmerge r63 r0\nmerge r64 r0\n")?;
-    let told = session(alloc, script.as_bytes())?;
+    let told = session(&rt, alloc, script.as_bytes())?;
     assert!(rt;
         told.as_slice() == b"refused 1 command\nrefused 1 command\nrefused 2 replica\n".as_slice()
     );

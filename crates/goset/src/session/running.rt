@@ -1,6 +1,7 @@
 //! Running a script, each command's answer written before the next is read.
 ghost use Rattle.std.specs.Prelude.{◌≡◌, ℕ, ◌+◌, ◌<◌, ◌≤◌, ◌^◌, length, drop, IfOk, OnOk, OnErr, Option};
 ghost use Rattle.std.specs.Option.{option_map};
+ghost use Rattle.std.specs.Thread.{IsSync};
 ghost use Rattle.goset.specs.session.Lines.{lines_of};
 ghost use Rattle.goset.specs.session.Commands.{text_of};
 ghost use Rattle.goset.specs.session.Seen.{seen};
@@ -15,6 +16,7 @@ use crate::session::lines::{closed, cut_line, next_line};
 use crate::session::reading::{ReadError, ScriptIn, read_whole};
 use crate::session::writing::{ScriptOut, write_whole};
 use std::alloc::{AllocError, Global};
+use std::thread::Threads;
 use thiserror::Error;
 
 /// Why a session ended early: no memory, a failed read, a failed write, or a script that is too
@@ -44,8 +46,15 @@ pub trait Steps {
     ghost stands_for: { Self → World → Type 0 };
 
     /// Runs one command on its text, where the script had all of it, and answers what it prints.
-    /// After an `Err`, want of memory, it may stand for no world.
-    fn step(&mut self, asked: &Asked<'_>, text: Option<Vec<u8>>) -> Result<Vec<u8>, AllocError>
+    /// It may start threads, and joins them. After an `Err`, want of memory, it may stand for no
+    /// world.
+    fn step<R: Threads + Sync>(
+        &mut self,
+        rt: &R,
+        asked: &Asked<'_>,
+        text: Option<Vec<u8>>,
+    ) -> Result<Vec<u8>, AllocError>
+        requires { IsSync R.row }
         ensures { let command = seen asked.now in
             let given = option_map (λ v. v.items) text in
             (world : World) → stands_for self.old world → IfOk result (λ told.
@@ -110,7 +119,8 @@ pub fn first_request(alloc: Global, script: &[u8]) -> Result<Request<'_>, AllocE
 ///
 /// On an `Err` a beginning of it is written: on `Memory` all that the commands before print, on
 /// `Write` all that the writer took.
-pub fn answer<S: Steps, O: ScriptOut>(
+pub fn answer<R: Threads + Sync, S: Steps, O: ScriptOut>(
+    rt: &R,
     alloc: Global,
     steps: &mut S,
     script: &[u8],
@@ -133,7 +143,7 @@ pub fn answer<S: Steps, O: ScriptOut>(
             text,
             behind,
         } = request;
-        let Ok(told) = steps.step(&asked, text) else {
+        let Ok(told) = steps.step(rt, &asked, text) else {
             return Err(AnswerError::Memory);
         };
         if write_whole(writer, told.as_slice()).is_err() {
@@ -151,7 +161,8 @@ pub fn answer<S: Steps, O: ScriptOut>(
 /// - `Read`: a read failed. Nothing is written.
 /// - `TooLong`: the script has more than 16,777,216 bytes. Nothing is written.
 /// - `Write`: a write failed, or took nothing. A beginning of the text is written.
-pub fn play<S: Steps, I: ScriptIn, O: ScriptOut>(
+pub fn play<R: Threads + Sync, S: Steps, I: ScriptIn, O: ScriptOut>(
+    rt: &R,
     alloc: Global,
     steps: &mut S,
     reader: &mut I,
@@ -169,7 +180,7 @@ pub fn play<S: Steps, I: ScriptIn, O: ScriptOut>(
         Err(ReadError::Memory) => Err(SessionError::Memory),
         Err(ReadError::Read) => Err(SessionError::Read),
         Err(ReadError::TooLong) => Err(SessionError::TooLong),
-        Ok(script) => match answer(alloc, steps, script.as_slice(), writer) {
+        Ok(script) => match answer(rt, alloc, steps, script.as_slice(), writer) {
             Ok(()) => Ok(()),
             Err(AnswerError::Memory) => Err(SessionError::Memory),
             Err(AnswerError::Write) => Err(SessionError::Write),

@@ -14,13 +14,15 @@ use std::sync::Wait;
 use std::thread::Threads;
 use ws_pool::Gate;
 
-/// Reads a script to its end and writes its session's text, from no replica on.
+/// Reads a script to its end and writes its session's text, from no replica on. It starts threads
+/// to settle, and joins them.
 ///
 /// - `Memory`: there was none for the script, or for a command. A beginning of the text is written.
 /// - `Read`: a read failed. Nothing is written.
 /// - `TooLong`: the script has more than 16,777,216 bytes. Nothing is written.
 /// - `Write`: a write failed, or took nothing. A beginning of the text is written.
-pub fn run_session<I: ScriptIn, O: ScriptOut>(
+pub fn run_session<R: Threads + Sync, I: ScriptIn, O: ScriptOut>(
+    rt: &R,
     alloc: Global,
     edition: Edition,
     reader: &mut I,
@@ -34,14 +36,14 @@ pub fn run_session<I: ScriptIn, O: ScriptOut>(
     ensures writes { O.failed writer.new ≡ O.failed writer.old + failed_writes result }
 {
     let mut replicas = Replicas::new(alloc, edition);
-    play(alloc, &mut replicas, reader, writer)
+    play(rt, alloc, &mut replicas, reader, writer)
 }
 
-/// The same with leave to start threads and to wait, for 1 to 64 workers and any gate.
+/// The same with leave to wait, for 1 to 64 workers and any gate.
 ///
 /// One hand on the calling thread builds until workers come, so that `workers` and `gate` change nothing yet.
-pub fn run_script<T: Threads + Wait, I: ScriptIn, O: ScriptOut, G: Gate>(
-    _rt: &T,
+pub fn run_script<T: Threads + Wait + Sync, I: ScriptIn, O: ScriptOut, G: Gate>(
+    rt: &T,
     alloc: Global,
     reader: &mut I,
     writer: &mut O,
@@ -58,5 +60,5 @@ pub fn run_script<T: Threads + Wait, I: ScriptIn, O: ScriptOut, G: Gate>(
     ensures reads { I.failed reader.new ≡ I.failed reader.old + failed_reads result }
     ensures writes { O.failed writer.new ≡ O.failed writer.old + failed_writes result }
 {
-    run_session(alloc, edition, reader, writer)
+    run_session(rt, alloc, edition, reader, writer)
 }

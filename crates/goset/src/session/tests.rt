@@ -10,6 +10,7 @@ use crate::session::writing::ScriptOut;
 use go_text::edition::Edition;
 use std::alloc::Global;
 use std::test::Fail;
+use std::thread::Threads;
 
 /// A reader of some bytes, of which a call gives at most `step`, and call `fails_at` fails.
 #[derive(Drop)]
@@ -172,7 +173,8 @@ const TOLD: &[u8] =
     b"build a p ok 1 compiled 1\nbuild a p ok 1 compiled 0\nbuild b p ok 1 compiled 0\n";
 
 /// A session of edition 1.
-fn say<I: ScriptIn, O: ScriptOut>(
+fn say<R: Threads + Sync, I: ScriptIn, O: ScriptOut>(
+    rt: &R,
     alloc: Global,
     reader: &mut I,
     writer: &mut O,
@@ -180,7 +182,7 @@ fn say<I: ScriptIn, O: ScriptOut>(
     requires readable { I.failed reader.old + 1 < 2 ^ 64 }
     requires writable { O.failed writer.old + 1 < 2 ^ 64 }
 {
-    run_session(alloc, Edition::One, reader, writer)
+    run_session(rt, alloc, Edition::One, reader, writer)
 }
 
 #[test]
@@ -188,7 +190,7 @@ fn a_byte_a_call(rt: HostRuntime) {
     for step in [1, 2, 7, 1000] {
         let mut reader = FakeIn::new(SCRIPT, step);
         let mut writer = FakeOut::new(rt.alloc(), step);
-        let ended = say(rt.alloc(), &mut reader, &mut writer);
+        let ended = say(&rt, rt.alloc(), &mut reader, &mut writer);
         assert!(rt; ended.is_ok(), "with {step}");
         assert!(rt; writer.written.as_slice() == TOLD, "with {step}");
     }
@@ -199,7 +201,7 @@ fn reads_fail(rt: HostRuntime) {
     for fails_at in 1..100 {
         let mut reader = FakeIn::failing(SCRIPT, 1, fails_at);
         let mut writer = FakeOut::new(rt.alloc(), 1);
-        let ended = say(rt.alloc(), &mut reader, &mut writer);
+        let ended = say(&rt, rt.alloc(), &mut reader, &mut writer);
         let in_time = fails_at <= SCRIPT.len() as u64 + 1;
         assert!(rt; ended.is_ok() != in_time, "at {fails_at}");
         assert!(rt; ended != Err(SessionError::Write), "at {fails_at}");
@@ -215,7 +217,7 @@ fn writes_fail(rt: HostRuntime) {
         for (taken, _) in TOLD.iter().enumerate() {
             let mut reader = FakeIn::new(SCRIPT, 1000);
             let mut writer = FakeOut::failing(rt.alloc(), 1, taken as u64 + 1, takes_none);
-            let ended = say(rt.alloc(), &mut reader, &mut writer);
+            let ended = say(&rt, rt.alloc(), &mut reader, &mut writer);
             assert!(rt; ended == Err(SessionError::Write), "after {taken}");
             let (front, _) = TOLD.split_at(taken);
             assert!(rt; writer.written.as_slice() == front, "after {taken}");
@@ -230,7 +232,7 @@ fn writes_fail(rt: HostRuntime) {
 #[test]
 fn a_script_without_end(rt: HostRuntime) {
     let mut writer = FakeOut::new(rt.alloc(), 1000);
-    let ended = say(rt.alloc(), &mut Endless, &mut writer);
+    let ended = say(&rt, rt.alloc(), &mut Endless, &mut writer);
     assert!(rt; ended == Err(SessionError::TooLong));
     assert!(rt; writer.written.is_empty());
 }
@@ -305,12 +307,12 @@ fn messages(rt: HostRuntime) -> Result<(), Fail> {
 fn any_reader_and_writer(rt: HostRuntime) {
     let mut reader = FromReader::new(SCRIPT);
     let mut writer = ToWriter::new(Vec::new(rt.alloc()));
-    let ended = say(rt.alloc(), &mut reader, &mut writer);
+    let ended = say(&rt, rt.alloc(), &mut reader, &mut writer);
     assert!(rt; ended.is_ok());
     assert!(rt; writer.writer.as_slice() == TOLD);
     let mut room = [0u8; 20];
     let mut writer = ToWriter::new(room.as_mut_slice());
-    let ended = say(rt.alloc(), &mut FromReader::new(SCRIPT), &mut writer);
+    let ended = say(&rt, rt.alloc(), &mut FromReader::new(SCRIPT), &mut writer);
     assert!(rt; ended == Err(SessionError::Write));
     assert!(rt; writer.failed_writes == 1);
 }
