@@ -1,5 +1,11 @@
-pub mod Codes
+pub mod Expected
 pub mod Grammar
+pub mod Heights
+pub mod Kinds
+pub mod Literals
 pub mod Machine
+pub mod Operators
+pub mod Stops
+pub mod Tokens
 pub mod Trees
 pub mod Views

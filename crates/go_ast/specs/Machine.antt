@@ -1,166 +1,604 @@
--- The form of files as a machine that takes one token after another. It is no second form: what it takes, the form
--- derives, and the other way round, as the parser's lemmas show. The contracts of the parser's functions speak of it.
-use Rattle.std.specs.Prelude.{ℕ, Bool, true, false, ◌&&◌, not, List, [], ◌∷◌, ◌++◌, Option, Some, None, codes, if◌then◌else◌}
+-- The grammar as a machine that takes one token after another. It is no second grammar: what it takes the grammar
+-- derives, and the other way round, as the lemmas show. The contracts of the parser's functions speak of it.
+use Rattle.std.specs.Prelude.{ℕ, zero, suc, ◌+◌, nat_le, nat_eq, Bool, true, false, ◌&&◌, ◌||◌, not, List, [], ◌∷◌, ◌++◌, Option, Some, None, codes}
 use Rattle.std.specs.Str.{bytes_eq}
+use Rattle.go_text.specs.declared.place.Place.{Place}
 use Rattle.go_scan.specs.declared.token.TokenKind.{TokenKind}
 use Rattle.go_scan.specs.declared.token.TokenKind.TheVariants as kinds
+use Rattle.go_scan.specs.declared.keyword.Keyword.{Keyword}
 use Rattle.go_scan.specs.declared.keyword.Keyword.TheVariants as keywords
 use Rattle.go_scan.specs.declared.punctuation.Punctuation.TheVariants as marks
-use Rattle.go_scan.specs.Keywords.{spelling}
-use Rattle.go_scan.specs.Punctuations.{punctuation_spelling}
-use Rattle.go_ast.specs.Trees.{Name, Expr, integer, string, Exprs, pack, Stmt, expression, Block, Function, function, ImportSpec, File}
-use Rattle.go_ast.specs.Grammar.{Lexeme, name_of, string_value, call_of, semicolon}
+use Rattle.go_ast.specs.Kinds.{same}
+use Rattle.go_ast.specs.Literals.{string_value, rune_value}
+use Rattle.go_ast.specs.Operators.{unary_of, binary_of, assignment_of, tighter}
+use Rattle.go_ast.specs.Expected.{Expected, an_operand, a_value, a_type, a_declared_type, a_parameter_type, a_length, an_index, an_index_end, a_selected_name, an_element_end, a_field_end, a_result_end, a_statement, behind_a_name, behind_a_jump, a_function_name, a_function_opening, an_import, an_import_path, another, is_left_out_at, fault_at}
+use Rattle.go_ast.specs.Trees.{Name, UnaryOperator, BinaryOperator, TypeExpr, named, qualified, array, struct, Expr, name, integer, rune, string, parenthesized, literal, conversion, selector, index, call, unary, binary, Exprs, no_exprs, Element, expression_element, value_element, Simple, call_statement, increment, decrement, assignment, operator_assignment, definition, ConstSpec, VarSpec, TypeSpec, Decl, constants, variables, types, Stmt, empty, declaration, simple, return, break, continue, fallthrough, block_statement, if_statement, for_statement, range_statement, switch_statement, Block, block, If, conditional, Else, no_else, else_block, else_if, Clauses, no_clauses, clause, Parameter, Function, TopLevel, declared, function, ImportSpec, File, place_of, pack, pack_elements, pack_fields, pack_stmts}
+use Rattle.go_ast.specs.Heights.{height}
+use Rattle.go_ast.specs.Grammar.{Lexeme, name_of, assign, opening, closing, opening_bracket, closing_bracket, opening_brace, closing_brace, comma, period, semicolon, colon, define, is_call, simple_place, type_place, concat}
 
--- two kinds are the same
-abbrev pub same : TokenKind → TokenKind → Bool
-same kinds.Name kinds.Name = true
-same (kinds.Keyword j) (kinds.Keyword k) = bytes_eq (spelling j) (spelling k)
-same kinds.Integer kinds.Integer = true
-same kinds.String kinds.String = true
-same (kinds.Punctuation p) (kinds.Punctuation q) = bytes_eq (punctuation_spelling p) (punctuation_spelling q)
-same kinds.Unknown kinds.Unknown = true
-same _ _ = false
+-- lists whose items have a separator between them: for which list, at which level its items stand
+pub data ListKind : Type 0 where
+  fields : ℕ → ListKind
+  arguments : ℕ → ListKind
+  elements : ℕ → ListKind
+  const_specs : ℕ → ListKind
+  var_specs : ℕ → ListKind
+  type_specs : ℕ → ListKind
+  import_specs : ListKind
+  statements : ℕ → ListKind
+  parameters : ListKind
+  results : ListKind
 
--- what is due behind the tokens taken so far; `next` is what is due behind that, by what it makes
+abbrev pub Item : ListKind → Type 0
+Item (fields l) = List Name × TypeExpr
+Item (arguments l) = Expr
+Item (elements l) = Option Name × Element
+Item (const_specs l) = ConstSpec
+Item (var_specs l) = VarSpec
+Item (type_specs l) = TypeSpec
+Item import_specs = ImportSpec
+Item (statements l) = Stmt
+Item parameters = Parameter
+Item results = TypeExpr
+
+abbrev pub separator : ListKind → TokenKind
+separator (fields l) = semicolon
+separator (arguments l) = comma
+separator (elements l) = comma
+separator (const_specs l) = semicolon
+separator (var_specs l) = semicolon
+separator (type_specs l) = semicolon
+separator import_specs = semicolon
+separator (statements l) = semicolon
+separator parameters = comma
+separator results = comma
+
+abbrev pub closer : ListKind → TokenKind
+closer (fields l) = closing_brace
+closer (arguments l) = closing
+closer (elements l) = closing_brace
+closer (const_specs l) = closing
+closer (var_specs l) = closing
+closer (type_specs l) = closing
+closer import_specs = closing
+closer (statements l) = closing_brace
+closer parameters = closing
+closer results = closing
+
+-- where left sides stand: as a statement of a list, behind `if` or `switch`, behind `for`, or behind the second semicolon
+-- of a `for`
+pub data Position : Type 0 where
+  in_list : Position
+  in_header : Position
+  in_for : Position
+  behind_turns : Position
+
+-- a clause: its place, its values and its statements
+abbrev pub Clause : Type 0
+Clause = Place × (Option Exprs × List Stmt)
+
+abbrev pub pack_clauses : List Clause → Clauses
+pack_clauses [] = no_clauses
+pack_clauses (c ∷ cs) = clause c.0 c.1.0 (pack_stmts c.1.1) (pack_clauses cs)
+
+-- What is due behind the tokens taken so far; `next` is what is due behind that, by what it makes. A level is that of the
+-- node that begins, and `need` the level of the deepest node that a token brings.
 pub data State : Type 0 where
-  -- a token of a kind
-  due : (kind : TokenKind) (next : State) → State
-  kept : (kind : TokenKind) (next : Lexeme → State) → State
-  -- a name of this text, and a package's name
-  named : (text : List ℕ) (next : Lexeme → State) → State
-  package_name : (next : Name → State) → State
-  -- the imports and functions of a package, and its functions behind its imports
-  parts : Name → State
-  functions : Name → List ImportSpec → State
-  -- the path of an import
-  path : (next : ImportSpec → State) → State
-  -- a statement of a list behind some, or the list's end; what is behind a statement
-  statement : (next : List Stmt → Lexeme → State) (front : List Stmt) → State
-  statement_end : (next : List Stmt → Lexeme → State) (front : List Stmt) → State
-  -- an argument behind some, or the arguments' end; what is behind an argument
-  argument : (next : Exprs → State) (front : List Expr) → State
-  argument_end : (next : Exprs → State) (front : List Expr) → State
   -- the end of the file
   ended : File → State
+  -- a token of a kind
+  token : (kind : TokenKind) (need : ℕ) (x : Expected) (next : Lexeme → State) → State
+  package_name : (next : Lexeme → State) → State
+  import_path : (x : Expected) (next : Lexeme → State) → State
+  -- a token of a kind, or else something other
+  optional : (kind : TokenKind) (need : ℕ) (some : Lexeme → State) (none : State) → State
+  -- a type, which may be missing
+  type : (l : ℕ) (x : Expected) (next : TypeExpr → State) → State
+  optional_type : (l : ℕ) (x : Expected) (some : TypeExpr → State) (none : State) → State
+  -- an expression of operators of n levels, which may be missing; what may be behind one
+  expr : (n : ℕ) (h : Bool) (l : ℕ) (x : Expected) (next : Expr → State) → State
+  optional_expr : (h : Bool) (l : ℕ) (x : Expected) (some : Expr → State) (none : State) → State
+  suffixes : (h : Bool) (l : ℕ) (left : Expr) (next : Expr → State) → State
+  operators : (n : ℕ) (h : Bool) (l : ℕ) (left : Expr) (next : Expr → State) → State
+  -- more names or expressions behind these
+  more_names : (front : List Name) (next : List Name → State) → State
+  more_exprs : (h : Bool) (l : ℕ) (front : List Expr) (next : List Expr → State) → State
+  -- an item of a list behind these, or the list's end; what is behind an item, the last of these
+  list_start : (k : ListKind) (front : List (Item k)) (next : List (Item k) → Lexeme → State) → State
+  list_end : (k : ListKind) (x : Expected) (front : List (Item k)) (next : List (Item k) → Lexeme → State) → State
+  -- what is behind these left sides: of a statement, of an expression alone, and of `name := range`
+  lefts : (m : Position) (h : Bool) (l : ℕ) (front : List Expr) (next : Simple → State) (alone : Expr → State) (range : Name → Expr → State) → State
+  -- what is behind an `if`'s first block, in front of the rest
+  else_part : (l : ℕ) (p : Place) (start : Option Simple) (condition : Expr) (body : Block) (next : If → State) → State
+  -- a statement of a clause behind these, or the clause's end, and what is behind a statement; the clauses in front of it
+  clause_start : (l : ℕ) (done : List Clause) (p : Place) (values : Option Exprs) (front : List Stmt) (next : Clauses → Lexeme → State) → State
+  clause_end : (l : ℕ) (x : Expected) (done : List Clause) (p : Place) (values : Option Exprs) (front : List Stmt) (next : Clauses → Lexeme → State) → State
+  -- what is behind an import or a declaration
+  import_end : (p : Name) (iss : List (List ImportSpec)) → State
+  decl_end : (p : Name) (is : List ImportSpec) (ds : List TopLevel) → State
 
-abbrev pub opening : TokenKind
-opening = kinds.Punctuation marks.OpenParenthesis
+-- what a token does: it is taken, and brings nodes down to a level; or it may not come where this is expected
+pub data Move : Type 0 where
+  Take : (need : ℕ) → State → Move
+  Fail : Expected → Move
 
-abbrev pub closing : TokenKind
-closing = kinds.Punctuation marks.CloseParenthesis
+abbrev pub cond : Bool → Move → Move → Move
+cond true m n = m
+cond false m n = n
 
-abbrev pub opening_brace : TokenKind
-opening_brace = kinds.Punctuation marks.OpenBrace
+-- a token of a kind, at which a node begins
+abbrev pub on_token : TokenKind → ℕ → Expected → (Lexeme → State) → Lexeme → Move
+on_token kind need x next t = cond (same kind t.kind) (Take need (next t)) (Fail x)
 
-abbrev pub closing_brace : TokenKind
-closing_brace = kinds.Punctuation marks.CloseBrace
+abbrev pub keyword : Keyword → TokenKind
+keyword k = kinds.Keyword k
 
-abbrev pub comma : TokenKind
-comma = kinds.Punctuation marks.Comma
+abbrev pub names : ℕ → (List Name → State) → State
+names need next = token kinds.Name need another (λ t. more_names (name_of t ∷ []) next)
 
-abbrev pub period : TokenKind
-period = kinds.Punctuation marks.Period
+-- types
 
--- the file of a package with imports, and with a function
-abbrev pub file_without : Name → List ImportSpec → File
-file_without «package» imports = record { «package» = «package»; imports = imports; declarations = [] }
+abbrev pub behind_name : (TypeExpr → State) → Lexeme → State
+behind_name next t =
+    optional period 0 (λ _. token kinds.Name 0 a_selected_name (λ s. next (qualified t.place (name_of t) (name_of s)))) (next (named t.place (name_of t)))
 
-abbrev pub file_with : Name → List ImportSpec → Function → File
-file_with «package» imports f = record { «package» = «package»; imports = imports; declarations = function f ∷ [] }
+abbrev pub behind_bracket : ℕ → (TypeExpr → State) → Lexeme → State
+behind_bracket l next t =
+    expr 5 false (l + 1) a_length (λ e. token closing_bracket 0 another (λ _. type (l + 1) a_type (λ a. next (array t.place e a))))
 
--- the import of a path
-abbrev pub import_at : Lexeme → ImportSpec
-import_at t = record { place = t.place; name = None; path = codes "fmt"; path_place = t.place }
+abbrev pub behind_struct : ℕ → (TypeExpr → State) → Lexeme → State
+behind_struct l next t =
+    token opening_brace 0 another (λ _. list_start (fields (l + 1)) [] (λ fs _. next (struct t.place (pack_fields fs))))
 
--- the literal that a token is
-abbrev pub literal_of : TokenKind → Lexeme → Option Expr
-literal_of kinds.Integer t = Some (integer t.place t.text)
-literal_of kinds.String t = Some (string t.place (string_value t.text))
-literal_of _ t = None
+abbrev pub on_type : ℕ → Expected → (TypeExpr → State) → Lexeme → Move
+on_type l x next t =
+    cond (same kinds.Name t.kind) (Take l (behind_name next t))
+    (cond (same opening_bracket t.kind) (Take (l + 1) (behind_bracket l next t))
+    (cond (same (keyword keywords.Struct) t.kind) (Take l (behind_struct l next t)) (Fail x)))
 
--- a block
-abbrev pub block : (Block → State) → State
-block next =
-    kept opening_brace (λ first. statement (λ statements last. next (record { place = first.place; closing = last.place; statements = statements })) [])
+abbrev pub begins_type : TokenKind → Bool
+begins_type k = same kinds.Name k || same opening_bracket k || same (keyword keywords.Struct) k
 
--- behind the keyword of a function
-abbrev pub function_behind : (Function → State) → Lexeme → State
-function_behind next word =
-    named (codes "main") (λ id. due opening (due closing (block (λ body. next (record { place = word.place; name = name_of id; body = body })))))
+-- expressions
 
--- behind the name that a statement begins with
-abbrev pub statement_behind : (Stmt → State) → Lexeme → State
-statement_behind next «package» =
-    due period (named (codes "Println") (λ selected. due opening (argument (λ arguments. next (expression «package».place (call_of «package» selected arguments))) [])))
+-- the operators that may follow, the tightest first
+abbrev pub tails : ℕ → Bool → ℕ → (Expr → State) → Expr → State
+tails zero h l next e = next e
+tails (suc n) h l next e = tails n h l (λ a. operators n h l a next) e
 
-abbrev pub next_if : Bool → State → Option State → Option State
-next_if test next other = if test then Some next else other
+-- what is behind an operand
+abbrev pub behind_operand : ℕ → Bool → ℕ → (Expr → State) → Expr → State
+behind_operand n h l next e = suffixes h l e (tails n h l next)
 
-abbrev pub is_named : List ℕ → Lexeme → Bool
-is_named text t = same kinds.Name t.kind && bytes_eq t.text text
+abbrev pub behind_opening : ℕ → Bool → ℕ → (Expr → State) → Lexeme → State
+behind_opening n h l next t =
+    expr 5 false (l + 1) an_operand (λ e. token closing 0 another (λ _. behind_operand n h l next (parenthesized t.place e)))
 
--- an import or a function, if the package is main
-abbrev pub next_main : Bool → Option State → Option State
-next_main main next = if main then next else None
+-- behind an array or struct type that begins an operand: its elements, or what is converted to it
+abbrev pub behind_literal_type : ℕ → (Expr → State) → TypeExpr → State
+behind_literal_type l next a =
+    optional opening_brace (l + 1) (λ o. list_start (elements (l + 2)) [] (λ es _. next (literal (type_place a) a o.place (pack_elements es))))
+    (token opening (l + 1) another (λ _. expr 5 false (l + 1) an_operand (λ e.
+    optional comma 0 (λ _. token closing 0 another (λ _. next (conversion (type_place a) a e)))
+    (token closing 0 another (λ _. next (conversion (type_place a) a e))))))
 
-abbrev pub in_main : Name → Option State → Option State
-in_main «package» next = next_main (bytes_eq «package».text (codes "main")) next
+abbrev pub on_unary : ℕ → Bool → ℕ → (Expr → State) → Lexeme → Move → Option UnaryOperator → Move
+on_unary n h l next t other None = other
+on_unary n h l next t other (Some op) = Take (l + 1) (expr 0 h (l + 1) an_operand (λ e. tails n h l next (unary t.place op e)))
 
-abbrev pub on_function : Name → List ImportSpec → Lexeme → Option State
-on_function «package» imports t =
-    next_if (same (kinds.Keyword keywords.Func) t.kind) (function_behind (λ f. due semicolon (ended (file_with «package» imports f))) t) None
+abbrev pub on_expr : ℕ → Bool → ℕ → Expected → (Expr → State) → Lexeme → Move
+on_expr n h l x next t =
+    cond (same kinds.Name t.kind) (Take l (behind_operand n h l next (name t.place t.text)))
+    (cond (same kinds.Integer t.kind) (Take l (behind_operand n h l next (integer t.place t.text)))
+    (cond (same kinds.Rune t.kind) (Take l (behind_operand n h l next (rune t.place (rune_value t.text))))
+    (cond (same kinds.String t.kind) (Take l (behind_operand n h l next (string t.place (string_value t.text))))
+    (cond (same opening t.kind) (Take (l + 1) (behind_opening n h l next t))
+    (cond (same opening_bracket t.kind) (Take (l + 2) (behind_bracket (l + 1) (behind_literal_type l (behind_operand n h l next)) t))
+    (cond (same (keyword keywords.Struct) t.kind) (Take (l + 1) (behind_struct (l + 1) (behind_literal_type l (behind_operand n h l next)) t))
+    (on_unary n h l next t (Fail x) (unary_of t.kind))))))))
 
-abbrev pub on_literal : (List Expr → State) → List Expr → Option Expr → Option State
-on_literal next front None = None
-on_literal next front (Some e) = Some (next (front ++ e ∷ []))
+abbrev pub is_some : {A : Type 0} → Option A → Bool
+is_some None = false
+is_some (Some a) = true
 
--- what is due behind a further token, if that may come
-abbrev pub step : State → Lexeme → Option State
-step (due kind next) t = next_if (same kind t.kind) next None
-step (kept kind next) t = next_if (same kind t.kind) (next t) None
-step (named text next) t = next_if (is_named text t) (next t) None
-step (package_name next) t = next_if (same kinds.Name t.kind && not (bytes_eq t.text (codes "_"))) (next (name_of t)) None
-step (parts «package») t =
-    in_main «package» (next_if (same (kinds.Keyword keywords.Import) t.kind) (path (λ i. due semicolon (functions «package» (i ∷ []))))
-    (on_function «package» [] t))
-step (functions «package» imports) t = in_main «package» (on_function «package» imports t)
-step (path next) t = next_if (same kinds.String t.kind && bytes_eq (string_value t.text) (codes "fmt")) (next (import_at t)) None
-step (statement next front) t =
-    next_if (same semicolon t.kind) (statement next front)
-    (next_if (same closing_brace t.kind) (next front t)
-    (next_if (is_named (codes "fmt") t) (statement_behind (λ s. statement_end next (front ++ s ∷ [])) t) None))
-step (statement_end next front) t =
-    next_if (same semicolon t.kind) (statement next front) (next_if (same closing_brace t.kind) (next front t) None)
-step (argument next front) t =
-    next_if (same closing t.kind) (next (pack front)) (on_literal (argument_end next) front (literal_of t.kind t))
-step (argument_end next front) t =
-    next_if (same comma t.kind) (argument next front) (next_if (same closing t.kind) (next (pack front)) None)
-step (ended file) t = None
+abbrev pub begins_expr : TokenKind → Bool
+begins_expr k =
+    same kinds.Name k || same kinds.Integer k || same kinds.Rune k || same kinds.String k || same opening k || same opening_bracket k
+    || same (keyword keywords.Struct) k || is_some (unary_of k)
 
--- the file, if it may end
-abbrev pub final : State → Option File
-final (parts «package») = Some (file_without «package» [])
-final (functions «package» imports) = Some (file_without «package» imports)
-final (ended file) = Some file
-final _ = None
+-- the type that an expression may be, if a brace follows it
+abbrev pub literal_type : Expr → Option TypeExpr
+literal_type (name p text) = Some (named p (record { text = text; place = p }))
+literal_type (selector p (name q text) f) = Some (qualified p (record { text = text; place = q }) f)
+literal_type _ = None
 
--- how a list ends: as a file, or refused where these tokens are left
-pub data Outcome : Type 0 where
-  Done : File → Outcome
-  Refused : List Lexeme → Outcome
+abbrev pub on_brace : Bool → ℕ → (Expr → State) → Lexeme → Move → Option TypeExpr → Move
+on_brace false l behind t other (Some a) =
+    cond (same opening_brace t.kind) (Take (l + 1) (list_start (elements (l + 2)) []
+    (λ es _. behind (literal (type_place a) a t.place (pack_elements es))))) other
+on_brace h l behind t other a = other
 
-abbrev pub at_end : Option File → Outcome
-at_end None = Refused []
-at_end (Some file) = Done file
+abbrev pub on_suffix : Bool → ℕ → Expr → (Expr → State) → Lexeme → Move → Move
+on_suffix h l e behind t other =
+    cond (same period t.kind) (Take (l + height e) (token kinds.Name 0 a_selected_name (λ s. behind (selector (place_of e) e (name_of s)))))
+    (cond (same opening_bracket t.kind)
+    (Take (l + height e) (expr 5 false (l + 1) an_index (λ i. token closing_bracket 0 an_index_end (λ _. behind (index (place_of e) e i)))))
+    (cond (same opening t.kind) (Take (l + height e) (list_start (arguments (l + 1)) [] (λ es _. behind (call (place_of e) e (pack es)))))
+    (on_brace h l behind t other (literal_type e))))
 
-abbrev pub by_step : (State → Outcome) → List Lexeme → Option State → Outcome
-by_step go ts None = Refused ts
-by_step go ts (Some s) = go s
+abbrev pub on_operator : ℕ → Bool → ℕ → Expr → (Expr → State) → Move → Option BinaryOperator → Move
+on_operator n h l e behind other None = other
+on_operator n h l e behind other (Some op) =
+    cond (nat_eq (tighter op) n) (Take (l + height e) (expr n h (l + 1) an_operand (λ r. behind (binary (place_of e) op e r)))) other
 
-unfoldable pub run : State → List Lexeme → Outcome
-run s [] = at_end (final s)
-run s (t ∷ ts) = by_step (λ r. run r ts) (t ∷ ts) (step s t)
+-- elements of a literal
+
+-- behind an element without a key: one that is a name may be the key
+abbrev pub behind_element : ℕ → List (Option Name × Element) → (List (Option Name × Element) → Lexeme → State) → Expr → State
+behind_element l front next (name p text) =
+    let other : State = list_end (elements l) another (front ++ (None, expression_element (name p text)) ∷ []) next in
+    let key : Option Name = Some (record { text = text; place = p }) in
+    optional colon 0 (λ _.
+    optional opening_brace l (λ o. list_start (elements (l + 1)) []
+    (λ es _. list_end (elements l) an_element_end (front ++ (key, value_element o.place (pack_elements es)) ∷ []) next))
+    (expr 5 false l an_operand (λ e. list_end (elements l) an_element_end (front ++ (key, expression_element e) ∷ []) next)))
+    other
+behind_element l front next e = list_end (elements l) an_element_end (front ++ (None, expression_element e) ∷ []) next
+
+abbrev pub on_element : ℕ → List (Option Name × Element) → (List (Option Name × Element) → Lexeme → State) → Lexeme → Move
+on_element l front next t =
+    cond (same opening_brace t.kind)
+    (Take l (list_start (elements (l + 1)) [] (λ es _. list_end (elements l) an_element_end
+    (front ++ (None, value_element t.place (pack_elements es)) ∷ []) next)))
+    (on_expr 5 false l an_operand (behind_element l front next) t)
+
+-- declarations
+
+abbrev pub value_list : ℕ → (Exprs → State) → State
+value_list l next = expr 5 false l a_value (λ e. more_exprs false l (e ∷ []) (λ es. next (pack es)))
+
+abbrev pub const_rest : ℕ → (ConstSpec → State) → List Name → State
+const_rest l next ns =
+    optional_type l a_type (λ a. token assign 0 another (λ _. value_list l (λ es. next (record { names = ns; type = Some a; values = es }))))
+    (optional assign l (λ _. value_list l (λ es. next (record { names = ns; type = None; values = es })))
+    (next (record { names = ns; type = None; values = no_exprs })))
+
+abbrev pub var_rest : ℕ → (VarSpec → State) → List Name → State
+var_rest l next ns =
+    optional_type l a_type (λ a.
+    optional assign 0 (λ _. value_list l (λ es. next (record { names = ns; type = Some a; values = es })))
+    (next (record { names = ns; type = Some a; values = no_exprs })))
+    (token assign 0 another (λ _. value_list l (λ es. next (record { names = ns; type = None; values = es }))))
+
+abbrev pub type_rest : ℕ → (TypeSpec → State) → Lexeme → State
+type_rest l next t = type l a_declared_type (λ a. next (record { name = name_of t; type = a }))
+
+abbrev pub group : (k : ListKind) → (List (Item k) → State) → ((Item k → State) → State) → State
+group k next single = optional opening 0 (λ _. list_start k [] (λ ss _. next ss)) (single (λ s. next (s ∷ [])))
+
+abbrev pub behind_const : ℕ → (Decl → State) → Lexeme → State
+behind_const l next t = group (const_specs l) (λ ss. next (constants t.place ss)) (λ one. names 0 (const_rest l one))
+
+abbrev pub behind_var : ℕ → (Decl → State) → Lexeme → State
+behind_var l next t = group (var_specs l) (λ ss. next (variables t.place ss)) (λ one. names l (var_rest l one))
+
+abbrev pub behind_type : ℕ → (Decl → State) → Lexeme → State
+behind_type l next t = group (type_specs l) (λ ss. next (types t.place ss)) (λ one. token kinds.Name l another (type_rest l one))
+
+-- simple statements
+
+-- the names that some expressions are, if all are names
+abbrev pub name_if : Expr → Option Name
+name_if (name p text) = Some (record { text = text; place = p })
+name_if _ = None
+
+abbrev pub push_name : Option Name → Option (List Name) → Option (List Name)
+push_name (Some n) (Some ns) = Some (n ∷ ns)
+push_name _ _ = None
+
+abbrev pub names_if : List Expr → Option (List Name)
+names_if [] = Some []
+names_if (e ∷ es) = push_name (name_if e) (names_if es)
+
+abbrev pub may_define : Position → Bool
+may_define behind_turns = false
+may_define _ = true
+
+abbrev pub is_header : Position → Bool
+is_header in_header = true
+is_header in_for = true
+is_header _ = false
+
+abbrev pub is_for : Position → Bool
+is_for in_for = true
+is_for _ = false
+
+abbrev pub definition_values : Bool → ℕ → List Name → (Simple → State) → State
+definition_values h l ns next = expr 5 h l an_operand (λ e. more_exprs h l (e ∷ []) (λ es. next (definition ns (pack es))))
+
+-- behind `:=`
+abbrev pub behind_define : Position → Bool → ℕ → List Name → (Simple → State) → (Name → Expr → State) → State
+behind_define in_for h l (n ∷ []) next range =
+    optional (keyword keywords.Range) 0 (λ _. expr 5 h l an_operand (λ e. range n e)) (definition_values h l (n ∷ []) next)
+behind_define m h l ns next range = definition_values h l ns next
+
+abbrev pub on_define : Position → Bool → ℕ → (Simple → State) → (Name → Expr → State) → Lexeme → Move → Option (List Name) → Move
+on_define m h l next range t other None = other
+on_define m h l next range t other (Some ns) = cond (same define t.kind && may_define m) (Take 0 (behind_define m h l ns next range)) other
+
+abbrev pub on_assignment : Bool → ℕ → Expr → (Simple → State) → Move → Option BinaryOperator → Move
+on_assignment h l e next other None = other
+on_assignment h l e next other (Some op) = Take 0 (expr 5 h l an_operand (λ r. next (operator_assignment op e r)))
+
+-- behind several left sides, and behind one or more
+abbrev pub on_lefts : Position → Bool → ℕ → List Expr → (Simple → State) → (Expr → State) → (Name → Expr → State) → Lexeme → Move → Move
+on_lefts m h l front next alone range t other =
+    cond (same comma t.kind) (Take 0 (expr 5 h l an_operand (λ e. lefts m h l (front ++ e ∷ []) next alone range)))
+    (cond (same assign t.kind) (Take 0 (expr 5 h l a_value (λ e. more_exprs h l (e ∷ []) (λ es. next (assignment (pack front) (pack es))))))
+    (on_define m h l next range t other (names_if front)))
+
+-- behind one, which is no more than that
+abbrev pub on_left : Bool → ℕ → Expr → (Simple → State) → Lexeme → Move → Move
+on_left h l e next t other =
+    cond (same (kinds.Punctuation marks.Increment) t.kind) (Take 0 (next (increment e)))
+    (cond (same (kinds.Punctuation marks.Decrement) t.kind) (Take 0 (next (decrement e)))
+    (on_assignment h l e next other (assignment_of t.kind)))
+
+-- what is expected behind an expression that is no statement
+abbrev pub behind_left : Position → Expr → Expected
+behind_left in_list (name p text) = behind_a_name
+behind_left _ _ = another
+
+-- a statement of a list, which can't be followed by a block or a `range`
+abbrev pub list_lefts : Position → Bool → ℕ → (Simple → State) → Expr → State
+list_lefts m h l next e = lefts m h l (e ∷ []) next (λ a. next (call_statement a)) (λ n a. next (call_statement a))
+
+-- statements
+
+abbrev pub open_block : ℕ → (Block → State) → Lexeme → State
+open_block l next o = list_start (statements (l + 1)) [] (λ ss c. next (block o.place (pack_stmts ss) c.place))
+
+abbrev pub block_at : ℕ → (Block → State) → State
+block_at l next = token opening_brace l another (open_block l next)
+
+abbrev pub if_condition : ℕ → Place → (If → State) → Option Simple → State
+if_condition l p next i = expr 5 true (l + 1) an_operand (λ c. block_at (l + 1) (λ b. else_part l p i c b next))
+
+abbrev pub behind_if : ℕ → (If → State) → Lexeme → State
+behind_if l next t =
+    optional semicolon 0 (λ _. if_condition l t.place next None)
+    (expr 5 true (l + 1) an_operand (λ e. lefts in_header true (l + 1) (e ∷ []) (λ s. token semicolon 0 another (λ _. if_condition l t.place next (Some s)))
+    (λ c. block_at (l + 1) (λ b. else_part l t.place None c b next)) (λ n a. if_condition l t.place next None)))
+
+abbrev pub behind_else : ℕ → (Else → State) → State
+behind_else l next = optional (keyword keywords.If) (l + 2) (behind_if (l + 1) (λ i. next (else_if i))) (block_at (l + 1) (λ b. next (else_block b)))
+
+abbrev pub for_body : ℕ → Place → (Stmt → State) → Option Simple → Option Expr → Option Simple → Block → State
+for_body l p next i c n b = next (for_statement p i c n b)
+
+abbrev pub for_turns : ℕ → Place → (Stmt → State) → Option Simple → Option Expr → State
+for_turns l p next i c =
+    optional opening_brace (l + 1) (open_block (l + 1) (for_body l p next i c None))
+    (expr 5 true (l + 1) an_operand (list_lefts behind_turns true (l + 1) (λ s. block_at (l + 1) (for_body l p next i c (Some s)))))
+
+abbrev pub for_condition : ℕ → Place → (Stmt → State) → Option Simple → State
+for_condition l p next i =
+    optional semicolon 0 (λ _. for_turns l p next i None)
+    (expr 5 true (l + 1) an_operand (λ c. token semicolon 0 another (λ _. for_turns l p next i (Some c))))
+
+abbrev pub range_body : ℕ → Place → (Stmt → State) → Option Name → Expr → State
+range_body l p next n e = block_at (l + 1) (λ b. next (range_statement p n e b))
+
+abbrev pub behind_for : ℕ → (Stmt → State) → Lexeme → State
+behind_for l next t =
+    optional opening_brace (l + 1) (open_block (l + 1) (for_body l t.place next None None None))
+    (optional semicolon 0 (λ _. for_condition l t.place next None)
+    (optional (keyword keywords.Range) 0 (λ _. expr 5 true (l + 1) an_operand (range_body l t.place next None))
+    (expr 5 true (l + 1) an_operand (λ e. lefts in_for true (l + 1) (e ∷ []) (λ s. token semicolon 0 another (λ _. for_condition l t.place next (Some s)))
+    (λ c. block_at (l + 1) (for_body l t.place next None (Some c) None)) (λ n a. range_body l t.place next (Some n) a)))))
+
+abbrev pub clause_body : ℕ → List Clause → (Clauses → Lexeme → State) → Place → Option Exprs → State
+clause_body l done next p values = token colon 0 another (λ _. clause_start l done p values [] next)
+
+abbrev pub behind_case : ℕ → List Clause → (Clauses → Lexeme → State) → Lexeme → State
+behind_case l done next t =
+    expr 5 false (l + 1) an_operand (λ e. more_exprs false (l + 1) (e ∷ []) (λ es. clause_body l done next t.place (Some (pack es))))
+
+abbrev pub clauses_at : ℕ → (Clauses → Lexeme → State) → State
+clauses_at l next =
+    optional (keyword keywords.Case) (l + 1) (behind_case l [] next)
+    (optional (keyword keywords.Default) 0 (λ t. clause_body l [] next t.place None) (token closing_brace 0 another (next no_clauses)))
+
+abbrev pub switch_body : ℕ → Place → (Stmt → State) → Option Simple → Option Expr → State
+switch_body l p next i tag = clauses_at l (λ cs _. next (switch_statement p i tag cs))
+
+abbrev pub switch_tag : ℕ → Place → (Stmt → State) → Option Simple → State
+switch_tag l p next i =
+    optional opening_brace 0 (λ _. switch_body l p next i None)
+    (expr 5 true (l + 1) an_operand (λ e. token opening_brace 0 another (λ _. switch_body l p next i (Some e))))
+
+abbrev pub behind_switch : ℕ → (Stmt → State) → Lexeme → State
+behind_switch l next t =
+    optional opening_brace 0 (λ _. switch_body l t.place next None None)
+    (optional semicolon 0 (λ _. switch_tag l t.place next None)
+    (expr 5 true (l + 1) an_operand (λ e. lefts in_header true (l + 1) (e ∷ []) (λ s. token semicolon 0 another (λ _. switch_tag l t.place next (Some s)))
+    (λ tag. token opening_brace 0 another (λ _. switch_body l t.place next None (Some tag))) (λ n a. switch_tag l t.place next None))))
+
+abbrev pub behind_return : ℕ → (Stmt → State) → Lexeme → State
+behind_return l next t =
+    optional_expr false (l + 1) an_operand (λ e. more_exprs false (l + 1) (e ∷ []) (λ es. next (return t.place (pack es)))) (next (return t.place no_exprs))
+
+-- a statement that isn't empty, and what is expected behind it but a semicolon or the list's end
+abbrev pub on_stmt : ℕ → (Expected → Stmt → State) → Lexeme → Move
+on_stmt l next t =
+    cond (same (keyword keywords.Const) t.kind) (Take l (behind_const (l + 1) (λ d. next another (declaration t.place d)) t))
+    (cond (same (keyword keywords.Var) t.kind) (Take l (behind_var (l + 1) (λ d. next another (declaration t.place d)) t))
+    (cond (same (keyword keywords.Return) t.kind) (Take l (behind_return l (next another) t))
+    (cond (same (keyword keywords.Break) t.kind) (Take l (next behind_a_jump (break t.place)))
+    (cond (same (keyword keywords.Continue) t.kind) (Take l (next behind_a_jump (continue t.place)))
+    (cond (same (keyword keywords.Fallthrough) t.kind) (Take l (next another (fallthrough t.place)))
+    (cond (same opening_brace t.kind) (Take (l + 1) (open_block (l + 1) (λ b. next another (block_statement b)) t))
+    (cond (same (keyword keywords.If) t.kind) (Take (l + 1) (behind_if l (λ i. next another (if_statement i)) t))
+    (cond (same (keyword keywords.For) t.kind) (Take (l + 1) (behind_for l (next another) t))
+    (cond (same (keyword keywords.Switch) t.kind) (Take l (behind_switch l (next another) t))
+    (on_expr 5 false (l + 1) a_statement (list_lefts in_list false (l + 1) (λ s. next another (simple (simple_place s) s))) t))))))))))
+
+-- imports
+
+abbrev pub is_string : List ℕ → Lexeme → Bool
+is_string other t = same kinds.String t.kind && not (bytes_eq (string_value t.text) other)
+
+abbrev pub import_of : Option Name → Place → Lexeme → ImportSpec
+import_of n p t = record { place = p; name = n; path = string_value t.text; path_place = t.place }
+
+abbrev pub import_spec : (ImportSpec → State) → State
+import_spec next =
+    optional kinds.Name 0 (λ n. import_path an_import_path (λ t. next (import_of (Some (name_of n)) n.place t)))
+    (import_path an_import (λ t. next (import_of None t.place t)))
+
+-- lists
+
+abbrev pub on_item : (k : ListKind) → List (Item k) → (List (Item k) → Lexeme → State) → Lexeme → Move
+on_item (fields l) front next t =
+    on_token kinds.Name l another (λ n. more_names (name_of n ∷ []) (λ ns. type l a_type (λ a. list_end (fields l) a_field_end (front ++ (ns, a) ∷ []) next))) t
+on_item (arguments l) front next t = on_expr 5 false l an_operand (λ e. list_end (arguments l) another (front ++ e ∷ []) next) t
+on_item (elements l) front next t = on_element l front next t
+on_item (const_specs l) front next t =
+    on_token kinds.Name 0 another (λ n. more_names (name_of n ∷ []) (const_rest l (λ s. list_end (const_specs l) another (front ++ s ∷ []) next))) t
+on_item (var_specs l) front next t =
+    on_token kinds.Name l another (λ n. more_names (name_of n ∷ []) (var_rest l (λ s. list_end (var_specs l) another (front ++ s ∷ []) next))) t
+on_item (type_specs l) front next t = on_token kinds.Name l another (type_rest l (λ s. list_end (type_specs l) another (front ++ s ∷ []) next)) t
+on_item import_specs front next t =
+    cond (same kinds.Name t.kind) (Take 0 (import_path an_import_path
+    (λ s. list_end import_specs another (front ++ import_of (Some (name_of t)) t.place s ∷ []) next)))
+    (cond (is_string (codes "C") t) (Take 0 (list_end import_specs another (front ++ import_of None t.place t ∷ []) next)) (Fail an_import))
+on_item (statements l) front next t =
+    cond (same semicolon t.kind) (Take l (list_start (statements l) (front ++ empty t.place ∷ []) next))
+    (on_stmt l (λ x s. list_end (statements l) x (front ++ s ∷ []) next) t)
+on_item parameters front next t =
+    on_token kinds.Name 1 another (λ n. more_names (name_of n ∷ [])
+    (λ ns. type 1 a_parameter_type (λ a. list_end parameters another (front ++ record { names = ns; type = a } ∷ []) next))) t
+on_item results front next t = on_type 1 a_type (λ a. list_end results a_result_end (front ++ a ∷ []) next) t
+
+-- clauses
+
+abbrev pub with_clause : List Clause → Place → Option Exprs → List Stmt → List Clause
+with_clause done p values front = done ++ (p, (values, front)) ∷ []
+
+abbrev pub on_clause : ℕ → List Clause → (Clauses → Lexeme → State) → Lexeme → Move → Move
+on_clause l done next t other =
+    cond (same (keyword keywords.Case) t.kind) (Take (l + 1) (behind_case l done next t))
+    (cond (same (keyword keywords.Default) t.kind) (Take 0 (clause_body l done next t.place None)) other)
+
+-- files
+
+abbrev pub file_of : Name → List ImportSpec → List TopLevel → File
+file_of p is ds = record { «package» = p; imports = is; declarations = ds }
+
+abbrev pub results_at : (List TypeExpr → State) → State
+results_at next = optional opening 0 (λ _. list_start results [] (λ rs _. next rs)) (optional_type 1 a_type (λ a. next (a ∷ [])) (next []))
+
+abbrev pub behind_func : (Function → State) → Lexeme → State
+behind_func next t =
+    token kinds.Name 0 a_function_name (λ n. token opening 0 a_function_opening (λ _. list_start parameters [] (λ ps _. results_at (λ rs.
+    block_at 1 (λ b. next (record { place = t.place; name = name_of n; parameters = ps; results = rs; body = b }))))))
+
+abbrev pub decls_at : Name → List ImportSpec → List TopLevel → State
+decls_at p is ds =
+    optional (keyword keywords.Const) 0 (behind_const 1 (λ d. decl_end p is (ds ++ declared d ∷ [])))
+    (optional (keyword keywords.Var) 0 (behind_var 1 (λ d. decl_end p is (ds ++ declared d ∷ [])))
+    (optional (keyword keywords.Type) 0 (behind_type 1 (λ d. decl_end p is (ds ++ declared d ∷ [])))
+    (optional (keyword keywords.Func) 1 (behind_func (λ f. decl_end p is (ds ++ function f ∷ []))) (ended (file_of p is ds)))))
+
+abbrev pub imports_at : Name → List (List ImportSpec) → State
+imports_at p iss =
+    optional (keyword keywords.Import) 0 (λ _. group import_specs (λ is. import_end p (iss ++ is ∷ [])) import_spec) (decls_at p (concat iss) [])
 
 -- what is due first
 abbrev pub start : State
-start = due (kinds.Keyword keywords.Package) (package_name (λ name. due semicolon (parts name)))
+start = token (keyword keywords.Package) 0 another (λ _. package_name (λ n. token semicolon 0 another (λ _. imports_at (name_of n) [])))
+
+-- steps
+
+-- what may be missing is passed over, unless the token begins what is left out in its place
+abbrev pub on_optional : Bool → Bool → Expected → Move → Move → Move
+on_optional true out x there missing = there
+on_optional false true x there missing = Fail x
+on_optional false false x there missing = missing
+
+-- what a token does
+abbrev pub step : State → Lexeme → Move
+step (ended f) t = Fail another
+step (token kind need x next) t = on_token kind need x next t
+step (package_name next) t = cond (same kinds.Name t.kind && not (bytes_eq t.text (codes "_"))) (Take 0 (next t)) (Fail another)
+step (import_path x next) t = cond (is_string (codes "C") t) (Take 0 (next t)) (Fail x)
+step (optional kind need some none) t = cond (same kind t.kind) (Take need (some t)) (step none t)
+step (type l x next) t = on_type l x next t
+step (optional_type l x some none) t = on_optional (begins_type t.kind) (is_left_out_at x t.kind) x (on_type l x some t) (step none t)
+step (expr n h l x next) t = on_expr n h l x next t
+step (optional_expr h l x some none) t = on_optional (begins_expr t.kind) (is_left_out_at x t.kind) x (on_expr 5 h l x some t) (step none t)
+step (suffixes h l e next) t = on_suffix h l e (λ a. suffixes h l a next) t (step (next e) t)
+step (operators n h l e next) t = on_operator n h l e (λ a. operators n h l a next) (step (next e) t) (binary_of t.kind)
+step (more_names front next) t =
+    cond (same comma t.kind) (Take 0 (token kinds.Name 0 another (λ n. more_names (front ++ name_of n ∷ []) next))) (step (next front) t)
+step (more_exprs h l front next) t =
+    cond (same comma t.kind) (Take 0 (expr 5 h l an_operand (λ e. more_exprs h l (front ++ e ∷ []) next))) (step (next front) t)
+step (list_start k front next) t = cond (same (closer k) t.kind) (Take 0 (next front t)) (on_item k front next t)
+step (list_end k x front next) t =
+    cond (same (separator k) t.kind) (Take 0 (list_start k front next)) (cond (same (closer k) t.kind) (Take 0 (next front t)) (Fail x))
+step (lefts m h l [] next alone range) t = Fail another
+step (lefts m h l (e ∷ []) next alone range) t =
+    on_lefts m h l (e ∷ []) next alone range t (on_left h l e next t
+    (cond (is_header m && same opening_brace t.kind) (step (alone e) t) (cond (is_call e) (step (next (call_statement e)) t) (Fail (behind_left m e)))))
+step (lefts m h l (e ∷ f ∷ es) next alone range) t = on_lefts m h l (e ∷ f ∷ es) next alone range t (Fail another)
+step (else_part l p i c b next) t =
+    cond (same (keyword keywords.Else) t.kind) (Take 0 (behind_else l (λ r. next (conditional p i c b r)))) (step (next (conditional p i c b no_else)) t)
+step (clause_start l done p values front next) t =
+    on_clause l (with_clause done p values front) next t
+    (cond (same closing_brace t.kind) (Take 0 (next (pack_clauses (with_clause done p values front)) t))
+    (cond (same semicolon t.kind) (Take (l + 1) (clause_start l done p values (front ++ empty t.place ∷ []) next))
+    (on_stmt (l + 1) (λ x s. clause_end l x done p values (front ++ s ∷ []) next) t)))
+step (clause_end l x done p values front next) t =
+    cond (same semicolon t.kind) (Take 0 (clause_start l done p values front next))
+    (cond (same closing_brace t.kind) (Take 0 (next (pack_clauses (with_clause done p values front)) t)) (Fail x))
+step (import_end p iss) t = on_token semicolon 0 another (λ _. imports_at p iss) t
+step (decl_end p is ds) t = on_token semicolon 0 another (λ _. decls_at p is ds) t
+
+abbrev pub final_if : Bool → Option File → Option File
+final_if true f = f
+final_if false f = None
+
+-- the file, where the tokens may end
+abbrev pub final : State → Option File
+final (ended f) = Some f
+final (optional kind need some none) = final none
+final (optional_type l x some none) = final none
+final (optional_expr h l x some none) = final none
+final (suffixes h l e next) = final (next e)
+final (operators n h l e next) = final (next e)
+final (more_names front next) = final (next front)
+final (more_exprs h l front next) = final (next front)
+final (lefts m h l (e ∷ []) next alone range) = final_if (is_call e) (final (next (call_statement e)))
+final (else_part l p i c b next) = final (next (conditional p i c b no_else))
+final _ = None
+
+-- how a list of tokens ends: as a file, or refused where these are left, by a number
+pub data Outcome : Type 0 where
+  Done : File → Outcome
+  Refused : (number : ℕ) → List Lexeme → Outcome
+
+abbrev pub at_end : Option File → Outcome
+at_end None = Refused 3 []
+at_end (Some f) = Done f
+
+abbrev pub by_level : Bool → Outcome → List Lexeme → Outcome
+by_level true o ts = o
+by_level false o ts = Refused 4 ts
+
+abbrev pub by_move : ℕ → (State → Outcome) → TokenKind → List Lexeme → Move → Outcome
+by_move bound go k ts (Take need s) = by_level (nat_le need bound) (go s) ts
+by_move bound go k ts (Fail x) = Refused (fault_at x k) ts
+
+unfoldable pub run : ℕ → State → List Lexeme → Outcome
+run bound s [] = at_end (final s)
+run bound s (t ∷ ts) = by_move bound (λ r. run bound r ts) t.kind (t ∷ ts) (step s t)

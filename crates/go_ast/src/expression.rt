@@ -1,13 +1,77 @@
-//! Expressions.
-ghost use Rattle.std.specs.Prelude.{◌≡◌, IfOk};
-ghost use Rattle.go_ast.specs.Views.{expression_of, expressions_of};
+//! Types and expressions.
 
 use crate::name::Name;
 use go_text::place::Place;
-use std::alloc::{AllocError, Global};
+
+/// An operator in front of an operand.
+#[derive(Clone, Copy)]
+pub enum UnaryOperator {
+    Positive,
+    Negative,
+    Negation,
+    Complement,
+}
+
+/// An operator between two operands.
+#[derive(Clone, Copy)]
+pub enum BinaryOperator {
+    Multiply,
+    Divide,
+    Remainder,
+    ShiftLeft,
+    ShiftRight,
+    BitAnd,
+    AndNot,
+    Add,
+    Subtract,
+    BitOr,
+    BitXor,
+    Equal,
+    NotEqual,
+    Less,
+    LessOrEqual,
+    Greater,
+    GreaterOrEqual,
+    LogicalAnd,
+    LogicalOr,
+}
+
+/// A type, and the place of its first token.
+#[cycle(ast)]
+#[derive(Drop)]
+pub struct TypeExpr {
+    /// The place of its first token.
+    pub place: Place,
+    /// Which type it is.
+    pub kind: TypeKind,
+}
+
+/// What a type is.
+#[cycle(ast)]
+#[derive(Drop)]
+pub enum TypeKind {
+    /// A type by its name.
+    Named(Name),
+    /// A type of a package, by both names.
+    Qualified(Name, Name),
+    /// Arrays of a length, of elements of a type.
+    Array(Box<Expr>, Box<TypeExpr>),
+    /// Structs of some fields.
+    Struct(Vec<Field>),
+}
+
+/// Fields of one type.
+#[cycle(ast)]
+#[derive(Drop)]
+pub struct Field {
+    /// Their names.
+    pub names: Vec<Name>,
+    /// Their type.
+    pub type_expr: TypeExpr,
+}
 
 /// An expression, and the place of its first token.
-#[cycle(expression)]
+#[cycle(ast)]
 #[derive(Drop)]
 pub struct Expr {
     /// The place of its first token.
@@ -17,63 +81,51 @@ pub struct Expr {
 }
 
 /// What an expression is.
-#[cycle(expression)]
+#[cycle(ast)]
 #[derive(Drop)]
 pub enum ExprKind {
     /// A name, by its text.
     Name(String),
     /// An integer literal, by its text.
     Integer(String),
+    /// A rune literal, by the code point that it means.
+    Rune(u32),
     /// A string literal, by the bytes that it means.
     String(Vec<u8>),
-    /// A selector: what a name selects from an operand.
+    /// An expression in parentheses.
+    Parenthesized(Box<Expr>),
+    /// An array or a struct of a type: the type, the place of the opening brace, and the elements.
+    Literal(Box<TypeExpr>, Place, Vec<Element>),
+    /// A conversion of a value to a type.
+    Conversion(Box<TypeExpr>, Box<Expr>),
+    /// What a name selects from an operand.
     Selector(Box<Expr>, Name),
+    /// What an index selects from an operand.
+    Index(Box<Expr>, Box<Expr>),
     /// A call of an operand with arguments.
     Call(Box<Expr>, Vec<Expr>),
+    /// An operator in front of an operand.
+    Unary(UnaryOperator, Box<Expr>),
+    /// An operator between two operands.
+    Binary(BinaryOperator, Box<Expr>, Box<Expr>),
 }
 
-impl Expr {
-    /// Another expression of equal contents. An `Err` only where memory ran out.
-    #[cycle(copy)]
-    pub fn copy(&self, alloc: Global) -> Result<Expr, AllocError>
-        ensures { IfOk result (λ copy. expression_of copy ≡ expression_of self.now) }
-    {
-        let place = self.place;
-        match &self.kind {
-            ExprKind::Name(text) => {
-                let kind = ExprKind::Name(text.clone()?);
-                Ok(Expr { place, kind })
-            }
-            ExprKind::Integer(text) => {
-                let kind = ExprKind::Integer(text.clone()?);
-                Ok(Expr { place, kind })
-            }
-            ExprKind::String(value) => {
-                let kind = ExprKind::String(value.clone()?);
-                Ok(Expr { place, kind })
-            }
-            ExprKind::Selector(operand, name) => {
-                let operand = Box::new(alloc, operand.copy(alloc)?)?;
-                let kind = ExprKind::Selector(operand, name.copy()?);
-                Ok(Expr { place, kind })
-            }
-            ExprKind::Call(operand, arguments) => {
-                let operand = Box::new(alloc, operand.copy(alloc)?)?;
-                let kind = ExprKind::Call(operand, copy_expressions(alloc, arguments)?);
-                Ok(Expr { place, kind })
-            }
-        }
-    }
+/// An element of a literal, with a key or none.
+#[cycle(ast)]
+#[derive(Drop)]
+pub struct Element {
+    /// The field or the index that it is for, if it says so.
+    pub key: Option<Name>,
+    /// Its value.
+    pub value: ElementValue,
 }
 
-/// Copies of some expressions, in their order.
-#[cycle(copy)]
-fn copy_expressions(alloc: Global, expressions: &[Expr]) -> Result<Vec<Expr>, AllocError>
-    ensures { IfOk result (λ copies. expressions_of copies.items ≡ expressions_of expressions.now) }
-{
-    let mut copies = Vec::with_capacity(alloc, expressions.len())?;
-    for expression in expressions {
-        copies.push(expression.copy(alloc)?)?;
-    }
-    Ok(copies)
+/// The value of an element.
+#[cycle(ast)]
+#[derive(Drop)]
+pub enum ElementValue {
+    /// An expression.
+    Expression(Expr),
+    /// The elements of a literal that leaves out its type, and the place of the opening brace.
+    Value(Place, Vec<Element>),
 }

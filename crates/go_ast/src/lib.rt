@@ -1,9 +1,9 @@
 //! Syntax trees of source files.
 #![tactic(auto)]
 
+pub mod declaration;
 pub mod expression;
 pub mod file;
+pub mod law;
 pub mod name;
 pub mod statement;
-#[cfg(test)]
-mod tests;

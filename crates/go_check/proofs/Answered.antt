@@ -2,8 +2,8 @@
 use Rattle.std.proofs.Common.{◌≡◌, ℕ, Some, List, [], ◌∷◌, refl, sym, ap, ◌∙◌}
 use Rattle.std.specs.Option.{option_map}
 use Rattle.go_text.specs.Faults.{Fault}
-use Rattle.go_check.specs.Packages.{NamedFile, files_faults, package_name, main_faults, package_faults, Answer, Good, Faulty, IsAnswer}
-use Rattle.go_check.proofs.Fineness.{files_fine, no_first}
+use Rattle.go_check.specs.Packages.{NamedFile, forms_faults, files_faults, package_name, main_faults, package_faults, Answer, Good, Faulty, IsAnswer}
+use Rattle.go_check.proofs.Fineness.{files_fine, no_first, no_last}
 
 pub one_answer : (path : List ℕ) (files : List NamedFile) (a b : Answer) → IsAnswer path files a → IsAnswer path files b → a ≡ b
 one_answer path files (Good t) (Good u) a b =
@@ -17,7 +17,7 @@ one_answer path files (Faulty f) (Faulty g) a b =
 
 by_faults : (path : List ℕ) (files : List NamedFile) (faults : List Fault) → package_faults files ≡ faults → (a : Answer) × IsAnswer path files a
 by_faults path files [] e =
-    let k = files_fine [] files (no_first (files_faults [] files) (main_faults files) e) in (
+    let k = files_fine [] files (no_first (files_faults [] files) (main_faults files) (no_last (forms_faults files) _ e)) in (
       Good (record { path = path; «package» = package_name files; functions = k.0 }),
       record { faultless = e; known = ap (option_map (λ functions. record { path = path; «package» = package_name files; functions = functions })) k.1 },
     )

@@ -4,11 +4,11 @@ use Rattle.std.specs.Option.{option_map}
 use Rattle.std.specs.List.{flat_map}
 use Rattle.go_text.specs.declared.place.Place.{Place}
 use Rattle.go_text.specs.declared.fault.FaultKind.{FaultKind}
-use Rattle.go_ast.specs.Trees.{Expr, Exprs, name, integer, string, selector, call, none, some, place_of, Stmt, expression, Decl, function}
+use Rattle.go_ast.specs.Trees.{Expr, Exprs, name, integer, string, selector, call, no_exprs, some_exprs, place_of, call_statement, Stmt, Simple, simple, TopLevel, declared, function}
 use Rattle.go_check.specs.Typed as typed
 use Rattle.go_check.specs.Typed.{IsTypedExpr, IsTypedStmt, IsWellTyped}
 use Rattle.go_check.specs.Rules.{untyped, literal, integer_constant, named, selected, value, called, stated}
-use Rattle.go_check.specs.Verdicts.{Scope, ruled, fine, asked, both, with_first, all_known, verdict, values, broken, faults, argument_faults, statement_verdict, statement_faults, body_known, body_faults}
+use Rattle.go_check.specs.Verdicts.{Scope, ruled, fine, asked, both, with_first, all_known, verdict, values, broken, faults, argument_faults, simple_verdict, simple_faults, statement_verdict, statement_faults, body_of, body_known, body_faults}
 use Rattle.go_check.specs.Packages.{NamedFile, declaration_known, declaration_faults, declarations_faults, file_faults, files_faults, file_known, file_names, declared_name, scope_of}
 
 -- ---- nodes without faults
@@ -55,18 +55,24 @@ mutual
       asked_known s p (λ parts. called parts.0 parts.1) (both (fine (verdict s callee)) (values s arguments))
       (both_known (fine (verdict s callee)) (values s arguments) (expression_fine s callee (no_first (faults s callee) _ parts)) (arguments_fine s arguments (no_last (faults s callee) _ parts)))
       (no_last (faults s callee ++ argument_faults s arguments) _ e)
+  expression_fine s _ e = cc
 
   arguments_fine : (s : Scope) (es : Exprs) → argument_faults s es ≡ [] → IsKnown (values s es)
-  arguments_fine s none e = ([], refl)
-  arguments_fine s (some x es) e =
+  arguments_fine s no_exprs e = ([], refl)
+  arguments_fine s (some_exprs x es) e =
       let first = no_first (faults s x ++ broken s (place_of x) (asked value (fine (verdict s x)))) _ e in
       first_known (fine (asked value (fine (verdict s x)))) (values s es)
       (asked_known s (place_of x) value (fine (verdict s x)) (expression_fine s x (no_first (faults s x) _ first)) (no_last (faults s x) _ first))
       (arguments_fine s es (no_last (faults s x ++ broken s (place_of x) (asked value (fine (verdict s x)))) _ e))
 
-statement_fine : (s : Scope) (st : Stmt) → statement_faults s st ≡ [] → IsKnown (fine (statement_verdict s st))
-statement_fine s (expression p x) e =
+simple_fine : (s : Scope) (p : Place) (c : Simple) → simple_faults s p c ≡ [] → IsKnown (fine (simple_verdict s c))
+simple_fine s p (call_statement x) e =
     asked_known s p stated (fine (verdict s x)) (expression_fine s x (no_first (faults s x) _ e)) (no_last (faults s x) _ e)
+simple_fine s p _ e = cc
+
+statement_fine : (s : Scope) (st : Stmt) → statement_faults s st ≡ [] → IsKnown (fine (statement_verdict s st))
+statement_fine s (simple p c) e = simple_fine s p c e
+statement_fine s _ e = cc
 
 body_fine : (s : Scope) (statements : List Stmt) → body_faults s statements ≡ [] → IsKnown (body_known s statements)
 body_fine s [] e = ([], refl)
@@ -77,9 +83,10 @@ mapped_known : {A B : Type 0} (f : A → B) (o : Option A) → IsKnown o → IsK
 mapped_known f None k = cc
 mapped_known f (Some x) k = (f x, refl)
 
-declaration_fine : (before : List _) (s : Scope) (d : Decl) → declaration_faults before s d ≡ [] → IsKnown (declaration_known s d)
+declaration_fine : (before : List _) (s : Scope) (d : TopLevel) → declaration_faults before s d ≡ [] → IsKnown (declaration_known s d)
 declaration_fine before s (function f) e =
-    mapped_known _ (body_known s f.body.statements) (body_fine s f.body.statements (no_last (broken s f.name.place _) _ e))
+    mapped_known _ (body_known s (body_of f.body)) (body_fine s (body_of f.body) (no_last (broken s f.name.place _) _ e))
+declaration_fine before s (declared d) e = cc
 
 joined_known : {A : Type 0} (xs ys : List (Option A)) → IsKnown (all_known xs) → IsKnown (all_known ys) → IsKnown (all_known (xs ++ ys))
 joined_known [] ys k l = l
@@ -90,7 +97,7 @@ joined_known {A} (Some x ∷ xs) ys k l = first_known (Some x) (all_known (xs ++
     rest None k = cc
     rest (Some zs) k = (zs, refl)
 
-declarations_fine : (before : List _) (s : Scope) (ds : List Decl) → declarations_faults before s ds ≡ [] → IsKnown (all_known (map (declaration_known s) ds))
+declarations_fine : (before : List _) (s : Scope) (ds : List TopLevel) → declarations_faults before s ds ≡ [] → IsKnown (all_known (map (declaration_known s) ds))
 declarations_fine before s [] e = ([], refl)
 declarations_fine before s (d ∷ ds) e =
     first_known (declaration_known s d) (all_known (map (declaration_known s) ds)) (declaration_fine before s d (no_first (declaration_faults before s d) _ e))

@@ -1,80 +1,49 @@
--- The form of the trees that texts parse to.
-use Rattle.std.proofs.Common.{◌≡◌, ℕ, true, List, [], ◌∷◌, ◌++◌, sym, ap, ◌∙◌, subst, inl, inr}
-use Rattle.std.specs.Prelude.{codes}
-use Rattle.std.specs.List.{All}
-use Rattle.std.proofs.lemmas.List.Elements.{All-head, All-tail}
+-- The trees that hold only known forms.
+use Rattle.std.proofs.Common.{◌≡◌, ℕ, Bool, true, false, Option, Some, None, List, [], ◌∷◌, refl, ap, ◌∙◌}
+use Rattle.std.specs.Prelude.{◌&&◌, codes, if◌then◌else◌}
+use Rattle.std.specs.Str.{bytes_eq}
+use Rattle.std.proofs.lemmas.Slice.Eq.{bytes_eq-Decides}
 use Rattle.go_text.specs.declared.place.Place.{Place}
-use Rattle.go_scan.specs.declared.token.Token.{Token}
-use Rattle.go_scan.specs.declared.token.TokenKind.{TokenKind}
-use Rattle.go_scan.specs.declared.token.TokenKind.TheVariants as kinds
-use Rattle.go_scan.specs.Lex.{is_decimal, MaySpell, StandsIn}
-use Rattle.go_scan.proofs.Spelled.{tokens_stand}
-use Rattle.go_ast.specs.Trees.{Expr, Exprs, name, integer, string, selector, call, none, some, Stmt, expression, Function, Decl, function, ImportSpec, File}
-use Rattle.go_ast.specs.Grammar.{Lexeme, IsLiteral, AreMoreLiterals, AreArguments, IsStatement, AreStatements, AreBehind, IsFunction, AreImports, AreDeclarations, Derives}
-use Rattle.go_parse.specs.Parse.{Derived, IsParse, lexeme, lexemes}
-use Rattle.go_check.specs.Rules.{is_library}
-
--- ---- tokens
-
--- an integer token is a decimal literal
-abbrev Decimal : Lexeme → Type 0
-Decimal t = t.kind ≡ kinds.Integer → is_decimal t.text ≡ true
-
-abbrev Spelled : List Lexeme → Type 0
-Spelled [] = Unit {0}
-Spelled (t ∷ ts) = Decimal t × Spelled ts
-
-parts : (ts us : List Lexeme) → Spelled (ts ++ us) → Spelled ts × Spelled us
-parts [] us h = (tt, h)
-parts (t ∷ ts) us h = let k = parts ts us h.1 in ((h.0, k.0), k.1)
-
-may_spell : (kind : TokenKind) (bytes : List ℕ) → MaySpell kind bytes → kind ≡ kinds.Integer → is_decimal bytes ≡ true
-may_spell kinds.Name bytes h e = cc
-may_spell (kinds.Keyword k) bytes h e = cc
-may_spell kinds.Integer bytes h e = h
-may_spell kinds.String bytes h e = cc
-may_spell (kinds.Punctuation p) bytes h e = cc
-may_spell kinds.Unknown bytes h e = cc
-
-spelled : (text : List ℕ) (ts : List Token) → All (StandsIn text) ts → Spelled (lexemes text ts)
-spelled text [] h = tt
-spelled text (t ∷ ts) h = (may_spell t.kind (lexeme text t).text (All-head (StandsIn text) t ts h).spelled, spelled text ts (All-tail (StandsIn text) t ts h))
-
--- ---- trees
+use Rattle.go_ast.specs.Trees.{Name, Expr, Exprs, name, integer, string, selector, call, no_exprs, some_exprs, place_of, Simple, call_statement, Stmt, Stmts, no_stmts, some_stmts, empty, simple, Block, block, TopLevel, declared, function, ImportSpec, File}
+use Rattle.go_check.specs.Rules.{is_decimal, is_library}
+use Rattle.go_check.specs.Verdicts.{is_name, with_full, full, body_of}
+use Rattle.go_check.specs.Forms.{or_else, first_in, is_literal, unknown_argument, unknown_arguments, is_println, unknown_call, unknown_simple, unknown_statement, unknown_statements, is_nil, unknown_block, unknown_declaration, unknown_import, first_unknown}
 
 -- a decimal literal or a string literal
 abbrev pub IsLiteralTree : Expr → Type 0
 IsLiteralTree (integer p digits) = is_decimal digits ≡ true
 IsLiteralTree (string p value) = Unit {0}
-IsLiteralTree (name p x) = ⊥
-IsLiteralTree (selector p e x) = ⊥
-IsLiteralTree (call p e es) = ⊥
+IsLiteralTree _ = ⊥
 
 abbrev pub AreLiteralTrees : Exprs → Type 0
-AreLiteralTrees none = Unit {0}
-AreLiteralTrees (some e es) = IsLiteralTree e × AreLiteralTrees es
+AreLiteralTrees no_exprs = Unit {0}
+AreLiteralTrees (some_exprs e es) = IsLiteralTree e × AreLiteralTrees es
 
--- a call of what one name selects from another
-abbrev pub call_tree : Place → Place → List ℕ → List ℕ → Exprs → Stmt
-call_tree p q x y arguments = expression p (call p (selector p (name p x) (record { text = y; place = q })) arguments)
+-- what one name selects from another
+abbrev pub selected_tree : Place → Place → Place → List ℕ → List ℕ → Expr
+selected_tree p q r x y = selector p (name q x) (record { text = y; place = r })
 
--- a call of fmt.Println with literals
-pub record IsPrintTree (s : Stmt) : Type 0 where
+-- a call of what is selected from fmt by Println, with literals
+pub record IsPrintTree (st : Stmt) : Type 0 where
   pub place : Place
+  pub called : Place
+  pub selects : Place
+  pub operand : Place
   pub selected : Place
   pub arguments : Exprs
   pub literals : AreLiteralTrees arguments
-  pub is : s ≡ call_tree place selected (codes "fmt") (codes "Println") arguments
+  pub is : st ≡ simple place (call_statement (call called (selected_tree selects operand selected (codes "fmt") (codes "Println")) arguments))
 
 abbrev pub ArePrintTrees : List Stmt → Type 0
 ArePrintTrees [] = Unit {0}
 ArePrintTrees (s ∷ ss) = IsPrintTree s × ArePrintTrees ss
 
 -- a function main of such calls
-abbrev pub IsMainTree : Decl → Type 0
-IsMainTree (function f) = (f.name.text ≡ codes "main") × ArePrintTrees f.body.statements
+abbrev pub IsMainTree : TopLevel → Type 0
+IsMainTree (function f) = (f.name.text ≡ codes "main") × ArePrintTrees (body_of f.body)
+IsMainTree (declared d) = ⊥
 
-abbrev pub AreMainTrees : List Decl → Type 0
+abbrev pub AreMainTrees : List TopLevel → Type 0
 AreMainTrees [] = Unit {0}
 AreMainTrees (d ∷ ds) = IsMainTree d × AreMainTrees ds
 
@@ -86,81 +55,102 @@ pub record IsFileTree (file : File) : Type 0 where
   pub imports : AreLibraryTrees file.imports
   pub declarations : AreMainTrees file.declarations
 
--- ---- from tokens to trees
+-- ---- where no form is unknown
 
-literal_tree : (e : Expr) (t : Lexeme) → IsLiteral e t → Decimal t → IsLiteralTree e
-literal_tree (integer p digits) t h d = subst (λ (x : List ℕ). is_decimal x ≡ true) (sym h.2) (d h.0)
-literal_tree (string p value) t h d = tt
-literal_tree (name p x) t h d = absurd h
-literal_tree (selector p e x) t h d = absurd h
-literal_tree (call p e es) t h d = absurd h
+both_none : (a b : Option Place) → or_else a b ≡ None → (a ≡ None) × (b ≡ None)
+both_none None b e = (refl, e)
+both_none (Some p) b e = cc
 
-more_literals : (es : Exprs) (us : List Lexeme) → AreMoreLiterals es us → Spelled us → AreLiteralTrees es
-more_literals none us h k = tt
-more_literals (some e es) us h k =
-    let each : Spelled (h.0 ∷ h.1 ∷ h.2) = subst Spelled h.3 k in
-    (literal_tree e h.1 h.5 each.1.0, more_literals es h.2 h.6 each.1.1)
+chosen_none : (b : Bool) (p : Place) (inside : Option Place) → (if b then inside else Some p) ≡ None → (b ≡ true) × (inside ≡ None)
+chosen_none true p inside e = (refl, e)
+chosen_none false p inside e = cc
 
-arguments_trees : (es : Exprs) (us : List Lexeme) → AreArguments es us → Spelled us → AreLiteralTrees es
-arguments_trees none us h k = tt
-arguments_trees (some e es) us h k =
-    let each : Spelled (h.0 ∷ h.1) = subst Spelled h.2 k in
-    (literal_tree e h.0 h.3 each.0, more_literals es h.1 h.4 each.1)
+both_hold : (a b : Bool) → (a && b) ≡ true → (a ≡ true) × (b ≡ true)
+both_hold true b e = (refl, e)
+both_hold false b e = cc
 
-statement_tree : (s : Stmt) (us : List Lexeme) → IsStatement s us → Spelled us → IsPrintTree s
-statement_tree s us h k =
-    let each : Spelled ((h.0 ∷ h.1 ∷ h.2 ∷ h.3 ∷ h.5) ++ h.4 ∷ []) = subst Spelled h.7 k in
-    let within = (parts (h.0 ∷ h.1 ∷ h.2 ∷ h.3 ∷ h.5) (h.4 ∷ []) each).0 in
+literal_tree : (e : Expr) → is_literal e ≡ true → IsLiteralTree e
+literal_tree (integer p digits) h = h
+literal_tree (string p value) h = tt
+literal_tree _ h = cc
+
+arguments_trees : (es : Exprs) → unknown_arguments es ≡ None → AreLiteralTrees es
+arguments_trees no_exprs h = tt
+arguments_trees (some_exprs e es) h =
+    let k = both_none (unknown_argument e) (unknown_arguments es) h in
+    (literal_tree e (chosen_none (is_literal e) (place_of e) None k.0).0, arguments_trees es k.1)
+
+named_tree : (x : List ℕ) (e : Expr) → is_name x e ≡ true → (p : Place) × (e ≡ name p x)
+named_tree x (name p y) h = (p, ap (name p) ((bytes_eq-Decides y x).0 h))
+named_tree x _ h = cc
+
+println_tree : (e : Expr) → is_println e ≡ true → (p q r : Place) × (e ≡ selected_tree p q r (codes "fmt") (codes "Println"))
+println_tree (selector p operand field) h =
+    let k = both_hold (is_name (codes "fmt") operand) (bytes_eq field.text (codes "Println")) h in
+    let n = named_tree (codes "fmt") operand k.0 in (
+      p,
+      n.0,
+      field.place,
+      ap (λ (e : Expr). selector p e field) n.1
+          ∙ ap (λ (t : List ℕ). selected_tree p n.0 field.place (codes "fmt") t) ((bytes_eq-Decides field.text (codes "Println")).0 k.1),
+    )
+println_tree _ h = cc
+
+called_tree : (p : Place) (e : Expr) → unknown_call p e ≡ None → IsPrintTree (simple p (call_statement e))
+called_tree p (call q callee arguments) h =
+    let k = chosen_none (is_println callee) p (unknown_arguments arguments) h in
+    let c = println_tree callee k.0 in
     record {
-      place = h.0.place;
-      selected = h.2.place;
-      arguments = h.6;
-      literals = arguments_trees h.6 h.5 h.12 within.1.1.1.1;
-      is = h.14
-          ∙ ap (λ x. call_tree h.0.place h.2.place x h.2.text h.6) h.8.1
-          ∙ ap (λ y. call_tree h.0.place h.2.place (codes "fmt") y h.6) h.10.1;
+      place = p;
+      called = q;
+      selects = c.0;
+      operand = c.1;
+      selected = c.2;
+      arguments = arguments;
+      literals = arguments_trees arguments k.1;
+      is = ap (λ (f : Expr). simple p (call_statement (call q f arguments))) c.3;
     }
+called_tree p _ h = cc
 
-behind_trees : (ss : List Stmt) (us : List Lexeme) → AreBehind (AreStatements ss) ss us → Spelled us → ((vs : List Lexeme) → AreStatements ss vs → Spelled vs → ArePrintTrees ss) → ArePrintTrees ss
-behind_trees ss us (inl h) k go = subst ArePrintTrees (sym h.0) tt
-behind_trees ss us (inr h) k go =
-    let each : Spelled (h.0 ∷ h.1) = subst Spelled h.2 k in go h.1 h.4 each.1
+simple_tree : (p : Place) (c : Simple) → unknown_simple p c ≡ None → IsPrintTree (simple p c)
+simple_tree p (call_statement e) h = called_tree p e h
+simple_tree p _ h = cc
 
-statements_trees : (ss : List Stmt) (us : List Lexeme) → AreStatements ss us → Spelled us → ArePrintTrees ss
-statements_trees [] us h k = tt
-statements_trees (s ∷ ss) us h k =
-    let each : Spelled (h.0 ++ h.1 ++ h.2) = subst Spelled h.3 k in
-    let halves = parts (h.0 ++ h.1) h.2 each in
-    (statement_tree s h.1 h.5 (parts h.0 h.1 halves.0).1, behind_trees ss h.2 h.6 halves.1 (statements_trees ss))
+with_tree : (st : Stmt) (others : List Stmt) → unknown_statement st ≡ None → ArePrintTrees others → ArePrintTrees (with_full st others)
+with_tree (empty p) others h k = k
+with_tree (simple p c) others h k = (simple_tree p c h, k)
+with_tree _ others h k = cc
 
-function_tree : (f : Function) (us : List Lexeme) → IsFunction f us → Spelled us → IsMainTree (function f)
-function_tree f us h k =
-    let each : Spelled (h.0 ∷ h.1 ∷ h.2 ∷ h.3 ∷ h.4) = subst Spelled h.5 k in
-    let b = h.10 in
-    let within : Spelled ((b.0 ∷ b.2) ++ b.1 ∷ []) = subst Spelled b.3 each.1.1.1.1 in
-    (ap (λ n. n.text) h.12 ∙ h.7.1, statements_trees f.body.statements b.2 b.5 (parts (b.0 ∷ b.2) (b.1 ∷ []) within).0.1)
+statements_trees : (sts : Stmts) → unknown_statements sts ≡ None → ArePrintTrees (full sts)
+statements_trees no_stmts h = tt
+statements_trees (some_stmts st sts) h =
+    let k = both_none (unknown_statement st) (unknown_statements sts) h in
+    with_tree st (full sts) k.0 (statements_trees sts k.1)
 
-declarations_trees : (ds : List Decl) (us : List Lexeme) → AreDeclarations ds us → Spelled us → AreMainTrees ds
-declarations_trees [] us h k = tt
-declarations_trees (function f ∷ []) us h k =
-    let each : Spelled (h.0 ++ h.1 ∷ []) = subst Spelled h.2 k in
-    (function_tree f h.0 h.3 (parts h.0 (h.1 ∷ []) each).0, tt)
-declarations_trees (function f ∷ e ∷ ds) us h k = absurd h
+block_trees : (b : Block) → unknown_block b ≡ None → ArePrintTrees (body_of b)
+block_trees (block p sts q) h = statements_trees sts h
 
-imports_trees : (is : List ImportSpec) (us : List Lexeme) → AreImports is us → AreLibraryTrees is
-imports_trees [] us h = tt
-imports_trees (i ∷ []) us h = (ap is_library h.3.6, tt)
-imports_trees (i ∷ j ∷ is) us h = absurd h
+declaration_tree : (d : TopLevel) → unknown_declaration d ≡ None → IsMainTree d
+declaration_tree (function f) h =
+    let k = chosen_none (bytes_eq f.name.text (codes "main") && (is_nil f.parameters && is_nil f.results)) f.place (unknown_block f.body) h in
+    let n = both_hold (bytes_eq f.name.text (codes "main")) (is_nil f.parameters && is_nil f.results) k.0 in
+    ((bytes_eq-Decides f.name.text (codes "main")).0 n.0, block_trees f.body k.1)
+declaration_tree (declared d) h = cc
 
-file_tree : (ts : List Lexeme) (file : File) → Derives ts file → Spelled ts → IsFileTree file
-file_tree ts file h k =
-    let each : Spelled ((h.0 ∷ h.1 ∷ h.2 ∷ h.3) ++ h.4) = subst Spelled h.5 k in
-    record {
-      imports = imports_trees file.imports h.3 h.11;
-      declarations = declarations_trees file.declarations h.4 h.12 (parts (h.0 ∷ h.1 ∷ h.2 ∷ h.3) h.4 each).1;
-    }
+declarations_trees : (ds : List TopLevel) → first_in unknown_declaration ds ≡ None → AreMainTrees ds
+declarations_trees [] h = tt
+declarations_trees (d ∷ ds) h =
+    let k = both_none (unknown_declaration d) (first_in unknown_declaration ds) h in
+    (declaration_tree d k.0, declarations_trees ds k.1)
 
--- the tree of a text has the form
-pub parsed_tree : (text : List ℕ) (file : File) → IsParse text (Derived file) → IsFileTree file
-unfolding IsParse
-parsed_tree text file h = file_tree (lexemes text h.0) file h.2 (spelled text h.0 (tokens_stand text h.0 h.1))
+imports_trees : (is : List ImportSpec) → first_in unknown_import is ≡ None → AreLibraryTrees is
+imports_trees [] h = tt
+imports_trees (i ∷ is) h =
+    let k = both_none (unknown_import i) (first_in unknown_import is) h in
+    ((chosen_none (is_library i) i.place None k.0).0, imports_trees is k.1)
+
+-- a file in which no form is unknown
+pub known_tree : (file : File) → first_unknown file ≡ None → IsFileTree file
+known_tree file h =
+    let k = both_none (first_in unknown_import file.imports) (first_in unknown_declaration file.declarations) h in
+    record { imports = imports_trees file.imports k.0; declarations = declarations_trees file.declarations k.1 }

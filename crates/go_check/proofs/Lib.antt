@@ -1,4 +1,6 @@
 pub mod Answered
+pub mod Arguments
+pub mod Bodies
 pub mod Brought
 pub mod Files
 pub mod Fineness

@@ -6,8 +6,9 @@ use Rattle.go_text.specs.declared.fault.FaultKind.{FaultKind}
 use Rattle.go_text.specs.declared.fault.FaultKind.TheVariants.{Range}
 use Rattle.go_text.specs.Faults.{Fault}
 use Rattle.go_ast.specs.Trees.{Expr, Exprs, call, place_of}
-use Rattle.go_ast.specs.declared.expression.ExprKind.{ExprKind, Name, Integer, String, Selector', Call'}
-use Rattle.go_ast.specs.Views.{kind_at}
+use Rattle.go_ast.specs.declared.expression.ExprKind.{ExprKind, Name, Integer, Rune, String, Parenthesized', Literal', Conversion', Selector', Index', Call', Unary', Binary'}
+use Rattle.go_ast.specs.declared.expression.Expr.{Expr as Expression}
+use Rattle.go_ast.specs.Views.{expr_at, expr_of}
 use Rattle.go_check.specs.declared.error.CheckError.{CheckError}
 use Rattle.go_check.specs.declared.error.CheckError.TheVariants as errors
 use Rattle.go_check.specs.Typed as typed
@@ -51,9 +52,20 @@ pub printed_large : (e : CheckError) (s : Scope) (p : Place) (cs : List typed.Co
 printed_large e s p cs large h = rw large h
 
 -- an expression's place is that of its tree
-pub place_seen : (k : ExprKind) (p : Place) → place_of (kind_at k p) ≡ p
+pub place_seen : (k : ExprKind) (p : Place) → place_of (expr_at k p) ≡ p
 place_seen (Name text) p = refl
 place_seen (Integer text) p = refl
+place_seen (Rune value) p = refl
 place_seen (String value) p = refl
+place_seen (Parenthesized' x q e) p = refl
+place_seen (Literal' x q a brace n row) p = refl
+place_seen (Conversion' x q a y r e) p = refl
 place_seen (Selector' x q operand field) p = refl
+place_seen (Index' x q e y r i) p = refl
 place_seen (Call' x q operand n row) p = refl
+place_seen (Unary' op x q e) p = refl
+place_seen (Binary' op x q a y r b) p = refl
+
+pub expr_place : (e : Expression) → place_of (expr_of e) ≡ e.place
+unfolding expr_of
+expr_place e = place_seen e.kind e.place

@@ -9,7 +9,7 @@ use Rattle.std.proofs.lemmas.Str.Parse.{IsNumeralModel, numerals_by_value, tells
 use Rattle.std.proofs.lemmas.Bool.Decides.{nat_tests}
 use mir.Syntax.{w128}
 use Rattle.go_text.specs.declared.fault.FaultKind.TheVariants as faults
-use Rattle.go_scan.specs.Lex.{is_decimal}
+use Rattle.go_check.specs.Rules.{is_decimal}
 use Rattle.go_check.specs.Rules.{literal}
 
 listed : (ds : List ℕ) → list_all is_ascii_digit ds ≡ all_ascii_digits ds

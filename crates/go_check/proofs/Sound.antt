@@ -7,11 +7,12 @@ use Rattle.std.specs.List.{All, flat_map, list_all}
 use Rattle.std.proofs.lemmas.List.Elements.{All-nil, All-cons}
 use Rattle.go_text.specs.declared.fault.FaultKind.{FaultKind}
 use Rattle.go_text.specs.declared.fault.FaultKind.TheVariants.{LeftOut, Undeclared, Range}
-use Rattle.go_ast.specs.Trees.{Expr, name, integer, string, selector, call, Stmt, expression, Decl, function}
+use Rattle.go_ast.specs.Trees.{Expr, name, integer, string, selector, call, Stmt, Simple, call_statement, simple, TopLevel, function}
+use Rattle.go_ast.specs.Trees as trees
 use Rattle.go_check.specs.Typed as typed
 use Rattle.go_check.specs.Typed.{IsTypedExpr, IsTypedStmt, IsWellTyped}
 use Rattle.go_check.specs.Rules.{Known, library, println, untyped, printed, literal, integer_constant, named, selected, called, stated, fits_default, defaulted}
-use Rattle.go_check.specs.Verdicts.{Scope, ruled, fine, asked, both, with_first, all_known, verdict, values, statement_verdict, body_known}
+use Rattle.go_check.specs.Verdicts.{Scope, ruled, fine, asked, both, with_first, all_known, verdict, values, simple_verdict, statement_verdict, body_of, body_known}
 use Rattle.go_check.specs.Packages.{NamedFile, declaration_known, file_known, scope_of}
 
 -- the operands of a call are well typed
@@ -77,6 +78,7 @@ verdict_has s (integer p digits) = ruled_has AreTyped (integer_constant (literal
 verdict_has s (string p bytes) = tt
 verdict_has s (selector p operand field) = asked_has Anything AreTyped (selected field.text) (fine (verdict s operand)) (λ k h. selected_has field.text k) (anything _)
 verdict_has s (call p callee arguments) = asked_has Anything AreTyped (λ parts. called parts.0 parts.1) (both (fine (verdict s callee)) (values s arguments)) (λ parts h. called_has parts.0 parts.1) (anything _)
+verdict_has s _ = tt
 
 stated_has : (k : Known) → AreTyped k → IfOk (stated k) IsTypedStmt
 stated_has library h = tt
@@ -84,8 +86,13 @@ stated_has println h = tt
 stated_has (untyped c) h = tt
 stated_has (printed es) h = h
 
+simple_has : (s : Scope) (c : Simple) → IfSome (fine (simple_verdict s c)) IsTypedStmt
+simple_has s (call_statement e) = asked_has AreTyped IsTypedStmt stated (fine (verdict s e)) stated_has (verdict_has s e)
+simple_has s _ = tt
+
 statement_has : (s : Scope) (st : Stmt) → IfSome (fine (statement_verdict s st)) IsTypedStmt
-statement_has s (expression p e) = asked_has AreTyped IsTypedStmt stated (fine (verdict s e)) stated_has (verdict_has s e)
+statement_has s (simple p c) = simple_has s c
+statement_has s _ = tt
 
 -- what is known of each
 first_has : {A : Type 0} (P : A → Type 0) (x : Option A) (xs : Option (List A)) → IfSome x P → IfSome xs (All P) → IfSome (with_first x xs) (All P)
@@ -105,10 +112,11 @@ named_has : (x : List ℕ) (o : Option (List typed.Stmt)) → IfSome o (All IsTy
 named_has x None h = tt
 named_has x (Some body) h = h
 
-declaration_has : (s : Scope) (d : Decl) → IfSome (declaration_known s d) IsTypedFunction
-declaration_has s (function f) = named_has f.name.text (body_known s f.body.statements) (body_has s f.body.statements)
+declaration_has : (s : Scope) (d : TopLevel) → IfSome (declaration_known s d) IsTypedFunction
+declaration_has s (function f) = named_has f.name.text (body_known s (body_of f.body)) (body_has s (body_of f.body))
+declaration_has s (trees.declared d) = tt
 
-declarations_has : (s : Scope) (ds : List Decl) (rest : List (Option typed.Function)) → IfSome (all_known rest) (All IsTypedFunction) → IfSome (all_known (map (declaration_known s) ds ++ rest)) (All IsTypedFunction)
+declarations_has : (s : Scope) (ds : List TopLevel) (rest : List (Option typed.Function)) → IfSome (all_known rest) (All IsTypedFunction) → IfSome (all_known (map (declaration_known s) ds ++ rest)) (All IsTypedFunction)
 declarations_has s [] rest h = h
 declarations_has s (d ∷ ds) rest h =
     first_has IsTypedFunction (declaration_known s d) (all_known (map (declaration_known s) ds ++ rest)) (declaration_has s d) (declarations_has s ds rest h)

@@ -1,15 +1,18 @@
 -- Each fault stands in a file of the package.
-use Rattle.std.proofs.Common.{◌≡◌, ℕ, Bool, true, false, cond, List, [], ◌∷◌, ◌++◌, map, refl, sym, ap, ◌∙◌, subst}
+use Rattle.std.proofs.Common.{◌≡◌, ℕ, Bool, true, false, cond, Option, Some, None, List, [], ◌∷◌, ◌++◌, map, refl, sym, ap, ◌∙◌, subst}
 use Rattle.std.specs.Prelude.{◌||◌}
 use Rattle.std.specs.List.{All, Contains}
 use Rattle.std.proofs.lemmas.List.Elements.{All-nil, All-cons, All-append, All-weaker, All-head, Contains-append_left, Contains-append_right, Contains-push}
 use Rattle.go_text.specs.declared.place.Place.{Place}
-use Rattle.go_text.specs.declared.fault.FaultKind.TheVariants.{Main}
+use Rattle.go_text.specs.declared.fault.FaultKind.{FaultKind}
+use Rattle.go_text.specs.declared.fault.FaultKind.TheVariants.{LeftOut, Main}
 use Rattle.go_text.specs.Faults.{Fault}
-use Rattle.go_ast.specs.Trees.{Expr, Exprs, name, integer, string, selector, call, none, some, place_of, Stmt, expression, ImportSpec, Decl, function}
-use Rattle.go_check.specs.Rules.{value, declared, brought, is_library}
-use Rattle.go_check.specs.Verdicts.{Scope, Verdict, Fine, Breaks, Passed, ruled, fine, asked, verdict, broken, fault_at, faults, argument_faults, statement_verdict, statement_faults, body_faults}
-use Rattle.go_check.specs.Packages.{NamedFile, scope_of, uses_library, imports_faults, declared_name, declaration_faults, declarations_faults, file_names, file_faults, files_faults, main_faults, FaultOf, Faulty}
+use Rattle.go_ast.specs.Trees.{Expr, Exprs, name, integer, string, selector, call, no_exprs, some_exprs, place_of, call_statement, Stmt, Simple, simple, ImportSpec, TopLevel, function}
+use Rattle.go_ast.specs.Trees as trees
+use Rattle.go_check.specs.Rules.{value, stated, declared, brought, is_library}
+use Rattle.go_check.specs.Verdicts.{Scope, Verdict, Fine, Breaks, Passed, ruled, fine, asked, verdict, broken, fault_at, faults, argument_faults, simple_faults, statement_faults, place_of_statement, body_of, body_faults}
+use Rattle.go_check.specs.Forms.{place_of_declaration, first_unknown}
+use Rattle.go_check.specs.Packages.{NamedFile, scope_of, uses_library, imports_faults, declared_name, declaration_faults, declarations_faults, file_names, file_faults, files_faults, main_faults, form_fault, forms_faults, FaultOf, Faulty}
 use Rattle.go_check.specs.Sources.{AreTreesOf, IsAnswerOf}
 
 -- a fault stands in a file
@@ -20,6 +23,9 @@ broken_in : {A : Type 0} (s : Scope) (p : Place) (v : Verdict A) → All (Stands
 broken_in s p (Fine x) = All-nil (StandsIn s.file)
 broken_in s p (Breaks kind) = All-cons (StandsIn s.file) (fault_at s p kind) [] refl (All-nil (StandsIn s.file))
 broken_in s p Passed = All-nil (StandsIn s.file)
+
+one_in : (s : Scope) (p : Place) (kind : FaultKind) → All (StandsIn s.file) (fault_at s p kind ∷ [])
+one_in s p kind = All-cons (StandsIn s.file) (fault_at s p kind) [] refl (All-nil (StandsIn s.file))
 
 both_in : (x : List ℕ) (fs gs : List Fault) → All (StandsIn x) fs → All (StandsIn x) gs → All (StandsIn x) (fs ++ gs)
 both_in x fs gs a b = All-append (StandsIn x) fs gs a b
@@ -35,18 +41,24 @@ mutual
       both_in s.file (faults s callee ++ argument_faults s arguments) (broken s p (verdict s (call p callee arguments)))
       (both_in s.file (faults s callee) (argument_faults s arguments) (expression_in s callee) (arguments_in s arguments))
       (broken_in s p (verdict s (call p callee arguments)))
+  expression_in s e = one_in s (place_of e) LeftOut
 
   arguments_in : (s : Scope) (es : Exprs) → All (StandsIn s.file) (argument_faults s es)
-  arguments_in s none = All-nil (StandsIn s.file)
-  arguments_in s (some e es) =
+  arguments_in s no_exprs = All-nil (StandsIn s.file)
+  arguments_in s (some_exprs e es) =
       let due = asked value (fine (verdict s e)) in
       both_in s.file (faults s e ++ broken s (place_of e) due) (argument_faults s es)
       (both_in s.file (faults s e) (broken s (place_of e) due) (expression_in s e) (broken_in s (place_of e) due))
       (arguments_in s es)
 
+simple_in : (s : Scope) (p : Place) (c : Simple) → All (StandsIn s.file) (simple_faults s p c)
+simple_in s p (call_statement e) =
+    both_in s.file (faults s e) (broken s p (asked stated (fine (verdict s e)))) (expression_in s e) (broken_in s p (asked stated (fine (verdict s e))))
+simple_in s p _ = one_in s p LeftOut
+
 statement_in : (s : Scope) (st : Stmt) → All (StandsIn s.file) (statement_faults s st)
-statement_in s (expression p e) =
-    both_in s.file (faults s e) (broken s p (statement_verdict s (expression p e))) (expression_in s e) (broken_in s p (statement_verdict s (expression p e)))
+statement_in s (simple p c) = simple_in s p c
+statement_in s st = one_in s (place_of_statement st) LeftOut
 
 body_in : (s : Scope) (statements : List Stmt) → All (StandsIn s.file) (body_faults s statements)
 body_in s [] = All-nil (StandsIn s.file)
@@ -58,12 +70,13 @@ imports_in s before referred (spec ∷ specs) =
     both_in s.file (broken s spec.place (ruled (brought before referred spec))) (imports_faults s (before || is_library spec) referred specs)
     (broken_in s spec.place (ruled (brought before referred spec))) (imports_in s (before || is_library spec) referred specs)
 
-declaration_in : (before : List (List ℕ)) (s : Scope) (d : Decl) → All (StandsIn s.file) (declaration_faults before s d)
+declaration_in : (before : List (List ℕ)) (s : Scope) (d : TopLevel) → All (StandsIn s.file) (declaration_faults before s d)
 declaration_in before s (function f) =
-    both_in s.file (broken s f.name.place (ruled (declared before f.name.text))) (body_faults s f.body.statements)
-    (broken_in s f.name.place (ruled (declared before f.name.text))) (body_in s f.body.statements)
+    both_in s.file (broken s f.name.place (ruled (declared before f.name.text))) (body_faults s (body_of f.body))
+    (broken_in s f.name.place (ruled (declared before f.name.text))) (body_in s (body_of f.body))
+declaration_in before s (trees.declared d) = one_in s (place_of_declaration d) LeftOut
 
-declarations_in : (before : List (List ℕ)) (s : Scope) (ds : List Decl) → All (StandsIn s.file) (declarations_faults before s ds)
+declarations_in : (before : List (List ℕ)) (s : Scope) (ds : List TopLevel) → All (StandsIn s.file) (declarations_faults before s ds)
 declarations_in before s [] = All-nil (StandsIn s.file)
 declarations_in before s (d ∷ ds) =
     both_in s.file (declaration_faults before s d) (declarations_faults (before ++ declared_name d ∷ []) s ds)
@@ -104,10 +117,23 @@ main_in (first ∷ rest) =
     chosen_in (Stands (first ∷ rest)) _ fault (here first rest fault refl)
 
 -- the fault of a package stands in one of its files
+form_in : (s : Scope) (o : Option Place) → All (StandsIn s.file) (form_fault s o)
+form_in s None = All-nil (StandsIn s.file)
+form_in s (Some p) = one_in s p LeftOut
+
+forms_in : (files : List NamedFile) → All (Stands files) (forms_faults files)
+forms_in [] = All-nil (Stands [])
+forms_in (file ∷ files) =
+    All-append (Stands (file ∷ files)) (form_fault (scope_of file) (first_unknown file.tree)) (forms_faults files)
+    (All-weaker (StandsIn file.name) (Stands (file ∷ files)) (here file files) (form_fault (scope_of file) (first_unknown file.tree)) (form_in (scope_of file) (first_unknown file.tree)))
+    (All-weaker (Stands files) (Stands (file ∷ files)) (λ f h. Contains-append_right (file.name ∷ []) (names files) f.file h) (forms_faults files) (forms_in files))
+
 fault_in : (files : List NamedFile) (fault : Fault) → FaultOf files fault → Stands files fault
 fault_in files fault h =
     All-head (Stands files) fault h.0
-    (subst (All (Stands files)) h.1 (All-append (Stands files) (files_faults [] files) (main_faults files) (files_in [] files) (main_in files)))
+    (subst (All (Stands files)) h.1
+    (All-append (Stands files) (forms_faults files) (files_faults [] files ++ main_faults files) (forms_in files)
+    (All-append (Stands files) (files_faults [] files) (main_faults files) (files_in [] files) (main_in files))))
 
 same_names : (sources : List (List ℕ × List ℕ)) (files : List NamedFile) → AreTreesOf sources files → names files ≡ map (λ source. source.0) sources
 same_names [] [] h = refl

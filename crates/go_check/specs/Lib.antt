@@ -1,3 +1,4 @@
+pub mod Forms
 pub mod Meaning
 pub mod Packages
 pub mod Programs

@@ -1,14 +1,17 @@
 -- The fault of a package, or what it is.
-use Rattle.std.specs.Prelude.{◌≡◌, ℕ, Bool, false, ◌&&◌, ◌||◌, not, if◌then◌else◌, Option, Some, List, [], ◌∷◌, ◌++◌, map, codes}
+use Rattle.std.specs.Prelude.{◌≡◌, ℕ, Bool, false, ◌&&◌, ◌||◌, not, if◌then◌else◌, Option, Some, None, List, [], ◌∷◌, ◌++◌, map, codes}
 use Rattle.std.specs.Option.{option_map}
 use Rattle.std.specs.List.{flat_map, list_any}
 use Rattle.std.specs.Str.{bytes_eq}
-use Rattle.go_text.specs.declared.fault.FaultKind.TheVariants.{Main}
+use Rattle.go_text.specs.declared.fault.FaultKind.TheVariants.{LeftOut, Main}
+use Rattle.go_text.specs.declared.place.Place.{Place}
 use Rattle.go_text.specs.Faults.{Fault}
-use Rattle.go_ast.specs.Trees.{File, ImportSpec, Decl, function}
+use Rattle.go_ast.specs.Trees.{File, ImportSpec, TopLevel, function}
+use Rattle.go_ast.specs.Trees as trees
 use Rattle.go_check.specs.Typed.{Typed, Function}
 use Rattle.go_check.specs.Rules.{is_library, brought, declared}
-use Rattle.go_check.specs.Verdicts.{Scope, ruled, broken, fault_at, all_known, body_known, body_faults, statement_refers}
+use Rattle.go_check.specs.Forms.{place_of_declaration, first_unknown}
+use Rattle.go_check.specs.Verdicts.{Scope, ruled, broken, fault_at, all_known, body_of, body_known, body_faults, statement_refers}
 
 -- a file of a package: its name, and its tree
 pub record NamedFile : Type 0 where
@@ -20,8 +23,9 @@ pub record NamedFile : Type 0 where
 abbrev pub scope_of : NamedFile → Scope
 scope_of file = record { file = file.name; library = list_any is_library file.tree.imports }
 
-abbrev pub declaration_refers : List ℕ → Decl → Bool
-declaration_refers x (function f) = list_any (statement_refers x) f.body.statements
+abbrev pub declaration_refers : List ℕ → TopLevel → Bool
+declaration_refers x (function f) = list_any (statement_refers x) (body_of f.body)
+declaration_refers x (trees.declared d) = false
 
 -- the file refers to the library
 abbrev pub uses_library : File → Bool
@@ -35,18 +39,22 @@ imports_faults s before referred (spec ∷ specs) =
 
 -- ---- declarations
 
-abbrev pub declared_name : Decl → List ℕ
+-- what a function is named; other declarations are left out
+abbrev pub declared_name : TopLevel → List ℕ
 declared_name (function f) = f.name.text
+declared_name (trees.declared d) = []
 
 -- the faults of a declaration behind these names; its name comes before its body
-abbrev pub declaration_faults : List (List ℕ) → Scope → Decl → List Fault
-declaration_faults before s (function f) = broken s f.name.place (ruled (declared before f.name.text)) ++ body_faults s f.body.statements
+abbrev pub declaration_faults : List (List ℕ) → Scope → TopLevel → List Fault
+declaration_faults before s (function f) = broken s f.name.place (ruled (declared before f.name.text)) ++ body_faults s (body_of f.body)
+declaration_faults before s (trees.declared d) = fault_at s (place_of_declaration d) LeftOut ∷ []
 
-abbrev pub declaration_known : Scope → Decl → Option Function
-declaration_known s (function f) = option_map (λ body. record { name = f.name.text; body = body }) (body_known s f.body.statements)
+abbrev pub declaration_known : Scope → TopLevel → Option Function
+declaration_known s (function f) = option_map (λ body. record { name = f.name.text; body = body }) (body_known s (body_of f.body))
+declaration_known s (trees.declared d) = None
 
 -- the faults of declarations, each behind the names of those before it
-abbrev pub declarations_faults : List (List ℕ) → Scope → List Decl → List Fault
+abbrev pub declarations_faults : List (List ℕ) → Scope → List TopLevel → List Fault
 declarations_faults before s [] = []
 declarations_faults before s (d ∷ ds) = declaration_faults before s d ++ declarations_faults (before ++ declared_name d ∷ []) s ds
 
@@ -69,6 +77,18 @@ files_faults before (file ∷ files) = file_faults before file ++ files_faults (
 abbrev pub file_known : NamedFile → List (Option Function)
 file_known file = map (declaration_known (scope_of file)) file.tree.declarations
 
+-- ---- forms
+
+-- the fault of a file that holds a form that isn't known yet
+abbrev pub form_fault : Scope → Option Place → List Fault
+form_fault s None = []
+form_fault s (Some p) = fault_at s p LeftOut ∷ []
+
+-- the faults of files that hold such forms
+abbrev pub forms_faults : List NamedFile → List Fault
+forms_faults [] = []
+forms_faults (file ∷ files) = form_fault (scope_of file) (first_unknown file.tree) ++ forms_faults files
+
 -- ---- packages
 
 -- a package is named by its first file's clause
@@ -84,9 +104,9 @@ main_faults (first ∷ rest) =
     then fault_at (scope_of first) first.tree.package.place Main ∷ []
     else []
 
--- the faults of the package's nodes, file by file, and then that of the package
+-- those of forms that aren't known yet, and where there are none those of the package's nodes, file by file, and then that of the package
 abbrev pub package_faults : List NamedFile → List Fault
-package_faults files = files_faults [] files ++ main_faults files
+package_faults files = forms_faults files ++ (files_faults [] files ++ main_faults files)
 
 -- the fault of a package is the first one
 abbrev pub FaultOf : List NamedFile → Fault → Type 0

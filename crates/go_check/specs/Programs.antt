@@ -6,11 +6,11 @@ use Rattle.std.specs.Option.{option_map}
 use Rattle.std.specs.Str.{bytes_eq}
 use Rattle.std.proofs.lemmas.Slice.Eq.{bytes_eq-Decides}
 use Rattle.go_text.specs.Faults.{Fault}
-use Rattle.go_ast.specs.Trees.{Decl, function}
+use Rattle.go_ast.specs.Trees.{TopLevel, declared, function}
 use Rattle.go_check.specs.Typed.{Function, Stmt, Typed}
 use Rattle.go_check.specs.Meaning.{function_named, IsProgram}
-use Rattle.go_check.specs.Verdicts.{Scope, with_first, all_known, body_known}
-use Rattle.go_check.specs.Packages.{NamedFile, scope_of, declared_name, declaration_known, file_names, file_known, files_faults, package_name, main_faults, IsChecked}
+use Rattle.go_check.specs.Verdicts.{Scope, with_first, all_known, body_of, body_known}
+use Rattle.go_check.specs.Packages.{NamedFile, scope_of, declared_name, declaration_known, file_names, file_known, forms_faults, files_faults, package_name, main_faults, IsChecked}
 
 -- ---- what is known of functions has the names that are declared
 
@@ -31,10 +31,11 @@ body_named : (name : List ℕ) (o : Option (List Stmt)) (f : Function) → optio
 body_named name None f e = cc
 body_named name (Some body) f e = let same : record { name = name; body = body } ≡ f = cc in sym (ap (λ (g : Function). g.name) same)
 
-declaration_named : (s : Scope) (d : Decl) (f : Function) → declaration_known s d ≡ Some f → f.name ≡ declared_name d
-declaration_named s (function g) f e = body_named g.name.text (body_known s g.body.statements) f e
+declaration_named : (s : Scope) (d : TopLevel) (f : Function) → declaration_known s d ≡ Some f → f.name ≡ declared_name d
+declaration_named s (function g) f e = body_named g.name.text (body_known s (body_of g.body)) f e
+declaration_named s (declared d) f e = cc
 
-declarations_named : (s : Scope) (ds : List Decl) → AreNamed (map (declaration_known s) ds) (map declared_name ds)
+declarations_named : (s : Scope) (ds : List TopLevel) → AreNamed (map (declaration_known s) ds) (map declared_name ds)
 declarations_named s [] = tt
 declarations_named s (d ∷ ds) = (declaration_named s d, declarations_named s ds)
 
@@ -111,5 +112,5 @@ pub checked_program : (path : List ℕ) (files : List NamedFile) (typed : Typed)
 checked_program path files typed checked named =
     let k = checked_known path files typed checked in
     let names = names_are (flat_map file_known files) (flat_map file_names files) typed.functions (files_named files) k.functions in
-    let declared = main_declared files (sym k.package_is ∙ named) (nothing_last (files_faults [] files) (main_faults files) checked.faultless) in
+    let declared = main_declared files (sym k.package_is ∙ named) (nothing_last (files_faults [] files) (main_faults files) (nothing_last (forms_faults files) _ checked.faultless)) in
     (named, found_named (codes "main") typed.functions ∙ ap (list_any (bytes_eq (codes "main"))) names ∙ declared)

@@ -1,12 +1,11 @@
--- What the rules say of a node whose parts break none: what is known of it, or what is wrong. Files hold imports of fmt, functions main, and
--- in them calls of fmt.Println with decimal and string literals; each node of another form is left out.
-use Rattle.std.specs.Prelude.{ℕ, ◌^◌, ℤ, pos, Bool, ◌&&◌, not, nat_lt, if◌then◌else◌, is_none, Result, Ok, Err, List, map, codes}
+-- What the rules say of a node of a known form whose parts break none: what is known of it, or what is wrong.
+use Rattle.std.specs.Prelude.{ℕ, ◌^◌, ℤ, pos, Bool, false, ◌&&◌, ◌||◌, not, nat_lt, nat_eq, if◌then◌else◌, is_none, Result, Ok, Err, List, [], ◌∷◌, length, map, codes}
+use Rattle.std.specs.Char.{is_ascii_digit}
 use Rattle.std.specs.List.{list_any, list_all}
 use Rattle.std.specs.Str.{bytes_eq}
 use Rattle.std.specs.Str.Parse.{digits_value}
 use Rattle.go_text.specs.declared.fault.FaultKind.{FaultKind}
 use Rattle.go_text.specs.declared.fault.FaultKind.TheVariants as faults
-use Rattle.go_scan.specs.Lex.{is_decimal}
 use Rattle.go_ast.specs.Trees.{ImportSpec}
 use Rattle.go_check.specs.declared.typed.GoType.{GoType}
 use Rattle.go_check.specs.declared.typed.GoType.TheVariants.{Int, String, Bool as Truth}
@@ -21,6 +20,11 @@ pub data Known : Type 0 where
   untyped : Constant → Known
   -- a call of Println with operands
   printed : List Expr → Known
+
+-- a decimal literal: digits, the first of which is 0 only where it stands alone
+abbrev pub is_decimal : List ℕ → Bool
+is_decimal [] = false
+is_decimal (b ∷ bs) = list_all is_ascii_digit (b ∷ bs) && (not (nat_eq b 48) || nat_eq (length bs) 0)
 
 -- the value of an integer literal, which is below 2^127 where it has no type; literals of other bases are left out
 abbrev pub literal : List ℕ → Result ℤ FaultKind

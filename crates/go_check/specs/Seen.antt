@@ -1,5 +1,5 @@
 -- How the code's values stand for those of the definitions, and what its answers say.
-use Rattle.std.specs.Prelude.{◌≡◌, ℕ, List, [], ◌∷◌, ◌++◌, map, Option, Some, None, Result, Ok, Err, string_bytes}
+use Rattle.std.specs.Prelude.{◌≡◌, ℕ, Bool, true, false, List, [], ◌∷◌, ◌++◌, map, Option, Some, None, Result, Ok, Err, string_bytes}
 use Rattle.go_text.specs.declared.fault.FaultKind.{FaultKind}
 use Rattle.go_text.specs.Faults.{Fault}
 use Rattle.go_text.specs.declared.place.Place.{Place}
@@ -8,6 +8,7 @@ use Rattle.go_check.specs.declared.error.CheckError.TheVariants as errors
 use Rattle.go_check.specs.declared.known.Known.{Known}
 use Rattle.go_check.specs.declared.known.Known.TheVariants.{Library, Println, Untyped, Printed}
 use Rattle.go_check.specs.declared.typed.TypedFunction.{TypedFunction}
+use Rattle.go_ast.specs.Trees.{Stmt, empty}
 use Rattle.go_ast.specs.Views.{file_of}
 use Rattle.go_check.specs.declared.file.NamedFile.{NamedFile}
 use Rattle.go_check.specs.Packages as packages
@@ -53,6 +54,11 @@ joined xs (Some ys) = Some (xs ++ ys)
 -- what functions are named
 abbrev pub names_in : List TypedFunction → List (List ℕ)
 names_in functions = map (λ f. string_bytes f.name) functions
+
+-- a statement is empty
+abbrev pub is_empty_statement : Stmt → Bool
+is_empty_statement (empty p) = true
+is_empty_statement _ = false
 
 -- a file with its name
 abbrev pub named_of : NamedFile → packages.NamedFile

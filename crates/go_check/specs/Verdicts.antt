@@ -4,8 +4,9 @@ use Rattle.std.specs.List.{flat_map}
 use Rattle.std.specs.Str.{bytes_eq}
 use Rattle.go_text.specs.declared.place.Place.{Place}
 use Rattle.go_text.specs.declared.fault.FaultKind.{FaultKind}
+use Rattle.go_text.specs.declared.fault.FaultKind.TheVariants.{LeftOut}
 use Rattle.go_text.specs.Faults.{Fault}
-use Rattle.go_ast.specs.Trees.{Expr, Exprs, name, integer, string, selector, call, none, some, place_of, Stmt, expression}
+use Rattle.go_ast.specs.Trees.{Expr, Exprs, name, integer, string, selector, call, no_exprs, some_exprs, place_of, Simple, call_statement, Stmt, Stmts, no_stmts, some_stmts, empty, declaration, simple, return, break, continue, fallthrough, block_statement, if_statement, for_statement, range_statement, switch_statement, Block, block, If, conditional}
 use Rattle.go_check.specs.Typed as typed
 use Rattle.go_check.specs.Rules.{Known, untyped, literal, integer_constant, named, selected, value, called, stated}
 
@@ -53,7 +54,7 @@ pub record Scope : Type 0 where
 
 -- ---- expressions
 
--- what an expression is, and what arguments are where values are due
+-- what an expression is, and what arguments are where values are due; other forms are left out
 abbrev mutual
   pub verdict : Scope → Expr → Verdict Known
   verdict s (name p x) = ruled (named s.library x)
@@ -61,10 +62,11 @@ abbrev mutual
   verdict s (string p bytes) = Fine (untyped (typed.text bytes))
   verdict s (selector p operand field) = asked (selected field.text) (fine (verdict s operand))
   verdict s (call p callee arguments) = asked (λ parts. called parts.0 parts.1) (both (fine (verdict s callee)) (values s arguments))
+  verdict s _ = Breaks LeftOut
 
   pub values : Scope → Exprs → Option (List typed.Constant)
-  values s none = Some []
-  values s (some e es) = with_first (fine (asked value (fine (verdict s e)))) (values s es)
+  values s no_exprs = Some []
+  values s (some_exprs e es) = with_first (fine (asked value (fine (verdict s e)))) (values s es)
 
 abbrev pub fault_at : Scope → Place → FaultKind → Fault
 fault_at s p kind = record { file = s.file; place = p; kind = kind }
@@ -83,18 +85,63 @@ abbrev mutual
   faults s (string p bytes) = []
   faults s (selector p operand field) = faults s operand ++ broken s p (verdict s (selector p operand field))
   faults s (call p callee arguments) = faults s callee ++ argument_faults s arguments ++ broken s p (verdict s (call p callee arguments))
+  faults s e = fault_at s (place_of e) LeftOut ∷ []
 
   pub argument_faults : Scope → Exprs → List Fault
-  argument_faults s none = []
-  argument_faults s (some e es) = faults s e ++ broken s (place_of e) (asked value (fine (verdict s e))) ++ argument_faults s es
+  argument_faults s no_exprs = []
+  argument_faults s (some_exprs e es) = faults s e ++ broken s (place_of e) (asked value (fine (verdict s e))) ++ argument_faults s es
 
 -- ---- statements
 
+-- the place of a statement's first token
+abbrev pub place_of_block : Block → Place
+place_of_block (block p ss q) = p
+
+abbrev pub place_of_if : If → Place
+place_of_if (conditional p start condition body otherwise) = p
+
+abbrev pub place_of_statement : Stmt → Place
+place_of_statement (empty p) = p
+place_of_statement (declaration p d) = p
+place_of_statement (simple p c) = p
+place_of_statement (return p es) = p
+place_of_statement (break p) = p
+place_of_statement (continue p) = p
+place_of_statement (fallthrough p) = p
+place_of_statement (block_statement b) = place_of_block b
+place_of_statement (if_statement i) = place_of_if i
+place_of_statement (for_statement p start condition step body) = p
+place_of_statement (range_statement p x e body) = p
+place_of_statement (switch_statement p start e cs) = p
+
+-- a call that stands as a statement; other forms are left out
+abbrev pub simple_verdict : Scope → Simple → Verdict typed.Stmt
+simple_verdict s (call_statement e) = asked stated (fine (verdict s e))
+simple_verdict s _ = Breaks LeftOut
+
 abbrev pub statement_verdict : Scope → Stmt → Verdict typed.Stmt
-statement_verdict s (expression p e) = asked stated (fine (verdict s e))
+statement_verdict s (simple p c) = simple_verdict s c
+statement_verdict s _ = Breaks LeftOut
+
+abbrev pub simple_faults : Scope → Place → Simple → List Fault
+simple_faults s p (call_statement e) = faults s e ++ broken s p (asked stated (fine (verdict s e)))
+simple_faults s p _ = fault_at s p LeftOut ∷ []
 
 abbrev pub statement_faults : Scope → Stmt → List Fault
-statement_faults s (expression p e) = faults s e ++ broken s p (statement_verdict s (expression p e))
+statement_faults s (simple p c) = simple_faults s p c
+statement_faults s st = fault_at s (place_of_statement st) LeftOut ∷ []
+
+-- the statements that aren't empty: an empty one means nothing
+abbrev pub with_full : Stmt → List Stmt → List Stmt
+with_full (empty p) others = others
+with_full st others = st ∷ others
+
+abbrev pub full : Stmts → List Stmt
+full no_stmts = []
+full (some_stmts st sts) = with_full st (full sts)
+
+abbrev pub body_of : Block → List Stmt
+body_of (block p sts q) = full sts
 
 -- a body's statements, where each is fine
 abbrev pub body_known : Scope → List Stmt → Option (List typed.Stmt)
@@ -108,22 +155,22 @@ body_faults s statements = flat_map (statement_faults s) statements
 -- a name is written before a dot of an expression, whether or not that breaks a rule
 abbrev pub is_name : List ℕ → Expr → Bool
 is_name x (name p y) = bytes_eq y x
-is_name x (integer p digits) = false
-is_name x (string p bytes) = false
-is_name x (selector p operand field) = false
-is_name x (call p callee arguments) = false
+is_name x _ = false
 
 abbrev mutual
   pub refers : List ℕ → Expr → Bool
-  refers x (name p y) = false
-  refers x (integer p digits) = false
-  refers x (string p bytes) = false
   refers x (selector p operand field) = is_name x operand || refers x operand
   refers x (call p callee arguments) = refers x callee || one_refers x arguments
+  refers x _ = false
 
   pub one_refers : List ℕ → Exprs → Bool
-  one_refers x none = false
-  one_refers x (some e es) = refers x e || one_refers x es
+  one_refers x no_exprs = false
+  one_refers x (some_exprs e es) = refers x e || one_refers x es
+
+abbrev pub simple_refers : List ℕ → Simple → Bool
+simple_refers x (call_statement e) = refers x e
+simple_refers x _ = false
 
 abbrev pub statement_refers : List ℕ → Stmt → Bool
-statement_refers x (expression p e) = refers x e
+statement_refers x (simple p c) = simple_refers x c
+statement_refers x _ = false

@@ -1,9 +1,9 @@
 //! What holds of what is answered of source files.
-ghost use Rattle.std.specs.Prelude.{◌≡◌, ◌≢◌, ℕ, List, [], map};
+ghost use Rattle.std.specs.Prelude.{◌≡◌, ℕ, List, [], ◌∷◌, map};
 ghost use Rattle.std.specs.List.{Contains};
 ghost use Rattle.go_text.specs.Faults.{Fault};
 ghost use Rattle.go_text.specs.declared.fault.FaultKind.TheVariants.{LeftOut, Main};
-ghost use Rattle.go_check.specs.Packages.{Answer, Faulty, NamedFile, files_faults};
+ghost use Rattle.go_check.specs.Packages.{Answer, Faulty, NamedFile, files_faults, forms_faults};
 ghost use Rattle.go_check.specs.Sources.{AreTreesOf, IsAnswerOf};
 
 /// Source files are answered in one way alone.
@@ -21,9 +21,10 @@ pub fn law_fault_stands()
     ensures { (path : List ℕ) (sources : List (List ℕ × List ℕ)) (fault : Fault) → IsAnswerOf path sources (Faulty fault) → Contains (map (λ source. source.0) sources) fault.file }
 {}
 
-/// No form is left out of source files that parse: the checker brings all that the parser accepts.
-pub fn law_nothing_left_out()
-    ensures { (path : List ℕ) (sources : List (List ℕ × List ℕ)) (fault : Fault) → IsAnswerOf path sources (Faulty fault) → fault.kind ≢ LeftOut }
+/// Nothing is left out of source files but forms that aren't known so far: the fault is that of
+/// the first node of such a form.
+pub fn law_left_out_is_unknown()
+    ensures { (path : List ℕ) (sources : List (List ℕ × List ℕ)) (files : List NamedFile) (fault : Fault) → AreTreesOf sources files → IsAnswerOf path sources (Faulty fault) → fault.kind ≡ LeftOut → (others : List Fault) × (forms_faults files ≡ fault ∷ others) }
 {}
 
 /// That a program has no function main is the last of faults: no node of its files has one.

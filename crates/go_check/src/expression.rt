@@ -1,7 +1,7 @@
 //! The checker of expressions.
 ghost use Rattle.std.specs.Prelude.{◌≡◌, ◌++◌, [], Some, map};
-ghost use Rattle.go_ast.specs.Trees.{pack, place_of};
-ghost use Rattle.go_ast.specs.Views.{expression_of, expressions_of};
+ghost use Rattle.go_ast.specs.Trees.{place_of};
+ghost use Rattle.go_ast.specs.Views.{expr_of, exprs_in};
 ghost use Rattle.go_check.specs.Views.{constant_of};
 ghost use Rattle.go_check.specs.Typed.{text};
 ghost use Rattle.go_check.specs.Rules.{untyped, println, named, selected, value, called};
@@ -105,8 +105,9 @@ fn value_due(scope: &Scope, place: Place, known: Known) -> Result<Const, CheckEr
 
 /// What is known of an expression, or the first fault in it.
 #[cycle(check)]
+#[tactic(auto, unfolding(go_ast::specs::Views::expr_of))]
 pub(crate) fn check_expression(alloc: Global, scope: &Scope, e: &Expr) -> Result<Known, CheckError>
-    ensures { Answers known_of result (faults scope.now (expression_of e.now)) (fine (verdict scope.now (expression_of e.now))) }
+    ensures { Answers known_of result (faults scope.now (expr_of e.now)) (fine (verdict scope.now (expr_of e.now))) }
 {
     match &e.kind {
         ExprKind::Name(name) => answer(scope, e.place, named(scope, name.as_str())),
@@ -123,6 +124,7 @@ pub(crate) fn check_expression(alloc: Global, scope: &Scope, e: &Expr) -> Result
             let callee = check_expression(alloc, scope, callee)?;
             check_call(alloc, scope, e.place, &callee, arguments)
         }
+        _ => Err(scope.fault(e.place, FaultKind::LeftOut)),
     }
 }
 
@@ -136,7 +138,7 @@ fn check_call(
     callee: &Known,
     arguments: &[Expr],
 ) -> Result<Known, CheckError>
-    ensures { Answers known_of result (argument_faults scope.now (pack (expressions_of arguments.now)) ++ broken scope.now place (asked (called (known_of callee.now)) (values scope.now (pack (expressions_of arguments.now))))) (fine (asked (called (known_of callee.now)) (values scope.now (pack (expressions_of arguments.now))))) }
+    ensures { Answers known_of result (argument_faults scope.now (exprs_in arguments.now) ++ broken scope.now place (asked (called (known_of callee.now)) (values scope.now (exprs_in arguments.now)))) (fine (asked (called (known_of callee.now)) (values scope.now (exprs_in arguments.now)))) }
 {
     let arguments = check_arguments(alloc, scope, arguments)?;
     called(alloc, scope, place, callee, arguments)
@@ -145,7 +147,7 @@ fn check_call(
 /// The constant that an argument is, or the first fault in it.
 #[cycle(check)]
 fn check_argument(alloc: Global, scope: &Scope, e: &Expr) -> Result<Const, CheckError>
-    ensures { Answers constant_of result (faults scope.now (expression_of e.now) ++ broken scope.now (place_of (expression_of e.now)) (asked value (fine (verdict scope.now (expression_of e.now))))) (fine (asked value (fine (verdict scope.now (expression_of e.now))))) }
+    ensures { Answers constant_of result (faults scope.now (expr_of e.now) ++ broken scope.now (place_of (expr_of e.now)) (asked value (fine (verdict scope.now (expr_of e.now))))) (fine (asked value (fine (verdict scope.now (expr_of e.now))))) }
 {
     let known = check_expression(alloc, scope, e)?;
     value_due(scope, e.place, known)
@@ -158,7 +160,7 @@ fn check_arguments(
     scope: &Scope,
     arguments: &[Expr],
 ) -> Result<Vec<Const>, CheckError>
-    ensures { Answers (λ all. map constant_of all.items) result (argument_faults scope.now (pack (expressions_of arguments.now))) (values scope.now (pack (expressions_of arguments.now))) }
+    ensures { Answers (λ all. map constant_of all.items) result (argument_faults scope.now (exprs_in arguments.now)) (values scope.now (exprs_in arguments.now)) }
 {
     let mut all = Vec::with_capacity(alloc, arguments.len())?;
     for argument in arguments {

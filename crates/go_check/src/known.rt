@@ -3,8 +3,7 @@ ghost use Rattle.std.specs.Prelude.{◌≡◌, IfOk, map};
 ghost use Rattle.std.specs.List.{list_all};
 ghost use Rattle.std.specs.Char.{is_ascii_digit};
 ghost use Rattle.go_check.specs.Views.{constant_of, expression_of};
-ghost use Rattle.go_scan.specs.Lex.{is_decimal};
-ghost use Rattle.go_check.specs.Rules.{literal, fits_default, defaulted};
+ghost use Rattle.go_check.specs.Rules.{is_decimal, literal, fits_default, defaulted};
 
 use crate::typed::{Const, GoType, TypedExpr, TypedExprKind};
 use go_text::fault::FaultKind;
@@ -31,7 +30,7 @@ fn all_digits(text: &[u8]) -> bool
 }
 
 /// Whether a literal is decimal: digits, the first of which is `0` only where it stands alone.
-fn is_decimal(text: &[u8]) -> bool
+pub(crate) fn is_decimal(text: &[u8]) -> bool
     ensures { result ≡ is_decimal text.now }
 {
     match text {

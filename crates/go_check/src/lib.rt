@@ -5,6 +5,7 @@ pub mod answer;
 pub mod error;
 mod expression;
 mod file;
+mod form;
 mod known;
 pub mod law;
 pub mod package;

@@ -3,22 +3,23 @@ ghost use Rattle.std.specs.Prelude.{◌≡◌, ◌++◌, [], false, Some, IfOk, 
 ghost use Rattle.std.specs.List.{list_any, flat_map};
 ghost use Rattle.std.specs.Str.{bytes_eq};
 ghost use Rattle.go_text.specs.Faults.{Fault as AFault};
-ghost use Rattle.go_ast.specs.Views.{import_of, imports_of, declaration_of, declarations_of};
+ghost use Rattle.go_ast.specs.Views.{import_of, top_of};
 ghost use Rattle.go_check.specs.Views.{function_of, typed_of};
 ghost use Rattle.go_check.specs.Typed.{IsWellTyped};
 ghost use Rattle.go_check.specs.Rules.{is_library, brought, declared};
 ghost use Rattle.go_check.specs.Verdicts.{ruled, broken, all_known};
-ghost use Rattle.go_check.specs.Packages.{scope_of, imports_faults, declared_name, declaration_faults, declaration_known, declarations_faults, file_faults, file_names, file_known, files_faults, package_name, main_faults, FaultOf, IsChecked, Good, Faulty};
+ghost use Rattle.go_check.specs.Packages.{scope_of, imports_faults, declared_name, declaration_faults, declaration_known, declarations_faults, file_faults, file_names, file_known, files_faults, forms_faults, package_name, main_faults, FaultOf, IsChecked, Good, Faulty};
 ghost use Rattle.go_check.specs.Sources.{source_of, AreTreesOf, IsAnswerOf};
 ghost use Rattle.go_check.specs.Seen.{Finds, Answers, joined, names_in, named_of};
 
 use crate::error::CheckError;
 use crate::file::NamedFile;
+use crate::form::{declared_at, first_unknown};
 use crate::reference::uses_library;
 use crate::scope::Scope;
 use crate::statement::check_body;
 use crate::typed::{Typed, TypedFunction};
-use go_ast::file::{Decl, ImportSpec};
+use go_ast::file::{ImportSpec, TopLevel};
 use go_parse::Parsed;
 use go_text::fault::FaultKind;
 use std::alloc::{AllocError, Global};
@@ -27,7 +28,7 @@ use std::alloc::{AllocError, Global};
 mod tests;
 
 /// Whether an import is one of the library that gives it no other name.
-fn is_library(import: &ImportSpec) -> bool
+pub(crate) fn is_library(import: &ImportSpec) -> bool
     ensures { result ≡ is_library (import_of import.now) }
 {
     import.path.as_slice() == b"fmt".as_slice() && import.name.is_none()
@@ -35,7 +36,7 @@ fn is_library(import: &ImportSpec) -> bool
 
 /// Whether one of some imports is.
 fn has_library(imports: &[ImportSpec]) -> bool
-    ensures { result ≡ list_any is_library (imports_of imports.now) }
+    ensures { result ≡ list_any is_library (map import_of imports.now) }
 {
     for import in imports {
         if is_library(import) {
@@ -69,7 +70,7 @@ fn check_import(
 
 /// The first fault of some imports, where the file does or doesn't refer to the library.
 fn check_imports(scope: &Scope, referred: bool, imports: &[ImportSpec]) -> Result<(), CheckError>
-    ensures { Finds result (imports_faults scope.now false referred (imports_of imports.now)) }
+    ensures { Finds result (imports_faults scope.now false referred (map import_of imports.now)) }
 {
     let mut before = false;
     for import in imports {
@@ -96,12 +97,17 @@ fn check_declaration(
     alloc: Global,
     scope: &Scope,
     before: &[TypedFunction],
-    declaration: &Decl,
+    declaration: &TopLevel,
 ) -> Result<TypedFunction, CheckError>
-    ensures answer { Answers function_of result (declaration_faults (names_in before.now) scope.now (declaration_of declaration.now)) (declaration_known scope.now (declaration_of declaration.now)) }
-    ensures name { IfOk result (λ f. string_bytes f.name ≡ declared_name (declaration_of declaration.now)) }
+    ensures answer { Answers function_of result (declaration_faults (names_in before.now) scope.now (top_of declaration.now)) (declaration_known scope.now (top_of declaration.now)) }
+    ensures name { IfOk result (λ f. string_bytes f.name ≡ declared_name (top_of declaration.now)) }
 {
-    let Decl::Function(function) = declaration;
+    let function = match declaration {
+        TopLevel::Function(function) => function,
+        TopLevel::Declared(declared) => {
+            return Err(scope.fault(declared_at(declared), FaultKind::LeftOut));
+        }
+    };
     if function.name.text() != "main" {
         return Err(scope.fault(function.name.place(), FaultKind::LeftOut));
     }
@@ -118,12 +124,12 @@ fn check_declaration(
 fn check_declarations(
     alloc: Global,
     scope: &Scope,
-    declarations: &[Decl],
+    declarations: &[TopLevel],
     functions: &mut Vec<TypedFunction>,
 ) -> Result<(), CheckError>
-    ensures faults { Finds result (declarations_faults (names_in functions.old.items) scope.now (declarations_of declarations.now)) }
-    ensures known { OnOk result (joined (map function_of functions.old.items) (all_known (map (declaration_known scope.now) (declarations_of declarations.now))) ≡ Some (map function_of functions.new.items)) }
-    ensures names { OnOk result (names_in functions.new.items ≡ names_in functions.old.items ++ map declared_name (declarations_of declarations.now)) }
+    ensures faults { Finds result (declarations_faults (names_in functions.old.items) scope.now (map top_of declarations.now)) }
+    ensures known { OnOk result (joined (map function_of functions.old.items) (all_known (map (declaration_known scope.now) (map top_of declarations.now))) ≡ Some (map function_of functions.new.items)) }
+    ensures names { OnOk result (names_in functions.new.items ≡ names_in functions.old.items ++ map declared_name (map top_of declarations.now)) }
 {
     for declaration in declarations {
         let function = check_declaration(alloc, scope, functions, declaration)?;
@@ -202,12 +208,26 @@ fn package_name(alloc: Global, files: &[NamedFile]) -> Result<String, AllocError
     }
 }
 
+/// The fault of the first of some files that holds a form that isn't known yet.
+fn check_forms(alloc: Global, files: &[NamedFile]) -> Result<(), CheckError>
+    ensures { Finds result (forms_faults (map named_of files.now)) }
+{
+    for file in files {
+        if let Some(place) = first_unknown(file.tree) {
+            let scope = file_scope(alloc, file)?;
+            return Err(scope.fault(place, FaultKind::LeftOut));
+        }
+    }
+    Ok(())
+}
+
 /// The package at a path that some files are, or its first fault.
 fn check_named(alloc: Global, path: &str, files: &[NamedFile]) -> Result<Typed, CheckError>
     ensures checked { IfOk result (λ typed. IsChecked path.now (map named_of files.now) (typed_of typed)) }
     ensures well_typed { IfOk result (λ typed. IsWellTyped (typed_of typed)) }
     ensures faulty { (fault : AFault) → result ≡ Err (CheckError.Faulty fault) → FaultOf (map named_of files.now) fault }
 {
+    check_forms(alloc, files)?;
     let functions = check_files(alloc, files)?;
     check_main(alloc, files, &functions)?;
     Ok(Typed {
@@ -233,13 +253,17 @@ fn named_files(alloc: Global, files: &[Parsed]) -> Result<Vec<NamedFile<'_>>, Al
 
 /// The package at a path that some files are, which come in ascending order of their names and
 /// have one package name: what it holds, with names resolved, constants folded and types written
-/// out. `Faulty` has the package's fault: the first node in declaration order, parts before the
-/// whole and left to right, that breaks a rule while its parts break none; and after all nodes, at
-/// the first file's package name, that a package named main has no function main. These are the
-/// rules, each with its place:
+/// out. `Faulty` has the package's fault. Where a file holds a form that isn't known so far, that
+/// is `LeftOut`, at the first token of the first node of such a form, in declaration order, a node
+/// before its parts. Known are imports of fmt that give it no other name, functions main without
+/// parameters and results, in them empty statements and calls of fmt.Println, and decimal and
+/// string literals as their arguments.
 ///
-/// - `LeftOut`, at its first token: what isn't an import of fmt, a function main, a call of
-///   fmt.Println as a statement, or a decimal or string literal as its argument.
+/// Else it is that of the first node in declaration order, parts before the whole and left to
+/// right, that breaks a rule while its parts break none; and after all nodes, at the first file's
+/// package name, that a package named main has no function main. These are the rules, each with
+/// its place:
+///
 /// - `Redeclared`, at an import or a function's name: there is one before it.
 /// - `UnusedImport`, at an import: its file doesn't refer to it.
 ///   [Import declarations](https://go.dev/ref/spec#Import_declarations)

@@ -1,18 +1,19 @@
 //! Which names are written before a dot.
-ghost use Rattle.std.specs.Prelude.{◌≡◌, codes};
+ghost use Rattle.std.specs.Prelude.{◌≡◌, codes, map};
 ghost use Rattle.std.specs.List.{list_any};
-ghost use Rattle.go_ast.specs.Trees.{pack};
-ghost use Rattle.go_ast.specs.Views.{expression_of, expressions_of, statement_of, declaration_of, file_of};
-ghost use Rattle.go_check.specs.Verdicts.{is_name, refers, one_refers, statement_refers};
+ghost use Rattle.go_ast.specs.Trees.{pack_stmts};
+ghost use Rattle.go_ast.specs.Views.{expr_of, exprs_in, stmt_of, top_of, file_of};
+ghost use Rattle.go_check.specs.Verdicts.{is_name, refers, one_refers, statement_refers, full};
 ghost use Rattle.go_check.specs.Packages.{declaration_refers, uses_library};
 
 use go_ast::expression::{Expr, ExprKind};
-use go_ast::file::{Decl, File};
-use go_ast::statement::{Stmt, StmtKind};
+use go_ast::file::{File, TopLevel};
+use go_ast::statement::{Simple, Stmt};
 
 /// Whether an expression is a name.
-fn is_name(name: &str, e: &Expr) -> bool
-    ensures { result ≡ is_name name.now (expression_of e.now) }
+#[tactic(auto, unfolding(go_ast::specs::Views::expr_of))]
+pub(crate) fn is_name(name: &str, e: &Expr) -> bool
+    ensures { result ≡ is_name name.now (expr_of e.now) }
 {
     match &e.kind {
         ExprKind::Name(text) => text.as_str() == name,
@@ -22,8 +23,9 @@ fn is_name(name: &str, e: &Expr) -> bool
 
 /// Whether a name is written before a dot of an expression.
 #[cycle(reference)]
+#[tactic(auto, unfolding(go_ast::specs::Views::expr_of))]
 fn refers(name: &str, e: &Expr) -> bool
-    ensures { result ≡ refers name.now (expression_of e.now) }
+    ensures { result ≡ refers name.now (expr_of e.now) }
 {
     match &e.kind {
         ExprKind::Selector(operand, _) => is_name(name, operand) || refers(name, operand),
@@ -35,7 +37,7 @@ fn refers(name: &str, e: &Expr) -> bool
 /// Whether a name is written before a dot of one of some expressions.
 #[cycle(reference)]
 fn one_refers(name: &str, expressions: &[Expr]) -> bool
-    ensures { result ≡ one_refers name.now (pack (expressions_of expressions.now)) }
+    ensures { result ≡ one_refers name.now (exprs_in expressions.now) }
 {
     for e in expressions {
         if refers(name, e) {
@@ -46,24 +48,36 @@ fn one_refers(name: &str, expressions: &[Expr]) -> bool
 }
 
 /// Whether a name is written before a dot of a statement.
+#[tactic(auto, unfolding(go_ast::specs::Views::stmt_of))]
 fn statement_refers(name: &str, statement: &Stmt) -> bool
-    ensures { result ≡ statement_refers name.now (statement_of statement.now) }
+    ensures { result ≡ statement_refers name.now (stmt_of statement.now) }
 {
-    let StmtKind::Expression(e) = &statement.kind;
-    refers(name, e)
+    match statement {
+        Stmt::Simple(_, Simple::Call(e)) => refers(name, e),
+        _ => false,
+    }
 }
 
-/// Whether a name is written before a dot of a declaration.
-fn declaration_refers(name: &str, declaration: &Decl) -> bool
-    ensures { result ≡ declaration_refers name.now (declaration_of declaration.now) }
+/// Whether a name is written before a dot of a body.
+fn body_refers(name: &str, statements: &[Stmt]) -> bool
+    ensures { result ≡ list_any (statement_refers name.now) (full (pack_stmts (map stmt_of statements.now))) }
 {
-    let Decl::Function(function) = declaration;
-    for statement in &function.body.statements {
+    for statement in statements {
         if statement_refers(name, statement) {
             return true;
         }
     }
     false
+}
+
+/// Whether a name is written before a dot of a declaration.
+fn declaration_refers(name: &str, declaration: &TopLevel) -> bool
+    ensures { result ≡ declaration_refers name.now (top_of declaration.now) }
+{
+    match declaration {
+        TopLevel::Function(function) => body_refers(name, &function.body.statements),
+        TopLevel::Declared(_) => false,
+    }
 }
 
 /// Whether a file refers to the library.

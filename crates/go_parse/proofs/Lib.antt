@@ -1,11 +1,15 @@
 -- Lemmas of the parser.
-pub mod Backward
+pub mod Choices
+pub mod Clauses
+pub mod Crossing
 pub mod Exists
-pub mod Forward
-pub mod Moves
+pub mod Files
+mod Found
+pub mod Heads
+pub mod Imports
+pub mod Items
+pub mod Lefts
+pub mod Lists
 pub mod Once
 pub mod Reading
-pub mod Runs
-pub mod Same
 pub mod Steps
-pub mod Turns

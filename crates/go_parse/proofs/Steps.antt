@@ -1,64 +1,72 @@
--- One step of the machine.
-use Rattle.std.proofs.Common.{◌≡◌, ℕ, ◌-◌, ◌≤◌, ◌<◌, Bool, true, false, ◌&&◌, List, [], ◌∷◌, length, take, drop, Some, None, refl, sym, ap, ◌∙◌, subst, arith}
-use Rattle.std.specs.Prelude.{slice_index_or}
-use Rattle.std.proofs.lemmas.List.{take_rest}
-use Rattle.std.specs.Str.{bytes_eq}
-use Rattle.go_scan.specs.declared.token.TokenKind.TheVariants as kinds
-use Rattle.go_ast.specs.Grammar.{Lexeme, IsNamed}
-use Rattle.go_ast.specs.Machine.{State, named, kept, same, is_named, next_if, step, final, Refused, at_end, by_step, run}
-use Rattle.go_parse.specs.Reads.{First}
-use Rattle.go_parse.proofs.Same.{is_same, are_same, bytes_same, bytes_are}
+-- Where one state goes on as another does.
+use Rattle.std.proofs.Common.{◌≡◌, ℕ, true, false, List, [], ◌∷◌, None, refl, sym, ap, ◌∙◌}
+use Rattle.go_scan.specs.declared.token.TokenKind.{TokenKind}
+use Rattle.go_ast.specs.Kinds.{same}
+use Rattle.go_ast.specs.Expected.{Expected, another}
+use Rattle.go_ast.specs.Grammar.{Lexeme}
+use Rattle.go_ast.specs.Machine.{State, token, optional, list_start, list_end, ListKind, Item, separator, closer, on_item, Move, Take, Fail, cond, step, final, by_move, at_end, run}
+use Rattle.go_ast.proofs.Same.{is_same, not_same}
+use Rattle.go_pexpr.specs.Reads.{First}
 
--- the token is taken
-pub takes : (s r : State) (t : Lexeme) (ts : List Lexeme) → step s t ≡ Some r → run s (t ∷ ts) ≡ run r ts
+abbrev pub Kind : TokenKind → Lexeme → Type 0
+Kind kind t = t.kind ≡ kind
+
+pub false_true : false ≡ true → ⊥
+false_true e = cc (e)
+
+pub same_step : (s r : State) (t : Lexeme) (ts : List Lexeme) → step s t ≡ step r t → run 250 s (t ∷ ts) ≡ run 250 r (t ∷ ts)
 unfolding run
-takes s r t ts e = ap (by_step (λ q. run q ts) (t ∷ ts)) e
+same_step s r t ts e = ap (by_move 250 (λ q. run 250 q ts) t.kind (t ∷ ts)) e
 
--- it is refused
-pub refuses : (s : State) (t : Lexeme) (ts : List Lexeme) → step s t ≡ None → run s (t ∷ ts) ≡ Refused (t ∷ ts)
+pub same_end : (s r : State) → final s ≡ final r → run 250 s [] ≡ run 250 r []
 unfolding run
-refuses s t ts e = ap (by_step (λ q. run q ts) (t ∷ ts)) e
+same_end s r e = ap at_end e
 
--- the end is
-pub end_refuses : (s : State) → final s ≡ None → run s [] ≡ Refused []
-unfolding run
-end_refuses s e = ap at_end e
+-- states that do the same with each token
+pub same_state : (s r : State) (ts : List Lexeme) → ((t : Lexeme) → step s t ≡ step r t) → final s ≡ final r → run 250 s ts ≡ run 250 r ts
+same_state s r [] on end = same_end s r end
+same_state s r (t ∷ ts) on end = same_step s r t ts (on t)
 
--- a list that isn't empty: its first and the rest, as code takes them
-pub first_and_rest : {X : Type 0} (xs : List X) (d : X) → 1 ≤ length xs → xs ≡ slice_index_or xs 0 d ∷ take (length xs - 1) (drop 1 xs)
-first_and_rest [] d le = absurd (omega arith)
-first_and_rest (x ∷ xs) d le = ap (λ ys. x ∷ ys) (sym (take_rest (x ∷ xs) 1))
+-- states that do the same with the first token, as it is such
+pub same_first : (Is : Lexeme → Type 0) (s r : State) (ts : List Lexeme) → First Is ts → ((t : Lexeme) → Is t → step s t ≡ step r t) → run 250 s ts ≡ run 250 r ts
+same_first Is s r [] h on = absurd h
+same_first Is s r (t ∷ ts) h on = same_step s r t ts (on t h)
 
-pub empty_list : {X : Type 0} (xs : List X) → length xs < 1 → xs ≡ []
-empty_list [] lt = refl
-empty_list (x ∷ xs) lt = absurd (omega arith)
+-- and as it isn't
+pub same_other : (Is : Lexeme → Type 0) (s r : State) (ts : List Lexeme) → (First Is ts → ⊥) → ((t : Lexeme) → (Is t → ⊥) → step s t ≡ step r t) → final s ≡ final r → run 250 s ts ≡ run 250 r ts
+same_other Is s r [] never on end = same_end s r end
+same_other Is s r (t ∷ ts) never on end = same_step s r t ts (on t never)
 
-both : (a b : Bool) → a ≡ true → b ≡ true → (a && b) ≡ true
-both a b e f = ap (λ x. x && b) e ∙ f
+-- a test that holds, and one that fails
+pub taken_by : (kind : TokenKind) (t : Lexeme) (m other : Move) → Kind kind t → cond (same kind t.kind) m other ≡ m
+taken_by kind t m other e = ap (λ x. cond x m other) (is_same kind t.kind e)
 
-not_both : (a b : Bool) → (a ≡ true → b ≡ true → ⊥) → (a && b) ≡ false
-not_both false b never = refl
-not_both true false never = refl
-not_both true true never = absurd (never refl refl)
+pub passed_by : (kind : TokenKind) (t : Lexeme) (m other : Move) → (Kind kind t → ⊥) → cond (same kind t.kind) m other ≡ other
+passed_by kind t m other never = ap (λ x. cond x m other) (not_same kind t.kind never)
 
--- a name of a text
-pub named_yes : (text : List ℕ) (t : Lexeme) → IsNamed text t → is_named text t ≡ true
-named_yes text t h = both (same kinds.Name t.kind) (bytes_eq t.text text) (is_same kinds.Name t.kind h.0) (bytes_same t.text text h.1)
+-- what may be missing is there, or is missing
+pub is_there : (kind : TokenKind) (need : ℕ) (x : Expected) (some : Lexeme → State) (none : State) (ts : List Lexeme) → First (Kind kind) ts → run 250 (optional kind need some none) ts ≡ run 250 (token kind need x some) ts
+is_there kind need x some none ts h = same_first (Kind kind) _ _ ts h (λ t e. taken_by kind t _ _ e ∙ sym (taken_by kind t _ _ e))
 
-pub named_no : (text : List ℕ) (t : Lexeme) → (IsNamed text t → ⊥) → is_named text t ≡ false
-named_no text t never = not_both (same kinds.Name t.kind) (bytes_eq t.text text) (λ e f. never (are_same kinds.Name t.kind e, bytes_are t.text text f))
+pub is_missing : (kind : TokenKind) (need : ℕ) (some : Lexeme → State) (none : State) (ts : List Lexeme) → (First (Kind kind) ts → ⊥) → run 250 (optional kind need some none) ts ≡ run 250 none ts
+is_missing kind need some none ts never = same_other (Kind kind) _ _ ts never (λ t e. passed_by kind t _ _ e) refl
 
-pub named_refuses : (text : List ℕ) (next : Lexeme → State) (ts : List Lexeme) → (First (IsNamed text) ts → ⊥) → run (named text next) ts ≡ Refused ts
-named_refuses text next [] never = end_refuses (named text next) refl
-named_refuses text next (t ∷ ts) never = refuses (named text next) t ts (ap (λ x. next_if x (next t) None) (named_no text t never))
+-- lists
+module _ (k : ListKind) (front : List (Item k)) (next : List (Item k) → Lexeme → State) (ts : List Lexeme) where
+  -- an item begins
+  pub item_begins : (s : State) → (First (Kind (closer k)) ts → ⊥) → ((t : Lexeme) → on_item k front next t ≡ step s t) → None ≡ final s → run 250 (list_start k front next) ts ≡ run 250 s ts
+  item_begins s never on end = same_other (Kind (closer k)) _ _ ts never (λ t e. passed_by (closer k) t _ _ e ∙ on t) end
 
-pub named_as_kept : (text : List ℕ) (next : Lexeme → State) (ts : List Lexeme) → First (IsNamed text) ts → run (named text next) ts ≡ run (kept kinds.Name next) ts
-named_as_kept text next [] h = absurd h
-named_as_kept text next (t ∷ ts) h =
-    takes (named text next) (next t) t ts (ap (λ x. next_if x (next t) None) (named_yes text t h))
-    ∙ sym (takes (kept kinds.Name next) (next t) t ts (ap (λ x. next_if x (next t) None) (is_same kinds.Name t.kind h.0)))
+  -- the list ends
+  pub list_closes : First (Kind (closer k)) ts → run 250 (list_start k front next) ts ≡ run 250 (token (closer k) 0 another (next front)) ts
+  list_closes h = same_first (Kind (closer k)) _ _ ts h (λ t e. taken_by (closer k) t _ _ e ∙ sym (taken_by (closer k) t _ _ e))
 
--- what the first token is
-pub first_both : (P : Lexeme → Type 0) (t : Lexeme) (ts : List Lexeme) → First P ts → First (λ u. u ≡ t) ts → P t
-first_both P t [] h e = absurd h
-first_both P t (u ∷ ts) h e = subst P e h
+  -- behind an item the list ends, or else a separator is due
+  pub separator_due : (x : Expected) → (First (Kind (closer k)) ts → ⊥) → run 250 (list_end k x front next) ts ≡ run 250 (token (separator k) 0 x (λ _. list_start k front next)) ts
+  separator_due x never = same_other (Kind (closer k)) _ _ ts never (λ t e. ap (cond (same (separator k) t.kind) (Take 0 (list_start k front next))) (passed_by (closer k) t _ _ e)) refl
+
+  pub ends_closed : (x : Expected) → same (separator k) (closer k) ≡ false → First (Kind (closer k)) ts → run 250 (list_end k x front next) ts ≡ run 250 (list_start k front next) ts
+  ends_closed x other h = same_first (Kind (closer k)) _ _ ts h (λ t e.
+      ap (λ y. cond (same (separator k) y) (Take 0 (list_start k front next)) (cond (same (closer k) t.kind) (Take 0 (next front t)) (Fail x))) e
+      ∙ ap (λ y. cond y (Take 0 (list_start k front next)) (cond (same (closer k) t.kind) (Take 0 (next front t)) (Fail x))) other
+      ∙ taken_by (closer k) t _ _ e ∙ sym (taken_by (closer k) t _ _ e))

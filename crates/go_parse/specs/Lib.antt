@@ -1,3 +1,5 @@
--- The parser's definitions.
+pub mod Due
+pub mod Files
 pub mod Parse
-pub mod Reads
+pub mod Statements
+pub mod Turns

@@ -1,40 +1,70 @@
 -- What a source text is parsed to.
-use Rattle.std.specs.Prelude.{ℕ, List, length, map, slice_range}
+use Rattle.std.specs.Prelude.{◌≡◌, ◌≢◌, ◌⊎◌, ℕ, List, [], ◌∷◌, length}
+use Rattle.go_text.specs.declared.fault.FaultKind.{FaultKind}
+use Rattle.go_text.specs.declared.fault.FaultKind.TheVariants as faults
 use Rattle.go_text.specs.declared.place.Place.{Place}
+use Rattle.go_text.specs.Faults.{fault_number}
 use Rattle.go_text.specs.Places.{place_at}
+use Rattle.go_scan.specs.declared.fault.ScanFault.{ScanFault}
+use Rattle.go_scan.specs.declared.fault.ScanFault.TheVariants.{Malformed, LeftOut}
 use Rattle.go_scan.specs.declared.token.Token.{Token}
-use Rattle.go_scan.specs.Lex.{Lexes}
-use Rattle.std.proofs.Common.{refl}
-use Rattle.std.specs.Coded.{Coded, code_by, coded×, coded_ℕ, coded_list}
-use Rattle.go_ast.specs.Codes.{file_code}
-use Rattle.go_ast.specs.Trees.{File}
-use Rattle.go_ast.specs.Grammar.{Lexeme, Derives, StopsAt}
+use Rattle.go_scan.specs.Lex.{Lexes, Refuses}
+use Rattle.go_ast.specs.Trees.{Name, File}
+use Rattle.go_ast.specs.Grammar.{Lexeme, Derives}
+use Rattle.go_ast.specs.Stops.{StopsAt}
+use Rattle.go_ast.specs.Tokens.{lexemes}
 
--- a token of a text, with its bytes
-abbrev pub lexeme : List ℕ → Token → Lexeme
-lexeme text t = record { kind = t.kind; text = slice_range text t.start t.end; place = t.place }
+-- how many levels the tree of a declaration or a function has at most
+abbrev pub most_levels : ℕ
+most_levels = 250
 
--- the tokens of a text, with their bytes
-abbrev pub lexemes : List ℕ → List Token → List Lexeme
-lexemes text ts = map (lexeme text) ts
-
--- a file, or the place where the text stops being one
+-- the file that a text is, or the fault by which it is none, and its place
 pub data Parse : Type 0 where
   Derived : File → Parse
-  Stopped : Place → Parse
+  Stopped : FaultKind → Place → Parse
 
--- a text's tokens are a file, or stop being one at a place, at the latest behind the text's last byte
+-- the kind of a fault of tokens
+abbrev pub scan_kind : ScanFault → FaultKind
+scan_kind Malformed = faults.Scan
+scan_kind LeftOut = faults.LeftOut
+
+-- the place of the first of some tokens, or where there is none the place behind the text's last byte
+abbrev pub place_before : List ℕ → List Lexeme → Place
+place_before text [] = place_at text (length text)
+place_before text (t ∷ ts) = t.place
+
+-- the text has no tokens for a fault of this kind at this place
+abbrev pub IsRefused : List ℕ → FaultKind → Place → Type 0
+IsRefused text kind place = (fault : ScanFault) × Refuses text fault place × (kind ≡ scan_kind fault)
+
+-- the text's tokens stop being a file by a fault of this kind at this place
+abbrev pub StopsBeing : List ℕ → FaultKind → Place → Type 0
+StopsBeing text kind place =
+    (ts : List Token) × (bad : List Lexeme) × Lexes text ts × StopsAt most_levels (lexemes text ts) (fault_number kind) bad
+    × (place ≡ place_before text bad)
+
+-- a text's tokens are a file; or it has none, or they stop being one
 unfoldable pub IsParse : List ℕ → Parse → Type 0
-IsParse text (Derived file) = (ts : List Token) × Lexes text ts × Derives (lexemes text ts) file
-IsParse text (Stopped place) = (ts : List Token) × Lexes text ts × StopsAt (lexemes text ts) (place_at text (length text)) place
+IsParse text (Derived file) = (ts : List Token) × Lexes text ts × Derives most_levels (lexemes text ts) file
+IsParse text (Stopped kind place) = IsRefused text kind place ⊎ StopsBeing text kind place
 
--- a source that is a file: the file's name, the text, and its tree
+-- a text that is a file, whose package clause has this name
+abbrev pub IsPackage : List ℕ → Name → Type 0
+IsPackage text name = (file : File) × IsParse text (Derived file) × (name ≡ file.package)
+
+-- the file that a text is has a package name that is written so
+pub record IsNamed (name text : List ℕ) : Type 0 where
+  pub clause : Name
+  pub package_is : IsPackage text clause
+  pub same : clause.text ≡ name
+
+-- or otherwise
+pub record IsOther (name text : List ℕ) : Type 0 where
+  pub clause : Name
+  pub package_is : IsPackage text clause
+  pub other : clause.text ≢ name
+
+-- a source that is a file: the file's name and the text, which has one tree
 pub record Parsed : Type 0 where
   pub name : List ℕ
   pub text : List ℕ
-  pub file : File
-
-abbrev pub parsed_code : Coded Parsed
-parsed_code =
-    code_by (List ℕ × (List ℕ × File)) (coded× (coded_list coded_ℕ) (coded× (coded_list coded_ℕ) file_code))
-    (λ p. (p.name, (p.text, p.file))) (λ q. record { name = q.0; text = q.1.0; file = q.1.1 }) (λ _. refl)

@@ -1,13 +1,23 @@
 //! The parser: the file that a source text is, or where it stops being one.
 #![tactic(auto)]
 
-mod content;
-mod expect;
+mod clause;
+mod declaration;
+mod file;
+mod for_loop;
+mod function;
+mod header;
+mod import;
+mod jump;
 mod kept;
 mod law;
+mod made;
+mod marks;
 mod parser;
-mod reader;
+mod simple;
 mod statement;
+#[cfg(test)]
+mod table;
 #[cfg(test)]
 mod tests;
 

@@ -1,418 +1,295 @@
--- What a text begins with: how long a spelling may be.
-use Rattle.std.proofs.Common.{◌≡◌, ℕ, ◌+◌, ◌<◌, ◌≤◌, inl, inr, zero, suc, Bool, true, false, cond, not, ◌&&◌, ◌||◌, nat_eq, List, [], ◌∷◌, ◌++◌, length, get_or, take, drop, Option, Some, None, refl, sym, ap, ◌∙◌, subst, arith, take-append-drop, one-add, length-append, length-take, append_assoc}
-use Rattle.std.specs.List.{list_all, prefix_len}
-use Rattle.std.proofs.lemmas.Bool.Decides.{nat_tests}
-use Rattle.go_scan.specs.declared.keyword.Keyword.{Keyword}
-use Rattle.go_scan.specs.declared.keyword.Keyword.TheVariants as keywords
-use Rattle.go_scan.specs.declared.token.TokenKind.{TokenKind}
-use Rattle.go_scan.specs.declared.token.TokenKind.TheVariants as kinds
-use Rattle.go_scan.specs.Keywords.{spelling}
+-- What a text begins with is what the definitions find.
+use Rattle.std.proofs.Common.{◌≡◌, ℕ, ◌+◌, ◌≤◌, inl, inr, suc, Bool, true, false, cond, not, ◌||◌, ◌&&◌, nat_eq, List, [], ◌∷◌, ◌++◌, length, get_or, take, drop, Option, Some, None, refl, sym, ap, ◌∙◌, subst, arith, one-add, append_assoc, length-append, length-take, take-append-drop, eqb-true}
+use Rattle.std.specs.Prelude.{IfSome}
+use Rattle.std.specs.List.{list_all, prefix_len, flat_map}
 use Rattle.std.specs.Char.{is_ascii_digit}
+use Rattle.std.proofs.lemmas.Bool.Decides.{nat_tests}
 use Rattle.go_scan.specs.declared.punctuation.Punctuation.{Punctuation}
 use Rattle.go_scan.specs.declared.punctuation.Punctuation.TheVariants as marks
+use Rattle.go_scan.specs.declared.shape.Shape.{Shape}
+use Rattle.go_scan.specs.declared.shape.Shape.TheVariants.{Blanks, LineComment, BlockComment, OpenComment, BadNumber, Word}
+use Rattle.go_scan.specs.declared.token.TokenKind.TheVariants as kinds
+use Rattle.go_scan.specs.Comments.{is_in_line}
+use Rattle.go_scan.specs.Numbers.{begins_number, is_in_run}
 use Rattle.go_scan.specs.Punctuations.{punctuation_spelling}
-use Rattle.go_scan.specs.Lex.{is_blank, is_letter, is_inside, is_word, begins_number, is_in_number, is_number, is_decimal, is_in_string, IsString, IsStray, Spells, Begins}
+use Rattle.go_scan.specs.Strings.{Part}
+use Rattle.go_scan.specs.Words.{IsWord}
+use Rattle.go_scan.specs.Lex.{is_blank, Spells, Piece, Begins, BeginsNone}
+use Rattle.go_scan.specs.Fronts.{word_kind, word_at, run_at, string_at, raw_at, rune_at, before_close, block_shape, mark_at, slash_at, may_begin_word, other_at, no_word_at, no_blank_at, front}
+use Rattle.go_scan.proofs.Keys.{no_keyword_in, keyword_some}
+use Rattle.go_scan.proofs.Runs.{and_left, and_right, run_le, run_all, run_some, Good, good_if, Fits}
+use Rattle.go_scan.proofs.WordFronts.{word_good, word_fits, word_first, keyword_is_word}
+use Rattle.go_scan.proofs.NumberFronts.{begins_on, number_no_word, number_no_blank, digit_in_run, run_good, run_fits, run_begin}
+use Rattle.go_scan.proofs.CommentFronts.{line_good, line_fits, block_good, block_fits, open_fits}
+use Rattle.go_scan.proofs.LiteralFronts.{rune_good, rune_fits, raw_good, raw_fits, string_good, string_fits}
+use Rattle.go_scan.proofs.MarkFronts.{mark_good, mark_fits}
 
--- keywords are words
-pub keyword_is_word : (k : Keyword) → is_word (spelling k) ≡ true
-keyword_is_word keywords.Break = refl
-keyword_is_word keywords.Case = refl
-keyword_is_word keywords.Chan = refl
-keyword_is_word keywords.Const = refl
-keyword_is_word keywords.Continue = refl
-keyword_is_word keywords.Default = refl
-keyword_is_word keywords.Defer = refl
-keyword_is_word keywords.Else = refl
-keyword_is_word keywords.Fallthrough = refl
-keyword_is_word keywords.For = refl
-keyword_is_word keywords.Func = refl
-keyword_is_word keywords.Go = refl
-keyword_is_word keywords.Goto = refl
-keyword_is_word keywords.If = refl
-keyword_is_word keywords.Import = refl
-keyword_is_word keywords.Interface = refl
-keyword_is_word keywords.Map = refl
-keyword_is_word keywords.Package = refl
-keyword_is_word keywords.Range = refl
-keyword_is_word keywords.Return = refl
-keyword_is_word keywords.Select = refl
-keyword_is_word keywords.Struct = refl
-keyword_is_word keywords.Switch = refl
-keyword_is_word keywords.Type = refl
-keyword_is_word keywords.Var = refl
+-- what is found is spelled so
+blanks_good : (b : ℕ) (bs : List ℕ) → is_blank b ≡ true → Good (b ∷ bs) (Some (Blanks, prefix_len is_blank (b ∷ bs)))
+blanks_good b bs e =
+    let all = run_all is_blank (b ∷ bs) in
+    let size : prefix_len is_blank (b ∷ bs) ≡ suc (prefix_len is_blank bs) = ap (λ x. cond x (1 + prefix_len is_blank bs) 0) e ∙ one-add (prefix_len is_blank bs) in
+    let front : take (prefix_len is_blank (b ∷ bs)) (b ∷ bs) ≡ b ∷ take (prefix_len is_blank bs) bs = ap (λ k. take k (b ∷ bs)) size in
+    ((b, take (prefix_len is_blank bs) bs, front, ap (list_all is_blank) (sym front) ∙ all.0), run_some is_blank b bs e, all.1)
 
-pub and_left : (a b : Bool) → (a && b) ≡ true → a ≡ true
-and_left true b e = refl
-and_left false b e = cc
+slash_good : (bs : List ℕ) → Good (47 ∷ bs) (slash_at (47 ∷ bs) bs)
+slash_good [] = mark_good (47 ∷ [])
+slash_good (b ∷ bs) =
+    good_if (47 ∷ b ∷ bs) (nat_eq b 47) _ _ (λ t. subst (λ x. Good (47 ∷ x ∷ bs) (Some (LineComment, prefix_len is_in_line bs + 2))) (sym (eqb-true b 47 t)) (line_good bs)) (λ _.
+    good_if (47 ∷ b ∷ bs) (nat_eq b 42) _ _ (λ t. subst (λ x. Good (47 ∷ x ∷ bs) (Some (block_shape (before_close false bs) bs))) (sym (eqb-true b 42 t)) (block_good bs)) (λ _.
+    mark_good (47 ∷ b ∷ bs)))
 
-pub and_right : (a b : Bool) → (a && b) ≡ true → b ≡ true
-and_right true b e = e
-and_right false b e = cc
+other_good : (b : ℕ) (bs : List ℕ) → Good (b ∷ bs) (other_at b bs)
+other_good b bs =
+    good_if (b ∷ bs) (nat_eq b 34) _ _ (λ t. subst (λ x. Good (x ∷ bs) (string_at bs)) (sym (eqb-true b 34 t)) (string_good bs)) (λ _.
+    good_if (b ∷ bs) (nat_eq b 96) _ _ (λ t. subst (λ x. Good (x ∷ bs) (raw_at bs)) (sym (eqb-true b 96 t)) (raw_good bs)) (λ _.
+    good_if (b ∷ bs) (nat_eq b 39) _ _ (λ t. subst (λ x. Good (x ∷ bs) (rune_at bs)) (sym (eqb-true b 39 t)) (rune_good bs)) (λ _.
+    good_if (b ∷ bs) (nat_eq b 47) _ _ (λ t. subst (λ x. Good (x ∷ bs) (slash_at (x ∷ bs) bs)) (sym (eqb-true b 47 t)) (slash_good bs)) (λ _.
+    mark_good (b ∷ bs)))))
 
--- bytes that pass are no more than the longest run of them
-run_le : (p : ℕ → Bool) (body rest : List ℕ) → list_all p body ≡ true → length body ≤ prefix_len p (body ++ rest)
-run_le p [] rest a = omega arith
-run_le p (b ∷ bs) rest a =
-    let ih = run_le p bs rest (and_right (p b) (list_all p bs) a) in
-    let e = ap (λ x. cond x (1 + prefix_len p (bs ++ rest)) 0) (and_left (p b) (list_all p bs) a) in
-    omega (arith, ih, e)
+pub good : (text : List ℕ) → Good text (front text)
+good [] = tt
+good (b ∷ bs) =
+    good_if (b ∷ bs) (is_blank b) _ _ (λ t. blanks_good b bs t) (λ _.
+    good_if (b ∷ bs) (may_begin_word b) _ _ (λ _. word_good (b ∷ bs)) (λ _.
+    good_if (b ∷ bs) (begins_number (b ∷ bs)) _ _ (λ t. run_good b bs t) (λ _.
+    other_good b bs)))
 
--- and the longest run passes
-pub run_all : (p : ℕ → Bool) (bs : List ℕ) → (list_all p (take (prefix_len p bs) bs) ≡ true) × (prefix_len p bs ≤ length bs)
-run_all p [] = (refl, omega arith)
-run_all p (b ∷ bs) = by_test (p b) refl (run_all p bs)
+-- where each family of pieces is found
+front_word : (text : List ℕ) → 1 ≤ length text → may_begin_word (get_or text 0 0) ≡ true → front text ≡ word_at text
+front_word [] some e = absurd (omega arith)
+front_word (b ∷ bs) some e = ap (λ x. cond x (Some (Blanks, prefix_len is_blank (b ∷ bs))) (no_blank_at b bs)) (no_blank b e) ∙ ap (λ x. cond x (word_at (b ∷ bs)) (no_word_at b bs)) e
   where
-    by_test : (c : Bool) → p b ≡ c → (list_all p (take (prefix_len p bs) bs) ≡ true) × (prefix_len p bs ≤ length bs) → (list_all p (take (cond c (1 + prefix_len p bs) 0) (b ∷ bs)) ≡ true) × (cond c (1 + prefix_len p bs) 0 ≤ length (b ∷ bs))
-    by_test false e h = (refl, omega arith)
-    by_test true e h = (ap (λ k. list_all p (take k (b ∷ bs))) (one-add (prefix_len p bs)) ∙ ap (λ x. x && list_all p (take (prefix_len p bs) bs)) e ∙ h.0, omega (arith, h.1))
+    no_blank : (b : ℕ) → may_begin_word b ≡ true → is_blank b ≡ false
+    no_blank b e = grind (arith, nat_tests)
 
-pub letter_is_inside : (b : ℕ) → is_letter b ≡ true → is_inside b ≡ true
-letter_is_inside b e = rw e refl
+front_run : (text : List ℕ) → begins_number text ≡ true → front text ≡ run_at text
+front_run [] e = cc
+front_run (b ∷ bs) e =
+    ap (λ x. cond x (Some (Blanks, prefix_len is_blank (b ∷ bs))) (no_blank_at b bs)) (number_no_blank b bs e)
+    ∙ ap (λ x. cond x (word_at (b ∷ bs)) (no_word_at b bs)) (number_no_word b bs e)
+    ∙ ap (λ x. cond x (run_at (b ∷ bs)) (other_at b bs)) e
 
--- a word is no longer than the run of letters and digits at the front of what it begins
-pub word_le : (xs rest : List ℕ) → is_word xs ≡ true → length xs ≤ prefix_len is_inside (xs ++ rest)
-word_le [] rest w = omega arith
-word_le (b ∷ bs) rest w = run_le is_inside (b ∷ bs) rest (ap (λ x. x && list_all is_inside bs) (letter_is_inside b (and_left (is_letter b) (list_all is_inside bs) w)) ∙ and_right (is_letter b) (list_all is_inside bs) w)
+-- the bytes that begin punctuation alone
+abbrev is_plain_mark : ℕ → Bool
+is_plain_mark b = not (is_blank b) && (not (may_begin_word b) && (not (is_ascii_digit b) && (not (nat_eq b 46) && (not (nat_eq b 34) && (not (nat_eq b 96) && (not (nat_eq b 39) && not (nat_eq b 47)))))))
 
--- a run that begins with a letter is a word
-pub run_is_word : (b : ℕ) (bs : List ℕ) → is_letter b ≡ true → (is_word (take (prefix_len is_inside (b ∷ bs)) (b ∷ bs)) ≡ true) × (1 ≤ prefix_len is_inside (b ∷ bs))
-run_is_word b bs e =
-    let size : prefix_len is_inside (b ∷ bs) ≡ 1 + prefix_len is_inside bs = ap (λ x. cond x (1 + prefix_len is_inside bs) 0) (letter_is_inside b e) in
-    (ap (λ k. is_word (take k (b ∷ bs))) (size ∙ one-add (prefix_len is_inside bs)) ∙ ap (λ x. x && list_all is_inside (take (prefix_len is_inside bs) bs)) e ∙ (run_all is_inside bs).0, omega arith)
+not_false : (x : Bool) → not x ≡ true → x ≡ false
+not_false true e = sym e
+not_false false e = refl
 
--- a blank is no letter
-pub blank_no_letter : (b : ℕ) → is_blank b ≡ true → is_letter b ≡ true → ⊥
-blank_no_letter b d e = grind (arith, nat_tests)
+no_number : (b : ℕ) (bs : List ℕ) → is_ascii_digit b ≡ false → nat_eq b 46 ≡ false → begins_number (b ∷ bs) ≡ false
+no_number b [] d e = d
+no_number b (c ∷ bs) d e = ap (λ x. x || (nat_eq b 46 && is_ascii_digit c)) d ∙ ap (λ x. x && is_ascii_digit c) e
 
--- what begins as a number goes on so
-pub begins_on : (xs rest : List ℕ) → begins_number xs ≡ true → begins_number (xs ++ rest) ≡ true
-begins_on [] rest e = cc
-begins_on (b ∷ []) [] e = e
-begins_on (b ∷ []) (c ∷ rest) e = ap (λ x. x || (nat_eq b 46 && is_ascii_digit c)) e
-begins_on (b ∷ c ∷ bs) rest e = e
+plain_front : (b : ℕ) (bs : List ℕ) → is_plain_mark b ≡ true → front (b ∷ bs) ≡ mark_at (b ∷ bs)
+plain_front b bs e =
+    let blank = and_left (not (is_blank b)) _ e in
+    let e1 = and_right (not (is_blank b)) _ e in
+    let word = and_left (not (may_begin_word b)) _ e1 in
+    let e2 = and_right (not (may_begin_word b)) _ e1 in
+    let digit = and_left (not (is_ascii_digit b)) _ e2 in
+    let e3 = and_right (not (is_ascii_digit b)) _ e2 in
+    let dot = and_left (not (nat_eq b 46)) _ e3 in
+    let e4 = and_right (not (nat_eq b 46)) _ e3 in
+    let double = and_left (not (nat_eq b 34)) _ e4 in
+    let e5 = and_right (not (nat_eq b 34)) _ e4 in
+    let back = and_left (not (nat_eq b 96)) _ e5 in
+    let e6 = and_right (not (nat_eq b 96)) _ e5 in
+    let single = and_left (not (nat_eq b 39)) _ e6 in
+    let slash = and_right (not (nat_eq b 39)) _ e6 in
+    ap (λ x. cond x (Some (Blanks, prefix_len is_blank (b ∷ bs))) (no_blank_at b bs)) (not_false (is_blank b) blank)
+    ∙ ap (λ x. cond x (word_at (b ∷ bs)) (no_word_at b bs)) (not_false (may_begin_word b) word)
+    ∙ ap (λ x. cond x (run_at (b ∷ bs)) (other_at b bs)) (no_number b bs (not_false (is_ascii_digit b) digit) (not_false (nat_eq b 46) dot))
+    ∙ ap (λ x. cond x (string_at bs) (cond (nat_eq b 96) (raw_at bs) (cond (nat_eq b 39) (rune_at bs) (cond (nat_eq b 47) (slash_at (b ∷ bs) bs) (mark_at (b ∷ bs)))))) (not_false (nat_eq b 34) double)
+    ∙ ap (λ x. cond x (raw_at bs) (cond (nat_eq b 39) (rune_at bs) (cond (nat_eq b 47) (slash_at (b ∷ bs) bs) (mark_at (b ∷ bs))))) (not_false (nat_eq b 96) back)
+    ∙ ap (λ x. cond x (rune_at bs) (cond (nat_eq b 47) (slash_at (b ∷ bs) bs) (mark_at (b ∷ bs)))) (not_false (nat_eq b 39) single)
+    ∙ ap (λ x. cond x (slash_at (b ∷ bs) bs) (mark_at (b ∷ bs))) (not_false (nat_eq b 47) slash)
 
--- its first byte is a digit or a dot
-number_first : (b : ℕ) (bs : List ℕ) → begins_number (b ∷ bs) ≡ true → (is_ascii_digit b || nat_eq b 46) ≡ true
-number_first b [] e = rw e refl
-number_first b (c ∷ bs) e = by_digit (is_ascii_digit b) (nat_eq b 46) (is_ascii_digit c) e
+front_string : (bs : List ℕ) → front (34 ∷ bs) ≡ string_at bs
+front_string [] = refl
+front_string (c ∷ bs) = refl
+
+front_raw : (bs : List ℕ) → front (96 ∷ bs) ≡ raw_at bs
+front_raw [] = refl
+front_raw (c ∷ bs) = refl
+
+front_rune : (bs : List ℕ) → front (39 ∷ bs) ≡ rune_at bs
+front_rune [] = refl
+front_rune (c ∷ bs) = refl
+
+front_slash : (bs : List ℕ) → front (47 ∷ bs) ≡ slash_at (47 ∷ bs) bs
+front_slash [] = refl
+front_slash (c ∷ bs) = refl
+
+-- a slash that begins a comment begins one that is longer
+slash_front : (rest : List ℕ) → Fits (Word (kinds.Punctuation marks.Slash)) 1 (front (47 ∷ rest))
+slash_front rest = subst (Fits (Word (kinds.Punctuation marks.Slash)) 1) (sym (front_slash rest)) (by_rest rest (mark_fits marks.Slash rest))
   where
-    by_digit : (d p q : Bool) → (d || (p && q)) ≡ true → (d || p) ≡ true
-    by_digit true p q e = refl
-    by_digit false true q e = refl
-    by_digit false false q e = cc
+    longer : (s t : Shape) (n : ℕ) → 2 ≤ n → Fits s 1 (Some (t, n))
+    longer s t n le = (omega arith, λ e. absurd (omega arith))
 
-no_letter : (b : ℕ) → (is_ascii_digit b || nat_eq b 46) ≡ true → is_letter b ≡ false
-no_letter b e = by_test (is_letter b) refl
+    block : (bs : List ℕ) (c : Bool) → Fits (Word (kinds.Punctuation marks.Slash)) 1 (Some (cond c (OpenComment, before_close false bs + 2) (BlockComment, before_close false bs + 3)))
+    block bs true = longer (Word (kinds.Punctuation marks.Slash)) OpenComment (before_close false bs + 2) (omega arith)
+    block bs false = longer (Word (kinds.Punctuation marks.Slash)) BlockComment (before_close false bs + 3) (omega arith)
+
+    by_star : (b : ℕ) (bs : List ℕ) (c : Bool) → Fits (Word (kinds.Punctuation marks.Slash)) 1 (mark_at (47 ∷ b ∷ bs)) → Fits (Word (kinds.Punctuation marks.Slash)) 1 (cond c (Some (block_shape (before_close false bs) bs)) (mark_at (47 ∷ b ∷ bs)))
+    by_star b bs true f = block bs (nat_eq (before_close false bs) (length bs))
+    by_star b bs false f = f
+
+    by_slash : (b : ℕ) (bs : List ℕ) (c : Bool) → Fits (Word (kinds.Punctuation marks.Slash)) 1 (mark_at (47 ∷ b ∷ bs)) → Fits (Word (kinds.Punctuation marks.Slash)) 1 (cond c (Some (LineComment, prefix_len is_in_line bs + 2)) (cond (nat_eq b 42) (Some (block_shape (before_close false bs) bs)) (mark_at (47 ∷ b ∷ bs))))
+    by_slash b bs true f = longer (Word (kinds.Punctuation marks.Slash)) LineComment (prefix_len is_in_line bs + 2) (omega arith)
+    by_slash b bs false f = by_star b bs (nat_eq b 42) f
+
+    by_rest : (rest : List ℕ) → Fits (Word (kinds.Punctuation marks.Slash)) 1 (mark_at (47 ∷ rest)) → Fits (Word (kinds.Punctuation marks.Slash)) 1 (slash_at (47 ∷ rest) rest)
+    by_rest [] f = f
+    by_rest (b ∷ bs) f = by_slash b bs (nat_eq b 47) f
+
+-- and so does a period that begins a number
+period_front : (rest : List ℕ) → Fits (Word (kinds.Punctuation marks.Period)) 1 (front (46 ∷ rest))
+period_front [] = mark_fits marks.Period []
+period_front (c ∷ cs) = by_digit (is_ascii_digit c) refl (mark_fits marks.Period (c ∷ cs))
   where
-    by_test : (c : Bool) → is_letter b ≡ c → c ≡ false
-    by_test false t = refl
-    by_test true t = absurd (grind (arith, nat_tests))
+    by_digit : (d : Bool) → is_ascii_digit c ≡ d → Fits (Word (kinds.Punctuation marks.Period)) 1 (mark_at (46 ∷ c ∷ cs)) → Fits (Word (kinds.Punctuation marks.Period)) 1 (cond d (run_at (46 ∷ c ∷ cs)) (mark_at (46 ∷ c ∷ cs)))
+    by_digit true e f = let more = run_some is_in_run c cs (digit_in_run c e) in (omega (arith, more), λ size. absurd (omega (arith, more, size)))
+    by_digit false e f = f
 
-pub number_no_letter : (b : ℕ) (bs : List ℕ) → begins_number (b ∷ bs) ≡ true → is_letter b ≡ false
-number_no_letter b bs e = no_letter b (number_first b bs e)
+-- where punctuation is spelled, it is found, or something longer
+mark_front : (p : Punctuation) (rest : List ℕ) → Fits (Word (kinds.Punctuation p)) (length (punctuation_spelling p)) (front (punctuation_spelling p ++ rest))
+mark_front marks.Plus rest = subst (Fits (Word (kinds.Punctuation marks.Plus)) 1) (sym (plain_front 43 rest refl)) (mark_fits marks.Plus rest)
+mark_front marks.Minus rest = subst (Fits (Word (kinds.Punctuation marks.Minus)) 1) (sym (plain_front 45 rest refl)) (mark_fits marks.Minus rest)
+mark_front marks.Star rest = subst (Fits (Word (kinds.Punctuation marks.Star)) 1) (sym (plain_front 42 rest refl)) (mark_fits marks.Star rest)
+mark_front marks.Percent rest = subst (Fits (Word (kinds.Punctuation marks.Percent)) 1) (sym (plain_front 37 rest refl)) (mark_fits marks.Percent rest)
+mark_front marks.Ampersand rest = subst (Fits (Word (kinds.Punctuation marks.Ampersand)) 1) (sym (plain_front 38 rest refl)) (mark_fits marks.Ampersand rest)
+mark_front marks.Pipe rest = subst (Fits (Word (kinds.Punctuation marks.Pipe)) 1) (sym (plain_front 124 rest refl)) (mark_fits marks.Pipe rest)
+mark_front marks.Caret rest = subst (Fits (Word (kinds.Punctuation marks.Caret)) 1) (sym (plain_front 94 rest refl)) (mark_fits marks.Caret rest)
+mark_front marks.ShiftLeft rest = subst (Fits (Word (kinds.Punctuation marks.ShiftLeft)) 2) (sym (plain_front 60 (60 ∷ rest) refl)) (mark_fits marks.ShiftLeft rest)
+mark_front marks.ShiftRight rest = subst (Fits (Word (kinds.Punctuation marks.ShiftRight)) 2) (sym (plain_front 62 (62 ∷ rest) refl)) (mark_fits marks.ShiftRight rest)
+mark_front marks.AndNot rest = subst (Fits (Word (kinds.Punctuation marks.AndNot)) 2) (sym (plain_front 38 (94 ∷ rest) refl)) (mark_fits marks.AndNot rest)
+mark_front marks.PlusAssign rest = subst (Fits (Word (kinds.Punctuation marks.PlusAssign)) 2) (sym (plain_front 43 (61 ∷ rest) refl)) (mark_fits marks.PlusAssign rest)
+mark_front marks.MinusAssign rest = subst (Fits (Word (kinds.Punctuation marks.MinusAssign)) 2) (sym (plain_front 45 (61 ∷ rest) refl)) (mark_fits marks.MinusAssign rest)
+mark_front marks.StarAssign rest = subst (Fits (Word (kinds.Punctuation marks.StarAssign)) 2) (sym (plain_front 42 (61 ∷ rest) refl)) (mark_fits marks.StarAssign rest)
+mark_front marks.SlashAssign rest = mark_fits marks.SlashAssign rest
+mark_front marks.PercentAssign rest = subst (Fits (Word (kinds.Punctuation marks.PercentAssign)) 2) (sym (plain_front 37 (61 ∷ rest) refl)) (mark_fits marks.PercentAssign rest)
+mark_front marks.AmpersandAssign rest = subst (Fits (Word (kinds.Punctuation marks.AmpersandAssign)) 2) (sym (plain_front 38 (61 ∷ rest) refl)) (mark_fits marks.AmpersandAssign rest)
+mark_front marks.PipeAssign rest = subst (Fits (Word (kinds.Punctuation marks.PipeAssign)) 2) (sym (plain_front 124 (61 ∷ rest) refl)) (mark_fits marks.PipeAssign rest)
+mark_front marks.CaretAssign rest = subst (Fits (Word (kinds.Punctuation marks.CaretAssign)) 2) (sym (plain_front 94 (61 ∷ rest) refl)) (mark_fits marks.CaretAssign rest)
+mark_front marks.ShiftLeftAssign rest = subst (Fits (Word (kinds.Punctuation marks.ShiftLeftAssign)) 3) (sym (plain_front 60 (60 ∷ 61 ∷ rest) refl)) (mark_fits marks.ShiftLeftAssign rest)
+mark_front marks.ShiftRightAssign rest = subst (Fits (Word (kinds.Punctuation marks.ShiftRightAssign)) 3) (sym (plain_front 62 (62 ∷ 61 ∷ rest) refl)) (mark_fits marks.ShiftRightAssign rest)
+mark_front marks.AndNotAssign rest = subst (Fits (Word (kinds.Punctuation marks.AndNotAssign)) 3) (sym (plain_front 38 (94 ∷ 61 ∷ rest) refl)) (mark_fits marks.AndNotAssign rest)
+mark_front marks.LogicalAnd rest = subst (Fits (Word (kinds.Punctuation marks.LogicalAnd)) 2) (sym (plain_front 38 (38 ∷ rest) refl)) (mark_fits marks.LogicalAnd rest)
+mark_front marks.LogicalOr rest = subst (Fits (Word (kinds.Punctuation marks.LogicalOr)) 2) (sym (plain_front 124 (124 ∷ rest) refl)) (mark_fits marks.LogicalOr rest)
+mark_front marks.Arrow rest = subst (Fits (Word (kinds.Punctuation marks.Arrow)) 2) (sym (plain_front 60 (45 ∷ rest) refl)) (mark_fits marks.Arrow rest)
+mark_front marks.Increment rest = subst (Fits (Word (kinds.Punctuation marks.Increment)) 2) (sym (plain_front 43 (43 ∷ rest) refl)) (mark_fits marks.Increment rest)
+mark_front marks.Decrement rest = subst (Fits (Word (kinds.Punctuation marks.Decrement)) 2) (sym (plain_front 45 (45 ∷ rest) refl)) (mark_fits marks.Decrement rest)
+mark_front marks.Equal rest = subst (Fits (Word (kinds.Punctuation marks.Equal)) 2) (sym (plain_front 61 (61 ∷ rest) refl)) (mark_fits marks.Equal rest)
+mark_front marks.Less rest = subst (Fits (Word (kinds.Punctuation marks.Less)) 1) (sym (plain_front 60 rest refl)) (mark_fits marks.Less rest)
+mark_front marks.Greater rest = subst (Fits (Word (kinds.Punctuation marks.Greater)) 1) (sym (plain_front 62 rest refl)) (mark_fits marks.Greater rest)
+mark_front marks.Assign rest = subst (Fits (Word (kinds.Punctuation marks.Assign)) 1) (sym (plain_front 61 rest refl)) (mark_fits marks.Assign rest)
+mark_front marks.Not rest = subst (Fits (Word (kinds.Punctuation marks.Not)) 1) (sym (plain_front 33 rest refl)) (mark_fits marks.Not rest)
+mark_front marks.Tilde rest = subst (Fits (Word (kinds.Punctuation marks.Tilde)) 1) (sym (plain_front 126 rest refl)) (mark_fits marks.Tilde rest)
+mark_front marks.NotEqual rest = subst (Fits (Word (kinds.Punctuation marks.NotEqual)) 2) (sym (plain_front 33 (61 ∷ rest) refl)) (mark_fits marks.NotEqual rest)
+mark_front marks.LessOrEqual rest = subst (Fits (Word (kinds.Punctuation marks.LessOrEqual)) 2) (sym (plain_front 60 (61 ∷ rest) refl)) (mark_fits marks.LessOrEqual rest)
+mark_front marks.GreaterOrEqual rest = subst (Fits (Word (kinds.Punctuation marks.GreaterOrEqual)) 2) (sym (plain_front 62 (61 ∷ rest) refl)) (mark_fits marks.GreaterOrEqual rest)
+mark_front marks.Define rest = subst (Fits (Word (kinds.Punctuation marks.Define)) 2) (sym (plain_front 58 (61 ∷ rest) refl)) (mark_fits marks.Define rest)
+mark_front marks.Ellipsis rest = mark_fits marks.Ellipsis rest
+mark_front marks.OpenParenthesis rest = subst (Fits (Word (kinds.Punctuation marks.OpenParenthesis)) 1) (sym (plain_front 40 rest refl)) (mark_fits marks.OpenParenthesis rest)
+mark_front marks.OpenBracket rest = subst (Fits (Word (kinds.Punctuation marks.OpenBracket)) 1) (sym (plain_front 91 rest refl)) (mark_fits marks.OpenBracket rest)
+mark_front marks.OpenBrace rest = subst (Fits (Word (kinds.Punctuation marks.OpenBrace)) 1) (sym (plain_front 123 rest refl)) (mark_fits marks.OpenBrace rest)
+mark_front marks.Comma rest = subst (Fits (Word (kinds.Punctuation marks.Comma)) 1) (sym (plain_front 44 rest refl)) (mark_fits marks.Comma rest)
+mark_front marks.CloseParenthesis rest = subst (Fits (Word (kinds.Punctuation marks.CloseParenthesis)) 1) (sym (plain_front 41 rest refl)) (mark_fits marks.CloseParenthesis rest)
+mark_front marks.CloseBracket rest = subst (Fits (Word (kinds.Punctuation marks.CloseBracket)) 1) (sym (plain_front 93 rest refl)) (mark_fits marks.CloseBracket rest)
+mark_front marks.CloseBrace rest = subst (Fits (Word (kinds.Punctuation marks.CloseBrace)) 1) (sym (plain_front 125 rest refl)) (mark_fits marks.CloseBrace rest)
+mark_front marks.Semicolon rest = subst (Fits (Word (kinds.Punctuation marks.Semicolon)) 1) (sym (plain_front 59 rest refl)) (mark_fits marks.Semicolon rest)
+mark_front marks.Colon rest = subst (Fits (Word (kinds.Punctuation marks.Colon)) 1) (sym (plain_front 58 rest refl)) (mark_fits marks.Colon rest)
+mark_front marks.Slash rest = slash_front rest
+mark_front marks.Period rest = period_front rest
 
-pub number_no_blank : (b : ℕ) (bs : List ℕ) → begins_number (b ∷ bs) ≡ true → is_blank b ≡ false
-number_no_blank b bs e = by_first b (number_first b bs e)
-  where
-    by_first : (b : ℕ) → (is_ascii_digit b || nat_eq b 46) ≡ true → is_blank b ≡ false
-    by_first b e = grind (arith, nat_tests)
+-- a literal between quotes
+quoted_fits : (s : Shape) (quote : ℕ) (inner xs rest : List ℕ) → xs ≡ quote ∷ inner ++ quote ∷ [] → Fits s (length inner + 2) (front (quote ∷ (inner ++ quote ∷ rest))) → Fits s (length xs) (front (xs ++ rest))
+quoted_fits s quote inner xs rest e f =
+    let whole : xs ++ rest ≡ quote ∷ (inner ++ quote ∷ rest) = ap (λ ys. ys ++ rest) e ∙ ap (λ ys. quote ∷ ys) (append_assoc inner (quote ∷ []) rest) in
+    let size : length inner + 2 ≡ length xs = omega (arith, ap (λ (ys : List ℕ). length ys) e, length-append inner (quote ∷ [])) in
+    subst (λ ys. Fits s (length xs) (front ys)) (sym whole) (subst (λ n. Fits s n (front (quote ∷ (inner ++ quote ∷ rest)))) size f)
 
-pub no_digit : (b : ℕ) (bs : List ℕ) → begins_number (b ∷ bs) ≡ false → is_ascii_digit b ≡ false
-no_digit b [] e = e
-no_digit b (c ∷ bs) e = by_digit (is_ascii_digit b) (nat_eq b 46 && is_ascii_digit c) e
-  where
-    by_digit : (d q : Bool) → (d || q) ≡ false → d ≡ false
-    by_digit false q e = refl
-    by_digit true q e = cc
+-- where a piece is spelled, it is found, or something longer
+pub fits : (s : Shape) (xs rest : List ℕ) → Spells s xs → Fits s (length xs) (front (xs ++ rest))
+fits Blanks xs rest (b, bs, e, all) =
+    let found : front (b ∷ bs ++ rest) ≡ Some (Blanks, prefix_len is_blank (b ∷ bs ++ rest)) = ap (λ x. cond x (Some (Blanks, prefix_len is_blank (b ∷ bs ++ rest))) (no_blank_at b (bs ++ rest))) (and_left (is_blank b) (list_all is_blank bs) all) in
+    subst (λ (ys : List ℕ). Fits Blanks (length ys) (front (ys ++ rest))) (sym e)
+    (subst (Fits Blanks (length (b ∷ bs))) (sym found) (run_le is_blank (b ∷ bs) rest all, λ _. refl))
+fits LineComment xs rest (tail, e, all) =
+    subst (λ (ys : List ℕ). Fits LineComment (length ys) (front (ys ++ rest))) (sym e) (line_fits tail rest all)
+fits BlockComment xs rest (tail, e, none) =
+    let whole : (47 ∷ 42 ∷ tail ++ 42 ∷ 47 ∷ []) ++ rest ≡ 47 ∷ 42 ∷ (tail ++ 42 ∷ 47 ∷ rest) = ap (λ ys. 47 ∷ 42 ∷ ys) (append_assoc tail (42 ∷ 47 ∷ []) rest) in
+    let size : length tail + 4 ≡ length (47 ∷ 42 ∷ tail ++ 42 ∷ 47 ∷ []) = omega (arith, length-append tail (42 ∷ 47 ∷ [])) in
+    subst (λ (ys : List ℕ). Fits BlockComment (length ys) (front (ys ++ rest))) (sym e)
+    (subst (λ ys. Fits BlockComment (length (47 ∷ 42 ∷ tail ++ 42 ∷ 47 ∷ [])) (front ys)) (sym whole)
+    (subst (λ n. Fits BlockComment n (front (47 ∷ 42 ∷ (tail ++ 42 ∷ 47 ∷ rest)))) size (block_fits tail rest none)))
+fits OpenComment xs rest (tail, e, none) =
+    let size : length tail + 2 ≡ length (47 ∷ 42 ∷ tail) = omega arith in
+    subst (λ (ys : List ℕ). Fits OpenComment (length ys) (front (ys ++ rest))) (sym e)
+    (subst (λ n. Fits OpenComment n (front (47 ∷ 42 ∷ (tail ++ rest)))) size (open_fits tail rest none))
+fits BadNumber xs rest (run, other) =
+    subst (Fits BadNumber (length xs)) (sym (front_run (xs ++ rest) (begins_on xs rest (run_begin xs run)))) (run_fits BadNumber xs rest run (ap (λ x. cond x (Word kinds.Integer) BadNumber) other))
+fits (Word kinds.Integer) xs rest (run, integer) =
+    subst (Fits (Word kinds.Integer) (length xs)) (sym (front_run (xs ++ rest) (begins_on xs rest (run_begin xs run)))) (run_fits (Word kinds.Integer) xs rest run (ap (λ x. cond x (Word kinds.Integer) BadNumber) integer))
+fits (Word kinds.Name) xs rest (word, other) =
+    let first = word_first xs rest word in
+    subst (Fits (Word kinds.Name) (length xs)) (sym (front_word (xs ++ rest) (omega (arith, first.1, length-append xs rest)) first.0)) (word_fits kinds.Name xs rest word (ap word_kind (no_keyword_in xs other)))
+fits (Word (kinds.Keyword k)) xs rest d =
+    let word = subst IsWord (sym d) (keyword_is_word k) in
+    let first = word_first xs rest word in
+    subst (Fits (Word (kinds.Keyword k)) (length xs)) (sym (front_word (xs ++ rest) (omega (arith, first.1, length-append xs rest)) first.0)) (word_fits (kinds.Keyword k) xs rest word (ap word_kind (keyword_some xs k d)))
+fits (Word kinds.Rune) xs rest (code, (part, e, h)) =
+    quoted_fits (Word kinds.Rune) 39 part xs rest e (subst (Fits (Word kinds.Rune) (length part + 2)) (sym (front_rune (part ++ 39 ∷ rest))) (rune_fits part rest code h))
+fits (Word kinds.String) xs rest (value, inl (parts, all, e, v)) =
+    let inner : List ℕ = flat_map (λ (p : Part). p.bytes) parts in
+    quoted_fits (Word kinds.String) 34 inner xs rest e (subst (Fits (Word kinds.String) (length inner + 2)) (sym (front_string (inner ++ 34 ∷ rest))) (string_fits parts rest all))
+fits (Word kinds.String) xs rest (value, inr (inner, e, all, v)) =
+    quoted_fits (Word kinds.String) 96 inner xs rest e (subst (Fits (Word kinds.String) (length inner + 2)) (sym (front_raw (inner ++ 96 ∷ rest))) (raw_fits inner rest all))
+fits (Word (kinds.Punctuation p)) xs rest d =
+    subst (λ (ys : List ℕ). Fits (Word (kinds.Punctuation p)) (length ys) (front (ys ++ rest))) (sym d) (mark_front p rest)
 
-digit_in_number : (b : ℕ) → is_ascii_digit b ≡ true → is_in_number b ≡ true
-digit_in_number b e = grind (arith, nat_tests)
+length_take : (n : ℕ) (xs : List ℕ) → n ≤ length xs → length (take n xs) ≡ n
+length_take n xs le = omega (arith, length-take n xs)
 
-pub first_in_number : (b : ℕ) (bs : List ℕ) → begins_number (b ∷ bs) ≡ true → is_in_number b ≡ true
-first_in_number b bs e = by_first b (number_first b bs e)
-  where
-    by_first : (b : ℕ) → (is_ascii_digit b || nat_eq b 46) ≡ true → is_in_number b ≡ true
-    by_first b e = grind (arith, nat_tests)
-
-digits_in_number : (bs : List ℕ) → list_all is_ascii_digit bs ≡ true → list_all is_in_number bs ≡ true
-digits_in_number [] e = refl
-digits_in_number (b ∷ bs) e =
-    ap (λ x. x && list_all is_in_number bs) (digit_in_number b (and_left (is_ascii_digit b) (list_all is_ascii_digit bs) e))
-    ∙ digits_in_number bs (and_right (is_ascii_digit b) (list_all is_ascii_digit bs) e)
-
-digit_begins : (b : ℕ) (bs : List ℕ) → is_ascii_digit b ≡ true → begins_number (b ∷ bs) ≡ true
-digit_begins b [] e = e
-digit_begins b (c ∷ bs) e = ap (λ x. x || (nat_eq b 46 && is_ascii_digit c)) e
-
--- a decimal literal begins as a number does, and goes on so
-pub decimal_is_number : (xs : List ℕ) → is_decimal xs ≡ true → is_number xs ≡ true
-decimal_is_number [] e = cc
-decimal_is_number (b ∷ bs) e =
-    let digits = and_left (list_all is_ascii_digit (b ∷ bs)) (not (nat_eq b 48) || nat_eq (length bs) 0) e in
-    ap (λ x. x && list_all is_in_number (b ∷ bs)) (digit_begins b bs (and_left (is_ascii_digit b) (list_all is_ascii_digit bs) digits))
-    ∙ digits_in_number (b ∷ bs) digits
-
--- how many bytes a string takes behind its first quote and with it, or the quote alone
-abbrev pub quoted_len : List ℕ → ℕ
-quoted_len bs = cond (nat_eq (get_or bs (prefix_len is_in_string bs) 0) 34) (prefix_len is_in_string bs + 2) 1
-
--- how many bytes of a text its first piece takes
-abbrev pub front_len : List ℕ → ℕ
-front_len [] = 0
-front_len (b ∷ bs) =
-    cond (is_letter b) (prefix_len is_inside (b ∷ bs))
-    (cond (begins_number (b ∷ bs)) (prefix_len is_in_number (b ∷ bs))
-    (cond (nat_eq b 34) (quoted_len bs) 1))
-
-front_some : (b : ℕ) (bs : List ℕ) → 1 ≤ front_len (b ∷ bs)
-front_some b bs = by_letter (is_letter b) refl
-  where
-    run : (p : ℕ → Bool) → p b ≡ true → 1 ≤ prefix_len p (b ∷ bs)
-    run p e = let size = ap (λ x. cond x (1 + prefix_len p bs) 0) e in omega arith
-
-    by_closed : (c : Bool) → 1 ≤ cond c (prefix_len is_in_string bs + 2) 1
-    by_closed true = omega arith
-    by_closed false = omega arith
-
-    by_quote : (c : Bool) → 1 ≤ cond c (quoted_len bs) 1
-    by_quote true = by_closed (nat_eq (get_or bs (prefix_len is_in_string bs) 0) 34)
-    by_quote false = omega arith
-
-    by_number : (c : Bool) → begins_number (b ∷ bs) ≡ c → 1 ≤ cond c (prefix_len is_in_number (b ∷ bs)) (cond (nat_eq b 34) (quoted_len bs) 1)
-    by_number true e = run is_in_number (first_in_number b bs e)
-    by_number false e = by_quote (nat_eq b 34)
-
-    by_letter : (c : Bool) → is_letter b ≡ c → 1 ≤ cond c (prefix_len is_inside (b ∷ bs)) (cond (begins_number (b ∷ bs)) (prefix_len is_in_number (b ∷ bs)) (cond (nat_eq b 34) (quoted_len bs) 1))
-    by_letter true e = run is_inside (letter_is_inside b e)
-    by_letter false e = by_number (begins_number (b ∷ bs)) refl
-
--- the length of each class of pieces
-pub word_front : (b : ℕ) (bs : List ℕ) → is_letter b ≡ true → front_len (b ∷ bs) ≡ prefix_len is_inside (b ∷ bs)
-word_front b bs e = ap (λ x. cond x (prefix_len is_inside (b ∷ bs)) (cond (begins_number (b ∷ bs)) (prefix_len is_in_number (b ∷ bs)) (cond (nat_eq b 34) (quoted_len bs) 1))) e
-
-pub number_front : (b : ℕ) (bs : List ℕ) → begins_number (b ∷ bs) ≡ true → front_len (b ∷ bs) ≡ prefix_len is_in_number (b ∷ bs)
-number_front b bs e =
-    ap (λ x. cond x (prefix_len is_inside (b ∷ bs)) (cond (begins_number (b ∷ bs)) (prefix_len is_in_number (b ∷ bs)) (cond (nat_eq b 34) (quoted_len bs) 1))) (number_no_letter b bs e)
-    ∙ ap (λ x. cond x (prefix_len is_in_number (b ∷ bs)) (cond (nat_eq b 34) (quoted_len bs) 1)) e
-
-pub other_front : (b : ℕ) (bs : List ℕ) → is_letter b ≡ false → begins_number (b ∷ bs) ≡ false → nat_eq b 34 ≡ false → front_len (b ∷ bs) ≡ 1
-other_front b bs e f g =
-    ap (λ x. cond x (prefix_len is_inside (b ∷ bs)) (cond (begins_number (b ∷ bs)) (prefix_len is_in_number (b ∷ bs)) (cond (nat_eq b 34) (quoted_len bs) 1))) e
-    ∙ ap (λ x. cond x (prefix_len is_in_number (b ∷ bs)) (cond (nat_eq b 34) (quoted_len bs) 1)) f
-    ∙ ap (λ x. cond x (quoted_len bs) 1) g
-
-quote_front : (bs : List ℕ) → front_len (34 ∷ bs) ≡ quoted_len bs
-quote_front [] = refl
-quote_front (c ∷ bs) = refl
-
--- the bytes of a closed string end at the first byte that may not stand in one
-closed_len : (inner rest : List ℕ) → list_all is_in_string inner ≡ true → (prefix_len is_in_string (inner ++ 34 ∷ rest) ≡ length inner) × (get_or (inner ++ 34 ∷ rest) (length inner) 0 ≡ 34)
-closed_len [] rest e = (refl, refl)
-closed_len (b ∷ bs) rest e =
-    let ih = closed_len bs rest (and_right (is_in_string b) (list_all is_in_string bs) e) in
-    (ap (λ x. cond x (1 + prefix_len is_in_string (bs ++ 34 ∷ rest)) 0) (and_left (is_in_string b) (list_all is_in_string bs) e) ∙ ap (λ n. 1 + n) ih.0 ∙ one-add (length bs), ih.1)
-
-pub closed_quoted : (inner rest : List ℕ) → list_all is_in_string inner ≡ true → quoted_len (inner ++ 34 ∷ rest) ≡ length inner + 2
-closed_quoted inner rest e =
-    let c = closed_len inner rest e in
-    ap (λ n. cond (nat_eq (get_or (inner ++ 34 ∷ rest) n 0) 34) (n + 2) 1) c.0
-    ∙ ap (λ x. cond (nat_eq x 34) (length inner + 2) 1) c.1
-
-number_le : (xs rest : List ℕ) → is_number xs ≡ true → length xs ≤ front_len (xs ++ rest)
-number_le [] rest e = omega arith
-number_le (b ∷ bs) rest e =
-    let begins = and_left (begins_number (b ∷ bs)) (list_all is_in_number (b ∷ bs)) e in
-    let run = run_le is_in_number (b ∷ bs) rest (and_right (begins_number (b ∷ bs)) (list_all is_in_number (b ∷ bs)) e) in
-    let size = number_front b (bs ++ rest) (begins_on (b ∷ bs) rest begins) in
-    omega (arith, run, size)
-
-word_le_front : (xs rest : List ℕ) → is_word xs ≡ true → length xs ≤ front_len (xs ++ rest)
-word_le_front [] rest w = omega arith
-word_le_front (b ∷ bs) rest w =
-    let size = word_front b (bs ++ rest) (and_left (is_letter b) (list_all is_inside bs) w) in
-    omega (arith, word_le (b ∷ bs) rest w, size)
-
-string_le : (xs rest : List ℕ) → IsString xs → length xs ≤ front_len (xs ++ rest)
-string_le xs rest s =
-    let whole : xs ++ rest ≡ 34 ∷ (s.0 ++ 34 ∷ rest) = ap (λ ys. ys ++ rest) s.1 ∙ ap (λ ys. 34 ∷ ys) (append_assoc s.0 (34 ∷ []) rest) in
-    let size : length xs ≡ length s.0 + 2 = ap (λ (ys : List ℕ). length ys) s.1 ∙ omega (arith, length-append s.0 (34 ∷ [])) in
-    let front = ap front_len whole ∙ quote_front (s.0 ++ 34 ∷ rest) ∙ closed_quoted s.0 rest s.2 in
-    omega (arith, size, front)
-
-one_le : (xs rest : List ℕ) (b : ℕ) → xs ≡ b ∷ [] → length xs ≤ front_len (xs ++ rest)
-one_le xs rest b e = subst (λ ys. length ys ≤ front_len (ys ++ rest)) (sym e) (front_some b rest)
-
-mark_is_one : (p : Punctuation) → (b : ℕ) × (punctuation_spelling p ≡ b ∷ [])
-mark_is_one marks.Period = (46, refl)
-mark_is_one marks.Comma = (44, refl)
-mark_is_one marks.Semicolon = (59, refl)
-mark_is_one marks.OpenParenthesis = (40, refl)
-mark_is_one marks.CloseParenthesis = (41, refl)
-mark_is_one marks.OpenBrace = (123, refl)
-mark_is_one marks.CloseBrace = (125, refl)
-
--- no spelling is longer than the first piece of what it begins
-pub spelled_le : (kind : Option TokenKind) (xs rest : List ℕ) → Spells kind xs → length xs ≤ front_len (xs ++ rest)
-spelled_le None xs rest d = one_le xs rest d.0 d.1
-spelled_le (Some kinds.Name) xs rest d = word_le_front xs rest d.0
-spelled_le (Some (kinds.Keyword k)) xs rest d = word_le_front xs rest (ap is_word d ∙ keyword_is_word k)
-spelled_le (Some kinds.Integer) xs rest d = number_le xs rest (decimal_is_number xs d)
-spelled_le (Some kinds.String) xs rest d = string_le xs rest d
-spelled_le (Some (kinds.Punctuation p)) xs rest d = let m = mark_is_one p in one_le xs rest m.0 (d ∙ m.1)
-spelled_le (Some kinds.Unknown) xs rest d = elim d [
-  | inl number ↦ number_le xs rest number.0
-  | inr stray ↦ one_le xs rest stray.0 stray.1
-]
-
--- so what is spelled with that length is what the text begins with
-pub front_begins : (text : List ℕ) (n : ℕ) (kind : Option TokenKind) → n ≡ front_len text → n ≤ length text → Spells kind (take n text) → Begins (record { kind = kind; bytes = take n text }) text (drop n text)
-front_begins text n kind e le spelled =
-    let size : length (take n text) ≡ n = omega (arith, length-take {A = ℕ}) in
+-- a piece that is found begins the text
+pub piece_begins : (text : List ℕ) (s : Shape) (n : ℕ) → front text ≡ Some (s, n) → Begins (record { shape = s; bytes = take n text }) text (drop n text)
+piece_begins text s n e =
+    let g : Good text (Some (s, n)) = subst (Good text) e (good text) in
     record {
       whole = sym (take-append-drop n text);
-      spelled = spelled;
-      longest = λ other bytes rest d q.
-          let longest = spelled_le other bytes rest d in
-          let same = ap front_len q in
-          omega (arith, longest, same, size, e);
+      spelled = g.0;
+      longest = λ t xs others d q.
+          let f : Fits t (length xs) (Some (s, n)) = subst (Fits t (length xs)) (ap front (sym q) ∙ e) (fits t xs others d) in
+          omega (arith, f.0, length_take n text g.2);
     }
 
--- no spelling is empty
-one_some : (xs : List ℕ) (b : ℕ) → xs ≡ b ∷ [] → 1 ≤ length xs
-one_some xs b e = let size : length xs ≡ 1 = ap (λ (ys : List ℕ). length ys) e in omega arith
-
-word_some : (xs : List ℕ) → is_word xs ≡ true → 1 ≤ length xs
-word_some [] w = cc
-word_some (b ∷ bs) w = omega arith
-
-number_some : (xs : List ℕ) → is_number xs ≡ true → 1 ≤ length xs
-number_some [] w = cc
-number_some (b ∷ bs) w = omega arith
-
-pub spelled_some : (kind : Option TokenKind) (xs : List ℕ) → Spells kind xs → 1 ≤ length xs
-spelled_some None xs d = one_some xs d.0 d.1
-spelled_some (Some kinds.Name) xs d = word_some xs d.0
-spelled_some (Some (kinds.Keyword k)) xs d = word_some xs (ap is_word d ∙ keyword_is_word k)
-spelled_some (Some kinds.Integer) xs d = number_some xs (decimal_is_number xs d)
-spelled_some (Some kinds.String) xs d = let size : length xs ≡ length (34 ∷ d.0 ++ 34 ∷ []) = ap (λ (ys : List ℕ). length ys) d.1 in omega arith
-spelled_some (Some (kinds.Punctuation p)) xs d = let m = mark_is_one p in one_some xs m.0 (d ∙ m.1)
-spelled_some (Some kinds.Unknown) xs d = elim d [
-  | inl number ↦ number_some xs number.0
-  | inr stray ↦ one_some xs stray.0 stray.1
-]
-
--- a text that begins with a letter begins with a word
-pub first_word : (text : List ℕ) (n : ℕ) → n ≡ prefix_len is_inside text → 0 < length text → is_letter (get_or text 0 0) ≡ true → (is_word (take n text) ≡ true) × (n ≡ front_len text)
-first_word [] n e lt letter = absurd (omega arith)
-first_word (b ∷ bs) n e lt letter =
-    (ap (λ k. is_word (take k (b ∷ bs))) e ∙ (run_is_word b bs letter).0, e ∙ sym (word_front b bs letter))
-
-run_begins : (xs : List ℕ) → begins_number xs ≡ true → begins_number (take (prefix_len is_in_number xs) xs) ≡ true
-run_begins [] e = cc
-run_begins (b ∷ []) e = ap (λ x. begins_number (take (cond x 1 0) (b ∷ []))) (first_in_number b [] e) ∙ e
-run_begins (b ∷ c ∷ bs) e =
-    ap (λ x. begins_number (take (cond x (1 + prefix_len is_in_number (c ∷ bs)) 0) (b ∷ c ∷ bs))) (first_in_number b (c ∷ bs) e)
-    ∙ ap (λ k. begins_number (take k (b ∷ c ∷ bs))) (one-add (prefix_len is_in_number (c ∷ bs)))
-    ∙ by_second (is_in_number c) refl
+-- and a piece that begins the text is found
+pub begins_front : (p : Piece) (text rest : List ℕ) → Begins p text rest → front text ≡ Some (p.shape, length p.bytes)
+begins_front p text rest b = by_found (front text) refl (subst (λ ys. Fits p.shape (length p.bytes) (front ys)) (sym b.whole) (fits p.shape p.bytes rest b.spelled)) (good text)
   where
-    alone : (d p q : Bool) → (d || (p && q)) ≡ true → q ≡ false → d ≡ true
-    alone true p q e f = refl
-    alone false true q e f = cc
-    alone false false q e f = cc
+    by_found : (o : Option (Shape × ℕ)) → front text ≡ o → Fits p.shape (length p.bytes) o → Good text o → o ≡ Some (p.shape, length p.bytes)
+    by_found None e f g = absurd f
+    by_found (Some (s, n)) e f g =
+        let most = b.longest s (take n text) (drop n text) g.0 (sym (take-append-drop n text)) in
+        let size : n ≡ length p.bytes = omega (arith, most, f.0, length_take n text g.2) in
+        ap (λ t. Some (t, n)) (f.1 size) ∙ ap (λ k. Some (p.shape, k)) size
 
-    no_digit : is_in_number c ≡ false → is_ascii_digit c ≡ false
-    no_digit f = by_digit (is_ascii_digit c) refl
-      where
-        by_digit : (d : Bool) → is_ascii_digit c ≡ d → d ≡ false
-        by_digit false t = refl
-        by_digit true t = let both : false ≡ true = sym f ∙ digit_in_number c t in cc
+no_piece : (s : Shape) (n : ℕ) (o : Option (Shape × ℕ)) → o ≡ None → o ≡ Some (s, n) → ⊥
+no_piece s n o e f = cc
 
-    by_second : (d : Bool) → is_in_number c ≡ d → begins_number (b ∷ take (cond d (1 + prefix_len is_in_number bs) 0) (c ∷ bs)) ≡ true
-    by_second true t = ap (λ k. begins_number (b ∷ take k (c ∷ bs))) (one-add (prefix_len is_in_number bs)) ∙ e
-    by_second false t = alone (is_ascii_digit b) (nat_eq b 46) (is_ascii_digit c) e (no_digit t)
+pub none_begins : (p : Piece) (text rest : List ℕ) → front text ≡ None → Begins p text rest → ⊥
+none_begins p text rest e b = no_piece p.shape (length p.bytes) (front text) e (begins_front p text rest b)
 
--- one that begins as a number does begins with what goes on so
-pub first_number : (text : List ℕ) (n : ℕ) → n ≡ prefix_len is_in_number text → begins_number text ≡ true → (is_number (take n text) ≡ true) × (n ≡ front_len text)
-first_number [] n e begins = cc
-first_number (b ∷ bs) n e begins = (
-  ap (λ k. is_number (take k (b ∷ bs))) e
-      ∙ ap (λ x. x && list_all is_in_number (take (prefix_len is_in_number (b ∷ bs)) (b ∷ bs))) (run_begins (b ∷ bs) begins)
-      ∙ (run_all is_in_number (b ∷ bs)).0,
-  e ∙ sym (number_front b bs begins),
-)
+pub begins_none : (b : ℕ) (bs : List ℕ) → front (b ∷ bs) ≡ None → BeginsNone (b ∷ bs)
+begins_none b bs e = (λ q. cc, λ p rest h. none_begins p (b ∷ bs) rest e h)
 
--- one that begins with neither, and with no quote, begins with one byte
-pub first_other : (text : List ℕ) → 0 < length text → is_letter (get_or text 0 0) ≡ false → begins_number text ≡ false → nat_eq (get_or text 0 0) 34 ≡ false → 1 ≡ front_len text
-first_other [] lt e f g = absurd (omega arith)
-first_other (b ∷ bs) lt e f g = sym (other_front b bs e f g)
-
-pub blank_front : (text : List ℕ) → 0 < length text → is_blank (get_or text 0 0) ≡ true → 1 ≡ front_len text
-blank_front [] lt e = absurd (omega arith)
-blank_front (b ∷ bs) lt e = sym (other_front b bs (grind (arith, nat_tests)) (no_number bs) (grind (arith, nat_tests)))
+-- what is found stands in the text
+pub within_of : (text : List ℕ) (o : Option (Shape × ℕ)) → o ≡ front text → IfSome o (λ f. (1 ≤ f.1) × (f.1 ≤ length text))
+within_of text o e = by_found o (subst (Good text) (sym e) (good text))
   where
-    no_digit : is_ascii_digit b ≡ false
-    no_digit = grind (arith, nat_tests)
-
-    no_dot : nat_eq b 46 ≡ false
-    no_dot = grind (arith, nat_tests)
-
-    no_number : (bs : List ℕ) → begins_number (b ∷ bs) ≡ false
-    no_number [] = no_digit
-    no_number (c ∷ bs) = ap (λ x. x || (nat_eq b 46 && is_ascii_digit c)) no_digit ∙ ap (λ x. x && is_ascii_digit c) no_dot
-
--- the bytes up to one
-take_next : (bs : List ℕ) (n b : ℕ) → get_or bs n 0 ≡ suc b → (take (n + 1) bs ≡ take n bs ++ suc b ∷ []) × (n < length bs)
-take_next [] n b e = cc
-take_next (x ∷ bs) zero b e = (ap (λ y. y ∷ []) e, omega arith)
-take_next (x ∷ bs) (suc n) b e =
-    let ih = take_next bs n b e in
-    let size : suc n + 1 ≡ suc (n + 1) = omega arith in
-    (ap (λ k. take k (x ∷ bs)) size ∙ ap (λ ys. x ∷ ys) ih.0, omega (arith, ih.1))
-
-no_quote : (p : Punctuation) → nat_eq (get_or (punctuation_spelling p) 0 0) 34 ≡ false
-no_quote marks.Period = refl
-no_quote marks.Comma = refl
-no_quote marks.Semicolon = refl
-no_quote marks.OpenParenthesis = refl
-no_quote marks.CloseParenthesis = refl
-no_quote marks.OpenBrace = refl
-no_quote marks.CloseBrace = refl
-
--- behind a text is no byte
-pub past_end : (text : List ℕ) (n : ℕ) → length text ≤ n → get_or text n 0 ≡ 34 → ⊥
-past_end [] n le e = cc
-past_end (b ∷ bs) zero le e = absurd (omega arith)
-past_end (b ∷ bs) (suc n) le e = past_end bs n (omega arith) e
-
-quote_no_punctuation : (p : Punctuation) → 34 ∷ [] ≡ punctuation_spelling p → ⊥
-quote_no_punctuation p e = let both : true ≡ false = ap (λ (xs : List ℕ). nat_eq (get_or xs 0 0) 34) e ∙ no_quote p in cc (both)
-
-quote_is_stray : IsStray (34 ∷ [])
-quote_is_stray = (34, refl, refl, refl, refl, quote_no_punctuation)
-
--- and one that begins with a quote begins with a closed string, or the quote alone
-pub closed_begins : (text : List ℕ) (n : ℕ) → 0 < length text → get_or text 0 0 ≡ 34 → n ≡ prefix_len is_in_string (drop 1 text) → get_or text (n + 1) 0 ≡ 34 →
-    Begins (record { kind = Some kinds.String; bytes = take (n + 2) text }) text (drop (n + 2) text)
-closed_begins [] n lt first e last = absurd (omega arith)
-closed_begins (b ∷ bs) n lt first e last =
-    let behind : get_or bs n 0 ≡ 34 = ap (λ k. get_or (b ∷ bs) k 0) (let size : suc n ≡ n + 1 = omega arith in size) ∙ last in
-    let next = take_next bs n 33 behind in
-    let two : n + 2 ≡ suc (n + 1) = omega arith in
-    let whole : take (n + 2) (b ∷ bs) ≡ 34 ∷ take n bs ++ 34 ∷ [] = ap (λ k. take k (b ∷ bs)) two ∙ ap (λ x. x ∷ take (n + 1) bs) first ∙ ap (λ ys. 34 ∷ ys) next.0 in
-    let inner : list_all is_in_string (take n bs) ≡ true = ap (λ k. list_all is_in_string (take k bs)) e ∙ (run_all is_in_string bs).0 in
-    let front : n + 2 ≡ front_len (b ∷ bs) =
-    sym (ap (λ x. front_len (x ∷ bs)) first ∙ quote_front bs ∙ ap (λ k. cond (nat_eq (get_or bs k 0) 34) (k + 2) 1) (sym e) ∙ ap (λ x. cond (nat_eq x 34) (n + 2) 1) behind) in
-    front_begins (b ∷ bs) (n + 2) (Some kinds.String) front (omega (arith, next.1)) (take n bs, whole, inner)
-
-pub open_begins : (text : List ℕ) (n : ℕ) → 0 < length text → get_or text 0 0 ≡ 34 → n ≡ prefix_len is_in_string (drop 1 text) → (get_or text (n + 1) 0 ≡ 34 → ⊥) →
-    Begins (record { kind = Some kinds.Unknown; bytes = take 1 text }) text (drop 1 text)
-open_begins [] n lt first e never = absurd (omega arith)
-open_begins (b ∷ bs) n lt first e never =
-    let other : nat_eq (get_or bs n 0) 34 ≡ false = by_test (nat_eq (get_or bs n 0) 34) refl in
-    let front : 1 ≡ front_len (b ∷ bs) =
-    sym (ap (λ x. front_len (x ∷ bs)) first ∙ quote_front bs ∙ ap (λ k. cond (nat_eq (get_or bs k 0) 34) (k + 2) 1) (sym e) ∙ ap (λ x. cond x (n + 2) 1) other) in
-    front_begins (b ∷ bs) 1 (Some kinds.Unknown) front (omega arith) (inr (subst IsStray (ap (λ x. x ∷ []) (sym first)) quote_is_stray))
-  where
-    by_test : (c : Bool) → nat_eq (get_or bs n 0) 34 ≡ c → c ≡ false
-    by_test false t = refl
-    by_test true t = absurd (never (ap (λ k. get_or (b ∷ bs) k 0) (let size : n + 1 ≡ suc n = omega arith in size) ∙ grind (arith, nat_tests)))
+    by_found : (o : Option (Shape × ℕ)) → Good text o → IfSome o (λ f. (1 ≤ f.1) × (f.1 ≤ length text))
+    by_found None g = tt
+    by_found (Some f) g = (g.1, g.2)

@@ -1,5 +1,13 @@
-pub mod Exists
+pub mod CommentFronts
+pub mod Digits
+pub mod EscapeFronts
 pub mod Fronts
+pub mod Keys
+pub mod LiteralFronts
+pub mod MarkFronts
+pub mod NumberFronts
 pub mod Rows
+pub mod Runs
 pub mod Spelled
 pub mod Steps
+pub mod WordFronts

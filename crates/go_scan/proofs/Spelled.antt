@@ -1,30 +1,23 @@
 -- Tokens stand in their text.
-use Rattle.std.proofs.Common.{◌≡◌, ℕ, ◌+◌, ◌-◌, inl, inr, Bool, true, false, cond, List, [], ◌∷◌, ◌++◌, length, take, drop, length-append, length-drop, Option, Some, None, refl, sym, ap, ◌∙◌, subst, arith}
+use Rattle.std.proofs.Common.{◌≡◌, ℕ, ◌+◌, ◌-◌, ◌≤◌, inl, inr, Bool, true, false, cond, List, [], ◌∷◌, ◌++◌, length, take, drop, length-append, length-drop, Some, None, refl, sym, ap, ◌∙◌, subst, arith}
 use Rattle.std.specs.Prelude.{nat_lt}
 use Rattle.std.specs.List.{All, slice_range}
 use Rattle.std.proofs.lemmas.List.{drop-drop}
 use Rattle.std.proofs.lemmas.List.Elements.{All-nil, All-cons, All-head, All-tail, All-append, All-same}
 use Rattle.std.proofs.Math.Seq.{drop-append_seam, take-append_seam}
 use Rattle.go_text.specs.Places.{place_at, mark_size}
+use Rattle.go_scan.specs.declared.shape.Shape.{Shape}
+use Rattle.go_scan.specs.declared.shape.Shape.TheVariants.{Word}
 use Rattle.go_scan.specs.declared.token.Token.{Token}
 use Rattle.go_scan.specs.declared.token.TokenKind.{TokenKind}
 use Rattle.go_scan.specs.declared.token.TokenKind.TheVariants as kinds
 use Rattle.go_scan.specs.declared.punctuation.Punctuation.TheVariants as marks
-use Rattle.go_scan.specs.Lex.{Spells, MaySpell, StandsIn, Piece, IsRow, token_of, with_token, tokens_of, ends_statement, due_behind, due_before, with_semis, Lexes}
-use Rattle.go_scan.proofs.Fronts.{spelled_some}
-
-may_spell : (kind : TokenKind) (bytes : List ℕ) → Spells (Some kind) bytes → MaySpell kind bytes
-may_spell kinds.Name bytes d = d
-may_spell (kinds.Keyword k) bytes d = d
-may_spell kinds.Integer bytes d = d
-may_spell kinds.String bytes d = d
-may_spell (kinds.Punctuation p) bytes d = inl d
-may_spell kinds.Unknown bytes d = d
+use Rattle.go_scan.specs.Lex.{Spells, SpellsToken, StandsIn, Piece, has_begun, IsRow, token_of, with_token, tokens_of, ends_statement, due_behind, due_before, with_semis, Lexes}
+use Rattle.go_scan.proofs.Rows.{begins_some}
 
 -- the token of a piece
-piece_stands : (text : List ℕ) (at : ℕ) (kind : TokenKind) (bytes rest : List ℕ) → Spells (Some kind) bytes → drop at text ≡ bytes ++ rest → StandsIn text (token_of text at kind (length bytes))
-piece_stands text at kind bytes rest d whole =
-    let some = spelled_some (Some kind) bytes d in
+piece_stands : (text : List ℕ) (at : ℕ) (kind : TokenKind) (bytes rest : List ℕ) → SpellsToken kind bytes → 1 ≤ length bytes → drop at text ≡ bytes ++ rest → StandsIn text (token_of text at kind (length bytes))
+piece_stands text at kind bytes rest d some whole =
     let size : length text - at ≡ length bytes + length rest = sym (length-drop at text) ∙ ap (λ (ys : List ℕ). length ys) whole ∙ length-append bytes rest in
     let count : at + length bytes - at ≡ length bytes = omega arith in
     let slice : slice_range text at (at + length bytes) ≡ bytes = ap (λ k. take k (drop at text)) count ∙ ap (λ ys. take (length bytes) ys) whole ∙ take-append_seam bytes rest in
@@ -32,20 +25,20 @@ piece_stands text at kind bytes rest d whole =
       order = omega arith;
       within = omega arith;
       place = refl;
-      spelled = may_spell kind _ (subst (Spells (Some kind)) (sym slice) d);
+      spelled = inl (subst (SpellsToken kind) (sym slice) d);
     }
 
-with_token_stand : (text : List ℕ) (at : ℕ) (kind : Option TokenKind) (bytes rest : List ℕ) (ts : List Token) → Spells kind bytes → drop at text ≡ bytes ++ rest → All (StandsIn text) ts → All (StandsIn text) (with_token text at (record { kind = kind; bytes = bytes }) ts)
-with_token_stand text at None bytes rest ts d whole all = all
-with_token_stand text at (Some kind) bytes rest ts d whole all = All-cons (StandsIn text) (token_of text at kind (length bytes)) ts (piece_stands text at kind bytes rest d whole) all
+with_token_stand : (text : List ℕ) (at : ℕ) (shape : Shape) (bytes rest : List ℕ) (ts : List Token) → Spells shape bytes → 1 ≤ length bytes → drop at text ≡ bytes ++ rest → All (StandsIn text) ts → All (StandsIn text) (with_token text at shape (length bytes) ts)
+with_token_stand text at (Word kind) bytes rest ts d some whole all = All-cons (StandsIn text) (token_of text at kind (length bytes)) ts (piece_stands text at kind bytes rest d some whole) all
+with_token_stand text at _ bytes rest ts d some whole all = all
 
-row_stands : (text : List ℕ) (at : ℕ) (ps : List Piece) → IsRow ps (drop at text) → All (StandsIn text) (tokens_of text at ps)
-row_stands text at [] row = All-nil (StandsIn text)
-row_stands text at (p ∷ ps) row =
+row_stands : (text : List ℕ) (at : ℕ) (begun : Bool) (ps : List Piece) (last : List ℕ) → IsRow begun ps (drop at text) last → All (StandsIn text) (tokens_of text at ps)
+row_stands text at begun [] last row = All-nil (StandsIn text)
+row_stands text at begun (p ∷ ps) last row =
     let b = row.1 in
     let behind : row.0 ≡ drop (at + length p.bytes) text = sym (drop-append_seam p.bytes row.0) ∙ ap (λ ys. drop (length p.bytes) ys) (sym b.whole) ∙ drop-drop (length p.bytes) at text in
-    with_token_stand text at p.kind p.bytes row.0 (tokens_of text (at + length p.bytes) ps) b.spelled b.whole
-    (row_stands text (at + length p.bytes) ps (subst (λ ys. IsRow ps ys) behind row.2))
+    with_token_stand text at p.shape p.bytes row.0 (tokens_of text (at + length p.bytes) ps) b.spelled (begins_some p (drop at text) row.0 b) b.whole
+    (row_stands text (at + length p.bytes) (has_begun begun p.shape) ps last (subst (λ ys. IsRow (has_begun begun p.shape) ps ys last) behind row.3))
 
 -- the semicolon that is due
 semicolon_stands : (text : List ℕ) (t : Token) (ts : List Token) → StandsIn text t → All (StandsIn text) (due_before (due_behind t (place_at text t.end)) ts)
@@ -82,4 +75,4 @@ semis_stand text (t ∷ ts) all =
 
 pub tokens_stand : (text : List ℕ) (ts : List Token) → Lexes text ts → All (StandsIn text) ts
 tokens_stand text ts lexes =
-    All-same (StandsIn text) ts _ lexes.2 (semis_stand text (tokens_of text (mark_size text) lexes.0) (row_stands text (mark_size text) lexes.0 lexes.1))
+    All-same (StandsIn text) ts _ lexes.2 (semis_stand text (tokens_of text (mark_size text) lexes.0) (row_stands text (mark_size text) false lexes.0 [] lexes.1))

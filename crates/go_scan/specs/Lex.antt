@@ -1,112 +1,116 @@
--- What a source text is cut into, and which tokens it has.
-use Rattle.std.specs.Prelude.{◌≡◌, ℕ, ◌+◌, ◌≤◌, Bool, true, false, ◌⊎◌, ◌||◌, ◌&&◌, not, nat_eq, nat_lt, List, [], ◌∷◌, ◌++◌, length, drop, Option, Some, None, if◌then◌else◌}
+-- What a source text is cut into, which tokens it has, and where it is refused: go.dev/ref/spec#Tokens, #Semicolons.
+use Rattle.std.specs.Prelude.{◌≡◌, ℕ, ◌+◌, ◌≤◌, Bool, true, false, ◌⊎◌, ◌||◌, nat_eq, nat_lt, List, [], ◌∷◌, ◌++◌, length, drop, Option, Some, None, if◌then◌else◌}
 use Rattle.std.specs.List.{list_all, slice_range}
-use Rattle.std.specs.Char.{is_ascii_digit, is_ascii_alphabetic}
 use Rattle.go_text.specs.declared.place.Place.{Place}
 use Rattle.go_text.specs.Places.{place_at, mark_size}
+use Rattle.go_scan.specs.declared.fault.ScanFault.{ScanFault}
+use Rattle.go_scan.specs.declared.fault.ScanFault.TheVariants.{Malformed, LeftOut}
+use Rattle.go_scan.specs.declared.shape.Shape.{Shape}
+use Rattle.go_scan.specs.declared.shape.Shape.TheVariants.{Blanks, LineComment, BlockComment, OpenComment, BadNumber, Word}
 use Rattle.go_scan.specs.declared.token.Token.{Token}
 use Rattle.go_scan.specs.declared.token.TokenKind.{TokenKind}
 use Rattle.go_scan.specs.declared.token.TokenKind.TheVariants as kinds
 use Rattle.go_scan.specs.declared.punctuation.Punctuation.TheVariants as marks
-use Rattle.go_scan.specs.Punctuations.{punctuation_spelling, IsNoPunctuation, punctuation_ends_statement}
+use Rattle.go_scan.specs.Comments.{IsLineComment, IsBlockComment, IsOpenComment, is_constraint}
 use Rattle.go_scan.specs.Keywords.{spelling, IsNoKeyword, keyword_ends_statement}
+use Rattle.go_scan.specs.Numbers.{is_run, is_integer, run_fault}
+use Rattle.go_scan.specs.Punctuations.{punctuation_spelling, punctuation_ends_statement}
+use Rattle.go_scan.specs.Runes.{IsRune}
+use Rattle.go_scan.specs.Strings.{IsString}
+use Rattle.go_scan.specs.Words.{IsWord}
 
 -- space, tab, carriage return or newline
 abbrev pub is_blank : ℕ → Bool
-is_blank b = nat_eq b 32 || nat_eq b 9 || nat_eq b 13 || nat_eq b 10
+is_blank b = nat_eq b 32 || (nat_eq b 9 || (nat_eq b 13 || nat_eq b 10))
 
--- an ASCII letter or an underscore
-abbrev pub is_letter : ℕ → Bool
-is_letter b = is_ascii_alphabetic b || nat_eq b 95
+abbrev pub AreBlanks : List ℕ → Type 0
+AreBlanks bytes = (b : ℕ) × (bs : List ℕ) × (bytes ≡ b ∷ bs) × (list_all is_blank (b ∷ bs) ≡ true)
 
--- what may stand in a name
-abbrev pub is_inside : ℕ → Bool
-is_inside b = is_letter b || is_ascii_digit b
+-- how a token of each kind is spelled
+abbrev pub SpellsToken : TokenKind → List ℕ → Type 0
+SpellsToken kinds.Name bytes = IsWord bytes × IsNoKeyword bytes
+SpellsToken (kinds.Keyword k) bytes = bytes ≡ spelling k
+SpellsToken kinds.Integer bytes = (is_run bytes ≡ true) × (is_integer bytes ≡ true)
+SpellsToken kinds.Rune bytes = IsRune bytes
+SpellsToken kinds.String bytes = IsString bytes
+SpellsToken (kinds.Punctuation p) bytes = bytes ≡ punctuation_spelling p
 
--- a letter, and then letters and digits
-abbrev pub is_word : List ℕ → Bool
-is_word [] = false
-is_word (b ∷ bs) = is_letter b && list_all is_inside bs
+-- and a piece of each shape
+abbrev pub Spells : Shape → List ℕ → Type 0
+Spells Blanks bytes = AreBlanks bytes
+Spells LineComment bytes = IsLineComment bytes
+Spells BlockComment bytes = IsBlockComment bytes
+Spells OpenComment bytes = IsOpenComment bytes
+Spells BadNumber bytes = (is_run bytes ≡ true) × (is_integer bytes ≡ false)
+Spells (Word kind) bytes = SpellsToken kind bytes
 
--- a number begins with a digit, or with a dot before one
-abbrev pub begins_number : List ℕ → Bool
-begins_number [] = false
-begins_number (b ∷ []) = is_ascii_digit b
-begins_number (b ∷ c ∷ bs) = is_ascii_digit b || (nat_eq b 46 && is_ascii_digit c)
-
--- what may stand in what begins as a number
-abbrev pub is_in_number : ℕ → Bool
-is_in_number b = is_inside b || nat_eq b 46
-
--- what begins as a number, and goes on in letters, digits, underscores and dots
-abbrev pub is_number : List ℕ → Bool
-is_number bytes = begins_number bytes && list_all is_in_number bytes
-
--- a decimal literal: digits, the first of which is 0 only where it stands alone
-abbrev pub is_decimal : List ℕ → Bool
-is_decimal [] = false
-is_decimal (b ∷ bs) = list_all is_ascii_digit (b ∷ bs) && (not (nat_eq b 48) || nat_eq (length bs) 0)
-
--- what may stand in a string: no newline, double quote or backslash
-abbrev pub is_in_string : ℕ → Bool
-is_in_string b = not (nat_eq b 10 || nat_eq b 34 || nat_eq b 92)
-
--- a string between double quotes
-abbrev pub IsString : List ℕ → Type 0
-IsString bytes = (inner : List ℕ) × (bytes ≡ 34 ∷ inner ++ 34 ∷ []) × (list_all is_in_string inner ≡ true)
-
--- one byte that is no blank, letter, digit or punctuation; so is the double quote of what is no string
-abbrev pub IsStray : List ℕ → Type 0
-IsStray bytes =
-    (b : ℕ) × (bytes ≡ b ∷ []) × (is_blank b ≡ false) × (is_letter b ≡ false) × (is_ascii_digit b ≡ false) × IsNoPunctuation bytes
-
--- how a token of each kind is spelled, and a blank, which is no token
-abbrev pub Spells : Option TokenKind → List ℕ → Type 0
-Spells None bytes = (b : ℕ) × (bytes ≡ b ∷ []) × (is_blank b ≡ true)
-Spells (Some kinds.Name) bytes = (is_word bytes ≡ true) × IsNoKeyword bytes
-Spells (Some (kinds.Keyword k)) bytes = bytes ≡ spelling k
-Spells (Some kinds.Integer) bytes = is_decimal bytes ≡ true
-Spells (Some kinds.String) bytes = IsString bytes
-Spells (Some (kinds.Punctuation p)) bytes = bytes ≡ punctuation_spelling p
-Spells (Some kinds.Unknown) bytes = ((is_number bytes ≡ true) × (is_decimal bytes ≡ false)) ⊎ IsStray bytes
-
--- a piece of a text: a token's kind, or none for a blank, and the bytes
+-- a piece of a text
 pub record Piece : Type 0 where
-  pub kind : Option TokenKind
+  pub shape : Shape
   pub bytes : List ℕ
 
 -- a text begins with a piece, and with none that is longer
 pub record Begins (piece : Piece) (text rest : List ℕ) : Type 0 where
   pub whole : text ≡ piece.bytes ++ rest
-  pub spelled : Spells piece.kind piece.bytes
-  pub longest : (kind : Option TokenKind) (bytes others : List ℕ) → Spells kind bytes → text ≡ bytes ++ others → length bytes ≤ length piece.bytes
+  pub spelled : Spells piece.shape piece.bytes
+  pub longest : (shape : Shape) (bytes others : List ℕ) → Spells shape bytes → text ≡ bytes ++ others → length bytes ≤ length piece.bytes
 
--- a text is a row of pieces, each the longest that fits
-abbrev pub IsRow : List Piece → List ℕ → Type 0
-IsRow [] text = text ≡ []
-IsRow (p ∷ ps) text = (rest : List ℕ) × Begins p text rest × IsRow ps rest
+-- a token came with the piece, or before it
+abbrev pub has_begun : Bool → Shape → Bool
+has_begun begun (Word kind) = true
+has_begun begun _ = begun
+
+-- what is wrong with a piece: open comments, runs that are no integer literal, and build constraints before the first token are refused
+abbrev pub shape_fault : Bool → Shape → List ℕ → Option ScanFault
+shape_fault begun OpenComment bytes = Some Malformed
+shape_fault begun BadNumber bytes = Some (run_fault bytes)
+shape_fault begun LineComment bytes = if begun then None else (if is_constraint bytes then Some LeftOut else None)
+shape_fault begun _ bytes = None
+
+abbrev pub piece_fault : Bool → Piece → Option ScanFault
+piece_fault begun p = shape_fault begun p.shape p.bytes
+
+-- a text, up to a rest of it, is a row of pieces with which nothing is wrong
+abbrev pub IsRow : Bool → List Piece → List ℕ → List ℕ → Type 0
+IsRow begun [] text rest = text ≡ rest
+IsRow begun (p ∷ ps) text rest = (mid : List ℕ) × Begins p text mid × (piece_fault begun p ≡ None) × IsRow (has_begun begun p.shape) ps mid rest
+
+-- some piece of a row is a token
+abbrev pub begun_after : Bool → List Piece → Bool
+begun_after begun [] = begun
+begun_after begun (p ∷ ps) = begun_after (has_begun begun p.shape) ps
+
+-- a text that begins with a piece that is refused
+abbrev pub BeginsWrong : Bool → List ℕ → ScanFault → Type 0
+BeginsWrong begun text fault = (p : Piece) × (rest : List ℕ) × Begins p text rest × (piece_fault begun p ≡ Some fault)
+
+-- a text that isn't empty and begins with no piece
+abbrev pub BeginsNone : List ℕ → Type 0
+BeginsNone text = ((text ≡ []) → ⊥) × ((p : Piece) (rest : List ℕ) → Begins p text rest → ⊥)
+
+-- the fault of a text's front
+abbrev pub IsRefused : Bool → List ℕ → ScanFault → Type 0
+IsRefused begun text fault = BeginsWrong begun text fault ⊎ (BeginsNone text × (fault ≡ Malformed))
 
 -- the token of a piece that stands at an offset of a text
 abbrev pub token_of : List ℕ → ℕ → TokenKind → ℕ → Token
 token_of text at kind size = record { kind = kind; start = at; end = at + size; place = place_at text at }
 
 -- the token of a piece in front of others, if the piece is one
-abbrev pub with_token : List ℕ → ℕ → Piece → List Token → List Token
-with_token text at piece ts = elim piece.kind [ None ↦ ts | Some kind ↦ token_of text at kind (length piece.bytes) ∷ ts ]
+abbrev pub with_token : List ℕ → ℕ → Shape → ℕ → List Token → List Token
+with_token text at (Word kind) size ts = token_of text at kind size ∷ ts
+with_token text at _ size ts = ts
 
 -- the tokens among the pieces of a text from an offset on
 abbrev pub tokens_of : List ℕ → ℕ → List Piece → List Token
 tokens_of text at [] = []
-tokens_of text at (p ∷ ps) = with_token text at p (tokens_of text (at + length p.bytes) ps)
+tokens_of text at (p ∷ ps) = with_token text at p.shape (length p.bytes) (tokens_of text (at + length p.bytes) ps)
 
 -- a line that ends behind a token of this kind ends a statement
 abbrev pub ends_statement : TokenKind → Bool
-ends_statement kinds.Name = true
 ends_statement (kinds.Keyword k) = keyword_ends_statement k
-ends_statement kinds.Integer = true
-ends_statement kinds.String = true
 ends_statement (kinds.Punctuation p) = punctuation_ends_statement p
-ends_statement kinds.Unknown = false
+ends_statement _ = true
 
 -- the semicolon that is due behind a token, if the line ends there
 abbrev pub due_behind : Token → Place → Option Token
@@ -131,16 +135,17 @@ Semis text ts all = all ≡ with_semis text ts
 -- the tokens of a text: a mark at the start is no part of any
 abbrev pub Lexes : List ℕ → List Token → Type 0
 Lexes text ts =
-    (pieces : List Piece) × IsRow pieces (drop (mark_size text) text) × Semis text (tokens_of text (mark_size text) pieces) ts
+    (pieces : List Piece) × IsRow false pieces (drop (mark_size text) text) [] × Semis text (tokens_of text (mark_size text) pieces) ts
+
+-- a text is refused for a fault at a place: the pieces before it are sound, and what stands there is refused
+abbrev pub Refuses : List ℕ → ScanFault → Place → Type 0
+Refuses text fault place =
+    (pieces : List Piece) × (at : ℕ) × IsRow false pieces (drop (mark_size text) text) (drop at text)
+    × IsRefused (begun_after false pieces) (drop at text) fault × (place ≡ place_at text at)
 
 -- the bytes that a token of a kind may have: its spelling, and none for an inserted semicolon
 abbrev pub MaySpell : TokenKind → List ℕ → Type 0
-MaySpell (kinds.Punctuation p) bytes = Spells (Some (kinds.Punctuation p)) bytes ⊎ ((p ≡ marks.Semicolon) × (bytes ≡ []))
-MaySpell kinds.Name bytes = Spells (Some kinds.Name) bytes
-MaySpell (kinds.Keyword k) bytes = Spells (Some (kinds.Keyword k)) bytes
-MaySpell kinds.Integer bytes = Spells (Some kinds.Integer) bytes
-MaySpell kinds.String bytes = Spells (Some kinds.String) bytes
-MaySpell kinds.Unknown bytes = Spells (Some kinds.Unknown) bytes
+MaySpell kind bytes = SpellsToken kind bytes ⊎ ((kind ≡ kinds.Punctuation marks.Semicolon) × (bytes ≡ []))
 
 -- a token stands in a text: its place is that of its start, and the bytes between its offsets are of its kind
 pub record StandsIn (text : List ℕ) (t : Token) : Type 0 where

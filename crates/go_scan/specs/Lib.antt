@@ -1,3 +1,10 @@
+pub mod Comments
+pub mod Escapes
+pub mod Fronts
 pub mod Keywords
 pub mod Lex
+pub mod Numbers
 pub mod Punctuations
+pub mod Runes
+pub mod Strings
+pub mod Words

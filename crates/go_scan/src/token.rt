@@ -6,20 +6,18 @@ use go_text::place::Place;
 /// The kinds of tokens.
 #[derive(Clone, Copy, PartialEq, Eq, Debug)]
 pub enum TokenKind {
-    /// An ASCII letter or `_`, and then letters, digits and `_`; no keyword.
+    /// A letter, and then letters and digits; no keyword.
     Name,
     /// A word that no name may be.
     Keyword(Keyword),
-    /// A decimal literal: `0`, or a digit from 1 to 9 and then digits.
+    /// An integer literal.
     Integer,
-    /// An interpreted string literal without escapes: between two `"`, bytes other than newline,
-    /// `"` and `\`.
+    /// A rune literal.
+    Rune,
+    /// A string literal, interpreted or raw.
     String,
     /// An operator or punctuation. A semicolon may also be inserted, where a line ends.
     Punctuation(Punctuation),
-    /// What is no other token: letters, digits, `_` and `.` that begin as a number does and are
-    /// no decimal literal, or one byte that begins no other token.
-    Unknown,
 }
 
 /// A token: its kind, the offsets in bytes of its text's start and end in the source's text, and

@@ -9,8 +9,14 @@ use std::marker::Model;
 /// The kinds of faults.
 #[derive(Clone, Copy, PartialEq, Eq, Debug)]
 pub enum FaultKind {
-    /// A form that this edition leaves out.
+    /// A malformed literal or comment, or a character that begins no token.
+    Scan,
+    /// A form of Go that this edition leaves out.
     LeftOut,
+    /// A token with which the tokens before it begin no file.
+    Parse,
+    /// A node that lies too deep.
+    Deep,
     /// A package name that differs from that of the package's first file.
     PackageName,
     /// A name that its block declares already.
@@ -33,7 +39,10 @@ impl FaultKind {
         ensures { result ≡ fault_number self }
     {
         match self {
+            FaultKind::Scan => 1,
             FaultKind::LeftOut => 2,
+            FaultKind::Parse => 3,
+            FaultKind::Deep => 4,
             FaultKind::PackageName => 6,
             FaultKind::Redeclared => 10,
             FaultKind::Undeclared => 11,
@@ -49,7 +58,10 @@ impl FaultKind {
         ensures { result.now ≡ fault_word self }
     {
         match self {
+            FaultKind::Scan => "scan",
             FaultKind::LeftOut => "leftout",
+            FaultKind::Parse => "parse",
+            FaultKind::Deep => "deep",
             FaultKind::PackageName => "packagename",
             FaultKind::Redeclared => "redeclared",
             FaultKind::Undeclared => "undeclared",

@@ -1,15 +1,15 @@
 -- Actions: what a package is compiled from, when it is refused, the text that stands for it in a digest, and the order by contents.
-use Rattle.std.specs.Prelude.{ℕ, ◌<◌, ◌^◌, Bool, true, ◌&&◌, if◌then◌else◌, not, List, [], ◌∷◌, ◌++◌, length, map, refl, codes, Option, Some, None}
+use Rattle.std.specs.Prelude.{◌≡◌, ◌≢◌, ℕ, ◌<◌, ◌^◌, Bool, true, false, ◌&&◌, List, [], ◌∷◌, ◌++◌, length, map, refl, codes}
 use Rattle.std.specs.Int.{to_be_bytes, w64}
 use Rattle.std.specs.Fmt.{decimal}
-use Rattle.std.specs.List.{All, flat_map, list_all}
-use Rattle.std.specs.Str.{bytes_eq}
+use Rattle.std.specs.List.{All, Contains, flat_map}
 use Rattle.std.specs.declared.cmp.Ordering.{Ordering}
 use Rattle.std.specs.Ordering.{nat_cmp, ordering_then, is_lt}
 use Rattle.std.specs.Coded.{Coded, code_by, coded×, coded_ℕ, coded_list}
 use Rattle.std.specs.Cmp.Lexicographic.{slice_cmp}
 use Rattle.sha2.specs.Sha256.{sha256}
-use Rattle.go_parse.specs.Parse.{Parsed}
+use Rattle.go_ast.specs.Trees.{Name}
+use Rattle.go_parse.specs.Parse.{Parsed, IsPackage, IsNamed, IsOther}
 use Rattle.ws_action.specs.declared.ActionError.{ActionError}
 use Rattle.ws_action.specs.declared.ActionError.TheVariants.{NoFile, Unordered, MixedNames}
 
@@ -48,17 +48,38 @@ ascends [] = true
 ascends (first ∷ files) = ascends_from first.name files
 
 -- each has the package name of the first
-abbrev pub has_one_name : List Parsed → Bool
-has_one_name [] = true
-has_one_name (first ∷ files) = list_all (λ file. bytes_eq file.file.package.text first.file.package.text) files
+pub record HaveName (first : Parsed) (files : List Parsed) : Type 0 where
+  pub clause : Name
+  pub package_is : IsPackage first.text clause
+  pub named : All (λ file. IsNamed clause.text file.text) files
 
--- the first that holds: no file, names not strictly ascending, package names that differ
-abbrev pub action_refusal : List Parsed → Option ActionError
-action_refusal [] = Some NoFile
-action_refusal (first ∷ files) =
-    if not (ascends (first ∷ files)) then Some Unordered
-    else (if not (has_one_name (first ∷ files)) then Some MixedNames
-    else None)
+-- or one of them has another
+pub record HaveOther (first : Parsed) (files : List Parsed) : Type 0 where
+  pub clause : Name
+  pub other : Parsed
+  pub package_is : IsPackage first.text clause
+  pub among : Contains files other
+  pub differs : IsOther clause.text other.text
+
+abbrev pub HaveOneName : List Parsed → Type 0
+HaveOneName [] = Unit {0}
+HaveOneName (first ∷ files) = HaveName first files
+
+abbrev pub HaveOtherName : List Parsed → Type 0
+HaveOtherName [] = ⊥
+HaveOtherName (first ∷ files) = HaveOther first files
+
+-- they make an action: there is one, their names are strictly ascending, and they have one package name
+pub record MakeAction (files : List Parsed) : Type 0 where
+  pub some : files ≢ []
+  pub ascending : ascends files ≡ true
+  pub named : HaveOneName files
+
+-- or the first of these holds
+abbrev pub AreRefused : List Parsed → ActionError → Type 0
+AreRefused files NoFile = files ≡ []
+AreRefused files Unordered = (files ≢ []) × (ascends files ≡ false)
+AreRefused files MixedNames = (ascends files ≡ true) × HaveOtherName files
 
 -- ---- texts
 

@@ -1,13 +1,15 @@
 //! Actions: what a package is compiled from, and the text and the id by which caches know it.
 #![tactic(auto)]
 
-ghost use Rattle.std.specs.Prelude.{◌≡◌, ℕ, List, ◌++◌, ◌<◌, ◌^◌, length, map, OnOk, IfOk, IfErr, Some, None, string_bytes};
+ghost use Rattle.std.specs.Prelude.{◌≡◌, ℕ, List, ◌++◌, ◌<◌, ◌^◌, length, map, OnOk, IfOk, IfErr, string_bytes};
+ghost use Rattle.std.specs.Bool.{OnTrue, OnFalse};
 ghost use Rattle.std.specs.List.{All, Contains, flat_map};
 ghost use Rattle.std.specs.Cmp.Lexicographic.{slice_cmp};
 ghost use Rattle.sha2.specs.Sha256.{sha256};
 ghost use Rattle.go_text.specs.Editions.{edition_number};
+ghost use Rattle.go_parse.specs.Parse.{IsNamed, IsOther};
 ghost use Rattle.ws_action.specs.Clash.{NoClash, Includes, hashed_actions, AllSized};
-ghost use Rattle.ws_action.specs.Actions.{Action as AnAction, source_of, action_of, ascends, has_one_name, action_refusal, be, field, file_text, action_text, action_id, IsSized, file_cmp, action_cmp};
+ghost use Rattle.ws_action.specs.Actions.{Action as AnAction, source_of, action_of, ascends, HaveOneName, HaveOtherName, MakeAction, AreRefused, be, field, file_text, action_text, action_id, IsSized, file_cmp, action_cmp};
 
 use go_parse::Parsed;
 use go_text::edition::Edition;
@@ -45,7 +47,7 @@ pub struct Action {
 }
 
 impl Model for Action {
-    ghost use Rattle.std.specs.Prelude.{◌≡◌, None, string_bytes};
+    ghost use Rattle.std.specs.Prelude.{string_bytes};
     ghost use Rattle.go_text.specs.Editions.{edition_number};
     ghost use Rattle.ws_action.specs.Actions as actions;
 
@@ -55,7 +57,7 @@ impl Model for Action {
 
     ghost view = { λ a. actions.action_of (edition_number a.edition) (string_bytes a.path) a.files.items };
 
-    ghost invariant = { λ a. actions.action_refusal a.files.items ≡ None };
+    ghost invariant = { λ a. actions.MakeAction a.files.items };
 }
 
 impl Action {
@@ -68,8 +70,8 @@ impl Action {
         files: Vec<Parsed>,
     ) -> Result<Action, ActionError>
         ensures ok { IfOk result (λ a. a ≡ action_of (edition_number edition) (string_bytes path) files.items) }
-        ensures allowed { OnOk result (action_refusal files.items ≡ None) }
-        ensures refused { IfErr result (λ e. action_refusal files.items ≡ Some e) }
+        ensures allowed { OnOk result (MakeAction files.items) }
+        ensures refused { IfErr result (λ e. AreRefused files.items e) }
         ensures sized { IfOk result (λ a. IsSized a) }
     {
         check_files(&files)?;
@@ -99,7 +101,7 @@ impl Action {
     /// The package's files, which are none that `new` refuses.
     pub fn files(&self) -> &[Parsed]
         ensures value { map source_of result.now ≡ self.now.files }
-        ensures allowed { action_refusal result.now ≡ None }
+        ensures allowed { MakeAction result.now }
     {
         self.files.as_slice()
     }
@@ -160,8 +162,8 @@ impl Action {
 
 /// What keeps files from making an action: the first that holds.
 fn check_files(files: &[Parsed]) -> Result<(), ActionError>
-    ensures ok { OnOk result (action_refusal files.now ≡ None) }
-    ensures err { IfErr result (λ e. action_refusal files.now ≡ Some e) }
+    ensures ok { OnOk result (MakeAction files.now) }
+    ensures err { IfErr result (λ e. AreRefused files.now e) }
 {
     if files.is_empty() {
         return Err(ActionError::NoFile);
@@ -192,16 +194,25 @@ fn ascends(files: &[Parsed]) -> bool
     true
 }
 
+/// Whether a file's package has that name.
+fn is_named(name: &str, file: &Parsed) -> bool
+    ensures named { OnTrue result (IsNamed name.now file.now.text) }
+    ensures other { OnFalse result (IsOther name.now file.now.text) }
+{
+    file.package().text() == name
+}
+
 /// Whether all files have one package name.
 fn has_one_name(files: &[Parsed]) -> bool
-    ensures { result ≡ has_one_name files.now }
+    ensures named { OnTrue result (HaveOneName files.now) }
+    ensures other { OnFalse result (HaveOtherName files.now) }
 {
     let Some((first, rest)) = files.split_first() else {
         return true;
     };
     let name = first.package().text();
     for file in rest {
-        if file.package().text() != name {
+        if !is_named(name, file) {
             return false;
         }
     }

@@ -1,14 +1,15 @@
 -- Files have one plan, and writes with the same members one.
-use Rattle.std.proofs.Common.{◌≡◌, ◌≢◌, ℕ, List, [], ◌∷◌, ◌++◌, map, sym, ap, subst, ◌∙◌, refl, inl, inr}
+use Rattle.std.proofs.Common.{◌≡◌, ℕ, List, [], ◌∷◌, ◌++◌, map, sym, ap, subst, ◌∙◌, refl, inl, inr}
 use Rattle.go_text.specs.Faults.{Fault}
 use Rattle.go_text.specs.declared.place.Place.{Place}
-use Rattle.go_text.specs.declared.fault.FaultKind.TheVariants.{LeftOut, PackageName}
+use Rattle.go_text.specs.declared.fault.FaultKind.{FaultKind}
+use Rattle.go_text.specs.declared.fault.FaultKind.TheVariants.{PackageName}
 use Rattle.ws_version.specs.Writes.{Write}
 use Rattle.ws_version.specs.Kept.{SameMembers}
 use Rattle.ws_register.specs.Sources.{package_files}
 use Rattle.ws_register.specs.Laws.{same_sources}
-use Rattle.go_ast.specs.Trees.{File}
-use Rattle.go_parse.specs.Parse.{Parse, Parsed, Derived, Stopped, IsParse}
+use Rattle.go_ast.specs.Trees.{Name, File}
+use Rattle.go_parse.specs.Parse.{Parse, Parsed, Derived, Stopped, IsParse, IsPackage, IsNamed, IsOther}
 use Rattle.ws_graph.specs.Plan.{Planned, NoFiles, Faulty, Sound, source_of, AllParsed, AreParsed, AllNamed, StopsIn, DiffersIn, IsSound, IsPlan, IsPlanOf}
 use Rattle.go_parse.proofs.Once.{one_parse}
 
@@ -16,84 +17,103 @@ use Rattle.go_parse.proofs.Once.{one_parse}
 abbrev Pair : Type 0
 Pair = List ℕ × List ℕ
 
-place_of : Place → Parse → Place
-place_of p (Derived file) = p
-place_of p (Stopped place) = place
+kind_in : FaultKind → Parse → FaultKind
+kind_in k (Derived file) = k
+kind_in k (Stopped kind place) = kind
+
+place_in : Place → Parse → Place
+place_in p (Derived file) = p
+place_in p (Stopped kind place) = place
 
 file_in : File → Parse → File
 file_in other (Derived file) = file
-file_in other (Stopped place) = other
+file_in other (Stopped kind place) = other
 
-one_place : (t : List ℕ) (p q : Place) → IsParse t (Stopped p) → IsParse t (Stopped q) → p ≡ q
-unfolding place_of
-one_place t p q g h = ap (place_of p) (one_parse t (Stopped p) (Stopped q) g h)
+one_kind : (t : List ℕ) (k l : FaultKind) (p q : Place) → IsParse t (Stopped k p) → IsParse t (Stopped l q) → k ≡ l
+unfolding kind_in
+one_kind t k l p q g h = ap (kind_in k) (one_parse t (Stopped k p) (Stopped l q) g h)
+
+one_place : (t : List ℕ) (k l : FaultKind) (p q : Place) → IsParse t (Stopped k p) → IsParse t (Stopped l q) → p ≡ q
+unfolding place_in
+one_place t k l p q g h = ap (place_in p) (one_parse t (Stopped k p) (Stopped l q) g h)
 
 one_file : (t : List ℕ) (a b : File) → IsParse t (Derived a) → IsParse t (Derived b) → a ≡ b
 unfolding file_in
 one_file t a b g h = ap (file_in a) (one_parse t (Derived a) (Derived b) g h)
 
-not_both : (t : List ℕ) (p : Place) (file : File) → IsParse t (Stopped p) → IsParse t (Derived file) → ⊥
-not_both t p file g h = let e = one_parse t (Stopped p) (Derived file) g h in cc
+not_both : (t : List ℕ) (k : FaultKind) (p : Place) (file : File) → IsParse t (Stopped k p) → IsParse t (Derived file) → ⊥
+not_both t k p file g h = let e = one_parse t (Stopped k p) (Derived file) g h in cc
+
+-- a text has one package name
+pub one_package : (t : List ℕ) (m n : Name) → IsPackage t m → IsPackage t n → m ≡ n
+one_package t m n g h = g.2 ∙ ap (λ (f : File). f.package) (one_file t g.0 h.0 g.1 h.1) ∙ sym h.2
+
+-- it isn't one and another
+named_so : (name t : List ℕ) → IsNamed name t → IsOther name t → ⊥
+named_so name t g h = h.other (ap (λ (n : Name). n.text) (one_package t h.clause g.clause h.package_is g.package_is) ∙ g.same)
 
 -- a text that stops is not among texts that parse
-no_stop : (front ps : List Parsed) (n t : List ℕ) (rest : List Pair) (place : Place) → map source_of ps ≡ map source_of front ++ (n, t) ∷ rest → AllParsed ps → IsParse t (Stopped place) → ⊥
-no_stop [] [] n t rest place e all stops = cc
-no_stop [] (p ∷ ps) n t rest place e all stops =
+no_stop : (front ps : List Parsed) (n t : List ℕ) (rest : List Pair) (kind : FaultKind) (place : Place) → map source_of ps ≡ map source_of front ++ (n, t) ∷ rest → AllParsed ps → IsParse t (Stopped kind place) → ⊥
+no_stop [] [] n t rest kind place e all stops = cc
+no_stop [] (p ∷ ps) n t rest kind place e all stops =
     let heads : source_of p ≡ (n, t) = cc in
     let texts : p.text ≡ t = ap (λ (s : Pair). s.1) heads in
-    not_both t place p.file stops (subst (λ z. IsParse z (Derived p.file)) texts all.0)
-no_stop (f ∷ front) [] n t rest place e all stops = cc
-no_stop (f ∷ front) (p ∷ ps) n t rest place e all stops =
+    not_both t kind place all.0.0 stops (subst (λ z. IsParse z (Derived all.0.0)) texts all.0.1)
+no_stop (f ∷ front) [] n t rest kind place e all stops = cc
+no_stop (f ∷ front) (p ∷ ps) n t rest kind place e all stops =
     let tails : map source_of ps ≡ map source_of front ++ (n, t) ∷ rest = cc in
-    no_stop front ps n t rest place tails all.1 stops
+    no_stop front ps n t rest kind place tails all.1 stops
 
--- where the first texts stop is one place
-pub record SameStop (n m : List ℕ) (p q : Place) : Type 0 where
+-- where the first texts stop is one place, for one fault
+pub record SameStop (n m : List ℕ) (k l : FaultKind) (p q : Place) : Type 0 where
   pub names : n ≡ m
+  pub kinds : k ≡ l
   pub places : p ≡ q
 
-one_stop : (front back : List Parsed) (n t m s : List ℕ) (rest left : List Pair) (p q : Place) → map source_of front ++ (n, t) ∷ rest ≡ map source_of back ++ (m, s) ∷ left → AllParsed front → AllParsed back → IsParse t (Stopped p) → IsParse s (Stopped q) → SameStop n m p q
-one_stop [] [] n t m s rest left p q e f b g h =
+one_stop : (front back : List Parsed) (n t m s : List ℕ) (rest left : List Pair) (k l : FaultKind) (p q : Place) → map source_of front ++ (n, t) ∷ rest ≡ map source_of back ++ (m, s) ∷ left → AllParsed front → AllParsed back → IsParse t (Stopped k p) → IsParse s (Stopped l q) → SameStop n m k l p q
+one_stop [] [] n t m s rest left k l p q e f b g h =
     let heads : ◌≡◌ {A = Pair} (n, t) (m, s) = cc in
-    record { names = ap (λ (z : Pair). z.0) heads; places = one_place s p q (subst (λ z. IsParse z (Stopped p)) (ap (λ (z : Pair). z.1) heads) g) h }
-one_stop [] (x ∷ back) n t m s rest left p q e f b g h =
+    let there : IsParse s (Stopped k p) = subst (λ z. IsParse z (Stopped k p)) (ap (λ (z : Pair). z.1) heads) g in
+    record { names = ap (λ (z : Pair). z.0) heads; kinds = one_kind s k l p q there h; places = one_place s k l p q there h }
+one_stop [] (x ∷ back) n t m s rest left k l p q e f b g h =
     let heads : (n, t) ≡ source_of x = cc in
-    absurd (not_both x.text p x.file (subst (λ z. IsParse z (Stopped p)) (ap (λ (z : Pair). z.1) heads) g) b.0)
-one_stop (x ∷ front) [] n t m s rest left p q e f b g h =
+    absurd (not_both x.text k p b.0.0 (subst (λ z. IsParse z (Stopped k p)) (ap (λ (z : Pair). z.1) heads) g) b.0.1)
+one_stop (x ∷ front) [] n t m s rest left k l p q e f b g h =
     let heads : source_of x ≡ (m, s) = cc in
-    absurd (not_both x.text q x.file (subst (λ z. IsParse z (Stopped q)) (sym (ap (λ (z : Pair). z.1) heads)) h) f.0)
-one_stop (x ∷ front) (y ∷ back) n t m s rest left p q e f b g h =
+    absurd (not_both x.text l q f.0.0 (subst (λ z. IsParse z (Stopped l q)) (sym (ap (λ (z : Pair). z.1) heads)) h) f.0.1)
+one_stop (x ∷ front) (y ∷ back) n t m s rest left k l p q e f b g h =
     let tails : map source_of front ++ (n, t) ∷ rest ≡ map source_of back ++ (m, s) ∷ left = cc in
-    one_stop front back n t m s rest left p q tails f.1 b.1 g h
+    one_stop front back n t m s rest left k l p q tails f.1 b.1 g h
 
 -- files parse to one list
-one_list : (ps qs : List Parsed) → map source_of ps ≡ map source_of qs → AllParsed ps → AllParsed qs → ps ≡ qs
-one_list [] [] e f g = refl
-one_list [] (q ∷ qs) e f g = cc
-one_list (p ∷ ps) [] e f g = cc
-one_list (p ∷ ps) (q ∷ qs) e f g =
+one_list : (ps qs : List Parsed) → map source_of ps ≡ map source_of qs → ps ≡ qs
+one_list [] [] e = refl
+one_list [] (q ∷ qs) e = cc
+one_list (p ∷ ps) [] e = cc
+one_list (p ∷ ps) (q ∷ qs) e =
     let heads : source_of p ≡ source_of q = cc in
     let tails : map source_of ps ≡ map source_of qs = cc in
     let names : p.name ≡ q.name = ap (λ (z : Pair). z.0) heads in
     let texts : p.text ≡ q.text = ap (λ (z : Pair). z.1) heads in
-    let trees : p.file ≡ q.file = one_file q.text p.file q.file (subst (λ z. IsParse z (Derived p.file)) texts f.0) g.0 in
-    let same : p ≡ q = λ i. record { name = names i; text = texts i; file = trees i } in
-    ap (λ z. z ∷ ps) same ∙ ap (λ z. q ∷ z) (one_list ps qs tails f.1 g.1)
+    let same : p ≡ q = λ i. record { name = names i; text = texts i } in
+    ap (λ z. z ∷ ps) same ∙ ap (λ z. q ∷ z) (one_list ps qs tails)
 
 pub one_parsed : (files : List Pair) (ps qs : List Parsed) → AreParsed files ps → AreParsed files qs → ps ≡ qs
-one_parsed files ps qs g h = one_list ps qs (g.sources ∙ sym h.sources) g.parses h.parses
+one_parsed files ps qs g h = one_list ps qs (g.sources ∙ sym h.sources)
 
 -- the first that is named otherwise is one
-one_other : (name : List ℕ) (front back : List Parsed) (p q : Parsed) (rest left : List Parsed) → front ++ p ∷ rest ≡ back ++ q ∷ left → AllNamed name front → AllNamed name back → p.file.package.text ≢ name → q.file.package.text ≢ name → p ≡ q
+one_other : (name : List ℕ) (front back : List Parsed) (p q : Parsed) (rest left : List Parsed) → front ++ p ∷ rest ≡ back ++ q ∷ left → AllNamed name front → AllNamed name back → IsOther name p.text → IsOther name q.text → p ≡ q
 one_other name [] [] p q rest left e f b g h = cc
-one_other name [] (y ∷ back) p q rest left e f b g h = let heads : p ≡ y = cc in absurd (g (ap (λ (z : Parsed). z.file.package.text) heads ∙ b.0))
-one_other name (x ∷ front) [] p q rest left e f b g h = let heads : x ≡ q = cc in absurd (h (sym (ap (λ (z : Parsed). z.file.package.text) heads) ∙ f.0))
+one_other name [] (y ∷ back) p q rest left e f b g h =
+    let heads : p ≡ y = cc in absurd (named_so name y.text b.0 (subst (λ (z : Parsed). IsOther name z.text) heads g))
+one_other name (x ∷ front) [] p q rest left e f b g h =
+    let heads : x ≡ q = cc in absurd (named_so name x.text f.0 (subst (λ (z : Parsed). IsOther name z.text) (sym heads) h))
 one_other name (x ∷ front) (y ∷ back) p q rest left e f b g h =
     let tails : front ++ p ∷ rest ≡ back ++ q ∷ left = cc in
     one_other name front back p q rest left tails f.1 b.1 g h
 
 -- none is named otherwise where all have the name
-named_among : (name : List ℕ) (front : List Parsed) (p : Parsed) (rest : List Parsed) → AllNamed name (front ++ p ∷ rest) → p.file.package.text ≡ name
+named_among : (name : List ℕ) (front : List Parsed) (p : Parsed) (rest : List Parsed) → AllNamed name (front ++ p ∷ rest) → IsNamed name p.text
 named_among name [] p rest h = h.0
 named_among name (x ∷ front) p rest h = named_among name front p rest h.1
 
@@ -111,28 +131,38 @@ none_parsed files p ps e h = let c : source_of p ∷ map source_of ps ≡ [] = h
 
 stops_once : (files : List Pair) (f g : Fault) → StopsIn files f → StopsIn files g → f ≡ g
 stops_once files f g a b =
-    let same = one_stop a.front b.front a.name a.text b.name b.text a.rest b.rest a.place b.place (sym a.whole ∙ b.whole) a.parses b.parses a.stops b.stops in
-    a.is ∙ (λ i. record { file = same.names i; place = same.places i; kind = LeftOut }) ∙ sym b.is
+    let same = one_stop a.front b.front a.name a.text b.name b.text a.rest b.rest a.kind b.kind a.place b.place (sym a.whole ∙ b.whole) a.parses b.parses a.stops b.stops in
+    a.is ∙ (λ i. record { file = same.names i; place = same.places i; kind = same.kinds i }) ∙ sym b.is
 
 stops_or_parses : (files : List Pair) (f : Fault) (ps : List Parsed) → StopsIn files f → AreParsed files ps → ⊥
-stops_or_parses files f ps a b = no_stop a.front ps a.name a.text a.rest a.place (b.sources ∙ a.whole) b.parses a.stops
+stops_or_parses files f ps a b = no_stop a.front ps a.name a.text a.rest a.kind a.place (b.sources ∙ a.whole) b.parses a.stops
+
+-- first files that are one have one package name
+one_clause : (p q : Parsed) (m n : Name) → p ≡ q → IsPackage p.text m → IsPackage q.text n → m ≡ n
+one_clause p q m n e g h = one_package q.text m n (subst (λ (z : Parsed). IsPackage z.text m) e g) h
+
+misnamed : Parsed → Name → Fault
+misnamed p n = record { file = p.name; place = n.place; kind = PackageName }
 
 differs_once : (files : List Pair) (f g : Fault) → DiffersIn files f → DiffersIn files g → f ≡ g
+unfolding misnamed
 differs_once files f g a b =
     let same : a.first ∷ (a.front ++ a.other ∷ a.rest) ≡ b.first ∷ (b.front ++ b.other ∷ b.rest) = one_parsed files _ _ a.parsed b.parsed in
     let heads : a.first ≡ b.first = cc in
     let tails : a.front ++ a.other ∷ a.rest ≡ b.front ++ b.other ∷ b.rest = cc in
-    let names : b.first.file.package.text ≡ a.first.file.package.text = ap (λ (p : Parsed). p.file.package.text) (sym heads) in
-    let other : a.other ≡ b.other = one_other a.first.file.package.text a.front b.front a.other b.other a.rest b.rest tails a.named (subst (λ n. AllNamed n b.front) names b.named) a.differs (λ e. b.differs (e ∙ sym names)) in
-    a.is ∙ ap (λ (p : Parsed). let f : Fault = record { file = p.name; place = p.file.package.place; kind = PackageName } in f) other ∙ sym b.is
+    let names : b.clause.text ≡ a.clause.text = ap (λ (n : Name). n.text) (sym (one_clause a.first b.first a.clause b.clause heads a.package_is b.package_is)) in
+    let other : a.other ≡ b.other = one_other a.clause.text a.front b.front a.other b.other a.rest b.rest tails a.named (subst (λ n. AllNamed n b.front) names b.named) a.differs (subst (λ n. IsOther n b.other.text) names b.differs) in
+    let clause : a.differs.clause ≡ b.differs.clause = one_clause a.other b.other a.differs.clause b.differs.clause other a.differs.package_is b.differs.package_is in
+    a.is ∙ ap (λ (p : Parsed). misnamed p a.differs.clause) other ∙ ap (misnamed b.other) clause ∙ sym b.is
 
 differs_or_sound : (files : List Pair) (f : Fault) (ps : List Parsed) → DiffersIn files f → IsSound files ps → ⊥
 differs_or_sound files f ps a b =
     let same : a.first ∷ (a.front ++ a.other ∷ a.rest) ≡ b.first ∷ b.rest = one_parsed files _ _ a.parsed b.parses ∙ b.is in
     let heads : a.first ≡ b.first = cc in
     let tails : a.front ++ a.other ∷ a.rest ≡ b.rest = cc in
-    let names : AllNamed b.first.file.package.text (a.front ++ a.other ∷ a.rest) = subst (AllNamed b.first.file.package.text) (sym tails) b.named in
-    a.differs (named_among b.first.file.package.text a.front a.other a.rest names ∙ ap (λ (p : Parsed). p.file.package.text) (sym heads))
+    let clause : b.clause ≡ a.clause = sym (one_clause a.first b.first a.clause b.clause heads a.package_is b.package_is) in
+    let names : AllNamed a.clause.text (a.front ++ a.other ∷ a.rest) = subst (λ (n : Name). AllNamed n.text (a.front ++ a.other ∷ a.rest)) clause (subst (AllNamed b.clause.text) (sym tails) b.named) in
+    named_so a.clause.text a.other.text (named_among a.clause.text a.front a.other a.rest names) a.differs
 
 pub one_plan : (files : List Pair) (p q : Planned) → IsPlan files p → IsPlan files q → p ≡ q
 one_plan files NoFiles NoFiles g h = refl

@@ -2,10 +2,12 @@
 use Rattle.std.specs.Prelude.{◌≡◌, ◌≢◌, ℕ, ◌⊎◌, List, [], ◌∷◌, ◌++◌, map}
 use Rattle.go_text.specs.Faults.{Fault}
 use Rattle.go_text.specs.declared.place.Place.{Place}
-use Rattle.go_text.specs.declared.fault.FaultKind.TheVariants.{LeftOut, PackageName}
+use Rattle.go_text.specs.declared.fault.FaultKind.{FaultKind}
+use Rattle.go_text.specs.declared.fault.FaultKind.TheVariants.{PackageName}
 use Rattle.ws_version.specs.Writes.{Write}
 use Rattle.ws_register.specs.Sources.{IsSources, package_files}
-use Rattle.go_parse.specs.Parse.{Derived, Stopped, IsParse, Parsed}
+use Rattle.go_ast.specs.Trees.{Name, File}
+use Rattle.go_parse.specs.Parse.{Derived, Stopped, IsParse, IsPackage, IsNamed, IsOther, Parsed}
 
 -- no file, or the plan's fault, or all files with what they parse to
 pub data Planned : Type 0 where
@@ -16,20 +18,20 @@ pub data Planned : Type 0 where
 abbrev pub source_of : Parsed → List ℕ × List ℕ
 source_of p = (p.name, p.text)
 
--- each is what its text parses to
+-- each text is a file
 abbrev pub AllParsed : List Parsed → Type 0
 AllParsed [] = Unit {0}
-AllParsed (p ∷ ps) = IsParse p.text (Derived p.file) × AllParsed ps
+AllParsed (p ∷ ps) = ((file : File) × IsParse p.text (Derived file)) × AllParsed ps
 
 -- the files parse to these
 pub record AreParsed (files : List (List ℕ × List ℕ)) (parsed : List Parsed) : Type 0 where
   pub sources : map source_of parsed ≡ files
   pub parses : AllParsed parsed
 
--- all have the package name of the first
+-- all have this package name
 abbrev pub AllNamed : List ℕ → List Parsed → Type 0
 AllNamed name [] = Unit {0}
-AllNamed name (p ∷ ps) = (p.file.package.text ≡ name) × AllNamed name ps
+AllNamed name (p ∷ ps) = IsNamed name p.text × AllNamed name ps
 
 -- the first file that doesn't parse stops there
 pub record StopsIn (files : List (List ℕ × List ℕ)) (fault : Fault) : Type 0 where
@@ -37,11 +39,12 @@ pub record StopsIn (files : List (List ℕ × List ℕ)) (fault : Fault) : Type 
   pub name : List ℕ
   pub text : List ℕ
   pub rest : List (List ℕ × List ℕ)
+  pub kind : FaultKind
   pub place : Place
   pub whole : files ≡ map source_of front ++ (name, text) ∷ rest
   pub parses : AllParsed front
-  pub stops : IsParse text (Stopped place)
-  pub is : fault ≡ record { file = name; place = place; kind = LeftOut }
+  pub stops : IsParse text (Stopped kind place)
+  pub is : fault ≡ record { file = name; place = place; kind = kind }
 
 -- one of them is the first whose package has another name
 pub record HasOther (name : List ℕ) (parsed : List Parsed) (other : Parsed) : Type 0 where
@@ -49,7 +52,7 @@ pub record HasOther (name : List ℕ) (parsed : List Parsed) (other : Parsed) : 
   pub rest : List Parsed
   pub whole : parsed ≡ front ++ other ∷ rest
   pub named : AllNamed name front
-  pub differs : other.file.package.text ≢ name
+  pub differs : IsOther name other.text
 
 -- all files parse, and this is the first whose package name isn't the first file's
 pub record DiffersIn (files : List (List ℕ × List ℕ)) (fault : Fault) : Type 0 where
@@ -57,18 +60,22 @@ pub record DiffersIn (files : List (List ℕ × List ℕ)) (fault : Fault) : Typ
   pub front : List Parsed
   pub other : Parsed
   pub rest : List Parsed
+  pub clause : Name
   pub parsed : AreParsed files (first ∷ front ++ other ∷ rest)
-  pub named : AllNamed first.file.package.text front
-  pub differs : other.file.package.text ≢ first.file.package.text
-  pub is : fault ≡ record { file = other.name; place = other.file.package.place; kind = PackageName }
+  pub package_is : IsPackage first.text clause
+  pub named : AllNamed clause.text front
+  pub differs : IsOther clause.text other.text
+  pub is : fault ≡ record { file = other.name; place = differs.clause.place; kind = PackageName }
 
 -- all files parse, and have one package name
 pub record IsSound (files : List (List ℕ × List ℕ)) (parsed : List Parsed) : Type 0 where
   pub first : Parsed
   pub rest : List Parsed
+  pub clause : Name
   pub is : parsed ≡ first ∷ rest
   pub parses : AreParsed files parsed
-  pub named : AllNamed first.file.package.text rest
+  pub package_is : IsPackage first.text clause
+  pub named : AllNamed clause.text rest
 
 -- A file that doesn't parse comes before names that differ. Without imports nothing else is a plan's fault.
 abbrev pub IsPlan : List (List ℕ × List ℕ) → Planned → Type 0

@@ -5,11 +5,12 @@ ghost use Rattle.std.specs.Prelude.{◌≡◌, ◌≢◌, ℕ, List, [], IfOk, I
 ghost use Rattle.std.specs.Bool.{OnTrue, OnFalse};
 ghost use Rattle.go_text.specs.Faults.{Fault as AFault};
 ghost use Rattle.go_text.specs.declared.place.Place.{Place as APlace};
-ghost use Rattle.go_text.specs.declared.fault.FaultKind.TheVariants as kind;
+ghost use Rattle.go_text.specs.declared.fault.FaultKind.{FaultKind as AKind};
+ghost use Rattle.go_ast.specs.Trees.{File as AFile};
 ghost use Rattle.ws_version.specs.Writes.{Write, held_cmp};
 ghost use Rattle.ws_version.specs.Kept.{StandsFor, SameMembers};
 ghost use Rattle.ws_register.specs.Sources.{pair_of};
-ghost use Rattle.go_parse.specs.Parse.{Derived, Stopped, IsParse};
+ghost use Rattle.go_parse.specs.Parse.{Derived, Stopped, IsParse, IsNamed, IsOther};
 ghost use Rattle.ws_graph.specs.Plan.{Planned, NoFiles, source_of, AreParsed, AllNamed, HasOther, StopsIn, IsPlan, IsPlanOf};
 ghost use Rattle.ws_graph.specs.Node.{planned_of};
 
@@ -30,20 +31,20 @@ enum FileError {
 }
 
 fn parsed_file(alloc: Global, source: Source) -> Result<Parsed, FileError>
-    ensures ok { IfOk result (λ p. (source_of p ≡ pair_of source) × IsParse p.text (Derived p.file)) }
-    ensures stopped { (fault : AFault) → result ≡ Err (FileError.Stopped fault) → (place : APlace) × IsParse source.text (Stopped place) × (fault ≡ record { file = source.name; place = place; kind = kind.LeftOut }) }
+    ensures ok { IfOk result (λ p. (source_of p ≡ pair_of source) × ((file : AFile) × IsParse p.text (Derived file))) }
+    ensures stopped { (fault : AFault) → result ≡ Err (FileError.Stopped fault) → (kind : AKind) × (place : APlace) × IsParse source.text (Stopped kind place) × (fault ≡ record { file = source.name; place = place; kind = kind }) }
 {
     let Ok(name) = String::from_str(alloc, source.name()) else {
         return Err(FileError::Memory);
     };
     match Parsed::new(alloc, source) {
         Ok(parsed) => {
-            // The accessor is what says that this is what the text parses to.
+            // The accessor is what says that the text is a file.
             let _file = parsed.file();
             Ok(parsed)
         }
-        Err(ParseError::LeftOut(place)) => {
-            Err(FileError::Stopped(Fault::new(name, place, FaultKind::LeftOut)))
+        Err(ParseError::Fault(kind, place)) => {
+            Err(FileError::Stopped(Fault::new(name, place, kind)))
         }
         Err(ParseError::Memory) => Err(FileError::Memory),
     }
@@ -68,8 +69,8 @@ fn parsed_files(alloc: Global, files: Vec<Source>) -> Result<Vec<Parsed>, FileEr
 }
 
 fn is_named(name: &str, parsed: &Parsed) -> bool
-    ensures named { OnTrue result (parsed.now.file.package.text ≡ name.now) }
-    ensures other { OnFalse result (parsed.now.file.package.text ≢ name.now) }
+    ensures named { OnTrue result (IsNamed name.now parsed.now.text) }
+    ensures other { OnFalse result (IsOther name.now parsed.now.text) }
 {
     parsed.package().text() == name
 }

@@ -1,18 +1,16 @@
 -- There is a plan of each directory for each set of writes, and a report of each plan.
-use Rattle.std.proofs.Common.{◌≡◌, ℕ, List, [], ◌∷◌, ◌++◌, true, false, Bool, refl, sym, ap, subst, inl, inr, append-nil, append_assoc}
+use Rattle.std.proofs.Common.{◌≡◌, ℕ, List, [], ◌∷◌, ◌++◌, true, false, Bool, refl, ap, subst, inl, inr}
 use Rattle.std.specs.Prelude.{◌⊎◌, map, codes}
 use Rattle.std.specs.Str.{bytes_eq}
-use Rattle.std.specs.FinMap.{empty, entries}
+use Rattle.std.specs.FinMap.{entries}
 use Rattle.std.proofs.lemmas.Slice.Eq.{bytes_eq-Decides}
 use Rattle.go_text.specs.Faults.{Fault}
-use Rattle.go_text.specs.declared.fault.FaultKind.TheVariants.{LeftOut, PackageName, Main}
-use Rattle.ws_version.specs.Writes.{Write, held_cmp, held_cmp_total, greater_held, path_cmp_total, path_cmp-IsAntisymmetric}
-use Rattle.ws_version.specs.Kept.{StandsFor, taken}
-use Rattle.ws_version.specs.Gathered.{stands_for-taken}
-use Rattle.ws_register.specs.Edits.{Contents}
+use Rattle.go_text.specs.declared.fault.FaultKind.TheVariants.{PackageName}
+use Rattle.ws_version.specs.Writes.{Write}
+use Rattle.ws_register.specs.Exists.{some_contents}
 use Rattle.ws_register.specs.Sources.{texts_of, IsSources, package_files}
 use Rattle.go_ast.specs.Trees.{Name, File}
-use Rattle.go_parse.specs.Parse.{Parse, Derived, Stopped, IsParse, Parsed}
+use Rattle.go_parse.specs.Parse.{Parse, Derived, Stopped, IsParse, IsPackage, IsNamed, Parsed}
 use Rattle.ws_graph.specs.Plan.{Planned, NoFiles, Faulty, Sound, source_of, AllParsed, AreParsed, AllNamed, HasOther, StopsIn, IsPlan, IsPlanOf}
 use Rattle.go_check.specs.Packages.{NamedFile, Answer}
 use Rattle.go_check.specs.Packages as answers
@@ -23,21 +21,12 @@ use Rattle.ws_action.specs.Actions.{action_of}
 use Rattle.ws_cache.specs.Compiles.{Compiled, Compiles}
 use Rattle.ws_cache.specs.Compiles as compiled
 use Rattle.ws_replica.specs.Reports.{Verdict, Wrong, verdict_of, IsReport}
-use Rattle.ws_replica.proofs.ReplicaBuilds.{nothing_stands}
 use Rattle.go_parse.proofs.Exists.{parse_exists}
 
 -- ---- the sources of a set of writes
 
-gather : (V W : List Write) (m : Contents) → StandsFor held_cmp m V → (n : Contents) × StandsFor held_cmp n (V ++ W)
-gather V [] m h = (m, subst (StandsFor held_cmp m) (sym (append-nil V)) h)
-gather V (w ∷ W) m h =
-    let n : Contents = taken greater_held m w.0 w.1 in
-    let one : StandsFor held_cmp n (V ++ w ∷ []) = stands_for-taken path_cmp_total path_cmp-IsAntisymmetric held_cmp_total m V w.0 w.1 h in
-    let rest = gather (V ++ w ∷ []) W n one in
-    (rest.0, subst (StandsFor held_cmp rest.0) (append_assoc V (w ∷ []) W) rest.1)
-
 some_sources : (W : List Write) → (S : List (List ℕ × List ℕ)) × IsSources W S
-some_sources W = let g = gather [] W empty (nothing_stands empty refl) in (texts_of (entries g.0), (g.0, g.1, refl))
+some_sources W = let g = some_contents W in (texts_of (entries g.0), (g.0, g.1, refl))
 
 -- ---- the plan of some files
 
@@ -46,10 +35,10 @@ Read files = ((parsed : List Parsed) × AreParsed files parsed) ⊎ ((fault : Fa
 
 read_one : (name text : List ℕ) (files : List (List ℕ × List ℕ)) (parse : Parse) → IsParse text parse → Read files → Read ((name, text) ∷ files)
 read_one name text files (Derived file) h (inl ps) =
-    let new : Parsed = record { name = name; text = text; file = file } in
-    inl (new ∷ ps.0, record { sources = ap (λ (z : List (List ℕ × List ℕ)). (name, text) ∷ z) ps.1.sources; parses = (h, ps.1.parses) })
+    let new : Parsed = record { name = name; text = text } in
+    inl (new ∷ ps.0, record { sources = ap (λ (z : List (List ℕ × List ℕ)). (name, text) ∷ z) ps.1.sources; parses = ((file, h), ps.1.parses) })
 read_one name text files (Derived file) h (inr stop) =
-    let new : Parsed = record { name = name; text = text; file = file } in
+    let new : Parsed = record { name = name; text = text } in
     let s = stop.1 in
     inr (
       stop.0,
@@ -58,21 +47,23 @@ read_one name text files (Derived file) h (inr stop) =
         name = s.name;
         text = s.text;
         rest = s.rest;
+        kind = s.kind;
         place = s.place;
         whole = ap (λ (z : List (List ℕ × List ℕ)). (name, text) ∷ z) s.whole;
-        parses = (h, s.parses);
+        parses = ((file, h), s.parses);
         stops = s.stops;
         is = s.is;
       },
     )
-read_one name text files (Stopped place) h rest =
+read_one name text files (Stopped kind place) h rest =
     inr (
-      record { file = name; place = place; kind = LeftOut },
+      record { file = name; place = place; kind = kind },
       record {
         front = [];
         name = name;
         text = text;
         rest = files;
+        kind = kind;
         place = place;
         whole = refl;
         parses = tt;
@@ -88,44 +79,59 @@ read (file ∷ files) = let p = parse_exists file.1 in read_one file.0 file.1 fi
 abbrev Named : List ℕ → List Parsed → Type 0
 Named name ps = AllNamed name ps ⊎ ((other : Parsed) × HasOther name ps other)
 
-named_one : (name : List ℕ) (p : Parsed) (ps : List Parsed) (b : Bool) → bytes_eq p.file.package.text name ≡ b → Named name ps → Named name (p ∷ ps)
-named_one name p ps true e (inl n) = inl ((bytes_eq-Decides p.file.package.text name).0 e, n)
-named_one name p ps true e (inr o) = inr (
-  o.0,
-  record {
-    front = p ∷ o.1.front;
-    rest = o.1.rest;
-    whole = ap (λ (z : List Parsed). p ∷ z) o.1.whole;
-    named = ((bytes_eq-Decides p.file.package.text name).0 e, o.1.named);
-    differs = o.1.differs;
-  },
-)
-named_one name p ps false e n = inr (
+-- a text that is a file has a package name
+package_of : (text : List ℕ) (file : File) → IsParse text (Derived file) → IsPackage text file.package
+package_of text file h = (file, h, refl)
+
+named_one : (name : List ℕ) (p : Parsed) (ps : List Parsed) (file : File) → IsParse p.text (Derived file) → (b : Bool) → bytes_eq file.package.text name ≡ b → Named name ps → Named name (p ∷ ps)
+named_one name p ps file h true e n =
+    let here : IsNamed name p.text = record { clause = file.package; package_is = package_of p.text file h; same = (bytes_eq-Decides file.package.text name).0 e } in
+    among n here
+  where
+    among : Named name ps → IsNamed name p.text → Named name (p ∷ ps)
+    among (inl n) here = inl (here, n)
+    among (inr o) here = inr (
+      o.0,
+      record {
+        front = p ∷ o.1.front;
+        rest = o.1.rest;
+        whole = ap (λ (z : List Parsed). p ∷ z) o.1.whole;
+        named = (here, o.1.named);
+        differs = o.1.differs;
+      },
+    )
+named_one name p ps file h false e n = inr (
   p,
   record {
     front = [];
     rest = ps;
     whole = refl;
     named = tt;
-    differs = λ q. let t = (bytes_eq-Decides p.file.package.text name).1 q in cc;
+    differs = record {
+      clause = file.package;
+      package_is = package_of p.text file h;
+      other = λ q. let t = (bytes_eq-Decides file.package.text name).1 q in cc;
+    };
   },
 )
 
-names : (name : List ℕ) (ps : List Parsed) → Named name ps
-names name [] = inl tt
-names name (p ∷ ps) = named_one name p ps (bytes_eq p.file.package.text name) refl (names name ps)
+names : (name : List ℕ) (ps : List Parsed) → AllParsed ps → Named name ps
+names name [] h = inl tt
+names name (p ∷ ps) h = named_one name p ps h.0.0 h.0.1 (bytes_eq h.0.0.package.text name) refl (names name ps h.1)
 
-plan_named : (files : List (List ℕ × List ℕ)) (first : Parsed) (rest : List Parsed) → AreParsed files (first ∷ rest) → Named first.file.package.text rest → (p : Planned) × IsPlan files p
-plan_named files first rest a (inl n) = (Sound (first ∷ rest), record { first = first; rest = rest; is = refl; parses = a; named = n })
-plan_named files first rest a (inr o) =
+plan_named : (files : List (List ℕ × List ℕ)) (first : Parsed) (rest : List Parsed) (clause : Name) → IsPackage first.text clause → AreParsed files (first ∷ rest) → Named clause.text rest → (p : Planned) × IsPlan files p
+plan_named files first rest clause here a (inl n) = (Sound (first ∷ rest), record { first = first; rest = rest; clause = clause; is = refl; parses = a; package_is = here; named = n })
+plan_named files first rest clause here a (inr o) =
     let h = o.1 in (
-      Faulty (record { file = o.0.name; place = o.0.file.package.place; kind = PackageName }),
+      Faulty (record { file = o.0.name; place = h.differs.clause.place; kind = PackageName }),
       inr (record {
         first = first;
         front = h.front;
         other = o.0;
         rest = h.rest;
+        clause = clause;
         parsed = subst (λ z. AreParsed files (first ∷ z)) h.whole a;
+        package_is = here;
         named = h.named;
         differs = h.differs;
         is = refl;
@@ -134,7 +140,9 @@ plan_named files first rest a (inr o) =
 
 plan_parsed : (file : List ℕ × List ℕ) (files : List (List ℕ × List ℕ)) (parsed : List Parsed) → AreParsed (file ∷ files) parsed → (p : Planned) × IsPlan (file ∷ files) p
 plan_parsed file files [] a = let none = a.sources in cc
-plan_parsed file files (first ∷ rest) a = plan_named (file ∷ files) first rest a (names first.file.package.text rest)
+plan_parsed file files (first ∷ rest) a =
+    let tree = a.parses.0.0 in
+    plan_named (file ∷ files) first rest tree.package (package_of first.text tree a.parses.0.1) a (names tree.package.text rest a.parses.1)
 
 plan_read : (file : List ℕ × List ℕ) (files : List (List ℕ × List ℕ)) → Read (file ∷ files) → (p : Planned) × IsPlan (file ∷ files) p
 plan_read file files (inl ps) = plan_parsed file files ps.0 ps.1
@@ -156,7 +164,7 @@ pub trees_of : (parsed : List Parsed) → AllParsed parsed → (trees : List Nam
 trees_of [] h = ([], tt)
 trees_of (p ∷ parsed) h =
     let rest = trees_of parsed h.1 in
-    (record { name = p.name; tree = p.file } ∷ rest.0, (record { name = refl; parse = h.0 }, rest.1))
+    (record { name = p.name; tree = h.0.0 } ∷ rest.0, (record { name = refl; parse = h.0.1 }, rest.1))
 
 given_by : (path : List ℕ) (files : List (List ℕ × List ℕ)) (answer : Answer) → IsAnswerOf path files answer → (c : Compiled) × Compiles (record { edition = 0; path = path; files = files }) c
 given_by path files (answers.Good typed) h = (compiled.Good (object_of typed), (typed, h, refl))

@@ -4,9 +4,9 @@ use crate::error::CheckError;
 use crate::file::NamedFile;
 use crate::typed::{Const, GoType, Typed, TypedExprKind, TypedStmt};
 use go_ast::expression::{Expr, ExprKind};
-use go_ast::file::{Decl, File, Function, ImportSpec};
+use go_ast::file::{File, Function, ImportSpec, TopLevel};
 use go_ast::name::Name;
-use go_ast::statement::{Block, Stmt, StmtKind};
+use go_ast::statement::{Block, Simple, Stmt};
 use go_parse::Parsed;
 use go_text::fault::{Fault, FaultKind};
 use go_text::place::Place;
@@ -212,7 +212,8 @@ fn named(alloc: Global, text: &str, place: Place) -> Result<Name, AllocError> {
     Ok(Name::new(String::from_str(alloc, text)?, place))
 }
 
-/// A file that no text has: an import of a path, and a function whose body is an integer literal.
+/// A file with an import of a path, and a function of a name that calls fmt.Println with an integer
+/// literal.
 fn file(alloc: Global, path: u8, function: &str, digits: &str) -> Result<File, AllocError> {
     let import = ImportSpec {
         place: at(2, 8),
@@ -220,27 +221,44 @@ fn file(alloc: Global, path: u8, function: &str, digits: &str) -> Result<File, A
         path: Vec::from_array(alloc, [b'f', b'm', path])?,
         path_place: at(2, 8),
     };
-    let literal = Expr {
+    let operand = Expr {
         place: at(4, 2),
+        kind: ExprKind::Name(String::from_str(alloc, "fmt")?),
+    };
+    let callee = Expr {
+        place: at(4, 2),
+        kind: ExprKind::Selector(
+            Box::new(alloc, operand)?,
+            named(alloc, "Println", at(4, 6))?,
+        ),
+    };
+    let literal = Expr {
+        place: at(4, 14),
         kind: ExprKind::Integer(String::from_str(alloc, digits)?),
     };
-    let statement = Stmt {
+    let call = Expr {
         place: at(4, 2),
-        kind: StmtKind::Expression(literal),
+        kind: ExprKind::Call(Box::new(alloc, callee)?, Vec::from_array(alloc, [literal])?),
     };
+    let statements = [
+        Stmt::Empty(at(3, 14)),
+        Stmt::Simple(at(4, 2), Simple::Call(call)),
+    ];
     let function = Function {
         place: at(3, 1),
         name: named(alloc, function, at(3, 6))?,
+        parameters: Vec::new(alloc),
+        results: Vec::new(alloc),
         body: Block {
             place: at(3, 13),
+            statements: Vec::from_array(alloc, statements)?,
             closing: at(5, 1),
-            statements: Vec::from_array(alloc, [statement])?,
         },
     };
     Ok(File {
         package: named(alloc, "main", at(1, 9))?,
         imports: Vec::from_array(alloc, [import])?,
-        declarations: Vec::from_array(alloc, [Decl::Function(function)])?,
+        declarations: Vec::from_array(alloc, [TopLevel::Function(function)])?,
     })
 }
 
@@ -255,25 +273,79 @@ fn fault_of_tree(alloc: Global, tree: &File) -> Result<Fault, AllocError> {
 #[test]
 fn left_out(rt: HostRuntime) -> Result<(), AllocError> {
     let alloc = rt.alloc();
-    let fault = fault_of_tree(alloc, &file(alloc, b'x', "main", "0")?)?;
+    let fault = fault_of_tree(alloc, &file(alloc, b'x', "f", "00")?)?;
     assert!(rt; stands(&fault, "a.go", 2, 8, FaultKind::LeftOut));
-    let unused = file(
-        alloc,
-        b't',
-        "main",
-        "170141183460469231731687303715884105728",
-    )?;
-    let fault = fault_of_tree(alloc, &unused)?;
-    assert!(rt; stands(&fault, "a.go", 2, 8, FaultKind::UnusedImport));
-    let mut tree = file(alloc, b't', "f", "0")?;
-    tree.imports = Vec::new(alloc);
-    let fault = fault_of_tree(alloc, &tree)?;
-    assert!(rt; stands(&fault, "a.go", 3, 6, FaultKind::LeftOut));
-    for digits in ["0", "", "00", "017", "0x1", "+1", "1_0"] {
-        let mut tree = file(alloc, b't', "main", digits)?;
-        tree.imports = Vec::new(alloc);
-        let fault = fault_of_tree(alloc, &tree)?;
-        assert!(rt; stands(&fault, "a.go", 4, 2, FaultKind::LeftOut));
+    let fault = fault_of_tree(alloc, &file(alloc, b't', "f", "00")?)?;
+    assert!(rt; stands(&fault, "a.go", 3, 1, FaultKind::LeftOut));
+    for digits in ["", "00", "017", "0x1", "+1", "1_0"] {
+        let fault = fault_of_tree(alloc, &file(alloc, b't', "main", digits)?)?;
+        assert!(rt; stands(&fault, "a.go", 4, 14, FaultKind::LeftOut));
     }
+    let mut unnamed = file(alloc, b't', "main", "0")?;
+    unnamed.imports = Vec::new(alloc);
+    let fault = fault_of_tree(alloc, &unnamed)?;
+    assert!(rt; stands(&fault, "a.go", 4, 2, FaultKind::Undeclared));
+    Ok(())
+}
+
+/// Texts, and the place of the first node of a form that isn't known so far.
+const UNKNOWN: [(&str, u32, u32); 16] = [
+    ("package main\nconst c = 1\nfunc main() {}\n", 2, 1),
+    ("package main\nvar x = 1\nfunc main() {}\n", 2, 1),
+    ("package main\ntype T struct{}\nfunc main() {}\n", 2, 1),
+    ("package main\nimport f \"fmt\"\nfunc main() {}\n", 2, 8),
+    (
+        "package main\nimport (\n\t\"fmt\"\n\t\"os\"\n)\nfunc main() {}\n",
+        4,
+        2,
+    ),
+    ("package main\nfunc f() {}\n", 2, 1),
+    ("package main\nfunc main(a int) { x = 1 }\n", 2, 1),
+    ("package main\nfunc main() int { x = 1 }\n", 2, 1),
+    ("package main\nfunc main() { x = 1 }\n", 2, 15),
+    (
+        "package main\nfunc main() { ; { fmt.Println(x) } }\n",
+        2,
+        17,
+    ),
+    ("package main\nfunc main() { fmt.Print(x) }\n", 2, 15),
+    ("package main\nfunc main() { (fmt.Println)(x) }\n", 2, 15),
+    ("package main\nfunc main() { fmt.Println(1, (2)) }\n", 2, 30),
+    ("package main\nfunc main() { fmt.Println(0x10) }\n", 2, 27),
+    ("package main\nfunc main() { fmt.Println(1_0) }\n", 2, 27),
+    ("package main\nfunc main() { fmt.Println('a') }\n", 2, 27),
+];
+
+#[test]
+fn unknown_forms(rt: HostRuntime) -> Result<(), AllocError> {
+    let alloc = rt.alloc();
+    for (text, line, column) in UNKNOWN {
+        let fault = fault_of(alloc, text)?;
+        assert!(rt; stands(&fault, "a.go", line, column, FaultKind::LeftOut));
+    }
+    // A form that isn't known comes before a rule that is broken in a file before it.
+    let fault = fault_of_two(alloc, IDLE, "package main\nvar x int\n")?;
+    assert!(rt; stands(&fault, "b.go", 2, 1, FaultKind::LeftOut));
+    Ok(())
+}
+
+#[test]
+fn literals_and_empty_statements(rt: HostRuntime) -> Result<(), AllocError> {
+    let alloc = rt.alloc();
+    let text =
+        "package main\nimport (\n\t\"fmt\"\n)\nfunc main() { ; ; fmt.Println(\"\\x41\\n\", `\\n`); ; }\n";
+    let typed = typed(alloc, text)?;
+    assert_eq!(rt; typed.functions.len(), 1);
+    assert_eq!(rt; typed.functions[0].body.len(), 1);
+    let TypedStmt::Print(operands) = &typed.functions[0].body[0];
+    assert_eq!(rt; operands.len(), 2);
+    let TypedExprKind::Constant(Const::Text(first)) = &operands[0].kind else {
+        return Err(AllocError);
+    };
+    assert!(rt; matches!(first.as_slice(), b"A\n"));
+    let TypedExprKind::Constant(Const::Text(second)) = &operands[1].kind else {
+        return Err(AllocError);
+    };
+    assert!(rt; matches!(second.as_slice(), b"\\n"));
     Ok(())
 }

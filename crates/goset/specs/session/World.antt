@@ -6,7 +6,7 @@ use Rattle.go_text.specs.Texts.{text_error}
 use Rattle.ws_version.specs.Writes.{Write as AWrite}
 use Rattle.ws_version.specs.Paths.{is_path}
 use Rattle.ws_register.specs.Sources.{top, IsShown}
-use Rattle.ws_register.specs.Edits.{greatest_at, is_missing}
+use Rattle.ws_register.specs.Edits.{edited, removed, greatest_at, is_missing}
 use Rattle.ws_action.specs.Actions.{Action}
 use Rattle.ws_action.specs.Clash.{hashed_actions}
 use Rattle.ws_cache.specs.Count.{compiled_count}
@@ -79,11 +79,11 @@ number_in (Some r) = r.number
 
 -- An edit by the replica of that name: one more than the greatest counter that it took, and its number.
 abbrev pub edit_of : List ℕ → List ℕ → List ℕ → World → AWrite
-edit_of name path text world = (path, record { counter = top (writes_of name world) + 1; number = number_in (replica_at name world.replicas); text = Some text })
+edit_of name path text world = (path, edited (top (writes_of name world)) (number_in (replica_at name world.replicas)) text)
 
 -- A removal by the replica of that name: one more than the greatest counter that it took, and its number.
 abbrev pub removal_of : List ℕ → List ℕ → World → AWrite
-removal_of name path world = (path, record { counter = top (writes_of name world) + 1; number = number_in (replica_at name world.replicas); text = None })
+removal_of name path world = (path, removed (top (writes_of name world)) (number_in (replica_at name world.replicas)))
 
 -- the replica of that name holds no text at the path
 abbrev pub lacks : List ℕ → List ℕ → World → Bool

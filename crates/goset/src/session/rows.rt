@@ -52,7 +52,7 @@ fn builds(rt: HostRuntime) -> Result<(), Fail> {
         ),
         (
             b"replica a\nreplica b\nwrite a p/x.go 1\npackage p\nwrite b p/x.go 1\npackage 7\nmerge a b\nmerge b a\nbuild a p\nbuild b p\n",
-            b"build a p faults 1 compiled 0\nfault p/x.go:1:9 2 leftout\nbuild b p faults 1 compiled 0\nfault p/x.go:1:9 2 leftout\n",
+            b"build a p faults 1 compiled 0\nfault p/x.go:1:9 3 parse\nbuild b p faults 1 compiled 0\nfault p/x.go:1:9 3 parse\n",
         ),
     ];
     compare(&rt, rt.alloc(), &rows)
@@ -64,7 +64,7 @@ fn files(rt: HostRuntime) -> Result<(), Fail> {
         // The order is that of names, and a file that isn't of the form comes before names that differ.
         (
             b"replica a\nwrite a p/b.go 1\npackage q\nwrite a p/a.go 1\npackage p\nbuild a p\nwrite a p/c.go 1\npackage\nbuild a p\n",
-            b"build a p faults 1 compiled 0\nfault p/b.go:1:9 6 packagename\nbuild a p faults 1 compiled 0\nfault p/c.go:2:1 2 leftout\n",
+            b"build a p faults 1 compiled 0\nfault p/b.go:1:9 6 packagename\nbuild a p faults 1 compiled 0\nfault p/c.go:2:1 3 parse\n",
         ),
         // Files that aren't part of a build.
         (
@@ -83,16 +83,16 @@ fn files(rt: HostRuntime) -> Result<(), Fail> {
         ),
         (
             b"replica a\nwrite a p/x.go 0\nbuild a p\n",
-            b"build a p faults 1 compiled 0\nfault p/x.go:1:1 2 leftout\n",
+            b"build a p faults 1 compiled 0\nfault p/x.go:1:1 3 parse\n",
         ),
         // A mark at the start takes no column.
         (
             b"replica a\nwrite a p/x.go 1\n\xef\xbb\xbfpackage p\nbuild a p\nwrite a p/x.go 1\n\xef\xbb\xbfpackage 9\nbuild a p\n",
-            b"build a p ok 1 compiled 1\nbuild a p faults 1 compiled 0\nfault p/x.go:1:9 2 leftout\n",
+            b"build a p ok 1 compiled 1\nbuild a p faults 1 compiled 0\nfault p/x.go:1:9 3 parse\n",
         ),
         (
             b"replica a\nwrite a p/x.go 4\n\t package\n\n  p\t\r\n\nbuild a p\nwrite a p/x.go 2\npackage p\npackage p\nbuild a p\n",
-            b"build a p ok 1 compiled 1\nbuild a p faults 1 compiled 0\nfault p/x.go:2:1 2 leftout\n",
+            b"build a p ok 1 compiled 1\nbuild a p faults 1 compiled 0\nfault p/x.go:2:1 3 parse\n",
         ),
     ];
     compare(&rt, rt.alloc(), &rows)
@@ -165,7 +165,7 @@ fn lines(rt: HostRuntime) -> Result<(), Fail> {
         (b"replica a\nwrite a p/x.go 001\npackage p", b""),
         (
             b"replica a\nwrite a p/x.go 2\npackage p\nbuild a p\nbuild a p",
-            b"build a p faults 1 compiled 0\nfault p/x.go:2:1 2 leftout\n",
+            b"build a p faults 1 compiled 0\nfault p/x.go:2:1 3 parse\n",
         ),
         (
             b"replica a\nwrite a p/x.go 18446744073709551615\npackage p\n",
@@ -252,8 +252,88 @@ fn program_faults(rt: HostRuntime) -> Result<(), Fail> {
         // What isn't of the form comes before all of these.
         (
             b"replica a\nwrite a app/main.go 3\npackage main\nimport \"fmt\"\nfunc main() { fmt.Print(1) }\nbuild a app\nrun a app 1\n",
-            b"build a app faults 1 compiled 0\nfault app/main.go:3:19 2 leftout\nrefused 9 notbuilt\n",
+            b"build a app faults 1 compiled 1\nfault app/main.go:3:15 2 leftout\nrefused 9 notbuilt\n",
         ),
     ];
     compare(&rt, rt.alloc(), &rows)
+}
+
+#[test]
+fn no_files(rt: HostRuntime) -> Result<(), Fail> {
+    let rows: [(&[u8], &[u8]); 6] = [
+        // A body is due where the line ends.
+        (
+            b"replica a\nwrite a app/main.go 4\npackage main\nfunc main()\n{\n}\nbuild a app\n",
+            b"build a app faults 1 compiled 0\nfault app/main.go:2:12 3 parse\n",
+        ),
+        (
+            b"replica a\nwrite a app/main.go 0\nbuild a app\n",
+            b"build a app faults 1 compiled 0\nfault app/main.go:1:1 3 parse\n",
+        ),
+        // The first brace opens the block.
+        (
+            b"replica a\nwrite a p/x.go 2\npackage p\nfunc f() { if T{} == x {} }\nbuild a p\n",
+            b"build a p faults 1 compiled 0\nfault p/x.go:2:19 3 parse\n",
+        ),
+        (
+            b"replica a\nwrite a p/x.go 2\npackage p\nvar x type\nbuild a p\n",
+            b"build a p faults 1 compiled 0\nfault p/x.go:2:7 3 parse\n",
+        ),
+        (
+            b"replica a\nwrite a p/x.go 2\npackage p\nvar v = 08\nbuild a p\n",
+            b"build a p faults 1 compiled 0\nfault p/x.go:2:9 1 scan\n",
+        ),
+        (
+            b"replica a\nwrite a p/x.go 2\npackage p\n/* open\nbuild a p\n",
+            b"build a p faults 1 compiled 0\nfault p/x.go:2:1 1 scan\n",
+        ),
+    ];
+    compare(&rt, rt.alloc(), &rows)
+}
+
+#[test]
+fn left_out(rt: HostRuntime) -> Result<(), Fail> {
+    let rows: [(&[u8], &[u8]); 3] = [
+        // An array needs its length.
+        (
+            b"replica a\nwrite a p/x.go 2\npackage p\nfunc f() { x := []int{1} }\nbuild a p\n",
+            b"build a p faults 1 compiled 0\nfault p/x.go:2:18 2 leftout\n",
+        ),
+        (
+            b"replica a\nwrite a app/main.go 2\npackage main\nvar f = 1.5\nbuild a app\n",
+            b"build a app faults 1 compiled 0\nfault app/main.go:2:9 2 leftout\n",
+        ),
+        // A form of the grammar that isn't compiled so far: the file parses.
+        (
+            b"replica a\nwrite a p/x.go 3\npackage p\nfunc main() {}\nvar v = 8\nbuild a p\n",
+            b"build a p faults 1 compiled 1\nfault p/x.go:3:1 2 leftout\n",
+        ),
+    ];
+    compare(&rt, rt.alloc(), &rows)
+}
+
+/// A session that builds a package of one variable: 0 in that many parentheses.
+fn in_parentheses(alloc: Global, count: usize) -> Result<String, Fail> {
+    let mut script = String::from_str(alloc, "replica a\nwrite a p/x.go 2\npackage p\nvar x = ")?;
+    for _ in 0..count {
+        script.push_str("(")?;
+    }
+    script.push_str("0")?;
+    for _ in 0..count {
+        script.push_str(")")?;
+    }
+    script.push_str("\nbuild a p\n")?;
+    Ok(script)
+}
+
+#[test]
+fn levels(rt: HostRuntime) -> Result<(), Fail> {
+    let alloc = rt.alloc();
+    // The file parses; a variable isn't compiled so far.
+    let script = in_parentheses(alloc, 249)?;
+    let parsed = b"build a p faults 1 compiled 1\nfault p/x.go:2:1 2 leftout\n";
+    compare(&rt, alloc, &[(script.as_bytes(), parsed.as_slice())])?;
+    let script = in_parentheses(alloc, 250)?;
+    let deep = b"build a p faults 1 compiled 0\nfault p/x.go:2:258 4 deep\n";
+    compare(&rt, alloc, &[(script.as_bytes(), deep.as_slice())])
 }

@@ -1,9 +1,8 @@
-use Rattle.std.proofs.Common.{◌≡◌, drop}
-use Rattle.std.specs.List.{list_all}
-use Rattle.std.specs.Str.{bytes_eq}
-use Rattle.ws_action.specs.Actions.{has_one_name}
+use Rattle.std.proofs.Common.{ℕ, ◌<◌, take}
+use Rattle.std.specs.List.{All}
+use Rattle.go_parse.specs.Parse.{IsNamed}
 use Rattle.ws_action.proofs.has_one_name.Given as goal
 
--- the files that are left have the name just where all files have one
+-- the files so far have the name
 abbrev pub invariant-loop-file : goal.invariant-loop-file
-invariant-loop-file l = list_all (λ file. bytes_eq file.file.«package».text l.name) (drop l.file-index l.rest) ≡ has_one_name l.files
+invariant-loop-file l = All (λ file. IsNamed l.name file.text) (take l.file-index l.rest)

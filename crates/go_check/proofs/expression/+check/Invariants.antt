@@ -1,6 +1,5 @@
 use Rattle.std.proofs.Common.{◌≡◌, drop, map}
-use Rattle.go_ast.specs.Trees.{pack}
-use Rattle.go_ast.specs.Views.{expressions_of}
+use Rattle.go_ast.specs.Views.{exprs_in}
 use Rattle.go_check.specs.Views.{constant_of}
 use Rattle.go_check.specs.Verdicts.{values, argument_faults}
 use Rattle.go_check.specs.Seen.{joined}
@@ -8,6 +7,6 @@ use Rattle.go_check.proofs.expression.+check.Given as goal
 
 abbrev pub invariant-check_arguments-loop-argument : goal.invariant-check_arguments-loop-argument
 invariant-check_arguments-loop-argument l = record {
-  faults : argument_faults l.scope (pack (expressions_of (drop l.argument-index l.arguments))) ≡ argument_faults l.scope (pack (expressions_of l.arguments));
-  known : values l.scope (pack (expressions_of l.arguments)) ≡ joined (map constant_of l.all.items) (values l.scope (pack (expressions_of (drop l.argument-index l.arguments))));
+  faults : argument_faults l.scope (exprs_in (drop l.argument-index l.arguments)) ≡ argument_faults l.scope (exprs_in l.arguments);
+  known : values l.scope (exprs_in l.arguments) ≡ joined (map constant_of l.all.items) (values l.scope (exprs_in (drop l.argument-index l.arguments)));
 }

@@ -1,5 +1,5 @@
 use Rattle.std.proofs.Common.{◌≡◌, true, ap, sym, ◌∙◌}
-use Rattle.go_scan.specs.Lex.{is_decimal}
+use Rattle.go_check.specs.Rules.{is_decimal}
 use Rattle.go_check.proofs.Numerals.{not_parsed}
 use Rattle.go_check.proofs.known.literal.Goals as goal
 

@@ -1,10 +1,8 @@
-use Rattle.std.proofs.Common.{◌<◌, length, arith, subst, sym}
-use Rattle.go_ast.specs.Trees.{File}
-use Rattle.go_parse.specs.Parse.{Derived, IsParse}
+use Rattle.std.proofs.Common.{◌<◌, length, arith}
 use Rattle.go_check.proofs.Trees.{trees_next}
 use Rattle.go_check.proofs.package.named_files.Goals as goal
 
 pub loop-file-preserved : goal.loop-file-preserved
 loop-file-preserved c =
     let within : c.loop-file.file-index < length c.args.files.now = omega arith in
-    trees_next c.args.files.now c.loop-file.file-index c.file-item.result c.loop-file.named.items c.push.new.self.items _ within c.file-item.is c.in_ok-push.ensures.items c.loop-file.invariant (record { name = c.name.ensures; parse = subst (λ (t : File). IsParse c.file-item.result.text (Derived t)) (sym c.file.ensures.value) c.file.ensures.parse })
+    trees_next c.args.files.now c.loop-file.file-index c.file-item.result c.loop-file.named.items c.push.new.self.items _ within c.file-item.is c.in_ok-push.ensures.items c.loop-file.invariant (record { name = c.name.ensures; parse = c.file.ensures })

@@ -1,12 +1,13 @@
 use Rattle.std.proofs.Common.{◌≡◌, drop, map}
-use Rattle.go_ast.specs.Views as trees
+use Rattle.go_ast.specs.Trees.{pack_stmts}
+use Rattle.go_ast.specs.Views.{stmt_of}
 use Rattle.go_check.specs.Views.{statement_of}
-use Rattle.go_check.specs.Verdicts.{body_known, body_faults}
+use Rattle.go_check.specs.Verdicts.{full, body_known, body_faults}
 use Rattle.go_check.specs.Seen.{joined}
 use Rattle.go_check.proofs.statement.check_body.Given as goal
 
 abbrev pub invariant-loop-statement : goal.invariant-loop-statement
 invariant-loop-statement l = record {
-  faults : body_faults l.scope (map trees.statement_of (drop l.statement-index l.statements)) ≡ body_faults l.scope (map trees.statement_of l.statements);
-  known : body_known l.scope (map trees.statement_of l.statements) ≡ joined (map statement_of l.all.items) (body_known l.scope (map trees.statement_of (drop l.statement-index l.statements)));
+  faults : body_faults l.scope (full (pack_stmts (map stmt_of (drop l.statement-index l.statements)))) ≡ body_faults l.scope (full (pack_stmts (map stmt_of l.statements)));
+  known : body_known l.scope (full (pack_stmts (map stmt_of l.statements))) ≡ joined (map statement_of l.all.items) (body_known l.scope (full (pack_stmts (map stmt_of (drop l.statement-index l.statements)))));
 }

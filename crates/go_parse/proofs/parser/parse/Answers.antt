@@ -1,46 +1,55 @@
-use Rattle.std.proofs.Common.{◌≡◌, List, length, sym, ap, ◌∙◌, subst}
+use Rattle.std.proofs.Common.{◌≡◌, List, Err, sym, ap, ◌∙◌, subst}
 use Rattle.std.specs.List.{All}
-use Rattle.go_text.specs.Places.{place_at}
+use Rattle.go_text.specs.Faults.{fault_number}
 use Rattle.go_scan.specs.declared.token.Token.{Token}
-use Rattle.go_scan.specs.Lex.{StandsIn}
 use Rattle.go_scan.proofs.Spelled.{tokens_stand}
-use Rattle.go_ast.specs.Machine.{run, start, Refused}
+use Rattle.go_ast.specs.Machine.{start, Refused, run}
+use Rattle.go_ast.specs.Tokens.{lexemes, LiesIn}
 use Rattle.go_ast.specs.Views.{file_of}
-use Rattle.go_ast.specs.Grammar.{StopsAt}
-use Rattle.go_parse.specs.Parse.{IsParse, lexemes}
-use Rattle.go_parse.specs.declared.reader.Reader.{Reader}
-use Rattle.go_parse.specs.Reads.{Failing, left, place_before}
-use Rattle.go_parse.proofs.Runs.{done_derives, refused_stops}
+use Rattle.go_pexpr.specs.Reads.{left, number}
+use Rattle.go_pexpr.proofs.Stands.{all_lie}
+use Rattle.go_parse.specs.Parse.{IsParse, Stopped, place_before, scan_kind}
+use Rattle.go_parse.proofs.Found.{same_tokens, has_none, is_file, refused_by, stops_being}
 use Rattle.go_parse.proofs.parser.parse.Goals as goal
 
-pub file-requires : goal.file-requires
-file-requires c =
-    let text : c.args.source.now.text ≡ c.as_bytes-text.result.now = sym (c.as_bytes-text.ensures.value ∙ c.as_str.ensures.value ∙ c.text.ensures) in
-    let stand : All (StandsIn c.args.source.now.text) c.in_ok-tokens.tokens.items = tokens_stand c.args.source.now.text c.in_ok-tokens.tokens.items c.in_ok-tokens.ensures in
-    subst (λ (ts : List Token). All (StandsIn c.as_bytes-text.result.now) ts) (sym c.deref.ensures.value)
-    (subst (λ t. All (StandsIn t) c.in_ok-tokens.tokens.items) text stand)
+pub returns-in-Err-Fault-clause-err : goal.returns-in-Err-Fault-clause-err
+returns-in-Err-Fault-clause-err c = λ kind place e.
+    let text = c.args.source.now.text in
+    let fault = c.in-Err-Fault.fault in
+    let refuses = c.in-Err-Fault.ensures.err fault c.in-Err-Fault.place (ap Err c.in-Err-Fault.field-0-is) in
+    let kind_is : c.scan_kind.result ≡ kind = cc (e) in
+    let place_is : c.in-Err-Fault.place ≡ place = cc (e, c.in-Err-Fault.place-is) in
+    subst (λ p. IsParse text (Stopped kind p)) place_is
+    (has_none text fault kind c.in-Err-Fault.place refuses (sym kind_is ∙ c.scan_kind.ensures ∙ ap scan_kind c.in-Err-Fault.fault-is))
 
-pub returns-in-Ok-clause-ok : goal.returns-in-Ok-clause-ok
-unfolding IsParse
-returns-in-Ok-clause-ok c =
-    let text : c.args.source.now.text ≡ c.as_bytes-text.result.now = sym (c.as_bytes-text.ensures.value ∙ c.as_str.ensures.value ∙ c.text.ensures) in
-    let ts = c.in_ok-tokens.tokens.items in
-    let all : lexemes c.args.source.now.text ts ≡ lexemes c.as_bytes-text.result.now c.deref.result.now =
-    ap (λ t. lexemes t ts) text ∙ ap (lexemes c.as_bytes-text.result.now) (sym c.deref.ensures.value) in
-    (ts, c.in_ok-tokens.ensures, done_derives (lexemes c.args.source.now.text ts) (file_of c.in-Ok.file) (ap (run start) all ∙ c.in-Ok.ensures.by))
+pub invariant_of-reader : goal.invariant_of-reader
+invariant_of-reader c =
+    let text = c.args.source.now.text in
+    let ts = c.in-Ok.tokens.items in
+    let seen : c.as_bytes-text.result.now ≡ text = c.as_bytes-text.ensures.value ∙ c.as_str.ensures.value ∙ c.text.ensures in
+    let lie : All (LiesIn text) ts = all_lie text ts (tokens_stand text ts c.in-Ok.ensures.ok) in
+    record { stands = subst (λ (us : List Token). All (LiesIn c.as_bytes-text.result.now) us) (sym c.deref.ensures.value) (subst (λ t. All (LiesIn t) ts) (sym seen) lie) }
+
+pub returns-in-Ok-file-clause-ok : goal.returns-in-Ok-file-clause-ok
+returns-in-Ok-file-clause-ok c =
+    let text = c.args.source.now.text in
+    let ts = c.in-Ok.tokens.items in
+    let seen : c.as_bytes-text.result.now ≡ text = c.as_bytes-text.ensures.value ∙ c.as_str.ensures.value ∙ c.text.ensures in
+    let all : lexemes text ts ≡ lexemes c.as_bytes-text.result.now c.deref.result.now = same_tokens seen c.deref.ensures.value in
+    is_file text ts (file_of c.in-Ok-file.file) c.in-Ok.ensures.ok (ap (run 250 start) all ∙ c.in-Ok-file.ensures.ok)
 
 pub returns-clause-err : goal.returns-clause-err
-unfolding IsParse
-returns-clause-err c = λ p e.
-    let text : c.args.source.now.text ≡ c.as_bytes-text.result.now = sym (c.as_bytes-text.ensures.value ∙ c.as_str.ensures.value ∙ c.text.ensures) in
-    let ts = c.in_ok-tokens.tokens.items in
-    let all : lexemes c.args.source.now.text ts ≡ lexemes c.as_bytes-text.result.now c.deref.result.now =
-    ap (λ t. lexemes t ts) text ∙ ap (lexemes c.as_bytes-text.result.now) (sym c.deref.ensures.value) in
-    let bad = left c.file.new.self in
-    let reader : Reader = record { alloc = c.args.alloc; text = c.as_bytes-text.result; tokens = c.deref.result } in
-    let refused : run start (lexemes c.as_bytes-text.result.now c.deref.result.now) ≡ Refused bad = subst (λ z. Failing z start reader c.file.new.self) c.in-Err-LeftOut.field-0-is c.in-Err-LeftOut.ensures.by in
-    let end = place_at c.args.source.now.text (length c.args.source.now.text) in
-    let end_is : c.place_at-end.result ≡ end = c.place_at-end.ensures ∙ ap (λ t. place_at t (length t)) (sym text) in
-    let same : c.place_before.result ≡ p = cc (e) in
-    let place : place_before bad end ≡ p = sym (c.place_before.ensures c.file.new.self.text.now ∙ ap (place_before bad) end_is) ∙ same in
-    (ts, c.in_ok-tokens.ensures, subst (StopsAt (lexemes c.args.source.now.text ts) end) place (refused_stops (lexemes c.args.source.now.text ts) bad end (ap (run start) all ∙ refused)))
+returns-clause-err c = λ kind place e.
+    let text = c.args.source.now.text in
+    let ts = c.in-Ok.tokens.items in
+    let bad = left c.file.new.reader in
+    let fault = c.in-Err-Wrong.fault in
+    let seen : c.as_bytes-text.result.now ≡ text = c.as_bytes-text.ensures.value ∙ c.as_str.ensures.value ∙ c.text.ensures in
+    let all : lexemes text ts ≡ lexemes c.as_bytes-text.result.now c.deref.result.now = same_tokens seen c.deref.ensures.value in
+    let refused : run 250 start (lexemes c.as_bytes-text.result.now c.deref.result.now) ≡ Refused (number fault) bad =
+    refused_by _ c.file.new.reader c.in-Err-Wrong.field-0-is c.in-Err-Wrong.ensures.err in
+    let kind_is : c.token_kind.result ≡ kind = cc (e) in
+    let place_is : c.place_before-place.result ≡ place = cc (e) in
+    stops_being text ts (number fault) bad kind place c.in-Ok.ensures.ok (ap (run 250 start) all ∙ refused)
+    (ap fault_number (sym kind_is) ∙ c.token_kind.ensures ∙ ap number c.in-Err-Wrong.fault-is)
+    (sym place_is ∙ c.place_before-place.ensures c.file.new.reader.text.now ∙ ap (λ t. place_before t bad) seen)

@@ -1,0 +1,314 @@
+-- An expression is an operand that grows by suffixes, or a unary expression, and then grows by operators, level by level.
+use Rattle.std.proofs.Common.{◌≡◌, ℕ, zero, suc, ◌<◌, ◌≤◌, ◌⊎◌, inl, inr, Bool, true, false, List, Some, None, refl, sym, ap, ◌∙◌, subst, arith}
+use Rattle.std.specs.Prelude.{nat_eq}
+use Rattle.std.proofs.lemmas.Bool.Decides.{nat_tests}
+use Rattle.go_scan.specs.declared.token.TokenKind.TheVariants as kinds
+use Rattle.go_ast.specs.Operators.{tighter}
+use Rattle.go_ast.specs.Trees.{TypeExpr, named, qualified, array, struct, Expr, name, integer, rune, string, parenthesized, literal, conversion, selector, index, call, unary, binary, place_of}
+use Rattle.go_ast.specs.Heights.{height}
+use Rattle.go_ast.specs.Literals.{string_value, rune_value}
+use Rattle.go_ast.specs.Grammar.{Lexeme, Token, name_of, opening, closing, opening_brace, closing_brace, comma, MayBe, IsType, IsExpr, AreElements, IsPrimary, is_named, type_place}
+use Rattle.go_ast.specs.Machine.{literal_type}
+use Rattle.go_ast.proofs.Means.{Itself, IsTypeName, Suffixed, Joined}
+
+-- the operands of which no other is a part
+abbrev pub IsOperand : Expr → List Lexeme → List Lexeme → Type 0
+IsOperand (name p text) us ws = (t : Lexeme) × Token kinds.Name t us ws × (p ≡ t.place) × (text ≡ t.text)
+IsOperand (integer p text) us ws = (t : Lexeme) × Token kinds.Integer t us ws × (p ≡ t.place) × (text ≡ t.text)
+IsOperand (rune p value) us ws = (t : Lexeme) × Token kinds.Rune t us ws × (p ≡ t.place) × (value ≡ rune_value t.text)
+IsOperand (string p value) us ws = (t : Lexeme) × Token kinds.String t us ws × (p ≡ t.place) × (value ≡ string_value t.text)
+IsOperand (parenthesized p e) us ws =
+    (o c : Lexeme) × (vs xs : List Lexeme) × Token opening o us vs × (p ≡ o.place) × IsExpr 5 false e vs xs × Token closing c xs ws
+IsOperand (literal p a q es) us ws =
+    (o c : Lexeme) × (vs xs ys : List Lexeme) × (is_named a ≡ false) × IsType a us vs × (p ≡ type_place a)
+    × Token opening_brace o vs xs × (q ≡ o.place) × AreElements es xs ys × Token closing_brace c ys ws
+IsOperand (conversion p a e) us ws =
+    (o c : Lexeme) × (vs xs ys zs : List Lexeme) × (is_named a ≡ false) × IsType a us vs × (p ≡ type_place a)
+    × Token opening o vs xs × IsExpr 5 false e xs ys × MayBe comma ys zs × Token closing c zs ws
+IsOperand _ us ws = ⊥
+
+abbrev pub IsUnary : Bool → Expr → List Lexeme → List Lexeme → Type 0
+IsUnary h (unary p op e) us ws = IsExpr 0 h (unary p op e) us ws
+IsUnary h _ us ws = ⊥
+
+-- an expression grows to another by operators of n levels, the tightest first
+abbrev pub Chain : ℕ → Bool → Expr → Expr → List Lexeme → List Lexeme → Type 0
+Chain zero h b e us ws = Itself b e us ws
+Chain (suc n) h b e us ws = (c : Expr) × (vs : List Lexeme) × Chain n h b c us vs × Joined n h c e vs ws
+
+-- by suffixes, and then by operators
+abbrev pub Grown : ℕ → Bool → Expr → Expr → List Lexeme → List Lexeme → Type 0
+Grown n h a e us ws = (b : Expr) × (vs : List Lexeme) × Suffixed h a b us vs × Chain n h b e vs ws
+
+pub moved : (P : Expr → List Lexeme → Type 0) (a e : Expr) (us ws : List Lexeme) → Itself a e us ws → P a us → P e ws
+moved P a e us ws i h = subst (λ x. P x ws) (sym i.0) (subst (P a) i.1 h)
+
+-- one level of operators more
+raised : (n : ℕ) (h : Bool) (e : Expr) (us ws : List Lexeme) → IsExpr n h e us ws → IsExpr (suc n) h e us ws
+raised n h (binary p op a b) us ws d = (d.0, d.1, d.2, omega (arith, d.3), d.4, d.5, d.6, d.7, d.8)
+raised n h _ us ws d = d
+
+below_or_at : (m n : ℕ) → m < suc n → (m < n) ⊎ (m ≡ n)
+below_or_at m n less = by_test (nat_eq m n) refl
+  where
+    by_test : (c : Bool) → nat_eq m n ≡ c → (m < n) ⊎ (m ≡ n)
+    by_test true e = inr (grind (arith, nat_tests))
+    by_test false e = inl (let other : m ≡ n → ⊥ = grind (arith, nat_tests) in omega (arith, less, other))
+
+level_down : (n : ℕ) (h : Bool) (e : Expr) (us ws : List Lexeme) → IsExpr (suc n) h e us ws →
+    (c : Expr) × (vs : List Lexeme) × IsExpr n h c us vs × Joined n h c e vs ws
+level_down n h (binary p op a b) us ws d = elim (below_or_at (tighter op) n d.3) [
+  | inl less ↦ (binary p op a b, ws, (d.0, d.1, d.2, less, d.4, d.5, d.6, d.7, d.8), inl (refl, refl))
+  | inr at ↦ (let r = level_down n h a us d.1 (subst (λ m. IsExpr (suc m) h a us d.1) at d.5) in
+      (r.0, r.1, r.2, inr (d.0, d.1, d.2, at, d.4, r.3, d.6, d.7, subst (λ m. IsExpr m h b d.2 ws) at d.8)))
+]
+level_down n h e us ws d = (e, ws, d, (refl, refl))
+
+level_up : (n : ℕ) (h : Bool) (c e : Expr) (us vs ws : List Lexeme) → IsExpr n h c us vs → Joined n h c e vs ws → IsExpr (suc n) h e us ws
+level_up n h c (binary p op a b) us vs ws d j = elim j [
+  | inl i ↦ raised n h (binary p op a b) us ws (moved (λ x xs. IsExpr n h x us xs) c (binary p op a b) vs ws i d)
+  | inr s ↦ (let first : IsExpr (suc n) h a us s.1 = level_up n h c a us vs s.1 d s.5 in (
+    s.0,
+    s.1,
+    s.2,
+    omega (arith, s.3),
+    s.4,
+    subst (λ m. IsExpr (suc m) h a us s.1) (sym s.3) first,
+    s.6,
+    s.7,
+    subst (λ m. IsExpr m h b s.2 ws) (sym s.3) s.8,
+  ))
+]
+level_up n h c e us vs ws d j = raised n h e us ws (moved (λ x xs. IsExpr n h x us xs) c e vs ws j d)
+
+pub chain_down : (n : ℕ) (h : Bool) (e : Expr) (us ws : List Lexeme) → IsExpr n h e us ws →
+    (b : Expr) × (vs : List Lexeme) × IsExpr 0 h b us vs × Chain n h b e vs ws
+chain_down zero h e us ws d = (e, ws, d, (refl, refl))
+chain_down (suc n) h e us ws d =
+    let r = level_down n h e us ws d in
+    let s = chain_down n h r.0 us r.1 r.2 in
+    (s.0, s.1, s.2, (r.0, r.1, s.3, r.3))
+
+pub chain_up : (n : ℕ) (h : Bool) (b e : Expr) (us vs ws : List Lexeme) → IsExpr 0 h b us vs → Chain n h b e vs ws → IsExpr n h e us ws
+chain_up zero h b e us vs ws d c = moved (λ x xs. IsExpr 0 h x us xs) b e vs ws c d
+chain_up (suc n) h b e us vs ws d c = level_up n h c.0 e us c.1 ws (chain_up n h b c.0 us vs c.1 d c.2) c.3
+
+-- the type of a literal, when an expression may be its name
+pub no_type : (A : Type 0) (a x : Expr) (b : TypeExpr) → x ≡ a → literal_type a ≡ None → literal_type x ≡ Some b → A
+no_type A a x b e n s = let never : None ≡ Some b = sym n ∙ sym (ap literal_type e) ∙ s in absurd (cc (never))
+
+-- an operand that is the name of a type, or becomes one by a selected name
+type_name_up : (a x : Expr) (b : TypeExpr) (us vs ws : List Lexeme) → IsOperand a us vs → IsTypeName a x vs ws → literal_type x ≡ Some b →
+    IsType b us ws
+type_name_up (name p text) x b us vs ws d n e = elim n [
+  | inl i ↦ (let type : named p (record { text = text; place = p }) ≡ b = let all : Some (named p (record { text = text; place = p })) ≡ Some b = sym
+      (ap literal_type i.0) ∙ e in cc (all) in
+      subst (λ c. IsType c us ws) type (
+        d.0,
+        subst (λ xs. Token kinds.Name d.0 us xs) i.1 d.1,
+        d.2,
+        ap (λ q. record { text = text; place = q }) d.2
+            ∙ ap (λ q. record { text = q; place = d.0.place }) d.3,
+      ))
+  | inr s ↦ (let type : qualified p (record { text = text; place = p }) (name_of s.1) ≡ b =
+      let all : Some (qualified p (record { text = text; place = p }) (name_of s.1)) ≡ Some b = sym (ap literal_type s.5) ∙ e in cc (all) in
+      subst (λ c. IsType c us ws) type (
+        d.0,
+        s.0,
+        s.1,
+        vs,
+        s.2,
+        d.1,
+        s.3,
+        s.4,
+        d.2,
+        ap (λ q. record { text = text; place = q }) d.2 ∙ ap (λ q. record { text = q; place = d.0.place }) d.3,
+        refl,
+      ))
+]
+type_name_up (selector p f g) x b us vs ws d n e = absurd d
+type_name_up a x b us vs ws d n e = elim n [
+  | inl i ↦ no_type (IsType b us ws) a x b i.0 refl e
+  | inr s ↦ no_type (IsType b us ws) (selector (place_of a) a (name_of s.1)) x b s.5 refl e
+]
+
+-- an operand is an expression with no operator outside
+operand_is : (h : Bool) (a : Expr) (us ws : List Lexeme) → IsOperand a us ws → IsExpr 0 h a us ws × IsPrimary a
+operand_is h (literal p a q es) us ws d = ((d.0, d.1, d.2, d.3, d.4, λ _. d.5, d.6, d.7, d.8, d.9, d.10, d.11), tt)
+operand_is h (selector p e f) us ws d = absurd d
+operand_is h (index p e i) us ws d = absurd d
+operand_is h (call p e es) us ws d = absurd d
+operand_is h (unary p op e) us ws d = absurd d
+operand_is h (binary p op a b) us ws d = absurd d
+operand_is h a us ws d = (d, tt)
+
+abbrev IsPrimaryExpr : Bool → Expr → List Lexeme → List Lexeme → Type 0
+IsPrimaryExpr h e us ws = IsExpr 0 h e us ws × IsPrimary e
+
+operand_itself : (h : Bool) (a e : Expr) (us vs ws : List Lexeme) → IsOperand a us vs → Itself a e vs ws → IsPrimaryExpr h e us ws
+operand_itself h a e us vs ws d i = moved (λ x xs. IsPrimaryExpr h x us xs) a e vs ws i (operand_is h a us vs d)
+
+pub suffixes_up : (h : Bool) (a e : Expr) (us vs ws : List Lexeme) → IsOperand a us vs → Suffixed h a e vs ws → IsExpr 0 h e us ws × IsPrimary e
+suffixes_up h a (selector p e f) us vs ws d s = elim s [
+  | inl i ↦ operand_itself h a (selector p e f) us vs ws d i
+  | inr r ↦ (let b = suffixes_up h a e us vs r.2 d r.5 in ((r.0, r.1, r.2, r.3, r.4, b.1, b.0, r.6, r.7, r.8), tt))
+]
+suffixes_up h a (index p e i) us vs ws d s = elim s [
+  | inl i' ↦ operand_itself h a (index p e i) us vs ws d i'
+  | inr r ↦ (let b = suffixes_up h a e us vs r.2 d r.6 in ((r.0, r.1, r.2, r.3, r.4, r.5, b.1, b.0, r.7, r.8, r.9), tt))
+]
+suffixes_up h a (call p e es) us vs ws d s = elim s [
+  | inl i ↦ operand_itself h a (call p e es) us vs ws d i
+  | inr r ↦ (let b = suffixes_up h a e us vs r.2 d r.6 in ((r.0, r.1, r.2, r.3, r.4, r.5, b.1, b.0, r.7, r.8, r.9), tt))
+]
+suffixes_up h a (literal p b q es) us vs ws d s = elim s [
+  | inl i ↦ operand_itself h a (literal p b q es) us vs ws d i
+  | inr r ↦ (
+    (
+      r.0,
+      r.1,
+      r.2,
+      r.3,
+      r.4,
+      λ header. (let never : false ≡ true = sym r.6 ∙ header in absurd (cc (never))),
+      type_name_up a r.5 b us vs r.2 d r.7 r.8,
+      r.9,
+      r.10,
+      r.11,
+      r.12,
+      r.13,
+    ),
+    tt,
+  )
+]
+suffixes_up h a e us vs ws d s = operand_itself h a e us vs ws d s
+
+no_header : (h : Bool) (a : TypeExpr) → is_named a ≡ true → (h ≡ true → is_named a ≡ false) → h ≡ false
+no_header false a e f = refl
+no_header true a e f = let never : true ≡ false = sym e ∙ f refl in absurd (cc (never))
+
+suffixes_down : (h : Bool) (e : Expr) (us ws : List Lexeme) → IsExpr 0 h e us ws → IsPrimary e →
+    (a : Expr) × (vs : List Lexeme) × IsOperand a us vs × Suffixed h a e vs ws
+suffixes_down h (literal p (named q n) o es) us ws d prim =
+    let t = d.6.0 in
+    let type : Some (named t.place (name_of t)) ≡ Some (named q n) = ap (λ x. Some (named x (name_of t))) (sym d.6.2)
+    ∙ ap (λ x. Some (named q x)) (sym d.6.3) in (
+      name t.place t.text,
+      d.2,
+      (t, d.6.1, refl, refl),
+      inr (d.0, d.1, d.2, d.3, d.4, name t.place t.text, no_header h (named q n) refl d.5, inl (refl, refl), type, d.7, d.8, d.9, d.10, d.11),
+    )
+suffixes_down h (literal p (qualified q m n) o es) us ws d prim =
+    let t = d.6.0 in
+    let s = d.6.2 in
+    let type : Some (qualified t.place (name_of t) (name_of s)) ≡ Some (qualified q m n) =
+    ap (λ x. Some (qualified x (name_of t) (name_of s))) (sym d.6.8) ∙ ap (λ x. Some (qualified q x (name_of s))) (sym d.6.9)
+    ∙ ap (λ x. Some (qualified q m x)) (sym d.6.10) in (
+      name t.place t.text,
+      d.6.3,
+      (t, d.6.5, refl, refl),
+      inr (
+        d.0,
+        d.1,
+        d.2,
+        d.3,
+        d.4,
+        selector t.place (name t.place t.text) (name_of s),
+        no_header h (qualified q m n) refl d.5,
+        inr (d.6.1, s, d.6.4, d.6.6, d.6.7, refl),
+        type,
+        d.7,
+        d.8,
+        d.9,
+        d.10,
+        d.11,
+      ),
+    )
+suffixes_down h (literal p (array q e a) o es) us ws d prim =
+    (literal p (array q e a) o es, ws, (d.0, d.1, d.2, d.3, d.4, refl, d.6, d.7, d.8, d.9, d.10, d.11), inl (refl, refl))
+suffixes_down h (literal p (struct q fs) o es) us ws d prim =
+    (literal p (struct q fs) o es, ws, (d.0, d.1, d.2, d.3, d.4, refl, d.6, d.7, d.8, d.9, d.10, d.11), inl (refl, refl))
+suffixes_down h (selector p e f) us ws d prim =
+    let r = suffixes_down h e us d.2 d.6 d.5 in
+    (r.0, r.1, r.2, inr (d.0, d.1, d.2, d.3, d.4, r.3, d.7, d.8, d.9))
+suffixes_down h (index p e i) us ws d prim =
+    let r = suffixes_down h e us d.2 d.7 d.6 in
+    (r.0, r.1, r.2, inr (d.0, d.1, d.2, d.3, d.4, d.5, r.3, d.8, d.9, d.10))
+suffixes_down h (call p e es) us ws d prim =
+    let r = suffixes_down h e us d.2 d.7 d.6 in
+    (r.0, r.1, r.2, inr (d.0, d.1, d.2, d.3, d.4, d.5, r.3, d.8, d.9, d.10))
+suffixes_down h (unary p op e) us ws d prim = absurd prim
+suffixes_down h (binary p op a b) us ws d prim = absurd prim
+suffixes_down h e us ws d prim = (e, ws, d, (refl, refl))
+
+-- the parts of an expression
+abbrev pub Parts : ℕ → Bool → Expr → List Lexeme → List Lexeme → Type 0
+Parts n h e us ws =
+    ((a : Expr) × (vs : List Lexeme) × IsOperand a us vs × Grown n h a e vs ws) ⊎ ((a : Expr) × (vs : List Lexeme) × IsUnary h a us vs × Chain n h a e vs ws)
+
+first_parts : (n : ℕ) (h : Bool) (b e : Expr) (us vs ws : List Lexeme) → IsExpr 0 h b us vs → Chain n h b e vs ws → Parts n h e us ws
+first_parts n h (unary p op b) e us vs ws d c = inr (unary p op b, vs, d, c)
+first_parts n h (binary p op a b) e us vs ws d c = absurd (omega (arith, d.3))
+first_parts n h b e us vs ws d c = let r = suffixes_down h b us vs d tt in inl (r.0, r.1, r.2, (b, vs, r.3, c))
+
+pub parts : (n : ℕ) (h : Bool) (e : Expr) (us ws : List Lexeme) → IsExpr n h e us ws → Parts n h e us ws
+parts n h e us ws d = let r = chain_down n h e us ws d in first_parts n h r.0 e us r.1 ws r.2 r.3
+
+pub from_operand : (n : ℕ) (h : Bool) (a e : Expr) (us vs ws : List Lexeme) → IsOperand a us vs → Grown n h a e vs ws → IsExpr n h e us ws
+from_operand n h a e us vs ws d g = chain_up n h g.0 e us g.1 ws (suffixes_up h a g.0 us vs g.1 d g.2).0 g.3
+
+pub from_unary : (n : ℕ) (h : Bool) (a e : Expr) (us vs ws : List Lexeme) → IsUnary h a us vs → Chain n h a e vs ws → IsExpr n h e us ws
+from_unary n h (unary p op a) e us vs ws d c = chain_up n h (unary p op a) e us vs ws d c
+from_unary n h _ e us vs ws d c = absurd d
+
+-- what grows is no higher than what it grows to
+itself_height : (a e : Expr) (us ws : List Lexeme) → Itself a e us ws → height a ≤ height e
+itself_height a e us ws i = subst (λ x. height a ≤ height x) (sym i.0) (omega arith)
+
+-- the name of a literal's type has two levels at most
+pub type_name_height : (a x : Expr) (b : TypeExpr) (us ws : List Lexeme) → IsTypeName a x us ws → literal_type x ≡ Some b → height a ≤ 2
+type_name_height (name p text) x b us ws n e = omega arith
+type_name_height (selector p (name q text) g) x b us ws n e = omega arith
+type_name_height a x b us ws n e = elim n [
+  | inl i ↦ no_type (height a ≤ 2) a x b i.0 refl e
+  | inr s ↦ no_type (height a ≤ 2) (selector (place_of a) a (name_of s.1)) x b s.5 refl e
+]
+
+pub suffixed_height : (h : Bool) (a e : Expr) (us ws : List Lexeme) → Suffixed h a e us ws → height a ≤ height e
+suffixed_height h a (selector p e f) us ws s = elim s [
+  | inl i ↦ itself_height a (selector p e f) us ws i
+  | inr r ↦ (let less = suffixed_height h a e us r.2 r.5 in omega (arith, less))
+]
+suffixed_height h a (index p e i) us ws s = elim s [
+  | inl j ↦ itself_height a (index p e i) us ws j
+  | inr r ↦ (let less = suffixed_height h a e us r.2 r.6 in omega (arith, less))
+]
+suffixed_height h a (call p e es) us ws s = elim s [
+  | inl i ↦ itself_height a (call p e es) us ws i
+  | inr r ↦ (let less = suffixed_height h a e us r.2 r.6 in omega (arith, less))
+]
+suffixed_height h a (literal p b q es) us ws s = elim s [
+  | inl i ↦ itself_height a (literal p b q es) us ws i
+  | inr r ↦ (let less = type_name_height a r.5 b us r.2 r.7 r.8 in omega (arith, less))
+]
+suffixed_height h a e us ws s = itself_height a e us ws s
+
+pub joined_height : (n : ℕ) (h : Bool) (a e : Expr) (us ws : List Lexeme) → Joined n h a e us ws → height a ≤ height e
+joined_height n h a (binary p op e b) us ws s = elim s [
+  | inl i ↦ itself_height a (binary p op e b) us ws i
+  | inr r ↦ (let less = joined_height n h a e us r.1 r.5 in omega (arith, less))
+]
+joined_height n h a e us ws s = itself_height a e us ws s
+
+pub chain_height : (n : ℕ) (h : Bool) (b e : Expr) (us ws : List Lexeme) → Chain n h b e us ws → height b ≤ height e
+chain_height zero h b e us ws c = itself_height b e us ws c
+chain_height (suc n) h b e us ws c =
+    let one = chain_height n h b c.0 us c.1 c.2 in
+    let two = joined_height n h c.0 e c.1 ws c.3 in
+    omega (arith, one, two)
+
+pub grown_height : (n : ℕ) (h : Bool) (a e : Expr) (us ws : List Lexeme) → Grown n h a e us ws → height a ≤ height e
+grown_height n h a e us ws g =
+    let one = suffixed_height h a g.0 us g.1 g.2 in
+    let two = chain_height n h g.0 e g.1 ws g.3 in
+    omega (arith, one, two)

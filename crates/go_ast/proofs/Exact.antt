@@ -1,0 +1,94 @@
+-- Tokens are a file or stop being one, never both, and they stop at one place, with one number.
+use Rattle.std.proofs.Common.{◌≡◌, ◌≢◌, ℕ, ◌⊎◌, inl, inr, Bool, true, false, List, [], ◌∷◌, ◌++◌, Some, refl, sym, ap, ◌∙◌, subst, arith, append_assoc, append-nil}
+use Rattle.std.specs.Prelude.{nat_eq}
+use Rattle.std.proofs.lemmas.Bool.Decides.{nat_tests}
+use Rattle.go_ast.specs.Trees.{File}
+use Rattle.go_ast.specs.Grammar.{Lexeme, Derives, Begins}
+use Rattle.go_ast.specs.Expected.{fault_at}
+use Rattle.go_ast.specs.Machine.{Fail, step}
+use Rattle.go_ast.specs.Stops.{NoneAfter, GoesOn, IsFault, StopsAt}
+
+-- of two beginnings of a list one goes on to the other
+split : (xs ys cs ds : List Lexeme) → xs ++ ys ≡ cs ++ ds →
+    ((xs ≡ cs) × (ys ≡ ds)) ⊎
+    (((t : Lexeme) × (us ws : List Lexeme) × (cs ≡ xs ++ t ∷ us) × (ys ≡ t ∷ ws)) ⊎
+    ((t : Lexeme) × (us ws : List Lexeme) × (xs ≡ cs ++ t ∷ us) × (ds ≡ t ∷ ws)))
+split [] ys [] ds e = inl (refl, e)
+split [] ys (c ∷ cs) ds e = inr (inl (c, cs, cs ++ ds, refl, e))
+split (a ∷ xs) ys [] ds e = inr (inr (a, xs, xs ++ ys, refl, sym e))
+split (a ∷ xs) ys (c ∷ cs) ds e =
+    let first : a ≡ c = cc (e) in
+    let rest : xs ++ ys ≡ cs ++ ds = cc (e) in
+    elim (split xs ys cs ds rest) [
+      | inl h ↦ inl (ap (λ x. x ∷ xs) first ∙ ap (λ x. c ∷ x) h.0, h.1)
+      | inr r ↦ elim r [
+        | inl h ↦ inr (inl (h.0, h.1, h.2, ap (λ x. x ∷ cs) (sym first) ∙ ap (λ x. a ∷ x) h.3, h.4))
+        | inr h ↦ inr (inr (h.0, h.1, h.2, ap (λ x. x ∷ xs) first ∙ ap (λ x. c ∷ x) h.3, h.4))
+      ]
+    ]
+
+-- what begins a file does so at each of its tokens
+begins_before : (levels : ℕ) (good us : List Lexeme) (t : Lexeme) → Begins levels (good ++ t ∷ us) → Begins levels (good ++ t ∷ [])
+begins_before levels good us t b =
+    (us ++ b.0, b.1, subst (λ x. Derives levels x b.1) (append_assoc good (t ∷ us) b.0 ∙ sym (append_assoc good (t ∷ []) (us ++ b.0))) b.2)
+
+-- tokens that stop being a file are none
+pub not_both : (levels : ℕ) (ts : List Lexeme) (f : File) (n : ℕ) (bad : List Lexeme) → Derives levels ts f → StopsAt levels ts n bad → ⊥
+not_both levels ts f n bad d s = by_bad bad s.whole s.ends
+  where
+    by_bad : (bad : List Lexeme) → ts ≡ s.good ++ bad → NoneAfter levels s.good bad → ⊥
+    by_bad [] whole none = none f (subst (λ x. Derives levels x f) (whole ∙ append-nil s.good) d)
+    by_bad (t ∷ us) whole none = none (us, f, subst (λ x. Derives levels x f) (whole ∙ sym (append_assoc s.good (t ∷ []) us)) d)
+
+-- nothing begins a file behind the place where another stops
+no_further : (levels : ℕ) (good long : List Lexeme) (t : Lexeme) (us bad ws : List Lexeme) → NoneAfter levels good bad → bad ≡ t ∷ ws →
+    long ≡ good ++ t ∷ us → Begins levels long → ⊥
+no_further levels good long t us bad ws none e q b =
+    let at : NoneAfter levels good (t ∷ ws) = subst (NoneAfter levels good) e none in
+    at (begins_before levels good us t (subst (Begins levels) q b))
+
+same_place : (levels : ℕ) (ts : List Lexeme) (m n : ℕ) (xs ys : List Lexeme) (s : StopsAt levels ts m xs) (r : StopsAt levels ts n ys) →
+    (s.good ≡ r.good) × (xs ≡ ys)
+same_place levels ts m n xs ys s r = elim (split s.good xs r.good ys (sym s.whole ∙ r.whole)) [
+  | inl h ↦ h
+  | inr o ↦ elim o [
+    | inl h ↦ absurd (no_further levels s.good r.good h.0 h.1 xs h.2 s.ends h.4 h.3 r.begins)
+    | inr h ↦ absurd (no_further levels r.good s.good h.0 h.1 ys h.2 r.ends h.4 h.3 s.begins)
+  ]
+]
+
+same_fault : (good bad : List Lexeme) (m n : ℕ) → IsFault good bad m → IsFault good bad n → m ≡ n
+same_fault good [] m n a b = a ∙ sym b
+same_fault good (t ∷ ts) m n a b =
+    let there : Some a.1.0 ≡ Some b.1.0 = sym a.1.1 ∙ b.1.1 in
+    let state : a.1.0 ≡ b.1.0 = cc (there) in
+    let moves : Fail a.0 ≡ Fail b.0 = sym a.1.2 ∙ ap (λ x. step x t) state ∙ b.1.2 in
+    let expected : a.0 ≡ b.0 = cc (moves) in
+    a.2 ∙ ap (λ x. fault_at x t.kind) expected ∙ sym b.2
+
+-- the place and the number are determined
+pub only_stop : (levels : ℕ) (ts : List Lexeme) (m n : ℕ) (xs ys : List Lexeme) → StopsAt levels ts m xs → StopsAt levels ts n ys → (m ≡ n) × (xs ≡ ys)
+only_stop levels ts m n xs ys s r =
+    let p = same_place levels ts m n xs ys s r in
+    (by_four (nat_eq m 4) (nat_eq n 4) refl refl p.0 p.1, p.1)
+  where
+    on : (P : List Lexeme → List Lexeme → Type 0) → s.good ≡ r.good → xs ≡ ys → P r.good ys → P s.good xs
+    on P g b x = subst (λ y. P y xs) (sym g) (subst (P r.good) (sym b) x)
+
+    by_four : (c d : Bool) → nat_eq m 4 ≡ c → nat_eq n 4 ≡ d → s.good ≡ r.good → xs ≡ ys → m ≡ n
+    by_four true true c d g b =
+        let x : m ≡ 4 = grind (arith, nat_tests) in
+        let y : n ≡ 4 = grind (arith, nat_tests) in
+        x ∙ sym y
+    by_four true false c d g b =
+        let x : m ≡ 4 = grind (arith, nat_tests) in
+        let y : n ≢ 4 = λ e. (let q : true ≡ false = sym (ap (λ k. nat_eq k 4) e) ∙ d in cc (q)) in
+        absurd (r.wrong y (subst (GoesOn r.good) b (subst (λ z. GoesOn z xs) g (s.too_deep x))))
+    by_four false true c d g b =
+        let x : m ≢ 4 = λ e. (let q : true ≡ false = sym (ap (λ k. nat_eq k 4) e) ∙ c in cc (q)) in
+        let y : n ≡ 4 = grind (arith, nat_tests) in
+        absurd (s.wrong x (on GoesOn g b (r.too_deep y)))
+    by_four false false c d g b =
+        let x : m ≢ 4 = λ e. (let q : true ≡ false = sym (ap (λ k. nat_eq k 4) e) ∙ c in cc (q)) in
+        let y : n ≢ 4 = λ e. (let q : true ≡ false = sym (ap (λ k. nat_eq k 4) e) ∙ d in cc (q)) in
+        same_fault s.good xs m n (s.fault x) (on (λ u v. IsFault u v n) g b (r.fault y))

@@ -1,0 +1,238 @@
+-- The machine answers what the grammar derives, and stops where nothing is derived, given that each token keeps what a
+-- state means.
+use Rattle.std.proofs.Common.{◌≡◌, ◌≢◌, ℕ, ◌<◌, ◌≤◌, max, ◌⊎◌, inl, inr, Bool, true, false, List, [], ◌∷◌, ◌++◌, Option, Some, None, refl, sym, ap, ◌∙◌, subst, arith, append_assoc, append-nil}
+use Rattle.std.specs.Prelude.{nat_le, if◌then◌else◌}
+use Rattle.std.proofs.lemmas.Bool.Decides.{nat_tests}
+use Rattle.go_scan.specs.declared.token.TokenKind.{TokenKind}
+use Rattle.go_ast.specs.Trees.{File}
+use Rattle.go_ast.specs.Grammar.{Lexeme, Derives, Begins}
+use Rattle.go_ast.specs.Expected.{Expected, is_left_out, fault_at}
+use Rattle.go_ast.specs.Machine.{State, Move, Take, Fail, step, start, final, Done, Refused, at_end, by_level, by_move, run}
+use Rattle.go_ast.specs.Stops.{NoneAfter, GoesOn, led, led_by, IsFault, StopsAt}
+use Rattle.go_ast.proofs.Means.{Means, Okay, Good, After, Kept}
+
+-- each token keeps, both ways, what leads from a state to a file
+pub record Theory (B : ℕ) : Type 0 where
+  pub back : (s : State) (t : Lexeme) (us : List Lexeme) (f : File) → Okay B s → After B (step s t) us f → Means B s (t ∷ us) f
+  pub forth : (s : State) (t : Lexeme) (us : List Lexeme) (f : File) → Okay B s → Means B s (t ∷ us) f → After B (step s t) us f
+  pub kept : (s : State) (t : Lexeme) → Okay B s → Kept B (step s t)
+  pub comes : (s : State) → Good B s → (us : List Lexeme) × (f : File) × Means B s us f
+  pub ends : (s : State) (f : File) → Okay B s → final s ≡ Some f → Means B s [] f
+  pub over : (s : State) (f : File) → Means B s [] f → final s ≡ Some f
+  pub started : (ts : List Lexeme) (f : File) → Derives B ts f → Means B start ts f
+  pub derived : (ts : List Lexeme) (f : File) → Means B start ts f → Derives B ts f
+  pub good : 1 ≤ B → Good B start
+
+-- the tokens lead from a state to another, within the bound
+abbrev Leads : ℕ → State → List Lexeme → State → Type 0
+Leads B s [] r = s ≡ r
+Leads B s (t ∷ ts) r = (need : ℕ) × (q : State) × (step s t ≡ Take need q) × (need ≤ B) × Leads B q ts r
+
+-- here the machine stops
+abbrev Stuck : ℕ → State → List Lexeme → ℕ → Type 0
+Stuck B r [] n = (final r ≡ None) × (n ≡ 3)
+Stuck B r (t ∷ ts) n =
+    ((x : Expected) × (step r t ≡ Fail x) × (n ≡ fault_at x t.kind))
+    ⊎ ((need : ℕ) × (q : State) × (step r t ≡ Take need q) × (B < need) × (n ≡ 4))
+
+abbrev Stops : ℕ → State → List Lexeme → ℕ → List Lexeme → Type 0
+Stops B s ts n bad = (good : List Lexeme) × (r : State) × (ts ≡ good ++ bad) × Leads B s good r × Stuck B r bad n
+
+not_four : (x : Expected) (k : TokenKind) → fault_at x k ≢ 4
+not_four x k = by_test (is_left_out x k)
+  where
+    by_test : (c : Bool) → ◌≢◌ {A = ℕ} (if c then 2 else 3) 4
+    by_test true e = absurd (omega arith)
+    by_test false e = absurd (omega arith)
+
+stops : (B : ℕ) (ts : List Lexeme) (s : State) (n : ℕ) (bad : List Lexeme) → run B s ts ≡ Refused n bad → Stops B s ts n bad
+unfolding run
+stops B [] s n bad e = by_end (final s) refl e
+  where
+    by_end : (o : Option File) → final s ≡ o → at_end o ≡ Refused n bad → Stops B s [] n bad
+    by_end (Some g) k q = cc
+    by_end None k q =
+        let number : n ≡ 3 = cc in
+        let rest : [] ≡ bad = cc in
+        ([], s, rest, refl, subst (λ x. Stuck B s x n) rest (k, number))
+stops B (t ∷ ts) s n bad e = by_moves (λ r q. stops B ts r n bad q) (step s t) refl e
+  where
+    by_moves : ((r : State) → run B r ts ≡ Refused n bad → Stops B r ts n bad) → (m : Move) → step s t ≡ m →
+        by_move B (λ r. run B r ts) t.kind (t ∷ ts) m ≡ Refused n bad → Stops B s (t ∷ ts) n bad
+    by_moves ih (Fail x) k q =
+        let number : n ≡ fault_at x t.kind = cc in
+        let rest : t ∷ ts ≡ bad = cc in
+        ([], s, rest, refl, subst (λ y. Stuck B s y n) rest (inl (x, k, number)))
+    by_moves ih (Take need r) k q = by_test (nat_le need B) refl q
+      where
+        by_test : (c : Bool) → nat_le need B ≡ c → by_level c (run B r ts) (t ∷ ts) ≡ Refused n bad → Stops B s (t ∷ ts) n bad
+        by_test true d p =
+            let le : need ≤ B = grind (arith, nat_tests) in
+            let h = ih r p in
+            (t ∷ h.0, h.1, ap (λ xs. t ∷ xs) h.2, (need, r, k, le, h.3), h.4)
+        by_test false d p =
+            let lt : B < need = grind (arith, nat_tests) in
+            let number : n ≡ 4 = cc in
+            let rest : t ∷ ts ≡ bad = cc in
+            ([], s, rest, refl, subst (λ y. Stuck B s y n) rest (inr (need, r, k, lt, number)))
+
+deeper : (B C : ℕ) → B ≤ C → (ts : List Lexeme) (s r : State) → Leads B s ts r → Leads C s ts r
+deeper B C le [] s r h = h
+deeper B C le (t ∷ ts) s r h = (h.0, h.1, h.2, omega (arith, h.3), deeper B C le ts h.1 r h.4)
+
+leads_led : (B : ℕ) (ts : List Lexeme) (s r : State) → Leads B s ts r → led s ts ≡ Some r
+leads_led B [] s r h = ap Some h
+leads_led B (t ∷ ts) s r h = ap (λ m. led_by (λ q. led q ts) m) h.2 ∙ leads_led B ts h.1 r h.4
+
+pub larger : (B C : ℕ) (ts : List Lexeme) (f : File) → B ≤ C → Derives B ts f → Derives C ts f
+larger B C ts f le d = record { derived = d.derived; fits = omega (arith, d.fits) }
+
+module _ (B : ℕ) (th : Theory B) where
+  leads_good : (ts : List Lexeme) (s r : State) → Leads B s ts r → Good B s → Good B r
+  leads_good [] s r h g = subst (Good B) h g
+  leads_good (t ∷ ts) s r h g =
+      let kept : Kept B (Take h.0 h.1) = subst (Kept B) h.2 (th.kept s t g.1) in
+      leads_good ts h.1 r h.4 (kept h.3)
+
+  leads_back : (ts : List Lexeme) (s r : State) (us : List Lexeme) (f : File) → Leads B s ts r → Good B s → Means B r us f → Means B s (ts ++ us) f
+  leads_back [] s r us f h g m = subst (λ x. Means B x us f) (sym h) m
+  leads_back (t ∷ ts) s r us f h g m =
+      let kept : Kept B (Take h.0 h.1) = subst (Kept B) h.2 (th.kept s t g.1) in
+      let rest : Means B h.1 (ts ++ us) f = leads_back ts h.1 r us f h.4 (kept h.3) m in
+      th.back s t (ts ++ us) f g.1 (subst (λ x. After B x (ts ++ us) f) (sym h.2) (h.3, rest))
+
+  leads_forth : (ts : List Lexeme) (s r : State) (us : List Lexeme) (f : File) → Leads B s ts r → Good B s → Means B s (ts ++ us) f → Means B r us f
+  leads_forth [] s r us f h g m = subst (λ x. Means B x us f) h m
+  leads_forth (t ∷ ts) s r us f h g m =
+      let kept : Kept B (Take h.0 h.1) = subst (Kept B) h.2 (th.kept s t g.1) in
+      let a : After B (Take h.0 h.1) (ts ++ us) f = subst (λ x. After B x (ts ++ us) f) h.2 (th.forth s t (ts ++ us) f g.1 m) in
+      leads_forth ts h.1 r us f h.4 (kept h.3) a.1
+
+  reads : (ts : List Lexeme) (s : State) (f : File) → Good B s → run B s ts ≡ Done f → Means B s ts f
+  unfolding run
+  reads [] s f g e = by_end (final s) refl e
+    where
+      by_end : (o : Option File) → final s ≡ o → at_end o ≡ Done f → Means B s [] f
+      by_end None k q = cc
+      by_end (Some h) k q = let file : h ≡ f = cc in th.ends s f g.1 (k ∙ ap Some file)
+  reads (t ∷ ts) s f g e = by_moves (λ r h q. reads ts r f h q) (step s t) refl e
+    where
+      by_moves : ((r : State) → Good B r → run B r ts ≡ Done f → Means B r ts f) → (m : Move) → step s t ≡ m →
+          by_move B (λ r. run B r ts) t.kind (t ∷ ts) m ≡ Done f → Means B s (t ∷ ts) f
+      by_moves ih (Fail x) k q = cc
+      by_moves ih (Take need r) k q = by_test (nat_le need B) refl q
+        where
+          by_test : (c : Bool) → nat_le need B ≡ c → by_level c (run B r ts) (t ∷ ts) ≡ Done f → Means B s (t ∷ ts) f
+          by_test false d p = cc
+          by_test true d p =
+              let le : need ≤ B = grind (arith, nat_tests) in
+              let kept : Kept B (Take need r) = subst (Kept B) k (th.kept s t g.1) in
+              th.back s t ts f g.1 (subst (λ x. After B x ts f) (sym k) (le, ih r (kept le) p))
+
+  taken : (ts : List Lexeme) (s : State) (f : File) → Good B s → Means B s ts f → run B s ts ≡ Done f
+  unfolding run
+  taken [] s f g m = ap at_end (th.over s f m)
+  taken (t ∷ ts) s f g m = by_moves (λ r h q. taken ts r f h q) (step s t) refl (th.forth s t ts f g.1 m)
+    where
+      by_moves : ((r : State) → Good B r → Means B r ts f → run B r ts ≡ Done f) → (x : Move) → step s t ≡ x → After B x ts f →
+          by_move B (λ r. run B r ts) t.kind (t ∷ ts) x ≡ Done f
+      by_moves ih (Fail x) k a = absurd a
+      by_moves ih (Take need r) k a =
+          let le : need ≤ B = a.0 in
+          let low : nat_le need B ≡ true = grind (arith, nat_tests) in
+          let kept : Kept B (Take need r) = subst (Kept B) k (th.kept s t g.1) in
+          ap (λ c. by_level c (run B r ts) (t ∷ ts)) low ∙ ih r (kept le) a.1
+
+  -- what is done is derived, and what is derived is done
+  pub is_derived : (ts : List Lexeme) (f : File) → 1 ≤ B → run B start ts ≡ Done f → Derives B ts f
+  is_derived ts f one e = th.derived ts f (reads ts start f (th.good one) e)
+
+  pub is_done : (ts : List Lexeme) (f : File) → 1 ≤ B → Derives B ts f → run B start ts ≡ Done f
+  is_done ts f one d = taken ts start f (th.good one) (th.started ts f d)
+
+  pub only_one : (ts : List Lexeme) (f g : File) → 1 ≤ B → Derives B ts f → Derives B ts g → f ≡ g
+  only_one ts f g one d e = let a = sym (is_done ts f one d) ∙ is_done ts g one e in cc
+
+  begins_so : (good : List Lexeme) (r : State) → 1 ≤ B → Leads B start good r → Begins B good
+  begins_so good r one h =
+      let g = th.good one in
+      let c = th.comes r (leads_good good start r h g) in
+      (c.0, c.1, th.derived (good ++ c.0) c.1 (leads_back good start r c.0 c.1 h g c.2))
+
+  -- the tokens that lead on behind some
+  behind : (good us : List Lexeme) (r : State) (f : File) → 1 ≤ B → Leads B start good r → Derives B (good ++ us) f → Means B r us f
+  behind good us r f one h d = leads_forth good start r us f h (th.good one) (th.started (good ++ us) f d)
+
+  ended_there : (good : List Lexeme) (r : State) (f : File) → 1 ≤ B → Leads B start good r → final r ≡ None → Derives B good f → ⊥
+  ended_there good r f one h none d =
+      let m = behind good [] r f one h (subst (λ x. Derives B x f) (sym (append-nil good)) d) in
+      let q : None ≡ Some f = sym none ∙ th.over r f m in
+      cc (q)
+
+  after_there : (good : List Lexeme) (t : Lexeme) (r : State) → 1 ≤ B → Leads B start good r → Begins B (good ++ t ∷ []) →
+      (us : List Lexeme) × (f : File) × After B (step r t) us f
+  after_there good t r one h b =
+      let m = behind good (t ∷ b.0) r b.1 one h (subst (λ x. Derives B x b.1) (append_assoc good (t ∷ []) b.0) b.2) in
+      (b.0, b.1, th.forth r t b.0 b.1 (leads_good good start r h (th.good one)).1 m)
+
+  goes_there : (good : List Lexeme) (t : Lexeme) (r q : State) (need : ℕ) → 1 ≤ B → need ≤ B → Leads B start good r → step r t ≡ Take need q →
+      Begins B (good ++ t ∷ [])
+  goes_there good t r q need one le h k =
+      let g = th.good one in
+      let there = leads_good good start r h g in
+      let kept : Kept B (Take need q) = subst (Kept B) k (th.kept r t there.1) in
+      let c = th.comes q (kept le) in
+      let m : Means B r (t ∷ c.0) c.1 = th.back r t c.0 c.1 there.1 (subst (λ x. After B x c.0 c.1) (sym k) (le, c.2)) in (
+        c.0,
+        c.1,
+        subst (λ x. Derives B x c.1) (sym (append_assoc good (t ∷ []) c.0))
+            (th.derived (good ++ t ∷ c.0) c.1 (leads_back good start r (t ∷ c.0) c.1 h g m)),
+      )
+
+  none_after : (n : ℕ) (good bad : List Lexeme) (r : State) → 1 ≤ B → Leads B start good r → Stuck B r bad n → NoneAfter B good bad
+  none_after n good [] r one h stuck = λ f d. ended_there good r f one h stuck.0 d
+  none_after n good (t ∷ ts) r one h (inl s) = λ b.
+      let a = after_there good t r one h b in
+      subst (λ x. After B x a.0 a.1) s.1 a.2
+  none_after n good (t ∷ ts) r one h (inr s) = λ b.
+      let a = after_there good t r one h b in
+      let c : After B (Take s.0 s.1) a.0 a.1 = subst (λ x. After B x a.0 a.1) s.2 a.2 in
+      absurd (omega (arith, c.0, s.3))
+
+module _ (theory : (B : ℕ) → Theory B) where
+  deep : (B n : ℕ) (good bad : List Lexeme) (r : State) → 1 ≤ B → Leads B start good r → Stuck B r bad n → n ≡ 4 → GoesOn good bad
+  deep B n good [] r one h stuck four = absurd (omega (arith, stuck.1, four))
+  deep B n good (t ∷ ts) r one h (inl s) four = absurd (not_four s.0 t.kind (sym s.2 ∙ four))
+  deep B n good (t ∷ ts) r one h (inr s) four =
+      let C = max s.0 B in
+      (C, goes_there C (theory C) good t r s.1 s.0 (omega arith) (omega arith) (deeper B C (omega arith) good start r h) s.2)
+
+  not_deep : (B n : ℕ) (good bad : List Lexeme) (r : State) → 1 ≤ B → Leads B start good r → Stuck B r bad n → n ≢ 4 → GoesOn good bad → ⊥
+  not_deep B n good [] r one h stuck ne g =
+      let C = max g.0 B in
+      ended_there C (theory C) good r g.1 (omega arith) (deeper B C (omega arith) good start r h) stuck.0 (larger g.0 C good g.1 (omega arith) g.2)
+  not_deep B n good (t ∷ ts) r one h (inl s) ne g =
+      let C = max g.0 B in
+      let b = g.1 in
+      let a = after_there C (theory C) good t r (omega arith) (deeper B C (omega arith) good start r h)
+      (b.0, b.1, larger g.0 C ((good ++ t ∷ []) ++ b.0) b.1 (omega arith) b.2) in
+      subst (λ x. After C x a.0 a.1) s.1 a.2
+  not_deep B n good (t ∷ ts) r one h (inr s) ne g = absurd (ne s.4)
+
+  fault : (B n : ℕ) (good bad : List Lexeme) (r : State) → Leads B start good r → Stuck B r bad n → n ≢ 4 → IsFault good bad n
+  fault B n good [] r h stuck ne = stuck.1
+  fault B n good (t ∷ ts) r h (inl s) ne = (s.0, (r, leads_led B good start r h, s.1), s.2)
+  fault B n good (t ∷ ts) r h (inr s) ne = absurd (ne s.4)
+
+  pub stops_at : (B : ℕ) (ts : List Lexeme) (n : ℕ) (bad : List Lexeme) → 1 ≤ B → run B start ts ≡ Refused n bad → StopsAt B ts n bad
+  stops_at B ts n bad one e =
+      let s = stops B ts start n bad e in
+      record {
+        good = s.0;
+        whole = s.2;
+        begins = begins_so B (theory B) s.0 s.1 one s.3;
+        ends = none_after B (theory B) n s.0 bad s.1 one s.3 s.4;
+        too_deep = λ four. deep B n s.0 bad s.1 one s.3 s.4 four;
+        wrong = λ ne. not_deep B n s.0 bad s.1 one s.3 s.4 ne;
+        fault = λ ne. fault B n s.0 bad s.1 s.3 s.4 ne;
+      }

@@ -1,0 +1,24 @@
+-- Each expression and each type has a level.
+use Rattle.std.proofs.Common.{◌≤◌, arith}
+use Rattle.go_ast.specs.Trees.{TypeExpr, named, qualified, array, struct, Expr, name, integer, rune, string, parenthesized, literal, conversion, selector, index, call, unary, binary}
+use Rattle.go_ast.specs.Heights.{height, type_height}
+
+pub height_positive : (e : Expr) → 1 ≤ height e
+height_positive (name p text) = omega arith
+height_positive (integer p text) = omega arith
+height_positive (rune p value) = omega arith
+height_positive (string p value) = omega arith
+height_positive (parenthesized p e) = omega arith
+height_positive (literal p a q es) = omega arith
+height_positive (conversion p a e) = omega arith
+height_positive (selector p e f) = omega arith
+height_positive (index p e i) = omega arith
+height_positive (call p e es) = omega arith
+height_positive (unary p op e) = omega arith
+height_positive (binary p op a b) = omega arith
+
+pub type_height_positive : (a : TypeExpr) → 1 ≤ type_height a
+type_height_positive (named p n) = omega arith
+type_height_positive (qualified p m n) = omega arith
+type_height_positive (array p e a) = omega arith
+type_height_positive (struct p fs) = omega arith

@@ -1,0 +1,14 @@
+use Rattle.std.proofs.Common.{◌≡◌, List, [], map}
+use Rattle.go_ast.specs.Trees as trees
+use Rattle.go_ast.specs.Machine.{decls_at, run}
+use Rattle.go_ast.specs.Views.{top_of}
+use Rattle.go_pexpr.specs.Reads.{left, size}
+use Rattle.go_parse.proofs.file.declarations.Given as goal
+
+abbrev pub invariant-declarations : goal.invariant-declarations
+invariant-declarations l = record {
+  reads : (p : trees.Name) (is : List trees.ImportSpec) → run 250 (decls_at p is []) (left l.initial.reader) ≡ run 250 (decls_at p is (map top_of l.declarations.items)) (left l.reader);
+}
+
+abbrev pub decreases-declarations : goal.decreases-declarations
+decreases-declarations l = size l.reader

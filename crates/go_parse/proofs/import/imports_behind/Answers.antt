@@ -1,0 +1,10 @@
+use Rattle.std.proofs.Common.{[], ◌∷◌}
+use Rattle.go_parse.proofs.Reading.{then_fails, then_reads, took, missed}
+use Rattle.go_parse.proofs.import.imports_behind.Goals as goal
+
+pub returns-in-Some-clause-reads : goal.returns-in-Some-clause-reads
+returns-in-Some-clause-reads c = λ next. then_reads (took (c.in_ok-accept.ensures.reads _ _) c.in-Some.is) (c.import_group.ensures.reads next)
+
+pub returns-in_err-import_spec-clause-reads : goal.returns-in_err-import_spec-clause-reads
+returns-in_err-import_spec-clause-reads c = λ next.
+    then_fails (missed (c.in_ok-accept.ensures.reads _ _) c.in_default.is) (c.in_err-import_spec.ensures.reads (λ s. next (s ∷ []))) c.from_residual-in_err-import_spec.ensures.1

@@ -1,0 +1,12 @@
+-- What is due where a declaration of a file may begin.
+use Rattle.go_ast.specs.Trees.{TopLevel, declared, function}
+use Rattle.go_scan.specs.declared.keyword.Keyword.TheVariants as keywords
+use Rattle.go_ast.specs.Machine.{State, optional, keyword, behind_const, behind_var, behind_type, behind_func}
+
+-- a declaration, or else something other
+abbrev pub declaration_at : (TopLevel → State) → State → State
+declaration_at some none =
+    optional (keyword keywords.Const) 0 (behind_const 1 (λ d. some (declared d)))
+    (optional (keyword keywords.Var) 0 (behind_var 1 (λ d. some (declared d)))
+    (optional (keyword keywords.Type) 0 (behind_type 1 (λ d. some (declared d)))
+    (optional (keyword keywords.Func) 1 (behind_func (λ f. some (function f))) none)))

@@ -1,0 +1,12 @@
+pub mod Begins
+pub mod Built
+pub mod Codes
+pub mod ElementTurns
+pub mod ListTurns
+pub mod OptionalTurns
+pub mod Pushed
+pub mod Reading
+pub mod Stands
+pub mod Steps
+pub mod SuffixTurns
+pub mod Turns

@@ -1,0 +1,115 @@
+-- Steps of the machine.
+use Rattle.std.proofs.Common.{◌≡◌, ℕ, ◌-◌, ◌≤◌, ◌<◌, Bool, true, false, List, [], ◌∷◌, length, take, drop, Option, Some, None, refl, sym, ap, ◌∙◌, subst, arith}
+use Rattle.std.specs.Prelude.{nat_le, slice_index_or}
+use Rattle.std.proofs.lemmas.List.{take_rest}
+use Rattle.std.proofs.lemmas.Bool.Decides.{nat_tests}
+use Rattle.go_scan.specs.declared.token.TokenKind.{TokenKind}
+use Rattle.go_text.specs.declared.place.Place.{Place}
+use Rattle.go_ast.specs.Expected.{Expected, fault_at}
+use Rattle.go_ast.specs.Kinds.{same}
+use Rattle.go_ast.specs.Grammar.{Lexeme}
+use Rattle.go_ast.specs.Machine.{State, token, optional, Move, Take, Fail, cond, step, final, Outcome, Refused, at_end, by_level, by_move, run}
+use Rattle.go_ast.proofs.Same.{is_same, not_same}
+use Rattle.go_pexpr.specs.Reads.{First, first_kind, fault_of}
+
+abbrev pub Kind : TokenKind → Lexeme → Type 0
+Kind k t = t.kind ≡ k
+
+-- a list that isn't empty: its first and the rest, as code takes them
+pub first_and_rest : {X : Type 0} (xs : List X) (d : X) → 1 ≤ length xs → xs ≡ slice_index_or xs 0 d ∷ take (length xs - 1) (drop 1 xs)
+first_and_rest [] d le = absurd (omega arith)
+first_and_rest (x ∷ xs) d le = ap (λ ys. x ∷ ys) (sym (take_rest (x ∷ xs) 1))
+
+pub empty_list : {X : Type 0} (xs : List X) → length xs < 1 → xs ≡ []
+empty_list [] lt = refl
+empty_list (x ∷ xs) lt = absurd (omega arith)
+
+le_test : (m n : ℕ) → m ≤ n → nat_le m n ≡ true
+le_test m n h = grind (arith, nat_tests)
+
+gt_test : (m n : ℕ) → n < m → nat_le m n ≡ false
+gt_test m n h = grind (arith, nat_tests)
+
+-- a token is taken, or is too deep, or may not come
+pub takes : (s r : State) (need : ℕ) (t : Lexeme) (ts : List Lexeme) → step s t ≡ Take need r → need ≤ 250 → run 250 s (t ∷ ts) ≡ run 250 r ts
+unfolding run
+takes s r need t ts e h =
+    ap (by_move 250 (λ q. run 250 q ts) t.kind (t ∷ ts)) e ∙ ap (λ x. by_level x (run 250 r ts) (t ∷ ts)) (le_test need 250 h)
+
+pub too_deep : (s r : State) (need : ℕ) (t : Lexeme) (ts : List Lexeme) → step s t ≡ Take need r → 250 < need → run 250 s (t ∷ ts) ≡ Refused 4 (t ∷ ts)
+unfolding run
+too_deep s r need t ts e h =
+    ap (by_move 250 (λ q. run 250 q ts) t.kind (t ∷ ts)) e ∙ ap (λ x. by_level x (run 250 r ts) (t ∷ ts)) (gt_test need 250 h)
+
+pub refuses : (s : State) (x : Expected) (t : Lexeme) (ts : List Lexeme) → step s t ≡ Fail x → run 250 s (t ∷ ts) ≡ Refused (fault_at x t.kind) (t ∷ ts)
+unfolding run
+refuses s x t ts e = ap (by_move 250 (λ q. run 250 q ts) t.kind (t ∷ ts)) e
+
+pub end_refuses : (s : State) → final s ≡ None → run 250 s [] ≡ Refused 3 []
+unfolding run
+end_refuses s e = ap at_end e
+
+pub same_step : (s r : State) (t : Lexeme) (ts : List Lexeme) → step s t ≡ step r t → run 250 s (t ∷ ts) ≡ run 250 r (t ∷ ts)
+unfolding run
+same_step s r t ts e = ap (by_move 250 (λ q. run 250 q ts) t.kind (t ∷ ts)) e
+
+pub same_end : (s r : State) → final s ≡ final r → run 250 s [] ≡ run 250 r []
+unfolding run
+same_end s r e = ap at_end e
+
+-- states that do the same with each token
+pub same_run : (s r : State) (ts : List Lexeme) → ((t : Lexeme) → step s t ≡ step r t) → final s ≡ final r → run 250 s ts ≡ run 250 r ts
+same_run s r [] e f = same_end s r f
+same_run s r (t ∷ ts) e f = same_step s r t ts (e t)
+
+-- states that do the same with a token of a kind
+pub same_at : (s r : State) (k : TokenKind) (ts : List Lexeme) → First (Kind k) ts → ((text : List ℕ) (p : Place) → step s (record { kind = k; text = text; place = p }) ≡ step r (record { kind = k; text = text; place = p })) → run 250 s ts ≡ run 250 r ts
+same_at s r k [] h e = absurd h
+same_at s r k (t ∷ ts) h e =
+    let P : TokenKind → Type 0 = λ j. step s (record { kind = j; text = t.text; place = t.place }) ≡ step r (record { kind = j; text = t.text; place = t.place }) in
+    same_step s r t ts (subst P (sym h) (e t.text t.place))
+
+-- a kind that is the first, and one that isn't
+pub first_of : (k : TokenKind) (ts : List Lexeme) → first_kind ts ≡ Some k → First (Kind k) ts
+first_of k [] e = cc (e)
+first_of k (t ∷ ts) e = cc (e)
+
+pub kind_of_first : (k : TokenKind) (ts : List Lexeme) → First (Kind k) ts → first_kind ts ≡ Some k
+kind_of_first k [] h = absurd h
+kind_of_first k (t ∷ ts) h = ap Some h
+
+pub cond_false : (b : Bool) (m n : Move) → b ≡ false → cond b m n ≡ n
+cond_false b m n e = ap (λ x. cond x m n) e
+
+pub passed : (k : TokenKind) (t : Lexeme) (m n : Move) → (t.kind ≡ k → ⊥) → cond (same k t.kind) m n ≡ n
+passed k t m n never = cond_false (same k t.kind) m n (not_same k t.kind never)
+
+pub chosen : (k : TokenKind) (t : Lexeme) (m n : Move) → t.kind ≡ k → cond (same k t.kind) m n ≡ m
+chosen k t m n e = ap (λ x. cond x m n) (is_same k t.kind e)
+
+-- a token that is due
+pub token_takes : (k : TokenKind) (need : ℕ) (x : Expected) (next : Lexeme → State) (t : Lexeme) (ts : List Lexeme) → t.kind ≡ k → need ≤ 250 → run 250 (token k need x next) (t ∷ ts) ≡ run 250 (next t) ts
+token_takes k need x next t ts e h = takes (token k need x next) (next t) need t ts (chosen k t (Take need (next t)) (Fail x) e) h
+
+pub token_deep : (k : TokenKind) (need : ℕ) (x : Expected) (next : Lexeme → State) (t : Lexeme) (ts : List Lexeme) → t.kind ≡ k → 250 < need → run 250 (token k need x next) (t ∷ ts) ≡ Refused 4 (t ∷ ts)
+token_deep k need x next t ts e h = too_deep (token k need x next) (next t) need t ts (chosen k t (Take need (next t)) (Fail x) e) h
+
+pub token_fails : (k : TokenKind) (need : ℕ) (x : Expected) (next : Lexeme → State) (ts : List Lexeme) → (First (Kind k) ts → ⊥) → run 250 (token k need x next) ts ≡ Refused (fault_of x ts) ts
+token_fails k need x next [] never = end_refuses (token k need x next) refl
+token_fails k need x next (t ∷ ts) never = refuses (token k need x next) x t ts (passed k t (Take need (next t)) (Fail x) never)
+
+-- what is expected matters only where the token is another
+pub token_as : (k : TokenKind) (need : ℕ) (x y : Expected) (next : Lexeme → State) (ts : List Lexeme) → First (Kind k) ts → run 250 (token k need x next) ts ≡ run 250 (token k need y next) ts
+token_as k need x y next [] h = absurd h
+token_as k need x y next (t ∷ ts) h =
+    same_step (token k need x next) (token k need y next) t ts (chosen k t (Take need (next t)) (Fail x) h ∙ sym (chosen k t (Take need (next t)) (Fail y) h))
+
+-- a token that may be missing
+pub optional_some : (k : TokenKind) (need : ℕ) (x : Expected) (some : Lexeme → State) (none : State) (ts : List Lexeme) → First (Kind k) ts → run 250 (optional k need some none) ts ≡ run 250 (token k need x some) ts
+optional_some k need x some none [] h = absurd h
+optional_some k need x some none (t ∷ ts) h =
+    same_step (optional k need some none) (token k need x some) t ts (chosen k t (Take need (some t)) (step none t) h ∙ sym (chosen k t (Take need (some t)) (Fail x) h))
+
+pub optional_none : (k : TokenKind) (need : ℕ) (some : Lexeme → State) (none : State) (ts : List Lexeme) → (First (Kind k) ts → ⊥) → run 250 (optional k need some none) ts ≡ run 250 none ts
+optional_none k need some none [] never = same_end (optional k need some none) none refl
+optional_none k need some none (t ∷ ts) never = same_step (optional k need some none) none t ts (passed k t (Take need (some t)) (step none t) never)

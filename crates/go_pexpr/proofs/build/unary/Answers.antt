@@ -1,0 +1,13 @@
+use Rattle.std.proofs.Common.{◌≡◌, map, ap, sym, ◌∙◌, arith}
+use Rattle.go_ast.specs.Trees as trees
+use Rattle.go_ast.specs.Heights.{height, type_height}
+use Rattle.go_ast.specs.Views.{type_of, expr_of, exprs_in, element_of, field_of, unary_of, binary_of}
+use Rattle.go_ast.proofs.Rows.{unary_seen, placed}
+use Rattle.go_pexpr.proofs.Built.{type_placed}
+use Rattle.go_pexpr.proofs.build.unary.Goals as goal
+
+pub invariant_of-result : goal.invariant_of-result
+invariant_of-result c = record { counted = omega (arith, ap height (unary_seen c.args.place c.args.operator c.in_ok-operand.operand c.args.operand.expr c.in_ok-operand.ensures.ok), c.args.operand.counted) }
+
+pub returns-clause-expr : goal.returns-clause-expr
+returns-clause-expr c = unary_seen c.args.place c.args.operator c.in_ok-operand.operand c.args.operand.expr c.in_ok-operand.ensures.ok

@@ -1,0 +1,5 @@
+pub mod Kinds
+pub mod Next
+pub mod Reads
+pub mod Tall
+pub mod Turns

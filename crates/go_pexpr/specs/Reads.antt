@@ -1,0 +1,92 @@
+-- What a function of the parser did.
+use Rattle.std.specs.Prelude.{◌≡◌, ℕ, List, [], ◌∷◌, map, length, Result, Ok, Err, Option, Some, None}
+use Rattle.go_scan.specs.declared.token.TokenKind.{TokenKind}
+use Rattle.go_scan.specs.declared.token.TokenKind.TheVariants as kinds
+use Rattle.go_ast.specs.Expected as expected
+use Rattle.go_ast.specs.Trees.{Name}
+use Rattle.go_ast.specs.Grammar.{Lexeme}
+use Rattle.go_ast.specs.Machine.{State, Refused, run}
+use Rattle.go_ast.specs.Tokens.{lexemes}
+use Rattle.go_pexpr.specs.declared.expected.Expected.{Expected}
+use Rattle.go_pexpr.specs.declared.expected.Expected.TheVariants as code
+use Rattle.go_pexpr.specs.declared.reader.Reader.{Reader}
+use Rattle.go_pexpr.specs.declared.reader.Fault.{Fault}
+use Rattle.go_pexpr.specs.declared.reader.Fault.TheVariants.{LeftOut, Parse, Deep}
+use Rattle.go_pexpr.specs.declared.reader.Refusal.{Refusal}
+use Rattle.go_pexpr.specs.declared.reader.Refusal.TheVariants.{Memory, Wrong}
+
+abbrev pub expected_of : Expected → expected.Expected
+expected_of code.Operand = expected.an_operand
+expected_of code.Value = expected.a_value
+expected_of code.Type = expected.a_type
+expected_of code.DeclaredType = expected.a_declared_type
+expected_of code.ParameterType = expected.a_parameter_type
+expected_of code.Length = expected.a_length
+expected_of code.Index = expected.an_index
+expected_of code.IndexEnd = expected.an_index_end
+expected_of code.SelectedName = expected.a_selected_name
+expected_of code.ElementEnd = expected.an_element_end
+expected_of code.FieldEnd = expected.a_field_end
+expected_of code.ResultEnd = expected.a_result_end
+expected_of code.Statement = expected.a_statement
+expected_of code.BehindName = expected.behind_a_name
+expected_of code.BehindJump = expected.behind_a_jump
+expected_of code.FunctionName = expected.a_function_name
+expected_of code.FunctionOpening = expected.a_function_opening
+expected_of code.Import = expected.an_import
+expected_of code.ImportPath = expected.an_import_path
+expected_of code.Another = expected.another
+
+-- the number of a fault
+abbrev pub number : Fault → ℕ
+number LeftOut = 2
+number Parse = 3
+number Deep = 4
+
+-- the token that a name is
+abbrev pub lexeme_of : Name → Lexeme
+lexeme_of n = record { kind = kinds.Name; text = n.text; place = n.place }
+
+-- the tokens that a reader has left, with their bytes, and how many they are
+abbrev pub left : Reader → List Lexeme
+left r = lexemes r.text.now r.tokens.now
+
+abbrev pub size : Reader → ℕ
+size r = length r.tokens.now
+
+-- there is a first token, and it is such
+abbrev pub First : (Lexeme → Type 0) → List Lexeme → Type 0
+First Is [] = ⊥
+First Is (t ∷ ts) = Is t
+
+-- the first token's kind, if there is one
+abbrev pub first_kind : List Lexeme → Option TokenKind
+first_kind [] = None
+first_kind (t ∷ ts) = Some t.kind
+
+-- the number of the fault where this is expected, and the first of these comes, or their end
+abbrev pub fault_of : expected.Expected → List Lexeme → ℕ
+fault_of x [] = 3
+fault_of x (t ∷ ts) = expected.fault_at x t.kind
+
+-- it is a fault of this number
+abbrev pub Says : ℕ → Refusal → Type 0
+Says n Memory = ⊥
+Says n (Wrong f) = number f ≡ n
+
+-- what is due behind what there may be
+abbrev pub either : {A : Type 0} → (A → State) → State → Option A → State
+either some none None = none
+either some none (Some a) = some a
+
+abbrev pub Failing : Refusal → State → Reader → Reader → Type 0
+Failing (Wrong f) before old new = run 250 before (left old) ≡ Refused (number f) (left new)
+Failing Memory before old new = Unit {0}
+
+abbrev pub Reading : {A : Type 0} → State → (A → State) → Reader → Result A Refusal → Reader → Type 0
+Reading before after old (Ok a) new = run 250 before (left old) ≡ run 250 (after a) (left new)
+Reading before after old (Err e) new = Failing e before old new
+
+-- From one state and the tokens of old it came to another state and the tokens of new, or failed.
+pub record Reads {A : Type 0} (before : State) (after : A → State) (old : Reader) (result : Result A Refusal) (new : Reader) : Type 0 where
+  pub by : Reading before after old result new

@@ -1,0 +1,50 @@
+-- What is due at some turns of an expression.
+use Rattle.std.specs.Prelude.{ℕ, ◌+◌, Option, Some, None, List, [], ◌∷◌, ◌++◌, false}
+use Rattle.go_scan.specs.declared.token.TokenKind.TheVariants as kinds
+use Rattle.go_ast.specs.Trees.{Name, TypeExpr, Expr, Element, parenthesized, selector, index, call, literal, expression_element, value_element, place_of, pack, pack_elements}
+use Rattle.go_ast.specs.Expected.{an_operand, an_element_end, a_selected_name, an_index, an_index_end, another}
+use Rattle.go_ast.specs.Grammar.{Lexeme, name_of, type_place, closing, closing_bracket, opening_brace}
+use Rattle.go_ast.specs.Machine.{State, token, optional, expr, list_start, list_end, arguments, elements, behind_element, name_if}
+
+-- behind an opening parenthesis
+abbrev pub behind_paren : ℕ → (Expr → State) → Lexeme → State
+behind_paren l next t = expr 5 false (l + 1) an_operand (λ e. token closing 0 another (λ _. next (parenthesized t.place e)))
+
+-- behind the brace of a value without a type
+abbrev pub behind_value : ℕ → (Element → State) → Lexeme → State
+behind_value l next o = list_start (elements (l + 1)) [] (λ es _. next (value_element o.place (pack_elements es)))
+
+-- the value of an element
+abbrev pub value_at : ℕ → (Element → State) → State
+value_at l next = optional opening_brace l (behind_value l next) (expr 5 false l an_operand (λ e. next (expression_element e)))
+
+-- the key that a value may be
+abbrev pub key_in : Element → Option Name
+key_in (expression_element e) = name_if e
+key_in (value_element p es) = None
+
+-- behind an element, the last of these
+abbrev pub behind_last : ℕ → List (Option Name × Element) → (List (Option Name × Element) → Lexeme → State) → Option Name → Element → State
+behind_last l front next key v = list_end (elements l) an_element_end (front ++ (key, v) ∷ []) next
+
+-- behind a value that may be the key of an element
+abbrev pub behind_first : ℕ → List (Option Name × Element) → (List (Option Name × Element) → Lexeme → State) → Element → State
+behind_first l front next (expression_element e) = behind_element l front next e
+behind_first l front next (value_element p es) = behind_last l front next None (value_element p es)
+
+-- an element
+abbrev pub element_at : ℕ → List (Option Name × Element) → (List (Option Name × Element) → Lexeme → State) → State
+element_at l front next = value_at l (behind_first l front next)
+
+-- behind the first token of each suffix of an operand
+abbrev pub behind_selector : Expr → (Expr → State) → Lexeme → State
+behind_selector e next t = token kinds.Name 0 a_selected_name (λ s. next (selector (place_of e) e (name_of s)))
+
+abbrev pub behind_index : ℕ → Expr → (Expr → State) → Lexeme → State
+behind_index l e next t = expr 5 false (l + 1) an_index (λ i. token closing_bracket 0 an_index_end (λ _. next (index (place_of e) e i)))
+
+abbrev pub behind_call : ℕ → Expr → (Expr → State) → Lexeme → State
+behind_call l e next t = list_start (arguments (l + 1)) [] (λ es _. next (call (place_of e) e (pack es)))
+
+abbrev pub behind_brace : ℕ → TypeExpr → (Expr → State) → Lexeme → State
+behind_brace l a next t = list_start (elements (l + 2)) [] (λ es _. next (literal (type_place a) a t.place (pack_elements es)))

@@ -1,0 +1,114 @@
+//! Reads types and expressions.
+ghost use Rattle.std.specs.Prelude.{◌≡◌, ◌<◌, ◌≤◌, List, [], ◌∷◌, map, OnOk, IfOk, Some};
+ghost use Rattle.go_ast.specs.Trees as trees;
+ghost use Rattle.go_ast.specs.Machine.{State, type, expr, more_exprs, optional_type, optional_expr};
+ghost use Rattle.go_ast.specs.Views.{type_of, expr_of};
+ghost use Rattle.go_pexpr.specs.Reads.{Reads, left, size, expected_of, either};
+
+use crate::expected::Expected;
+use crate::reader::{Reader, Refusal};
+use go_ast::expression::{Expr, TypeExpr};
+use go_scan::punctuation::Punctuation;
+use go_scan::token::TokenKind;
+
+impl<'a> Reader<'a> {
+    /// Reads a type.
+    pub fn type_from(&mut self, level: u32, expected: Expected) -> Result<TypeExpr, Refusal>
+        requires { level ≤ 252 }
+        ensures reads { (next : trees.TypeExpr → State) → Reads (type level (expected_of expected) next) (λ a. next (type_of a)) self.old result self.new }
+        ensures shorter { OnOk result (size self.new < size self.old) }
+    {
+        let a = self.type_at(level, expected)?;
+        Ok(a.type_expr)
+    }
+
+    /// Reads an expression.
+    pub fn expr_from(
+        &mut self,
+        header: bool,
+        level: u32,
+        expected: Expected,
+    ) -> Result<Expr, Refusal>
+        requires { level ≤ 252 }
+        ensures reads { (next : trees.Expr → State) → Reads (expr 5 header level (expected_of expected) next) (λ e. next (expr_of e)) self.old result self.new }
+        ensures shorter { OnOk result (size self.new < size self.old) }
+    {
+        let e = self.binary(5, header, level, expected)?;
+        Ok(e.expr)
+    }
+
+    /// Reads expressions with commas between them.
+    pub fn exprs(
+        &mut self,
+        header: bool,
+        level: u32,
+        expected: Expected,
+    ) -> Result<Vec<Expr>, Refusal>
+        requires { level ≤ 252 }
+        ensures reads { (next : List trees.Expr → State) → Reads (expr 5 header level (expected_of expected) (λ e. more_exprs header level (e ∷ []) next)) (λ es. next (map expr_of es.items)) self.old result self.new }
+        ensures shorter { OnOk result (size self.new < size self.old) }
+    {
+        let mut first = Vec::new(self.alloc);
+        first.push(self.expr_from(header, level, expected)?)?;
+        self.more_exprs(header, level, first)
+    }
+
+    /// Reads a type, if one begins here.
+    pub fn type_if(&mut self, level: u32, expected: Expected) -> Result<Option<TypeExpr>, Refusal>
+        requires { level ≤ 252 }
+        ensures reads { (some : trees.TypeExpr → State) (none : State) → Reads (optional_type level (expected_of expected) some none) (either (λ a. some (type_of a)) none) self.old result self.new }
+        ensures no_longer { OnOk result (size self.new ≤ size self.old) }
+        ensures shorter { IfOk result (λ o. (a : _) → o ≡ Some a → size self.new < size self.old) }
+    {
+        if self.begins_type() {
+            let a = self.type_from(level, expected)?;
+            return Ok(Some(a));
+        }
+        if self.is_left_out(expected) {
+            return Err(self.wrong(expected));
+        }
+        Ok(None)
+    }
+
+    /// Reads an expression, if one begins here.
+    pub fn expr_if(
+        &mut self,
+        header: bool,
+        level: u32,
+        expected: Expected,
+    ) -> Result<Option<Expr>, Refusal>
+        requires { level ≤ 252 }
+        ensures reads { (some : trees.Expr → State) (none : State) → Reads (optional_expr header level (expected_of expected) some none) (either (λ e. some (expr_of e)) none) self.old result self.new }
+        ensures no_longer { OnOk result (size self.new ≤ size self.old) }
+        ensures shorter { IfOk result (λ o. (e : _) → o ≡ Some e → size self.new < size self.old) }
+    {
+        if self.begins_expr() {
+            let e = self.expr_from(header, level, expected)?;
+            return Ok(Some(e));
+        }
+        if self.is_left_out(expected) {
+            return Err(self.wrong(expected));
+        }
+        Ok(None)
+    }
+
+    /// Reads the expressions behind these, with commas in front of them.
+    pub fn more_exprs(
+        &mut self,
+        header: bool,
+        level: u32,
+        front: Vec<Expr>,
+    ) -> Result<Vec<Expr>, Refusal>
+        requires { level ≤ 252 }
+        ensures reads { (next : List trees.Expr → State) → Reads (more_exprs header level (map expr_of front.items) next) (λ es. next (map expr_of es.items)) self.old result self.new }
+        ensures no_longer { OnOk result (size self.new ≤ size self.old) }
+    {
+        let comma = TokenKind::Punctuation(Punctuation::Comma);
+        let mut exprs = front;
+        'exprs: while self.is_next(comma) {
+            self.expect(comma, 0, Expected::Another)?;
+            exprs.push(self.expr_from(header, level, Expected::Operand)?)?;
+        }
+        Ok(exprs)
+    }
+}

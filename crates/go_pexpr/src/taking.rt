@@ -1,0 +1,270 @@
+//! Takes tokens.
+ghost use Rattle.std.specs.Prelude.{◌≡◌, ◌<◌, ◌≤◌, ◌↔◌, ◌⊎◌, List, [], ◌∷◌, length, map, Option, Some, None, OnOk, IfOk, IfErr, IsTrue, string_bytes};
+ghost use Rattle.go_ast.specs.Trees as trees;
+ghost use Rattle.go_scan.specs.declared.token.TokenKind.{TokenKind};
+ghost use Rattle.go_scan.specs.declared.token.TokenKind.TheVariants as kinds;
+ghost use Rattle.go_ast.specs.Grammar.{Lexeme, name_of};
+ghost use Rattle.go_ast.specs.Expected.{is_never_read, begins_left_out, begins_left_out_type, is_left_out_at};
+ghost use Rattle.go_ast.specs.Machine.{State, token, optional, names};
+ghost use Rattle.go_ast.specs.Tokens.{LiesIn};
+ghost use Rattle.go_ast.specs.Tokens.{lexeme, bytes_of};
+ghost use Rattle.go_pexpr.specs.Next.{left_out_at};
+ghost use Rattle.go_pexpr.specs.Reads.{Reads, Says, First, first_kind, fault_of, left, size, lexeme_of, either, expected_of};
+
+use crate::expected::Expected;
+use crate::kind::is_kind;
+use crate::literal::text_from;
+use crate::reader::{Fault, LEVELS, Reader, Refusal};
+use go_ast::name::Name;
+use go_scan::keyword::Keyword;
+use go_scan::punctuation::Punctuation;
+use go_scan::token::{Token, TokenKind};
+
+/// Whether a token of a kind belongs to what is left out of Go, wherever it stands.
+fn is_never_read(kind: TokenKind) -> bool
+    ensures { result ≡ is_never_read kind }
+{
+    matches!(
+        kind,
+        TokenKind::Keyword(
+            Keyword::Chan
+                | Keyword::Defer
+                | Keyword::Go
+                | Keyword::Goto
+                | Keyword::Interface
+                | Keyword::Map
+                | Keyword::Select
+        ) | TokenKind::Punctuation(Punctuation::Arrow | Punctuation::Ellipsis | Punctuation::Tilde)
+    )
+}
+
+/// Whether a function literal, a function type or a pointer begins with a token of a kind.
+fn begins_left_out(kind: TokenKind) -> bool
+    ensures { result ≡ begins_left_out kind }
+{
+    matches!(
+        kind,
+        TokenKind::Keyword(Keyword::Func)
+            | TokenKind::Punctuation(Punctuation::Star | Punctuation::Ampersand)
+    )
+}
+
+/// Whether a type that is left out begins with a token of a kind.
+fn begins_left_out_type(kind: TokenKind) -> bool
+    ensures { result ≡ begins_left_out_type kind }
+{
+    kind == TokenKind::Punctuation(Punctuation::OpenParenthesis) || begins_left_out(kind)
+}
+
+/// Whether a token of a kind belongs to what is left out of Go where this is expected.
+fn is_left_out_at(expected: Expected, kind: TokenKind) -> bool
+    ensures { result ≡ is_left_out_at (expected_of expected) kind }
+{
+    match (expected, kind) {
+        (Expected::Value, TokenKind::Keyword(Keyword::Range)) => true,
+        (Expected::DeclaredType, TokenKind::Punctuation(Punctuation::Assign)) => true,
+        (Expected::ParameterType, TokenKind::Punctuation(Punctuation::CloseParenthesis)) => true,
+        (Expected::Length, TokenKind::Punctuation(Punctuation::CloseBracket)) => true,
+        (Expected::Index, TokenKind::Punctuation(Punctuation::CloseBracket | Punctuation::Colon)) =>
+            true,
+        (Expected::IndexEnd, TokenKind::Punctuation(Punctuation::Colon)) => true,
+        (Expected::SelectedName, TokenKind::Punctuation(Punctuation::OpenParenthesis)) => true,
+        (Expected::ElementEnd, TokenKind::Punctuation(Punctuation::Colon)) => true,
+        (Expected::FieldEnd, TokenKind::String) => true,
+        (
+            Expected::ResultEnd,
+            TokenKind::Name
+            | TokenKind::Punctuation(Punctuation::OpenBracket)
+            | TokenKind::Keyword(Keyword::Struct),
+        ) => true,
+        (Expected::Statement, TokenKind::Keyword(Keyword::Type)) => true,
+        (Expected::BehindName, TokenKind::Punctuation(Punctuation::Colon)) => true,
+        (Expected::BehindJump, TokenKind::Name) => true,
+        (
+            Expected::FunctionName,
+            TokenKind::Punctuation(Punctuation::OpenParenthesis | Punctuation::OpenBracket),
+        ) => true,
+        (Expected::FunctionOpening, TokenKind::Punctuation(Punctuation::OpenBracket)) => true,
+        (Expected::Import, TokenKind::Punctuation(Punctuation::Period) | TokenKind::String) => true,
+        (Expected::ImportPath, TokenKind::String) => true,
+        (
+            Expected::Operand
+            | Expected::Value
+            | Expected::Length
+            | Expected::Index
+            | Expected::Statement,
+            _,
+        ) => begins_left_out(kind),
+        (Expected::Type | Expected::DeclaredType | Expected::ParameterType, _) => {
+            begins_left_out_type(kind)
+        }
+        _ => false,
+    }
+}
+
+/// The bytes of a token.
+pub fn spelling(text: &[u8], token: Token) -> &[u8]
+    requires { LiesIn text.now token }
+    ensures { result.now ≡ bytes_of text.now token }
+{
+    &text[token.start..token.end]
+}
+
+impl<'a> Reader<'a> {
+    /// The kind of the next token.
+    pub fn kind(&self) -> Option<TokenKind>
+        ensures { result ≡ first_kind (left self.now) }
+    {
+        match self.tokens {
+            [token, ..] => Some(token.kind),
+            [] => None,
+        }
+    }
+
+    /// Whether the next token is of a kind.
+    pub fn is_next(&self, kind: TokenKind) -> bool
+        ensures { IsTrue result ↔ First (λ t. t.kind ≡ kind) (left self.now) }
+    {
+        match self.tokens {
+            [token, ..] => is_kind(*token, kind),
+            [] => false,
+        }
+    }
+
+    /// Whether the next token belongs to what is left out of Go where this is expected.
+    pub(crate) fn is_left_out(&self, expected: Expected) -> bool
+        ensures { result ≡ left_out_at (expected_of expected) (left self.now) }
+    {
+        match self.tokens {
+            [token, ..] => is_left_out_at(expected, token.kind),
+            [] => false,
+        }
+    }
+
+    /// The refusal of the next token, or of the end, where this is expected.
+    pub fn wrong(&self, expected: Expected) -> Refusal
+        ensures { Says (fault_of (expected_of expected) (left self.now)) result }
+    {
+        match self.tokens {
+            [token, ..] if is_never_read(token.kind) || is_left_out_at(expected, token.kind) => {
+                Refusal::Wrong(Fault::LeftOut)
+            }
+            _ => Refusal::Wrong(Fault::Parse),
+        }
+    }
+
+    /// Takes a token of a kind, at which a node of a level begins.
+    pub fn expect(
+        &mut self,
+        kind: TokenKind,
+        need: u32,
+        expected: Expected,
+    ) -> Result<Token, Refusal>
+        ensures reads { (next : Lexeme → State) → Reads (token kind need (expected_of expected) next) (λ t. next (lexeme self.old.text.now t)) self.old result self.new }
+        ensures kind { IfOk result (λ t. t.kind ≡ kind) }
+        ensures stands { IfOk result (LiesIn self.old.text.now) }
+        ensures text { self.new.text.now ≡ self.old.text.now }
+        ensures fits { OnOk result (need ≤ 250) }
+        ensures shorter { OnOk result (size self.new < size self.old) }
+    {
+        let [token, rest @ ..] = self.tokens else {
+            return Err(self.wrong(expected));
+        };
+        if !is_kind(*token, kind) {
+            return Err(self.wrong(expected));
+        }
+        if need > LEVELS {
+            return Err(Refusal::Wrong(Fault::Deep));
+        }
+        let token = *token;
+        self.tokens = rest;
+        Ok(token)
+    }
+
+    /// Takes a token of a kind, if it is the next.
+    pub fn accept(&mut self, kind: TokenKind, need: u32) -> Result<Option<Token>, Refusal>
+        ensures reads { (some : Lexeme → State) (none : State) → Reads (optional kind need some none) (either (λ t. some (lexeme self.old.text.now t)) none) self.old result self.new }
+        ensures text { self.new.text.now ≡ self.old.text.now }
+        ensures no_longer { OnOk result (size self.new ≤ size self.old) }
+        ensures shorter { IfOk result (λ o. (t : _) → o ≡ Some t → size self.new < size self.old) }
+        ensures fits { IfOk result (λ o. (t : _) → o ≡ Some t → need ≤ 250) }
+    {
+        if !self.is_next(kind) {
+            return Ok(None);
+        }
+        let token = self.expect(kind, need, Expected::Another)?;
+        Ok(Some(token))
+    }
+
+    /// Takes the next token.
+    pub fn bump(&mut self, need: u32) -> Result<Token, Refusal>
+        ensures reads { (k : TokenKind) (x : _) (next : Lexeme → State) → First (λ t. t.kind ≡ k) (left self.old) → Reads (token k need x next) (λ t. next (lexeme self.old.text.now t)) self.old result self.new }
+        ensures fits { OnOk result (need ≤ 250) }
+        ensures shorter { OnOk result (size self.new < size self.old) }
+    {
+        match self.kind() {
+            Some(kind) => self.expect(kind, need, Expected::Another),
+            None => Err(self.wrong(Expected::Another)),
+        }
+    }
+
+    /// The text of a name or an integer literal.
+    pub(crate) fn text_of(&self, token: Token) -> Result<String, Refusal>
+        requires stands { LiesIn self.now.text.now token }
+        requires kind { (token.kind ≡ kinds.Name) ⊎ (token.kind ≡ kinds.Integer) }
+        ensures ok { IfOk result (λ s. string_bytes s ≡ bytes_of self.now.text.now token) }
+        ensures err { IfErr result (λ e. e ≡ Refusal.Memory) }
+    {
+        let text = text_from(self.alloc, spelling(self.text, token))?;
+        Ok(text)
+    }
+
+    /// The name that a token is.
+    fn name_at(&self, token: Token) -> Result<Name, Refusal>
+        requires stands { LiesIn self.now.text.now token }
+        requires kind { token.kind ≡ kinds.Name }
+        ensures ok { IfOk result (λ n. lexeme_of n ≡ lexeme self.now.text.now token) }
+        ensures err { IfErr result (λ e. e ≡ Refusal.Memory) }
+    {
+        let text = self.text_of(token)?;
+        Ok(Name::new(text, token.place))
+    }
+
+    /// Takes a name.
+    pub fn name(&mut self, need: u32, expected: Expected) -> Result<Name, Refusal>
+        ensures reads { (next : Lexeme → State) → Reads (token kinds.Name need (expected_of expected) next) (λ n. next (lexeme_of n)) self.old result self.new }
+        ensures fits { OnOk result (need ≤ 250) }
+        ensures shorter { OnOk result (size self.new < size self.old) }
+    {
+        let token = self.expect(TokenKind::Name, need, expected)?;
+        self.name_at(token)
+    }
+
+    /// Takes a name, if it is the next.
+    pub fn accept_name(&mut self, need: u32) -> Result<Option<Name>, Refusal>
+        ensures reads { (some : Lexeme → State) (none : State) → Reads (optional kinds.Name need some none) (either (λ n. some (lexeme_of n)) none) self.old result self.new }
+        ensures no_longer { OnOk result (size self.new ≤ size self.old) }
+    {
+        if !self.is_next(TokenKind::Name) {
+            return Ok(None);
+        }
+        let name = self.name(need, Expected::Another)?;
+        Ok(Some(name))
+    }
+
+    /// Takes names with commas between them.
+    pub fn names(&mut self, need: u32) -> Result<Vec<Name>, Refusal>
+        ensures reads { (next : List trees.Name → State) → Reads (names need next) (λ ns. next ns.items) self.old result self.new }
+        ensures fits { OnOk result (need ≤ 250) }
+        ensures shorter { OnOk result (size self.new < size self.old) }
+    {
+        let comma = TokenKind::Punctuation(Punctuation::Comma);
+        let mut names = Vec::new(self.alloc);
+        names.push(self.name(need, Expected::Another)?)?;
+        'names: while self.is_next(comma) {
+            self.expect(comma, 0, Expected::Another)?;
+            names.push(self.name(0, Expected::Another)?)?;
+        }
+        Ok(names)
+    }
+}

@@ -1,0 +1,388 @@
+//! Reads types and expressions.
+ghost use Rattle.std.specs.Prelude.{◌≡◌, ◌<◌, ◌≤◌, ◌+◌, ℕ, Bool, List, [], ◌∷◌, ◌++◌, map, Option, Some, None, IfOk, OnOk, false};
+ghost use Rattle.go_ast.specs.Trees as trees;
+ghost use Rattle.go_scan.specs.declared.token.TokenKind.TheVariants as kinds;
+ghost use Rattle.go_scan.specs.declared.keyword.Keyword.TheVariants as keywords;
+ghost use Rattle.go_ast.specs.Expected.{an_operand, another};
+ghost use Rattle.go_ast.specs.Grammar.{Lexeme, opening, opening_bracket, opening_brace, closing_brace, period};
+ghost use Rattle.go_ast.specs.Machine.{State, Item, token, type, expr, suffixes, list_start, list_end, fields, arguments, elements, keyword, behind_bracket, behind_struct, behind_literal_type, literal_type};
+ghost use Rattle.go_ast.specs.Views.{type_of, expr_of, exprs_in, value_of, element_of, field_of};
+ghost use Rattle.go_pexpr.specs.Next.{sign_at};
+ghost use Rattle.go_pexpr.specs.Reads.{Reads, First, left, size, expected_of};
+ghost use Rattle.go_pexpr.specs.Turns.{behind_paren, behind_selector, behind_index, behind_call, behind_brace, behind_last, element_at, value_at};
+
+use crate::build::{
+    Arguments, Elements, Fields, Tall, TallElement, TallType, TallValue, array, binary,
+    braced_value, call, conversion, element, expression_value, index, key_in, literal, named_by,
+    parenthesized, selector, structure, unary,
+};
+use crate::expected::Expected;
+use crate::operators::{Beginning, Suffix};
+use crate::reader::{Reader, Refusal};
+use go_ast::expression::{Element, ElementValue, Expr, ExprKind, Field, TypeExpr, TypeKind};
+use go_ast::name::Name;
+use go_scan::keyword::Keyword;
+use go_scan::punctuation::Punctuation;
+use go_scan::token::TokenKind;
+
+impl<'a> Reader<'a> {
+    /// Reads a type.
+    #[cycle(tree)]
+    pub(crate) fn type_at(&mut self, level: u32, expected: Expected) -> Result<TallType, Refusal>
+        requires { level ≤ 253 }
+        ensures reads { (next : trees.TypeExpr → State) → Reads (type level (expected_of expected) next) (λ a. next (type_of a.type_expr)) self.old result self.new }
+        ensures fits { IfOk result (λ a. level + a.height ≤ 251) }
+        ensures shorter { OnOk result (size self.new < size self.old) }
+    {
+        match self.beginning() {
+            Beginning::Name => self.named_type(level),
+            Beginning::Bracket => self.array_type(level),
+            Beginning::Structure => self.struct_type(level),
+            _ => Err(self.wrong(expected)),
+        }
+    }
+
+    /// Reads the type of arrays.
+    #[cycle(tree)]
+    fn array_type(&mut self, level: u32) -> Result<TallType, Refusal>
+        requires { level ≤ 253 }
+        ensures reads { (next : trees.TypeExpr → State) → Reads (token opening_bracket (level + 1) another (behind_bracket level next)) (λ a. next (type_of a.type_expr)) self.old result self.new }
+        ensures fits { IfOk result (λ a. level + a.height ≤ 251) }
+        ensures shorter { OnOk result (size self.new < size self.old) }
+    {
+        let open = TokenKind::Punctuation(Punctuation::OpenBracket);
+        let close = TokenKind::Punctuation(Punctuation::CloseBracket);
+        let bracket = self.expect(open, level + 1, Expected::Another)?;
+        let length = self.binary(5, false, level + 1, Expected::Length)?;
+        self.expect(close, 0, Expected::Another)?;
+        let item = self.type_at(level + 1, Expected::Type)?;
+        array(self.alloc, bracket.place, length, item)
+    }
+
+    /// Reads the type of structs.
+    #[cycle(tree)]
+    fn struct_type(&mut self, level: u32) -> Result<TallType, Refusal>
+        requires { level ≤ 253 }
+        ensures reads { (next : trees.TypeExpr → State) → Reads (token (keyword keywords.Struct) level another (behind_struct level next)) (λ a. next (type_of a.type_expr)) self.old result self.new }
+        ensures fits { IfOk result (λ a. level + a.height ≤ 251) }
+        ensures shorter { OnOk result (size self.new < size self.old) }
+    {
+        let open = TokenKind::Punctuation(Punctuation::OpenBrace);
+        let word = self.expect(
+            TokenKind::Keyword(Keyword::Struct),
+            level,
+            Expected::Another,
+        )?;
+        self.expect(open, 0, Expected::Another)?;
+        let fields = self.fields(level + 1)?;
+        Ok(structure(word.place, fields))
+    }
+
+    /// Reads the fields of a struct and the brace that closes them.
+    #[cycle(tree)]
+    fn fields(&mut self, level: u32) -> Result<Fields, Refusal>
+        requires { level ≤ 251 }
+        ensures reads { (next : List (List trees.Name × trees.TypeExpr) → State) → Reads (list_start (fields level) [] (λ fs _. next fs)) (λ fs. next (map field_of fs.items.items)) self.old result self.new }
+        ensures fits { IfOk result (λ fs. level + fs.height ≤ 251) }
+        ensures shorter { OnOk result (size self.new < size self.old) }
+    {
+        let close = TokenKind::Punctuation(Punctuation::CloseBrace);
+        let semicolon = TokenKind::Punctuation(Punctuation::Semicolon);
+        let mut items = Vec::new(self.alloc);
+        let mut height = 0;
+        'fields: while !self.is_next(close) {
+            let names = self.names(level)?;
+            let item = self.type_at(level, Expected::Type)?;
+            height = item.height.max(height);
+            let type_expr = item.type_expr;
+            items.push(Field { names, type_expr })?;
+            if !self.is_next(close) {
+                self.expect(semicolon, 0, Expected::FieldEnd)?;
+            }
+        }
+        self.expect(close, 0, Expected::Another)?;
+        Ok(Fields { items, height })
+    }
+
+    /// Reads an expression of operators of so many levels.
+    #[cycle(tree)]
+    pub(crate) fn binary(
+        &mut self,
+        limit: u8,
+        header: bool,
+        level: u32,
+        expected: Expected,
+    ) -> Result<Tall, Refusal>
+        requires limit { limit ≤ 5 }
+        requires level { level ≤ 252 }
+        ensures reads { (next : trees.Expr → State) → Reads (expr limit header level (expected_of expected) next) (λ e. next (expr_of e.expr)) self.old result self.new }
+        ensures fits { IfOk result (λ e. level + e.height ≤ 251) }
+        ensures shorter { OnOk result (size self.new < size self.old) }
+    {
+        if limit == 0 {
+            return self.unary(header, level, expected);
+        }
+        let tightness = limit - 1;
+        let mut left = self.binary(tightness, header, level, expected)?;
+        'operators: while let Some(operator) = self.operator(tightness) {
+            self.bump(level + left.height)?;
+            let right = self.binary(tightness, header, level + 1, Expected::Operand)?;
+            left = binary(self.alloc, operator, left, right)?;
+        }
+        Ok(left)
+    }
+
+    /// Reads an expression without operators between operands.
+    #[cycle(tree)]
+    fn unary(&mut self, header: bool, level: u32, expected: Expected) -> Result<Tall, Refusal>
+        requires { level ≤ 252 }
+        ensures reads { (next : trees.Expr → State) → Reads (expr 0 header level (expected_of expected) next) (λ e. next (expr_of e.expr)) self.old result self.new }
+        ensures fits { IfOk result (λ e. level + e.height ≤ 251) }
+        ensures shorter { OnOk result (size self.new < size self.old) }
+    {
+        let Some(operator) = self.sign() else {
+            let operand = self.operand(level, expected)?;
+            return self.suffixes(operand, header, level);
+        };
+        let token = self.bump(level + 1)?;
+        let operand = self.unary(header, level + 1, Expected::Operand)?;
+        unary(self.alloc, token.place, operator, operand)
+    }
+
+    /// Reads an operand.
+    #[cycle(tree)]
+    fn operand(&mut self, level: u32, expected: Expected) -> Result<Tall, Refusal>
+        requires level { level ≤ 252 }
+        requires sign { sign_at (left self.old) ≡ None }
+        ensures reads { (h : Bool) (next : trees.Expr → State) → Reads (expr 0 h level (expected_of expected) next) (λ e. suffixes h level (expr_of e.expr) next) self.old result self.new }
+        ensures fits { IfOk result (λ e. level + e.height ≤ 251) }
+        ensures shorter { OnOk result (size self.new < size self.old) }
+    {
+        match self.beginning() {
+            Beginning::Name => self.name_operand(level),
+            Beginning::Integer => self.integer_operand(level),
+            Beginning::Rune => self.rune_operand(level),
+            Beginning::String => self.string_operand(level),
+            Beginning::Parenthesis => self.parenthesized(level),
+            Beginning::Bracket => {
+                let array = self.array_type(level + 1)?;
+                self.typed(array, level)
+            }
+            Beginning::Structure => {
+                let structure = self.struct_type(level + 1)?;
+                self.typed(structure, level)
+            }
+            Beginning::Other => Err(self.wrong(expected)),
+        }
+    }
+
+    /// Reads an expression in parentheses.
+    #[cycle(tree)]
+    fn parenthesized(&mut self, level: u32) -> Result<Tall, Refusal>
+        requires { level ≤ 252 }
+        ensures reads { (next : trees.Expr → State) → Reads (token opening (level + 1) another (behind_paren level next)) (λ e. next (expr_of e.expr)) self.old result self.new }
+        ensures fits { IfOk result (λ e. level + e.height ≤ 251) }
+        ensures shorter { OnOk result (size self.new < size self.old) }
+    {
+        let open = TokenKind::Punctuation(Punctuation::OpenParenthesis);
+        let close = TokenKind::Punctuation(Punctuation::CloseParenthesis);
+        let token = self.expect(open, level + 1, Expected::Another)?;
+        let inner = self.binary(5, false, level + 1, Expected::Operand)?;
+        self.expect(close, 0, Expected::Another)?;
+        parenthesized(self.alloc, token.place, inner)
+    }
+
+    /// Reads what is behind an array or struct type that begins an operand.
+    #[cycle(tree)]
+    fn typed(&mut self, a: TallType, level: u32) -> Result<Tall, Refusal>
+        requires { level + 1 + a.height ≤ 251 }
+        ensures reads { (next : trees.Expr → State) → Reads (behind_literal_type level next (type_of a.type_expr)) (λ e. next (expr_of e.expr)) self.old result self.new }
+        ensures fits { IfOk result (λ e. level + e.height ≤ 251) }
+        ensures shorter { OnOk result (size self.new < size self.old) }
+    {
+        let brace = TokenKind::Punctuation(Punctuation::OpenBrace);
+        if self.is_next(brace) {
+            let token = self.expect(brace, level + 1, Expected::Another)?;
+            let elements = self.elements(level + 2)?;
+            return literal(self.alloc, a, token.place, elements);
+        }
+        let open = TokenKind::Punctuation(Punctuation::OpenParenthesis);
+        let comma = TokenKind::Punctuation(Punctuation::Comma);
+        let close = TokenKind::Punctuation(Punctuation::CloseParenthesis);
+        self.expect(open, level + 1, Expected::Another)?;
+        let value = self.binary(5, false, level + 1, Expected::Operand)?;
+        self.accept(comma, 0)?;
+        self.expect(close, 0, Expected::Another)?;
+        conversion(self.alloc, a, value)
+    }
+
+    /// Reads the suffixes of an operand.
+    #[cycle(tree)]
+    fn suffixes(&mut self, operand: Tall, header: bool, level: u32) -> Result<Tall, Refusal>
+        requires { level + operand.height ≤ 251 }
+        ensures reads { (next : trees.Expr → State) → Reads (suffixes header level (expr_of operand.expr) next) (λ e. next (expr_of e.expr)) self.old result self.new }
+        ensures fits { IfOk result (λ e. level + e.height ≤ 251) }
+        ensures no_longer { OnOk result (size self.new ≤ size self.old) }
+    {
+        let mut front = operand;
+        'suffixes: while let Some(suffix) = self.suffix(header, &front.expr) {
+            front = match suffix {
+                Suffix::Selector => self.selected(front, level)?,
+                Suffix::Index => self.indexed(front, level)?,
+                Suffix::Call => self.called(front, level)?,
+                Suffix::Literal => self.named_literal(front, level)?,
+            };
+        }
+        Ok(front)
+    }
+
+    /// Reads a period and the name behind it.
+    fn selected(&mut self, operand: Tall, level: u32) -> Result<Tall, Refusal>
+        requires { level + operand.height ≤ 251 }
+        ensures reads { (next : trees.Expr → State) → Reads (token period (level + operand.height) another (behind_selector (expr_of operand.expr) next)) (λ e. next (expr_of e.expr)) self.old result self.new }
+        ensures fits { IfOk result (λ e. level + e.height ≤ 251) }
+        ensures shorter { OnOk result (size self.new < size self.old) }
+    {
+        let period = TokenKind::Punctuation(Punctuation::Period);
+        self.expect(period, level + operand.height, Expected::Another)?;
+        let name = self.name(0, Expected::SelectedName)?;
+        selector(self.alloc, operand, name)
+    }
+
+    /// Reads an index.
+    #[cycle(tree)]
+    fn indexed(&mut self, operand: Tall, level: u32) -> Result<Tall, Refusal>
+        requires { level + operand.height ≤ 251 }
+        ensures reads { (next : trees.Expr → State) → Reads (token opening_bracket (level + operand.height) another (behind_index level (expr_of operand.expr) next)) (λ e. next (expr_of e.expr)) self.old result self.new }
+        ensures fits { IfOk result (λ e. level + e.height ≤ 251) }
+        ensures shorter { OnOk result (size self.new < size self.old) }
+    {
+        let open = TokenKind::Punctuation(Punctuation::OpenBracket);
+        let close = TokenKind::Punctuation(Punctuation::CloseBracket);
+        self.expect(open, level + operand.height, Expected::Another)?;
+        let at = self.binary(5, false, level + 1, Expected::Index)?;
+        self.expect(close, 0, Expected::IndexEnd)?;
+        index(self.alloc, operand, at)
+    }
+
+    /// Reads the arguments of a call.
+    #[cycle(tree)]
+    fn called(&mut self, operand: Tall, level: u32) -> Result<Tall, Refusal>
+        requires { level + operand.height ≤ 251 }
+        ensures reads { (next : trees.Expr → State) → Reads (token opening (level + operand.height) another (behind_call level (expr_of operand.expr) next)) (λ e. next (expr_of e.expr)) self.old result self.new }
+        ensures fits { IfOk result (λ e. level + e.height ≤ 251) }
+        ensures shorter { OnOk result (size self.new < size self.old) }
+    {
+        let open = TokenKind::Punctuation(Punctuation::OpenParenthesis);
+        self.expect(open, level + operand.height, Expected::Another)?;
+        let arguments = self.arguments(level + 1)?;
+        call(self.alloc, operand, arguments)
+    }
+
+    /// Reads the arguments of a call and the parenthesis that closes them.
+    #[cycle(tree)]
+    fn arguments(&mut self, level: u32) -> Result<Arguments, Refusal>
+        requires { level ≤ 251 }
+        ensures reads { (next : List trees.Expr → State) → Reads (list_start (arguments level) [] (λ es _. next es)) (λ es. next (map expr_of es.items.items)) self.old result self.new }
+        ensures fits { IfOk result (λ es. level + es.height ≤ 251) }
+        ensures shorter { OnOk result (size self.new < size self.old) }
+    {
+        let close = TokenKind::Punctuation(Punctuation::CloseParenthesis);
+        let comma = TokenKind::Punctuation(Punctuation::Comma);
+        let mut items = Vec::new(self.alloc);
+        let mut height = 0;
+        'arguments: while !self.is_next(close) {
+            let item = self.binary(5, false, level, Expected::Operand)?;
+            height = item.height.max(height);
+            items.push(item.expr)?;
+            if !self.is_next(close) {
+                self.expect(comma, 0, Expected::Another)?;
+            }
+        }
+        self.expect(close, 0, Expected::Another)?;
+        Ok(Arguments { items, height })
+    }
+
+    /// Reads the elements of a literal of the type that an operand names.
+    #[cycle(tree)]
+    fn named_literal(&mut self, operand: Tall, level: u32) -> Result<Tall, Refusal>
+        requires { level + operand.height ≤ 251 }
+        ensures reads { (a : trees.TypeExpr) (next : trees.Expr → State) → literal_type (expr_of operand.expr) ≡ Some a → Reads (token opening_brace (level + 1) another (behind_brace level a next)) (λ e. next (expr_of e.expr)) self.old result self.new }
+        ensures fits { IfOk result (λ e. level + e.height ≤ 251) }
+        ensures shorter { OnOk result (size self.new < size self.old) }
+    {
+        let open = TokenKind::Punctuation(Punctuation::OpenBrace);
+        let token = self.expect(open, level + 1, Expected::Another)?;
+        let elements = self.elements(level + 2)?;
+        match named_by(operand.expr) {
+            Some(a) => literal(self.alloc, a, token.place, elements),
+            None => Err(self.wrong(Expected::Another)),
+        }
+    }
+
+    /// Reads the elements of a literal and the brace that closes them.
+    #[cycle(tree)]
+    fn elements(&mut self, level: u32) -> Result<Elements, Refusal>
+        requires { level ≤ 252 }
+        ensures reads { (next : List (Option trees.Name × trees.Element) → State) → Reads (list_start (elements level) [] (λ es _. next es)) (λ es. next (map element_of es.items.items)) self.old result self.new }
+        ensures fits { IfOk result (λ es. (level ≤ 251) → level + es.height ≤ 251) }
+        ensures shorter { OnOk result (size self.new < size self.old) }
+    {
+        let close = TokenKind::Punctuation(Punctuation::CloseBrace);
+        let comma = TokenKind::Punctuation(Punctuation::Comma);
+        let mut items = Vec::new(self.alloc);
+        let mut height = 0;
+        'elements: while !self.is_next(close) {
+            let item = self.element(level)?;
+            height = item.height.max(height);
+            items.push(item.element)?;
+            if !self.is_next(close) {
+                self.expect(comma, 0, Expected::ElementEnd)?;
+            }
+        }
+        self.expect(close, 0, Expected::Another)?;
+        Ok(Elements { items, height })
+    }
+
+    /// Reads an element of a literal: a value, or a key, a colon and a value. Behind a key that is no name, the colon is
+    /// left where it is, since it is refused there.
+    #[cycle(tree)]
+    fn element(&mut self, level: u32) -> Result<TallElement, Refusal>
+        requires { level ≤ 252 }
+        ensures reads { (front : List (Option trees.Name × trees.Element)) (next : List (Option trees.Name × trees.Element) → Lexeme → State) → Reads (element_at level front next) (λ e. behind_last level front next e.element.key (value_of e.element.value)) self.old result self.new }
+        ensures fits { IfOk result (λ e. level + e.height ≤ 251) }
+        ensures shorter { OnOk result (size self.new < size self.old) }
+    {
+        let colon = TokenKind::Punctuation(Punctuation::Colon);
+        let first = self.value(level)?;
+        if !self.is_next(colon) {
+            return Ok(element(None, first));
+        }
+        match key_in(first) {
+            Ok(key) => {
+                self.expect(colon, 0, Expected::Another)?;
+                let value = self.value(level)?;
+                Ok(element(Some(key), value))
+            }
+            Err(value) => Ok(element(None, value)),
+        }
+    }
+
+    /// Reads the value of an element: an expression, or elements without the type of their literal.
+    #[cycle(tree)]
+    fn value(&mut self, level: u32) -> Result<TallValue, Refusal>
+        requires { level ≤ 252 }
+        ensures reads { (next : trees.Element → State) → Reads (value_at level next) (λ v. next (value_of v.value)) self.old result self.new }
+        ensures fits { IfOk result (λ v. level + v.height ≤ 251) }
+        ensures shorter { OnOk result (size self.new < size self.old) }
+    {
+        let open = TokenKind::Punctuation(Punctuation::OpenBrace);
+        if self.is_next(open) {
+            let token = self.expect(open, level, Expected::Another)?;
+            let elements = self.elements(level + 1)?;
+            return Ok(braced_value(token.place, elements));
+        }
+        let expr = self.binary(5, false, level, Expected::Operand)?;
+        Ok(expression_value(expr))
+    }
+}
