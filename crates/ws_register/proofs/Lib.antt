@@ -1,3 +1,5 @@
+mod Cloned
 mod Ends
 mod Files
 mod Listed
+mod Walks

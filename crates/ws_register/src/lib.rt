@@ -1,7 +1,7 @@
 //! The greatest write for each path.
 #![tactic(auto)]
 
-ghost use Rattle.std.specs.Prelude.{◌≡◌, ℕ, ◌+◌, ◌++◌, ◌∷◌, [], List, OnOk, OnErr, IfOk, IfErr, true, false, Some, None, string_bytes, option_copied, option_map, string_cmp, map as map_list};
+ghost use Rattle.std.specs.Prelude.{◌≡◌, ℕ, ◌+◌, ◌++◌, ◌∷◌, [], List, OnOk, OnErr, IfOk, IfErr, IfSome, true, false, Some, None, string_bytes, option_copied, option_map, string_cmp, map as map_list};
 ghost use Rattle.std.specs.FinMap as map;
 ghost use Rattle.std.specs.List.{Contains};
 ghost use Rattle.std.specs.Ordering.{is_gt, is_lt};
@@ -11,7 +11,7 @@ ghost use Rattle.std.specs.Range.Bound.{IsForward};
 ghost use Rattle.ws_version.specs.Writes.{Write as AWrite, Held as AHeld, held_cmp, path_cmp, greater_held};
 ghost use Rattle.ws_version.specs.Kept.{StandsFor, StandsAt, SameMembers, taken, joined as joined_by};
 ghost use Rattle.ws_version.specs.Gathered.{is_news, gathered};
-ghost use Rattle.ws_register.specs.Texted.{texted};
+ghost use Rattle.ws_register.specs.Texted.{texted, by_path, Stands};
 ghost use Rattle.ws_register.specs.Between.{is_between};
 ghost use Rattle.ws_register.specs.Sources.{texts_of, is_built, is_package_path, package_file, package_files, package_files_of, pair_of, IsShown, IsSources};
 ghost use Rattle.ws_register.specs.Edits.{top, greatest_at, greatest_counter, fits, is_missing, edit_refusal, removal_refusal, IsRefusal, edited, removed};
@@ -21,6 +21,7 @@ use go_text::text::Text;
 use std::alloc::{AllocError, Global};
 use std::cmp::Ordering;
 use std::collections::BTreeMap;
+use std::collections::btree_map::Iter;
 use std::marker::Model;
 use std::ops::Bound;
 use thiserror::Error;
@@ -94,10 +95,7 @@ impl Registers {
     {
         match self.get(path) {
             None => true,
-            Some(old) => match old.cmp_held(held) {
-                Ordering::Less => true,
-                _ => false,
-            },
+            Some(old) => is_below(old, held),
         }
     }
 
@@ -140,6 +138,13 @@ impl Registers {
     {
         take_entries(self, &other.held)?;
         Ok(())
+    }
+
+    /// Whether the other holds nothing that is news.
+    fn knows(&self, other: &Registers) -> bool
+        ensures { result ≡ true → joined_by greater_held self.now other.now ≡ self.now }
+    {
+        are_known(&self.held, &other.held)
     }
 
     /// Copies of the held writes, removals too, in path order. An `Err` is for want of memory.
@@ -293,14 +298,56 @@ pub fn law_removal_stays()
     ensures { (m : map.FinMap path_cmp AHeld) → (W : List AWrite) → (w : AWrite) → (h : AHeld) → StandsFor held_cmp m W → Contains W w → w.1.text ≡ None → map.get m w.0 ≡ Some h → is_missing (Some h) ≡ false → is_lt (held_cmp w.1 h) ≡ true }
 {}
 
+// Whether what is held is below what comes.
+fn is_below(old: &Held, held: &Held) -> bool
+    ensures { result ≡ is_lt (held_cmp old.now held.now) }
+{
+    match old.cmp_held(held) {
+        Ordering::Less => true,
+        _ => false,
+    }
+}
+
 fn take_entries(all: &mut Registers, entries: &BTreeMap<String, Held>) -> Result<(), AllocError>
     ensures ok { OnOk result (all.new ≡ gathered greater_held all.old (texted entries.now.entries)) }
     ensures ordered { IsOrdered string_cmp entries.now }
 {
     for (path, held) in entries {
-        all.apply(Write::new(path.clone()?, held.copy()?))?;
+        if all.is_news(path, held) {
+            all.put(path.clone()?, held.copy()?)?;
+        }
     }
     Ok(())
+}
+
+// What the next of the entries holds that stands at a path; those before it are passed over.
+fn next_at<'a>(rest: &mut Iter<'a, String, Held>, path: &str) -> Option<&'a Held>
+    ensures found { IfSome result (λ held. Stands rest.old path.now held.now) }
+    ensures left { (e : _) → Contains rest.new e → Contains rest.old e }
+{
+    'rest: while let Some((at, held)) = rest.next() {
+        if at.as_str() == path {
+            return Some(held);
+        }
+    }
+    None
+}
+
+// Whether none of the entries is news to others. Both are in path order, so that one walk does.
+fn are_known(others: &BTreeMap<String, Held>, entries: &BTreeMap<String, Held>) -> bool
+    ensures known { result ≡ true → gathered greater_held (by_path others.now.entries) (texted entries.now.entries) ≡ by_path others.now.entries }
+    ensures ordered { IsOrdered string_cmp entries.now }
+{
+    let mut rest = others.iter();
+    for (path, held) in entries {
+        let Some(old) = next_at(&mut rest, path.as_str()) else {
+            return false;
+        };
+        if is_below(old, held) {
+            return false;
+        }
+    }
+    true
 }
 
 fn list_of(alloc: Global, entries: &BTreeMap<String, Held>) -> Result<Vec<Write>, AllocError>
@@ -430,9 +477,12 @@ impl Join for Registers {
     ghost idempotent = { joined-idempotent path_cmp_total path_cmp-IsAntisymmetric held-semilattice };
 
     fn copy(&self) -> Result<Registers, AllocError> {
-        let mut all = Registers::new(self.alloc);
-        all.take_all(self)?;
-        Ok(all)
+        let held = self.held.clone()?;
+        Ok(Registers {
+            alloc: self.alloc,
+            held,
+            greatest: self.greatest,
+        })
     }
 
     fn merge(&mut self, other: &Registers) -> Result<(), AllocError>
@@ -440,6 +490,10 @@ impl Join for Registers {
         ensures err { OnErr result (self.new ≡ self.old) }
         ensures stands { OnOk result ((V W : List AWrite) → StandsFor held_cmp self.old V → StandsFor held_cmp other.now W → StandsFor held_cmp self.new (V ++ W)) }
     {
+        // What brings no news costs no copy.
+        if self.knows(other) {
+            return Ok(());
+        }
         let mut both = self.copy()?;
         both.take_all(other)?;
         *self = both;

@@ -134,6 +134,14 @@ impl Held {
     }
 }
 
+impl Clone for Held {
+    ghost is_clone = { λ held clone. clone ≡ held };
+
+    fn clone(&self) -> Result<Held, AllocError> {
+        self.copy()
+    }
+}
+
 /// A write: what is held, at a path.
 #[derive(Drop)]
 pub struct Write {

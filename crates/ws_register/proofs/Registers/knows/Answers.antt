@@ -1,0 +1,13 @@
+use Rattle.std.proofs.Common.{ap, subst, sym, ◌≡◌, ◌∙◌}
+use Rattle.ws_version.specs.Writes.{greater_held, path_cmp_total, path_cmp-IsAntisymmetric}
+use Rattle.ws_version.specs.Kept.{joined}
+use Rattle.ws_version.specs.Gathered.{gathered, gathered_entries}
+use Rattle.ws_register.specs.Texted.{entries-by_path, by_path, texted}
+use Rattle.ws_register.proofs.Registers.knows.Goals as goal
+
+pub returns : goal.returns
+returns c known =
+    sym (ap (joined greater_held c.args.self.now) c.other.view_is)
+    ∙ sym (gathered_entries path_cmp_total path_cmp-IsAntisymmetric greater_held c.args.self.now (by_path c.other.inside.held.entries))
+    ∙ ap (gathered greater_held c.args.self.now) (entries-by_path c.other.inside.held.entries c.are_known.ensures.ordered)
+    ∙ subst (λ m. gathered greater_held m (texted c.other.inside.held.entries) ≡ m) c.self.view_is (c.are_known.ensures.known known)
