@@ -246,29 +246,29 @@ IsSimple? (Some s) us ws = IsSimple true s us ws
 abbrev pub AreValues : Exprs → List Lexeme → List Lexeme → Type 0
 AreValues es us ws = (t : Lexeme) × (vs : List Lexeme) × Token assign t us vs × AreExprs false es vs ws
 
---   CSpec = Names [ [ Type ] "=" Exprs ]
+--   ConstSpec = Names [ [ Type ] "=" Exprs ]
 abbrev pub IsConstSpec : ConstSpec → List Lexeme → List Lexeme → Type 0
 IsConstSpec s us ws =
     (vs : List Lexeme) × AreNames s.names us vs
     × (((s.type ≡ None) × (s.values ≡ no_exprs) × (vs ≡ ws)) ⊎ ((xs : List Lexeme) × IsType? s.type vs xs × AreValues s.values xs ws))
 
---   VSpec = Names ( Type [ "=" Exprs ] | "=" Exprs )
+--   VarSpec = Names ( Type [ "=" Exprs ] | "=" Exprs )
 abbrev pub IsVarSpec : VarSpec → List Lexeme → List Lexeme → Type 0
 IsVarSpec s us ws =
     (vs : List Lexeme) × AreNames s.names us vs
     × (((a : TypeExpr) × (s.type ≡ Some a) × (s.values ≡ no_exprs) × IsType a vs ws) ⊎ ((xs : List Lexeme) × IsType? s.type vs xs × AreValues s.values xs ws))
 
---   TSpec = Name Type
+--   TypeSpec = Name Type
 abbrev pub IsTypeSpec : TypeSpec → List Lexeme → List Lexeme → Type 0
 IsTypeSpec s us ws = (t : Lexeme) × (vs : List Lexeme) × Token kinds.Name t us vs × (s.name ≡ name_of t) × IsType s.type vs ws
 
---   one spec, or "(" { Spec ";" } ")"
+--   Group(Spec) = Spec | "(" { Spec ";" } ")"
 abbrev pub IsGroup : {A : Type 0} → (A → List Lexeme → List Lexeme → Type 0) → List A → List Lexeme → List Lexeme → Type 0
 IsGroup {A} Is ss us ws =
     ((s : A) × (ss ≡ s ∷ []) × Is s us ws)
     ⊎ ((o c : Lexeme) × (vs xs : List Lexeme) × Token opening o us vs × AreItems Is semicolon ss vs xs × Token closing c xs ws)
 
---   Decl = "const" Group(CSpec) | "var" Group(VSpec) | "type" Group(TSpec)
+--   Decl = "const" Group(ConstSpec) | "var" Group(VarSpec) | "type" Group(TypeSpec)
 abbrev pub IsDecl : Decl → List Lexeme → List Lexeme → Type 0
 IsDecl (constants p ss) us ws = (k : Lexeme) × (vs : List Lexeme) × Token (kinds.Keyword keywords.Const) k us vs × (p ≡ k.place) × IsGroup IsConstSpec ss vs ws
 IsDecl (variables p ss) us ws = (k : Lexeme) × (vs : List Lexeme) × Token (kinds.Keyword keywords.Var) k us vs × (p ≡ k.place) × IsGroup IsVarSpec ss vs ws
@@ -386,14 +386,14 @@ abbrev pub IsTopLevel : TopLevel → List Lexeme → List Lexeme → Type 0
 IsTopLevel (declared d) us ws = IsDecl d us ws
 IsTopLevel (function f) us ws = IsFunction f us ws
 
---   ISpec = [ Name ] String, whose value isn't "C"
+--   ImportSpec = [ Name ] String, whose value isn't "C"
 abbrev pub IsImportSpec : ImportSpec → List Lexeme → List Lexeme → Type 0
 IsImportSpec i us ws =
     (n t : Lexeme) × (vs : List Lexeme)
     × (((i.name ≡ None) × (us ≡ vs) × (i.place ≡ t.place)) ⊎ ((i.name ≡ Some (name_of n)) × Token kinds.Name n us vs × (i.place ≡ n.place)))
     × Token kinds.String t vs ws × (i.path ≡ string_value t.text) × (i.path ≢ codes "C") × (i.path_place ≡ t.place)
 
---   { "import" Group(ISpec) ";" }
+--   { Import ";" }, Import = "import" Group(ImportSpec)
 abbrev pub AreImports : List (List ImportSpec) → List Lexeme → List Lexeme → Type 0
 AreImports [] us ws = us ≡ ws
 AreImports (is ∷ iss) us ws =

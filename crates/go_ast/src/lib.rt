@@ -7,3 +7,5 @@ pub mod file;
 pub mod law;
 pub mod name;
 pub mod statement;
+#[cfg(test)]
+mod tests;

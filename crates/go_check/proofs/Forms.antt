@@ -4,7 +4,7 @@ use Rattle.std.specs.Prelude.{◌&&◌, codes, if◌then◌else◌}
 use Rattle.std.specs.Str.{bytes_eq}
 use Rattle.std.proofs.lemmas.Slice.Eq.{bytes_eq-Decides}
 use Rattle.go_text.specs.declared.place.Place.{Place}
-use Rattle.go_ast.specs.Trees.{Name, Expr, Exprs, name, integer, string, selector, call, no_exprs, some_exprs, place_of, Simple, call_statement, Stmt, Stmts, no_stmts, some_stmts, empty, simple, Block, block, TopLevel, declared, function, ImportSpec, File}
+use Rattle.go_ast.specs.Trees.{Expr, Exprs, name, integer, string, selector, call, no_exprs, some_exprs, place_of, Simple, call_statement, Stmt, Stmts, no_stmts, some_stmts, empty, simple, Block, block, TopLevel, declared, function, ImportSpec, File}
 use Rattle.go_check.specs.Rules.{is_decimal, is_library}
 use Rattle.go_check.specs.Verdicts.{is_name, with_full, full, body_of}
 use Rattle.go_check.specs.Forms.{or_else, first_in, is_literal, unknown_argument, unknown_arguments, is_println, unknown_call, unknown_simple, unknown_statement, unknown_statements, is_nil, unknown_block, unknown_declaration, unknown_import, first_unknown}

@@ -10,7 +10,6 @@ use Rattle.go_ast.specs.Kinds.{same}
 use Rattle.go_ast.proofs.Same.{are_same}
 use Rattle.go_ast.specs.Trees as trees
 use Rattle.go_ast.specs.Expected.{Expected, another, an_operand, a_value}
-use Rattle.go_ast.specs.Operators.{assignment_of}
 use Rattle.go_ast.specs.Grammar.{Lexeme, comma, assign, define, opening_brace, is_call}
 use Rattle.go_ast.specs.Machine as machine
 use Rattle.go_ast.specs.Machine.{State, token, expr, more_exprs, lefts, Move, Take, Fail, cond, step, final, final_if, Refused, run, keyword, names_if, may_define, is_header, on_define, behind_define, definition_values, on_assignment, on_lefts, on_left, behind_left}
@@ -19,7 +18,7 @@ use Rattle.go_ast.specs.Expected as expected
 use Rattle.go_ast.proofs.Rows.{placed}
 use Rattle.std.proofs.lemmas.Grind.{take_at_read}
 use Rattle.go_pexpr.specs.Reads.{First, first_kind, fault_of}
-use Rattle.go_pexpr.proofs.Steps.{Kind, same_step, same_end, same_at, passed, chosen, cond_false, refuses, end_refuses, optional_some, optional_none}
+use Rattle.go_pexpr.proofs.Steps.{Kind, same_step, same_end, same_at, passed, chosen, refuses, end_refuses, optional_some, optional_none}
 use Rattle.go_parse.specs.declared.simple.Position.{Position}
 use Rattle.go_parse.specs.declared.simple.Position.TheVariants as position
 use Rattle.go_parse.specs.Statements.{Does, on_one, on_alone, at_one, assigned, position_of, is_bare}

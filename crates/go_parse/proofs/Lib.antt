@@ -5,7 +5,6 @@ pub mod Crossing
 pub mod Exists
 pub mod Files
 mod Found
-pub mod Heads
 pub mod Imports
 pub mod Items
 pub mod Lefts

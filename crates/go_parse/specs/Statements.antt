@@ -1,10 +1,7 @@
 -- What is due behind parts of statements, by what was read.
-use Rattle.std.specs.Prelude.{◌≡◌, ℕ, ◌+◌, Bool, true, false, ◌&&◌, List, [], ◌∷◌, ◌++◌, Option, Some, None}
-use Rattle.go_text.specs.declared.place.Place.{Place}
+use Rattle.std.specs.Prelude.{◌≡◌, ℕ, ◌+◌, Bool, true, false, ◌&&◌, List, [], ◌∷◌, Option, Some, None}
 use Rattle.go_scan.specs.declared.token.TokenKind.{TokenKind}
-use Rattle.go_scan.specs.declared.token.TokenKind.TheVariants as kinds
 use Rattle.go_scan.specs.declared.keyword.Keyword.TheVariants as keywords
-use Rattle.go_ast.specs.declared.expression.BinaryOperator.{BinaryOperator}
 use Rattle.go_ast.specs.Trees as trees
 use Rattle.go_ast.specs.Kinds.{same}
 use Rattle.go_ast.specs.Operators.{assignment_of}
@@ -12,7 +9,7 @@ use Rattle.go_ast.specs.Expected as expected
 use Rattle.go_ast.specs.Grammar.{Lexeme, semicolon, closing_brace, opening_brace, is_call, simple_place}
 use Rattle.go_ast.specs.Machine as machine
 use Rattle.go_ast.specs.Machine.{State, Move, Take, Fail, cond, step, final, final_if, optional, token, keyword, is_header, on_left, behind_left, block_at, for_body, range_body, behind_case, clause_body, pack_clauses}
-use Rattle.go_ast.specs.Views.{if_some, expr_of, simple_of}
+use Rattle.go_ast.specs.Views.{expr_of, simple_of}
 use Rattle.go_parse.specs.Due.{declared_or, jump_or}
 use Rattle.go_parse.specs.declared.simple.Position.{Position}
 use Rattle.go_parse.specs.declared.simple.Position.TheVariants as position

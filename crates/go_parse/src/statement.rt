@@ -49,6 +49,7 @@ pub(crate) fn block(reader: &mut Reader<'_>, level: u32) -> Result<Block, Refusa
         item(reader, level + 1, &mut statements)?;
     }
     let closing = reader.expect(CLOSING_BRACE, 0, Expected::Another)?;
+    statements.shrink_to_fit();
     Ok(Block {
         place: opening.place,
         statements,
@@ -205,5 +206,6 @@ fn clause_statements(reader: &mut Reader<'_>, level: u32) -> Result<Vec<Stmt>, R
     'statements: while !ends_clause(reader) {
         item(reader, level + 1, &mut statements)?;
     }
+    statements.shrink_to_fit();
     Ok(statements)
 }

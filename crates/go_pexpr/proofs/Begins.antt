@@ -1,5 +1,5 @@
 -- How operands begin.
-use Rattle.std.proofs.Common.{◌≡◌, List, [], ◌∷◌, refl, sym, ap, ◌∙◌}
+use Rattle.std.proofs.Common.{◌≡◌, List, [], ◌∷◌, refl, ap, ◌∙◌}
 use Rattle.go_scan.specs.declared.token.TokenKind.{TokenKind}
 use Rattle.go_scan.specs.declared.token.TokenKind.TheVariants as kinds
 use Rattle.go_scan.specs.declared.keyword.Keyword.TheVariants as keywords

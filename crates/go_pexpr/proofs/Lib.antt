@@ -9,4 +9,5 @@ pub mod Reading
 pub mod Stands
 pub mod Steps
 pub mod SuffixTurns
+pub mod TreeStates
 pub mod Turns

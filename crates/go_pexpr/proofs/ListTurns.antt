@@ -1,12 +1,11 @@
 -- Where the states of lists go on as others do.
-use Rattle.std.proofs.Common.{◌≡◌, ℕ, Bool, true, false, List, [], ◌∷◌, ◌++◌, Option, Some, None, refl, sym, ap, ◌∙◌}
-use Rattle.go_scan.specs.declared.token.TokenKind.{TokenKind}
+use Rattle.std.proofs.Common.{◌≡◌, false, List, [], ◌∷◌, None, refl, sym, ap, ◌∙◌}
 use Rattle.go_ast.specs.Kinds.{same}
 use Rattle.go_ast.specs.Expected.{Expected, another}
 use Rattle.go_ast.specs.Grammar.{Lexeme}
-use Rattle.go_ast.specs.Machine.{State, Move, Take, Fail, token, list_start, list_end, ListKind, Item, fields, arguments, elements, const_specs, var_specs, type_specs, import_specs, statements, parameters, results, separator, closer, on_item, step, final, cond, run}
+use Rattle.go_ast.specs.Machine.{State, Take, Fail, token, list_start, list_end, ListKind, Item, fields, arguments, elements, const_specs, var_specs, type_specs, import_specs, statements, parameters, results, separator, closer, on_item, step, final, cond, run}
 use Rattle.go_pexpr.specs.Reads.{First}
-use Rattle.go_pexpr.proofs.Steps.{Kind, same_run, same_step, same_end, passed, chosen, cond_false}
+use Rattle.go_pexpr.proofs.Steps.{Kind, same_step, same_end, passed, chosen, cond_false}
 
 apart : (k : ListKind) → same (separator k) (closer k) ≡ false
 apart (fields l) = refl

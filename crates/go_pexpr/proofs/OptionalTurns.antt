@@ -1,9 +1,9 @@
 -- Where a type or an expression that may be missing is read, refused, or passed over.
-use Rattle.std.proofs.Common.{◌≡◌, ℕ, Bool, true, false, List, [], ◌∷◌, Option, None, refl, ap, ◌∙◌}
+use Rattle.std.proofs.Common.{◌≡◌, ℕ, Bool, true, false, List, [], ◌∷◌, refl, ap, ◌∙◌}
 use Rattle.go_ast.specs.Expected.{Expected, is_left_out_at}
 use Rattle.go_ast.specs.Trees.{TypeExpr, Expr}
 use Rattle.go_ast.specs.Grammar.{Lexeme}
-use Rattle.go_ast.specs.Machine.{State, Move, Fail, type, optional_type, expr, optional_expr, begins_type, begins_expr, on_type, on_expr, on_optional, step, final, Refused, run}
+use Rattle.go_ast.specs.Machine.{State, Move, Fail, type, optional_type, expr, optional_expr, begins_type, begins_expr, on_type, on_expr, on_optional, step, Refused, run}
 use Rattle.go_pexpr.specs.Reads.{fault_of}
 use Rattle.go_pexpr.specs.Next.{type_begins, expr_begins, left_out_at}
 use Rattle.go_pexpr.proofs.Steps.{same_step, same_end, refuses}

@@ -1,5 +1,5 @@
 -- What is behind a list.
-use Rattle.std.proofs.Common.{◌≡◌, ℕ, List, [], ◌∷◌, ◌++◌, map, max, refl, ap, arith}
+use Rattle.std.proofs.Common.{◌≡◌, List, [], ◌∷◌, ◌++◌, map, max, refl, ap, arith}
 use Rattle.go_ast.specs.declared.expression.Expr.{Expr}
 use Rattle.go_ast.specs.declared.expression.Field.{Field}
 use Rattle.go_ast.specs.declared.expression.Element.{Element}

@@ -1,12 +1,11 @@
 -- How what a function read follows from what its callees read.
-use Rattle.std.proofs.Common.{◌≡◌, ℕ, Option, Some, None, Result, Ok, Err, IfOk, IfErr, refl, sym, ap, ◌∙◌, subst}
+use Rattle.std.proofs.Common.{◌≡◌, ℕ, Option, Some, None, Result, Ok, Err, IfOk, IfErr, sym, ap, ◌∙◌, subst}
 use Rattle.std.specs.Prelude.{IsErrAnd}
 use Rattle.go_pexpr.specs.declared.reader.Reader.{Reader}
 use Rattle.go_pexpr.specs.declared.reader.Refusal.{Refusal}
 use Rattle.go_pexpr.specs.declared.reader.Refusal.TheVariants.{Memory, Wrong}
-use Rattle.go_ast.specs.Grammar.{Lexeme}
 use Rattle.go_ast.specs.Machine.{State, Refused, run}
-use Rattle.go_pexpr.specs.Reads.{Reads, Failing, Says, number, left, either}
+use Rattle.go_pexpr.specs.Reads.{Reads, Failing, Says, left, either}
 
 pub fails_after : (e : Refusal) (before mid : State) (old at new : Reader) → run 250 before (left old) ≡ run 250 mid (left at) → Failing e mid at new → Failing e before old new
 fails_after (Wrong f) before mid old at new went d = went ∙ d

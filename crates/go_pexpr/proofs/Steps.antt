@@ -1,5 +1,5 @@
 -- Steps of the machine.
-use Rattle.std.proofs.Common.{◌≡◌, ℕ, ◌-◌, ◌≤◌, ◌<◌, Bool, true, false, List, [], ◌∷◌, length, take, drop, Option, Some, None, refl, sym, ap, ◌∙◌, subst, arith}
+use Rattle.std.proofs.Common.{◌≡◌, ℕ, ◌-◌, ◌≤◌, ◌<◌, Bool, true, false, List, [], ◌∷◌, length, take, drop, Some, None, refl, sym, ap, ◌∙◌, subst, arith}
 use Rattle.std.specs.Prelude.{nat_le, slice_index_or}
 use Rattle.std.proofs.lemmas.List.{take_rest}
 use Rattle.std.proofs.lemmas.Bool.Decides.{nat_tests}
@@ -8,7 +8,7 @@ use Rattle.go_text.specs.declared.place.Place.{Place}
 use Rattle.go_ast.specs.Expected.{Expected, fault_at}
 use Rattle.go_ast.specs.Kinds.{same}
 use Rattle.go_ast.specs.Grammar.{Lexeme}
-use Rattle.go_ast.specs.Machine.{State, token, optional, Move, Take, Fail, cond, step, final, Outcome, Refused, at_end, by_level, by_move, run}
+use Rattle.go_ast.specs.Machine.{State, token, optional, Move, Take, Fail, cond, step, final, Refused, at_end, by_level, by_move, run}
 use Rattle.go_ast.proofs.Same.{is_same, not_same}
 use Rattle.go_pexpr.specs.Reads.{First, first_kind, fault_of}
 

@@ -1,21 +1,19 @@
 -- Where the suffixes of an operand go on.
-use Rattle.std.proofs.Common.{◌≡◌, ℕ, ◌+◌, Bool, true, false, ◌&&◌, List, [], ◌∷◌, ◌++◌, Option, Some, None, refl, sym, ap, ◌∙◌}
-use Rattle.std.specs.Prelude.{not}
+use Rattle.std.proofs.Common.{◌≡◌, ℕ, ◌+◌, Bool, true, false, List, [], ◌∷◌, Option, Some, None, refl, ap, ◌∙◌}
 use Rattle.go_scan.specs.declared.token.TokenKind.{TokenKind}
 use Rattle.go_scan.specs.declared.token.TokenKind.TheVariants as kinds
 use Rattle.go_scan.specs.declared.punctuation.Punctuation.TheVariants as marks
 use Rattle.go_ast.specs.Kinds.{same}
 use Rattle.go_ast.specs.Expected.{another}
-use Rattle.go_ast.specs.Trees.{TypeExpr, Expr, literal, pack_elements}
+use Rattle.go_ast.specs.Trees.{TypeExpr, Expr}
 use Rattle.go_ast.specs.Heights.{height}
 use Rattle.go_ast.specs.Grammar.{Lexeme, opening, opening_bracket, opening_brace, period}
-use Rattle.go_ast.specs.Machine.{State, Move, Take, token, suffixes, literal_type, is_some, on_brace, on_suffix, cond, step, final, run}
+use Rattle.go_ast.specs.Machine.{State, Move, Take, token, suffixes, literal_type, is_some, on_brace, step, run}
 use Rattle.go_ast.proofs.Same.{not_same}
 use Rattle.go_pexpr.specs.declared.operators.Suffix.TheVariants.{Selector, Index, Call, Literal}
-use Rattle.go_pexpr.specs.Next.{some_if, suffix_of, suffix_at}
-use Rattle.go_pexpr.specs.Reads.{First}
+use Rattle.go_pexpr.specs.Next.{suffix_of, suffix_at}
 use Rattle.go_pexpr.specs.Turns.{behind_selector, behind_index, behind_call, behind_brace}
-use Rattle.go_pexpr.proofs.Steps.{Kind, same_step, same_end, same_at, cond_false, passed}
+use Rattle.go_pexpr.proofs.Steps.{same_step, same_end, same_at, cond_false, passed}
 
 -- the first token of a suffix
 selector_kind : (h a : Bool) (k : TokenKind) → suffix_of h a k ≡ Some Selector → k ≡ period

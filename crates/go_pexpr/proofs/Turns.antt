@@ -1,19 +1,18 @@
 -- Where one state goes on as another does.
-use Rattle.std.proofs.Common.{◌≡◌, ℕ, zero, suc, ◌+◌, ◌-◌, ◌≤◌, Bool, true, false, List, [], ◌∷◌, ◌++◌, Option, Some, None, refl, sym, ap, ◌∙◌, subst, arith}
+use Rattle.std.proofs.Common.{◌≡◌, ℕ, zero, suc, ◌+◌, ◌-◌, ◌≤◌, Bool, true, false, List, [], ◌∷◌, ◌++◌, Option, Some, None, refl, sym, ap, ◌∙◌, arith}
 use Rattle.std.specs.Prelude.{nat_eq}
 use Rattle.go_scan.specs.declared.token.TokenKind.{TokenKind}
 use Rattle.go_scan.specs.declared.token.TokenKind.TheVariants as kinds
 use Rattle.go_scan.specs.declared.keyword.Keyword.TheVariants as keywords
-use Rattle.go_scan.specs.declared.punctuation.Punctuation.TheVariants as marks
 use Rattle.go_ast.specs.Kinds.{same}
-use Rattle.go_ast.specs.Expected.{Expected, an_operand, a_type, a_field_end, an_element_end, another}
+use Rattle.go_ast.specs.Expected.{Expected, an_operand, another}
 use Rattle.go_ast.specs.Literals.{string_value, rune_value}
 use Rattle.go_ast.specs.Operators.{unary_of, binary_of, tighter}
-use Rattle.go_ast.specs.Trees.{Name, TypeExpr, Expr, Element, value_element, expression_element, pack_elements, name, integer, rune, string, parenthesized, unary, binary, place_of, UnaryOperator, BinaryOperator}
+use Rattle.go_ast.specs.Trees.{Name, TypeExpr, Expr, name, integer, rune, string, unary, binary, place_of, UnaryOperator, BinaryOperator}
 use Rattle.go_ast.specs.Heights.{height}
-use Rattle.go_ast.specs.Grammar.{Lexeme, name_of, comma, opening, closing, opening_bracket, opening_brace, closing_brace, period}
-use Rattle.go_ast.specs.Machine.{State, Move, Take, Fail, token, optional, type, expr, suffixes, operators, more_names, more_exprs, list_start, list_end, ListKind, Item, fields, arguments, elements, separator, closer, names, behind_name, behind_bracket, behind_struct, on_type, on_unary, on_operator, keyword, behind_literal_type, behind_operand, behind_opening, step, final, cond, Refused, run}
-use Rattle.go_pexpr.specs.Reads.{First, first_kind, fault_of}
+use Rattle.go_ast.specs.Grammar.{Lexeme, name_of, comma, opening, opening_bracket}
+use Rattle.go_ast.specs.Machine.{State, Move, Take, Fail, token, type, expr, suffixes, operators, more_names, more_exprs, behind_name, behind_bracket, behind_struct, on_unary, on_operator, keyword, behind_literal_type, behind_operand, behind_opening, step, cond, Refused, run}
+use Rattle.go_pexpr.specs.Reads.{First, fault_of}
 use Rattle.go_ast.proofs.Same.{not_same}
 use Rattle.go_pexpr.specs.Next.{some_if, of_level, operator_at, sign_at}
 use Rattle.go_pexpr.specs.Turns.{behind_paren}

@@ -1,5 +1,5 @@
 -- What is due at some turns of an expression.
-use Rattle.std.specs.Prelude.{ℕ, ◌+◌, Option, Some, None, List, [], ◌∷◌, ◌++◌, false}
+use Rattle.std.specs.Prelude.{ℕ, ◌+◌, Option, None, List, [], ◌∷◌, ◌++◌, false}
 use Rattle.go_scan.specs.declared.token.TokenKind.TheVariants as kinds
 use Rattle.go_ast.specs.Trees.{Name, TypeExpr, Expr, Element, parenthesized, selector, index, call, literal, expression_element, value_element, place_of, pack, pack_elements}
 use Rattle.go_ast.specs.Expected.{an_operand, an_element_end, a_selected_name, an_index, an_index_end, another}

@@ -1,4 +1,4 @@
-use Rattle.std.proofs.Common.{ℕ, ◌<◌, take}
+use Rattle.std.proofs.Common.{take}
 use Rattle.std.specs.List.{All}
 use Rattle.go_parse.specs.Parse.{IsNamed}
 use Rattle.ws_action.proofs.has_one_name.Given as goal

@@ -1,7 +1,5 @@
-use Rattle.std.proofs.Common.{rules, ◌≡◌, ◌∷◌, List}
-use Rattle.go_text.specs.Faults.{Fault}
+use Rattle.std.proofs.Common.{rules, ◌≡◌, ◌∷◌}
 use Rattle.go_text.specs.declared.fault.FaultKind.TheVariants.{PackageName}
-use Rattle.go_parse.specs.Parse.{Parsed}
 use Rattle.ws_graph.specs.Plan.{AllNamed, HasOther}
 use Rattle.ws_graph.proofs.Judging.{judged_sound, judged_faulty}
 use Rattle.ws_graph.proofs.judged.Goals as goal

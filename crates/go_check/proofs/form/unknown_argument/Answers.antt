@@ -1,4 +1,4 @@
-use Rattle.std.proofs.Common.{◌≡◌, Bool, Some, None, sym, ap, ◌∙◌}
+use Rattle.std.proofs.Common.{Bool, Some, None, sym, ap, ◌∙◌}
 use Rattle.std.specs.Prelude.{if◌then◌else◌}
 use Rattle.go_ast.specs.Trees.{place_of}
 use Rattle.go_ast.specs.Views.{expr_of}

@@ -1,10 +1,10 @@
-use Rattle.std.proofs.Common.{◌≡◌, Bool, Some, refl, sym, ap, ◌∙◌}
+use Rattle.std.proofs.Common.{◌≡◌, Bool, Some, sym, ap, ◌∙◌}
 use Rattle.std.specs.Prelude.{if◌then◌else◌}
 use Rattle.go_ast.specs.Trees.{call}
 use Rattle.go_ast.specs.declared.expression.ExprKind.{ExprKind}
 use Rattle.go_ast.specs.Views.{expr_of, exprs_in}
 use Rattle.go_ast.proofs.Rows.{call_seen}
-use Rattle.go_check.specs.Forms.{is_println, unknown_arguments, unknown_call}
+use Rattle.go_check.specs.Forms.{unknown_arguments, unknown_call}
 use Rattle.go_check.proofs.form.unknown_call.Goals as goal
 
 pub returns-then-is_println : goal.returns-then-is_println

@@ -3,7 +3,8 @@ use Rattle.go_scan.specs.declared.keyword.Keyword.TheVariants as keywords
 use Rattle.go_ast.specs.Machine.{keyword}
 use Rattle.go_pexpr.specs.Reads.{First, left}
 use Rattle.go_parse.proofs.Clauses.{default_comes, case_due}
-use Rattle.go_parse.proofs.Reading.{then_fails, went}
+use Rattle.go_pexpr.proofs.Reading.{then_fails}
+use Rattle.go_parse.proofs.Reading.{went}
 use Rattle.go_parse.proofs.Steps.{Kind, false_true}
 use Rattle.go_parse.proofs.clause.clause_from.Goals as goal
 

@@ -1,5 +1,6 @@
 use Rattle.std.proofs.Common.{◌∙◌}
-use Rattle.go_parse.proofs.Reading.{then_fails, then_reads, went, took, missed}
+use Rattle.go_pexpr.proofs.Reading.{then_fails}
+use Rattle.go_parse.proofs.Reading.{then_reads, went, took, missed}
 use Rattle.go_parse.proofs.declaration.const_spec.Goals as goal
 
 pub returns-in_err-type_expr-clause-reads : goal.returns-in_err-type_expr-clause-reads

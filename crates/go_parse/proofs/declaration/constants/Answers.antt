@@ -1,6 +1,7 @@
 use Rattle.std.proofs.Common.{[], ◌∷◌}
 use Rattle.go_ast.specs.Trees as trees
-use Rattle.go_parse.proofs.Reading.{then_fails, took, missed}
+use Rattle.go_pexpr.proofs.Reading.{then_fails}
+use Rattle.go_parse.proofs.Reading.{took, missed}
 use Rattle.go_parse.proofs.declaration.constants.Goals as goal
 
 pub returns-in_err-specs-clause-reads : goal.returns-in_err-specs-clause-reads

@@ -1,5 +1,6 @@
 use Rattle.std.proofs.Common.{◌∙◌}
-use Rattle.go_parse.proofs.Reading.{then_fails, went}
+use Rattle.go_pexpr.proofs.Reading.{then_fails}
+use Rattle.go_parse.proofs.Reading.{went}
 use Rattle.go_parse.proofs.declaration.untyped_var.Goals as goal
 
 pub returns-in_err-values-clause-reads : goal.returns-in_err-values-clause-reads

@@ -5,7 +5,8 @@ use Rattle.go_ast.specs.Views.{top_of}
 use Rattle.go_pexpr.specs.Reads.{left}
 use Rattle.go_parse.proofs.Files.{behind_declaration}
 use Rattle.go_parse.proofs.Lists.{pushed}
-use Rattle.go_parse.proofs.Reading.{then_fails, went, took, missed}
+use Rattle.go_pexpr.proofs.Reading.{then_fails}
+use Rattle.go_parse.proofs.Reading.{went, took, missed}
 use Rattle.go_parse.proofs.file.declarations.Goals as goal
 
 -- what is due behind a declaration

@@ -1,19 +1,14 @@
-use Rattle.std.proofs.Common.{◌≡◌, ◌+◌, true, List, [], ◌∷◌, Some, None, refl, sym, ap, ◌∙◌}
+use Rattle.std.proofs.Common.{◌+◌, true, Some, None, refl, sym, ap, ◌∙◌}
 use Rattle.go_ast.specs.Trees as trees
-use Rattle.go_scan.specs.declared.keyword.Keyword.TheVariants as keywords
 use Rattle.go_ast.specs.Expected.{another, an_operand}
-use Rattle.go_ast.specs.Grammar.{Lexeme, semicolon, opening_brace}
-use Rattle.go_ast.specs.Machine.{State, expr, token, optional, lefts, in_header, in_for, behind_turns, list_lefts, keyword, run, block_at, open_block, else_part, if_condition, switch_tag, switch_body, for_body, for_turns, for_condition, range_body}
+use Rattle.go_ast.specs.Grammar.{opening_brace}
+use Rattle.go_ast.specs.Machine.{expr, behind_turns, list_lefts, run, block_at, open_block, for_body}
 use Rattle.go_ast.specs.Views.{expr_of, simple_of}
-use Rattle.go_ast.specs.declared.expression.Expr.{Expr}
 use Rattle.go_ast.specs.declared.statement.Simple.{Simple}
 use Rattle.go_pexpr.specs.Reads.{left}
-use Rattle.go_pexpr.proofs.Reading.{then_fails, then_reads}
+use Rattle.go_pexpr.proofs.Reading.{then_fails}
 use Rattle.go_pexpr.proofs.Steps.{optional_some, optional_none}
-use Rattle.go_parse.specs.declared.simple.Header.{Header}
-use Rattle.go_parse.specs.Statements.{by_header}
 use Rattle.go_parse.specs.Turns.{if_boxed}
-use Rattle.go_parse.proofs.Heads.{taken_on, passed_on}
 use Rattle.go_parse.proofs.Lefts.{false_true}
 use Rattle.go_parse.proofs.for_loop.turns_behind.Goals as goal
 

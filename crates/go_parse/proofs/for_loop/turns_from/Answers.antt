@@ -1,19 +1,17 @@
-use Rattle.std.proofs.Common.{◌≡◌, ◌+◌, true, List, [], ◌∷◌, Some, None, refl, sym, ap, ◌∙◌}
+use Rattle.std.proofs.Common.{◌+◌, true, [], ◌∷◌, Some, None, refl, sym, ap, ◌∙◌}
 use Rattle.go_ast.specs.Trees as trees
 use Rattle.go_scan.specs.declared.keyword.Keyword.TheVariants as keywords
 use Rattle.go_ast.specs.Expected.{another, an_operand}
 use Rattle.go_ast.specs.Grammar.{Lexeme, semicolon, opening_brace}
-use Rattle.go_ast.specs.Machine.{State, expr, token, optional, lefts, in_header, in_for, behind_turns, list_lefts, keyword, run, block_at, open_block, else_part, if_condition, switch_tag, switch_body, for_body, for_turns, for_condition, range_body}
+use Rattle.go_ast.specs.Machine.{State, expr, token, optional, lefts, in_for, keyword, run, block_at, open_block, for_body, for_condition, range_body}
 use Rattle.go_ast.specs.Views.{expr_of, simple_of}
 use Rattle.go_ast.specs.declared.expression.Expr.{Expr}
-use Rattle.go_ast.specs.declared.statement.Simple.{Simple}
 use Rattle.go_pexpr.specs.Reads.{left}
 use Rattle.go_pexpr.proofs.Reading.{then_fails, then_reads}
 use Rattle.go_pexpr.proofs.Steps.{optional_some, optional_none}
 use Rattle.go_parse.specs.declared.simple.Header.{Header}
 use Rattle.go_parse.specs.Statements.{by_header}
-use Rattle.go_parse.specs.Turns.{if_boxed}
-use Rattle.go_parse.proofs.Heads.{taken_on, passed_on}
+use Rattle.go_parse.proofs.Reading.{took, missed}
 use Rattle.go_parse.proofs.Lefts.{false_true}
 use Rattle.go_parse.proofs.for_loop.turns_from.Goals as goal
 
@@ -62,7 +60,7 @@ returns-in-Some-clause-reads c = λ t next.
     let outer : State = optional semicolon 0 condition inner in
     let body = open_block (l + 1) (for_body l t.place next None None None) in
     let zero = optional_none opening_brace (l + 1) body outer ts (λ f. false_true (c.if-is_next.ensures.1 f)) in
-    then_reads c.condition_behind.result (zero ∙ taken_on (c.in_ok-accept.ensures.reads condition inner) c.in-Some.is) (c.condition_behind.ensures.reads t.place next)
+    then_reads c.condition_behind.result (zero ∙ took (c.in_ok-accept.ensures.reads condition inner) c.in-Some.is) (c.condition_behind.ensures.reads t.place next)
 
 pub returns-in_err-accept-2-clause-reads : goal.returns-in_err-accept-2-clause-reads
 returns-in_err-accept-2-clause-reads c = λ t next.
@@ -78,7 +76,7 @@ returns-in_err-accept-2-clause-reads c = λ t next.
     let outer : State = optional semicolon 0 condition inner in
     let body = open_block (l + 1) (for_body l t.place next None None None) in
     let zero = optional_none opening_brace (l + 1) body outer ts (λ f. false_true (c.if-is_next.ensures.1 f)) in
-    let one = zero ∙ passed_on (c.in_ok-accept.ensures.reads condition inner) c.in_default.is in
+    let one = zero ∙ missed (c.in_ok-accept.ensures.reads condition inner) c.in_default.is in
     then_fails one (c.in_err-accept-2.ensures.reads ranged head) c.from_residual-in_err-accept-2.ensures.1
 
 pub returns-in_err-operand-clause-reads : goal.returns-in_err-operand-clause-reads
@@ -95,8 +93,8 @@ returns-in_err-operand-clause-reads c = λ t next.
     let outer : State = optional semicolon 0 condition inner in
     let body = open_block (l + 1) (for_body l t.place next None None None) in
     let zero = optional_none opening_brace (l + 1) body outer ts (λ f. false_true (c.if-is_next.ensures.1 f)) in
-    let one = zero ∙ passed_on (c.in_ok-accept.ensures.reads condition inner) c.in_default.is in
-    then_fails (one ∙ taken_on (c.in_ok-accept-2.ensures.reads ranged head) c.in-Some-2.is) (c.in_err-operand.ensures.reads (range_body l t.place next None)) c.from_residual-in_err-operand.ensures.1
+    let one = zero ∙ missed (c.in_ok-accept.ensures.reads condition inner) c.in_default.is in
+    then_fails (one ∙ took (c.in_ok-accept-2.ensures.reads ranged head) c.in-Some-2.is) (c.in_err-operand.ensures.reads (range_body l t.place next None)) c.from_residual-in_err-operand.ensures.1
 
 pub returns-in-Some-2-clause-reads : goal.returns-in-Some-2-clause-reads
 returns-in-Some-2-clause-reads c = λ t next.
@@ -112,9 +110,9 @@ returns-in-Some-2-clause-reads c = λ t next.
     let outer : State = optional semicolon 0 condition inner in
     let body = open_block (l + 1) (for_body l t.place next None None None) in
     let zero = optional_none opening_brace (l + 1) body outer ts (λ f. false_true (c.if-is_next.ensures.1 f)) in
-    let one = zero ∙ passed_on (c.in_ok-accept.ensures.reads condition inner) c.in_default.is in
+    let one = zero ∙ missed (c.in_ok-accept.ensures.reads condition inner) c.in_default.is in
     record {
-      by = one ∙ taken_on (c.in_ok-accept-2.ensures.reads ranged head) c.in-Some-2.is ∙ (c.in_ok-operand.ensures.reads (range_body l t.place next None)).by
+      by = one ∙ took (c.in_ok-accept-2.ensures.reads ranged head) c.in-Some-2.is ∙ (c.in_ok-operand.ensures.reads (range_body l t.place next None)).by
           ∙ ap (λ (x : Expr). run 250 (range_body l t.place next None (expr_of x)) (left c.expr_from.new.self)) (sym c.in_ok-operand-2.ensures.ok);
     }
 
@@ -132,8 +130,8 @@ returns-in_err-start-clause-reads c = λ t next.
     let outer : State = optional semicolon 0 condition inner in
     let body = open_block (l + 1) (for_body l t.place next None None None) in
     let zero = optional_none opening_brace (l + 1) body outer ts (λ f. false_true (c.if-is_next.ensures.1 f)) in
-    let one = zero ∙ passed_on (c.in_ok-accept.ensures.reads condition inner) c.in_default.is in
-    let two = one ∙ passed_on (c.in_ok-accept-2.ensures.reads ranged head) c.in_default-2.is in
+    let one = zero ∙ missed (c.in_ok-accept.ensures.reads condition inner) c.in_default.is in
+    let two = one ∙ missed (c.in_ok-accept-2.ensures.reads ranged head) c.in_default-2.is in
     then_fails two (c.in_err-start.ensures.reads ns al ra) c.from_residual-in_err-start.ensures.1
 
 pub returns-in_err-expect-in-Simple-clause-reads : goal.returns-in_err-expect-in-Simple-clause-reads
@@ -150,8 +148,8 @@ returns-in_err-expect-in-Simple-clause-reads c = λ t next.
     let outer : State = optional semicolon 0 condition inner in
     let body = open_block (l + 1) (for_body l t.place next None None None) in
     let zero = optional_none opening_brace (l + 1) body outer ts (λ f. false_true (c.if-is_next.ensures.1 f)) in
-    let one = zero ∙ passed_on (c.in_ok-accept.ensures.reads condition inner) c.in_default.is in
-    let two = one ∙ passed_on (c.in_ok-accept-2.ensures.reads ranged head) c.in_default-2.is in
+    let one = zero ∙ missed (c.in_ok-accept.ensures.reads condition inner) c.in_default.is in
+    let two = one ∙ missed (c.in_ok-accept-2.ensures.reads ranged head) c.in_default-2.is in
     let here = two ∙ (c.in_ok-start.ensures.reads ns al ra).by ∙ ap (λ (x : Header). run 250 (by_header ns al ra x) (left c.header_from.new.reader)) c.in-Simple.is in
     then_fails here (c.in_err-expect-in-Simple.ensures.reads (λ _. for_condition l t.place next (Some (simple_of c.in-Simple.start.value)))) c.from_residual-in_err-expect-in-Simple.ensures.1
 
@@ -169,8 +167,8 @@ returns-in_ok-expect-in-Simple-clause-reads c = λ t next.
     let outer : State = optional semicolon 0 condition inner in
     let body = open_block (l + 1) (for_body l t.place next None None None) in
     let zero = optional_none opening_brace (l + 1) body outer ts (λ f. false_true (c.if-is_next.ensures.1 f)) in
-    let one = zero ∙ passed_on (c.in_ok-accept.ensures.reads condition inner) c.in_default.is in
-    let two = one ∙ passed_on (c.in_ok-accept-2.ensures.reads ranged head) c.in_default-2.is in
+    let one = zero ∙ missed (c.in_ok-accept.ensures.reads condition inner) c.in_default.is in
+    let two = one ∙ missed (c.in_ok-accept-2.ensures.reads ranged head) c.in_default-2.is in
     let here = two ∙ (c.in_ok-start.ensures.reads ns al ra).by ∙ ap (λ (x : Header). run 250 (by_header ns al ra x) (left c.header_from.new.reader)) c.in-Simple.is in
     then_reads c.condition_behind-in-Simple.result (here ∙ (c.in_ok-expect-in-Simple.ensures.reads (λ _. for_condition l t.place next (Some (simple_of c.in-Simple.start.value)))).by) (c.condition_behind-in-Simple.ensures.reads t.place next)
 
@@ -188,8 +186,8 @@ returns-in-Alone-clause-reads c = λ t next.
     let outer : State = optional semicolon 0 condition inner in
     let body = open_block (l + 1) (for_body l t.place next None None None) in
     let zero = optional_none opening_brace (l + 1) body outer ts (λ f. false_true (c.if-is_next.ensures.1 f)) in
-    let one = zero ∙ passed_on (c.in_ok-accept.ensures.reads condition inner) c.in_default.is in
-    let two = one ∙ passed_on (c.in_ok-accept-2.ensures.reads ranged head) c.in_default-2.is in
+    let one = zero ∙ missed (c.in_ok-accept.ensures.reads condition inner) c.in_default.is in
+    let two = one ∙ missed (c.in_ok-accept-2.ensures.reads ranged head) c.in_default-2.is in
     let here = two ∙ (c.in_ok-start.ensures.reads ns al ra).by ∙ ap (λ (x : Header). run 250 (by_header ns al ra x) (left c.header_from.new.reader)) c.in-Alone.is in
     record { by = here }
 
@@ -207,7 +205,7 @@ returns-in-Range-clause-reads c = λ t next.
     let outer : State = optional semicolon 0 condition inner in
     let body = open_block (l + 1) (for_body l t.place next None None None) in
     let zero = optional_none opening_brace (l + 1) body outer ts (λ f. false_true (c.if-is_next.ensures.1 f)) in
-    let one = zero ∙ passed_on (c.in_ok-accept.ensures.reads condition inner) c.in_default.is in
-    let two = one ∙ passed_on (c.in_ok-accept-2.ensures.reads ranged head) c.in_default-2.is in
+    let one = zero ∙ missed (c.in_ok-accept.ensures.reads condition inner) c.in_default.is in
+    let two = one ∙ missed (c.in_ok-accept-2.ensures.reads ranged head) c.in_default-2.is in
     let here = two ∙ (c.in_ok-start.ensures.reads ns al ra).by ∙ ap (λ (x : Header). run 250 (by_header ns al ra x) (left c.header_from.new.reader)) c.in-Range.is in
     record { by = here }

@@ -6,7 +6,8 @@ use Rattle.go_ast.specs.Machine.{State, list_start, list_end, run, type, results
 use Rattle.go_ast.specs.Views.{type_of}
 use Rattle.go_pexpr.specs.Reads.{First, left}
 use Rattle.go_parse.proofs.Lists.{pushed}
-use Rattle.go_parse.proofs.Reading.{then_fails, went}
+use Rattle.go_pexpr.proofs.Reading.{then_fails}
+use Rattle.go_parse.proofs.Reading.{went}
 use Rattle.go_parse.proofs.Steps.{Kind, false_true, item_begins, list_closes, separator_due, ends_closed}
 use Rattle.go_parse.proofs.function.result_group.Goals as goal
 use Rattle.go_ast.specs.Expected.{a_type}

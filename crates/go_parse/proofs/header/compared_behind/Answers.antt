@@ -1,20 +1,12 @@
-use Rattle.std.proofs.Common.{◌≡◌, ◌+◌, true, List, [], ◌∷◌, Some, None, refl, sym, ap, ◌∙◌}
+use Rattle.std.proofs.Common.{◌+◌, true, Some, None, ◌∙◌}
 use Rattle.go_ast.specs.Trees as trees
-use Rattle.go_scan.specs.declared.keyword.Keyword.TheVariants as keywords
 use Rattle.go_ast.specs.Expected.{another, an_operand}
-use Rattle.go_ast.specs.Grammar.{Lexeme, semicolon, opening_brace}
-use Rattle.go_ast.specs.Machine.{State, expr, token, optional, lefts, in_header, in_for, keyword, run, block_at, open_block, else_part, if_condition, switch_tag, switch_body, for_body, for_turns, for_condition, range_body}
+use Rattle.go_ast.specs.Grammar.{opening_brace}
+use Rattle.go_ast.specs.Machine.{expr, token, switch_body}
 use Rattle.go_ast.specs.Views.{expr_of, simple_of}
-use Rattle.go_ast.specs.declared.expression.Expr.{Expr}
-use Rattle.go_ast.specs.declared.statement.Simple.{Simple}
-use Rattle.go_pexpr.specs.Reads.{left}
-use Rattle.go_pexpr.proofs.Reading.{then_fails, then_reads}
-use Rattle.go_pexpr.proofs.Steps.{optional_some, optional_none}
-use Rattle.go_parse.specs.declared.simple.Header.{Header}
-use Rattle.go_parse.specs.Statements.{by_header}
+use Rattle.go_pexpr.proofs.Reading.{then_fails}
 use Rattle.go_parse.specs.Turns.{if_boxed}
-use Rattle.go_parse.proofs.Heads.{taken_on, passed_on}
-use Rattle.go_parse.proofs.Lefts.{false_true}
+use Rattle.go_parse.proofs.Reading.{missed}
 use Rattle.go_parse.proofs.header.compared_behind.Goals as goal
 
 pub returns-in_err-value-clause-reads : goal.returns-in_err-value-clause-reads
@@ -22,7 +14,7 @@ returns-in_err-value-clause-reads c = λ p next.
     let l = c.args.level in
     let i = if_boxed simple_of c.args.start in
     let behind = λ (e : trees.Expr). token opening_brace 0 another (λ _. switch_body l p next i (Some e)) in
-    let went = passed_on (c.in_ok-accept.ensures.reads (λ _. switch_body l p next i None) (expr 5 true (l + 1) an_operand behind)) c.in_default.is in
+    let went = missed (c.in_ok-accept.ensures.reads (λ _. switch_body l p next i None) (expr 5 true (l + 1) an_operand behind)) c.in_default.is in
     then_fails went (c.in_err-value.ensures.reads behind) c.from_residual-in_err-value.ensures.1
 
 pub returns-in_err-expect-clause-reads : goal.returns-in_err-expect-clause-reads
@@ -30,5 +22,5 @@ returns-in_err-expect-clause-reads c = λ p next.
     let l = c.args.level in
     let i = if_boxed simple_of c.args.start in
     let behind = λ (e : trees.Expr). token opening_brace 0 another (λ _. switch_body l p next i (Some e)) in
-    let went = passed_on (c.in_ok-accept.ensures.reads (λ _. switch_body l p next i None) (expr 5 true (l + 1) an_operand behind)) c.in_default.is in
+    let went = missed (c.in_ok-accept.ensures.reads (λ _. switch_body l p next i None) (expr 5 true (l + 1) an_operand behind)) c.in_default.is in
     then_fails (went ∙ (c.in_ok-value.ensures.reads behind).by) (c.in_err-expect.ensures.reads (λ _. switch_body l p next i (Some (expr_of c.in_ok-value.value)))) c.from_residual-in_err-expect.ensures.1

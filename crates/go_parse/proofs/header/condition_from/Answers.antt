@@ -1,20 +1,14 @@
-use Rattle.std.proofs.Common.{◌≡◌, ◌+◌, true, List, [], ◌∷◌, Some, None, refl, sym, ap, ◌∙◌}
+use Rattle.std.proofs.Common.{◌+◌, true, [], ◌∷◌, Some, None, ap, ◌∙◌}
 use Rattle.go_ast.specs.Trees as trees
-use Rattle.go_scan.specs.declared.keyword.Keyword.TheVariants as keywords
 use Rattle.go_ast.specs.Expected.{another, an_operand}
-use Rattle.go_ast.specs.Grammar.{Lexeme, semicolon, opening_brace}
-use Rattle.go_ast.specs.Machine.{State, expr, token, optional, lefts, in_header, in_for, keyword, run, block_at, open_block, else_part, if_condition, switch_tag, switch_body, for_body, for_turns, for_condition, range_body}
-use Rattle.go_ast.specs.Views.{expr_of, simple_of}
-use Rattle.go_ast.specs.declared.expression.Expr.{Expr}
-use Rattle.go_ast.specs.declared.statement.Simple.{Simple}
+use Rattle.go_ast.specs.Grammar.{semicolon}
+use Rattle.go_ast.specs.Machine.{State, expr, token, lefts, in_header, run, block_at, else_part, if_condition}
+use Rattle.go_ast.specs.Views.{simple_of}
 use Rattle.go_pexpr.specs.Reads.{left}
 use Rattle.go_pexpr.proofs.Reading.{then_fails, then_reads}
-use Rattle.go_pexpr.proofs.Steps.{optional_some, optional_none}
 use Rattle.go_parse.specs.declared.simple.Header.{Header}
 use Rattle.go_parse.specs.Statements.{by_header}
-use Rattle.go_parse.specs.Turns.{if_boxed}
-use Rattle.go_parse.proofs.Heads.{taken_on, passed_on}
-use Rattle.go_parse.proofs.Lefts.{false_true}
+use Rattle.go_parse.proofs.Reading.{took, missed}
 use Rattle.go_parse.proofs.header.condition_from.Goals as goal
 
 pub returns-in-Some-clause-reads : goal.returns-in-Some-clause-reads
@@ -24,7 +18,7 @@ returns-in-Some-clause-reads c = λ t next.
     let al = λ (e : trees.Expr). block_at (l + 1) (λ b. else_part l t.place None e b next) in
     let ra = λ (n : trees.Name) (e : trees.Expr). if_condition l t.place next None in
     let head : State = expr 5 true (l + 1) an_operand (λ e. lefts in_header true (l + 1) (e ∷ []) ns al ra) in
-    then_reads c.condition_behind.result (taken_on (c.in_ok-accept.ensures.reads (λ _. if_condition l t.place next None) head) c.in-Some.is) (c.condition_behind.ensures.reads t.place next)
+    then_reads c.condition_behind.result (took (c.in_ok-accept.ensures.reads (λ _. if_condition l t.place next None) head) c.in-Some.is) (c.condition_behind.ensures.reads t.place next)
 
 pub returns-in_err-start-clause-reads : goal.returns-in_err-start-clause-reads
 returns-in_err-start-clause-reads c = λ t next.
@@ -33,7 +27,7 @@ returns-in_err-start-clause-reads c = λ t next.
     let al = λ (e : trees.Expr). block_at (l + 1) (λ b. else_part l t.place None e b next) in
     let ra = λ (n : trees.Name) (e : trees.Expr). if_condition l t.place next None in
     let head : State = expr 5 true (l + 1) an_operand (λ e. lefts in_header true (l + 1) (e ∷ []) ns al ra) in
-    let two = passed_on (c.in_ok-accept.ensures.reads (λ _. if_condition l t.place next None) head) c.in_default.is in
+    let two = missed (c.in_ok-accept.ensures.reads (λ _. if_condition l t.place next None) head) c.in_default.is in
     then_fails two (c.in_err-start.ensures.reads ns al ra) c.from_residual-in_err-start.ensures.1
 
 pub returns-in_err-expect-in-Simple-clause-reads : goal.returns-in_err-expect-in-Simple-clause-reads
@@ -43,7 +37,7 @@ returns-in_err-expect-in-Simple-clause-reads c = λ t next.
     let al = λ (e : trees.Expr). block_at (l + 1) (λ b. else_part l t.place None e b next) in
     let ra = λ (n : trees.Name) (e : trees.Expr). if_condition l t.place next None in
     let head : State = expr 5 true (l + 1) an_operand (λ e. lefts in_header true (l + 1) (e ∷ []) ns al ra) in
-    let two = passed_on (c.in_ok-accept.ensures.reads (λ _. if_condition l t.place next None) head) c.in_default.is in
+    let two = missed (c.in_ok-accept.ensures.reads (λ _. if_condition l t.place next None) head) c.in_default.is in
     let here = two ∙ (c.in_ok-start.ensures.reads ns al ra).by ∙ ap (λ (x : Header). run 250 (by_header ns al ra x) (left c.header_from.new.reader)) c.in-Simple.is in
     then_fails here (c.in_err-expect-in-Simple.ensures.reads (λ _. if_condition l t.place next (Some (simple_of c.in-Simple.start.value)))) c.from_residual-in_err-expect-in-Simple.ensures.1
 
@@ -54,7 +48,7 @@ returns-in_ok-expect-in-Simple-clause-reads c = λ t next.
     let al = λ (e : trees.Expr). block_at (l + 1) (λ b. else_part l t.place None e b next) in
     let ra = λ (n : trees.Name) (e : trees.Expr). if_condition l t.place next None in
     let head : State = expr 5 true (l + 1) an_operand (λ e. lefts in_header true (l + 1) (e ∷ []) ns al ra) in
-    let two = passed_on (c.in_ok-accept.ensures.reads (λ _. if_condition l t.place next None) head) c.in_default.is in
+    let two = missed (c.in_ok-accept.ensures.reads (λ _. if_condition l t.place next None) head) c.in_default.is in
     let here = two ∙ (c.in_ok-start.ensures.reads ns al ra).by ∙ ap (λ (x : Header). run 250 (by_header ns al ra x) (left c.header_from.new.reader)) c.in-Simple.is in
     then_reads c.condition_behind-in-Simple.result (here ∙ (c.in_ok-expect-in-Simple.ensures.reads (λ _. if_condition l t.place next (Some (simple_of c.in-Simple.start.value)))).by) (c.condition_behind-in-Simple.ensures.reads t.place next)
 
@@ -65,7 +59,7 @@ returns-in-Alone-clause-reads c = λ t next.
     let al = λ (e : trees.Expr). block_at (l + 1) (λ b. else_part l t.place None e b next) in
     let ra = λ (n : trees.Name) (e : trees.Expr). if_condition l t.place next None in
     let head : State = expr 5 true (l + 1) an_operand (λ e. lefts in_header true (l + 1) (e ∷ []) ns al ra) in
-    let two = passed_on (c.in_ok-accept.ensures.reads (λ _. if_condition l t.place next None) head) c.in_default.is in
+    let two = missed (c.in_ok-accept.ensures.reads (λ _. if_condition l t.place next None) head) c.in_default.is in
     let here = two ∙ (c.in_ok-start.ensures.reads ns al ra).by ∙ ap (λ (x : Header). run 250 (by_header ns al ra x) (left c.header_from.new.reader)) c.in-Alone.is in
     record { by = here }
 
@@ -76,6 +70,6 @@ returns-in-Range-clause-reads c = λ t next.
     let al = λ (e : trees.Expr). block_at (l + 1) (λ b. else_part l t.place None e b next) in
     let ra = λ (n : trees.Name) (e : trees.Expr). if_condition l t.place next None in
     let head : State = expr 5 true (l + 1) an_operand (λ e. lefts in_header true (l + 1) (e ∷ []) ns al ra) in
-    let two = passed_on (c.in_ok-accept.ensures.reads (λ _. if_condition l t.place next None) head) c.in_default.is in
+    let two = missed (c.in_ok-accept.ensures.reads (λ _. if_condition l t.place next None) head) c.in_default.is in
     let here = two ∙ (c.in_ok-start.ensures.reads ns al ra).by ∙ ap (λ (x : Header). run 250 (by_header ns al ra x) (left c.header_from.new.reader)) c.in-Range.is in
     then_reads c.condition_behind-in-Range.result here (c.condition_behind-in-Range.ensures.reads t.place next)

@@ -3,9 +3,9 @@ use Rattle.std.proofs.lemmas.Bool.Decides.{Decides-eqb}
 use Rattle.std.proofs.lemmas.Slice.Eq.{slice_eq-Decides}
 use Rattle.go_ast.specs.Literals.{string_value}
 use Rattle.go_pexpr.specs.Reads.{left, fault_of, expected_of}
-use Rattle.go_pexpr.proofs.Reading.{then_refuses}
+use Rattle.go_pexpr.proofs.Reading.{then_refuses, then_fails}
 use Rattle.go_parse.proofs.Imports.{no_path, path_c, path_means}
-use Rattle.go_parse.proofs.Reading.{then_fails, went}
+use Rattle.go_parse.proofs.Reading.{went}
 use Rattle.go_parse.proofs.Steps.{false_true}
 use Rattle.go_parse.proofs.import.import_path.Goals as goal
 

@@ -1,7 +1,8 @@
 use Rattle.std.proofs.Common.{◌∙◌, refl}
 use Rattle.go_ast.specs.Trees as trees
 use Rattle.go_ast.proofs.StatementRows.{return_seen, break_seen, continue_seen, fallthrough_seen}
-use Rattle.go_parse.proofs.Reading.{then_fails, then_sees, went, took, missed}
+use Rattle.go_pexpr.proofs.Reading.{then_fails}
+use Rattle.go_parse.proofs.Reading.{then_sees, went, took, missed}
 use Rattle.go_parse.proofs.jump.jump.Goals as goal
 
 pub returns-in_err-values-clause-reads : goal.returns-in_err-values-clause-reads

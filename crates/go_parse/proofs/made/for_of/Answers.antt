@@ -1,4 +1,4 @@
-use Rattle.std.proofs.Common.{Option, refl, sym, ap, ◌∙◌}
+use Rattle.std.proofs.Common.{Option, sym, ap, ◌∙◌}
 use Rattle.go_ast.specs.Trees as trees
 use Rattle.go_ast.specs.Views.{if_some, simple_of, expr_of, block_of}
 use Rattle.go_ast.specs.declared.expression.Expr.{Expr}

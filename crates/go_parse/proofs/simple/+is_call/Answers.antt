@@ -1,6 +1,5 @@
-use Rattle.std.proofs.Common.{◌≡◌, refl, sym, ap, ◌∙◌}
+use Rattle.std.proofs.Common.{refl, sym, ap, ◌∙◌}
 use Rattle.go_ast.specs.Grammar.{is_call}
-use Rattle.go_ast.specs.Machine.{name_if}
 use Rattle.go_ast.specs.Views.{expr_of}
 use Rattle.go_ast.specs.declared.expression.Expr.{Expr}
 use Rattle.go_ast.specs.declared.expression.ExprKind.{ExprKind}

@@ -1,11 +1,11 @@
-use Rattle.std.proofs.Common.{◌≡◌, List, [], ◌∷◌, refl, sym, ap, ◌∙◌, subst}
+use Rattle.std.proofs.Common.{refl, sym, ap, ◌∙◌, subst}
 use Rattle.go_scan.specs.declared.token.TokenKind.TheVariants as kinds
 use Rattle.go_scan.specs.declared.punctuation.Punctuation.TheVariants as marks
 use Rattle.go_ast.specs.declared.expression.Expr.{Expr}
 use Rattle.go_ast.specs.Trees as trees
 use Rattle.go_ast.specs.Expected.{another, an_operand}
 use Rattle.go_ast.specs.Machine.{expr, token, run}
-use Rattle.go_ast.specs.Views.{expr_of, binary_of, if_some}
+use Rattle.go_ast.specs.Views.{expr_of, binary_of}
 use Rattle.go_pexpr.specs.Reads.{left}
 use Rattle.go_pexpr.proofs.Reading.{then_fails, then_makes}
 use Rattle.go_parse.specs.Statements.{position_of, is_bare, assigned, Does, on_one, on_alone, at_one}

@@ -1,8 +1,6 @@
-use Rattle.std.proofs.Common.{◌≡◌, ◌≤◌, List, [], ◌∷◌, ◌++◌, length, map, sym, ap, ◌∙◌, subst, arith}
-use Rattle.go_ast.specs.Trees as trees
+use Rattle.std.proofs.Common.{◌≤◌, List, [], ◌∷◌, ◌++◌, length, map, sym, ap, ◌∙◌, subst, arith}
 use Rattle.go_ast.specs.Expected.{an_operand}
-use Rattle.go_ast.specs.Grammar.{Lexeme}
-use Rattle.go_ast.specs.Machine.{State, expr, lefts, run}
+use Rattle.go_ast.specs.Machine.{expr, lefts, run}
 use Rattle.go_ast.specs.Views.{expr_of}
 use Rattle.go_ast.specs.declared.expression.Expr.{Expr}
 use Rattle.go_pexpr.specs.Reads.{left}

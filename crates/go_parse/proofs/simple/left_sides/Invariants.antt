@@ -1,4 +1,4 @@
-use Rattle.std.proofs.Common.{◌≡◌, ◌≤◌, ◌<◌, List, [], ◌∷◌, length, map}
+use Rattle.std.proofs.Common.{◌≡◌, ◌≤◌, ◌<◌, [], ◌∷◌, length, map}
 use Rattle.go_ast.specs.Trees as trees
 use Rattle.go_ast.specs.Machine.{State, expr, lefts, run}
 use Rattle.go_ast.specs.Views.{expr_of}

@@ -1,4 +1,4 @@
-use Rattle.std.proofs.Common.{◌≡◌, ℕ, List, [], ◌∷◌, ◌++◌, Option, Some, sym, ap, ◌∙◌}
+use Rattle.std.proofs.Common.{ℕ, List, Option, Some, sym, ap, ◌∙◌}
 use Rattle.go_ast.specs.Trees.{Name}
 use Rattle.go_parse.proofs.Lefts.{names_stop, names_step, if_none}
 use Rattle.go_parse.proofs.simple.names_of.Goals as goal

@@ -1,4 +1,4 @@
-use Rattle.std.proofs.Common.{◌≡◌, sym, ap, ◌∙◌}
+use Rattle.std.proofs.Common.{sym, ap, ◌∙◌}
 use Rattle.go_ast.specs.Grammar.{simple_place}
 use Rattle.go_ast.specs.Views.{simple_of}
 use Rattle.go_ast.specs.declared.statement.Simple.{Simple}

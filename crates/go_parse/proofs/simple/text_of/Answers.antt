@@ -1,9 +1,7 @@
-use Rattle.std.proofs.Common.{◌≡◌, ℕ, List, Option, Some, refl, sym, ap, ◌∙◌}
+use Rattle.std.proofs.Common.{ℕ, List, Option, Some, refl, sym, ap, ◌∙◌}
 use Rattle.go_ast.specs.Trees.{Name}
-use Rattle.go_ast.specs.Grammar.{is_call}
 use Rattle.go_ast.specs.Machine.{name_if}
 use Rattle.go_ast.specs.Views.{expr_of}
-use Rattle.go_ast.specs.declared.expression.Expr.{Expr}
 use Rattle.go_ast.specs.declared.expression.ExprKind.{ExprKind}
 use Rattle.go_ast.proofs.Rows.{name_seen, integer_seen, rune_seen, string_seen, parenthesized_seen, literal_seen, conversion_seen, selector_seen, index_seen, call_seen, unary_seen, binary_seen}
 use Rattle.go_parse.proofs.simple.text_of.Goals as goal

@@ -1,10 +1,9 @@
-use Rattle.std.proofs.Common.{Option, ◌≡◌, ℕ, ◌+◌, ◌<◌, ◌≤◌, List, [], ◌∷◌, ◌++◌, map, refl, sym, ap, ◌∙◌, subst, arith}
+use Rattle.std.proofs.Common.{Option, ◌+◌, List, [], ◌∷◌, ◌++◌, map, refl, sym, ap, ◌∙◌, subst, arith}
 use Rattle.go_text.specs.declared.place.Place.{Place}
 use Rattle.go_ast.specs.Trees as trees
-use Rattle.go_ast.specs.Expected.{Expected, another}
+use Rattle.go_ast.specs.Expected.{Expected}
 use Rattle.go_ast.specs.Grammar.{Lexeme, closing_brace, simple_place}
-use Rattle.go_scan.specs.declared.keyword.Keyword.TheVariants as keywords
-use Rattle.go_ast.specs.Machine.{State, list_start, list_end, clause_start, clause_end, statements, open_block, block_at, else_part, switch_body, behind_if, behind_else, behind_for, behind_switch, pack_clauses, run}
+use Rattle.go_ast.specs.Machine.{State, list_start, list_end, clause_start, clause_end, statements, open_block, else_part, behind_if, behind_else, behind_for, behind_switch, pack_clauses, run}
 use Rattle.go_ast.specs.Tokens.{lexeme}
 use Rattle.go_ast.specs.Views.{if_some, stmt_of, clause_of, block_of, expr_of, simple_of}
 use Rattle.go_parse.specs.Turns.{if_boxed, for_of}
@@ -14,10 +13,10 @@ use Rattle.go_ast.proofs.StatementRows.{empty_seen, block_seen, if_seen, simple_
 use Rattle.go_pexpr.specs.Reads.{Reads, left, expected_of}
 use Rattle.go_pexpr.proofs.Reading.{then_fails, then_reads}
 use Rattle.go_pexpr.proofs.Steps.{same_at}
-use Rattle.go_parse.specs.Due.{behind_of}
+use Rattle.go_parse.specs.Due.{behind_of, clauses_behind}
 use Rattle.go_parse.proofs.Lefts.{false_true, pushed}
 use Rattle.go_parse.proofs.Items.{list_item, list_between, clause_item, clause_between, clause_done, item_due, item_empty}
-use Rattle.go_parse.proofs.Heads.{passed_on}
+use Rattle.go_parse.proofs.Reading.{missed}
 use Rattle.go_parse.proofs.Choices.{due_jump, due_block, block_comes, no_block, if_comes, no_if, for_comes, no_for, switch_comes, no_switch, turns_open, else_missing, else_comes, else_if_comes, else_block_comes, clauses_close}
 use Rattle.go_parse.proofs.statement.+statement.Goals as goal
 
@@ -65,7 +64,8 @@ block-returns-clause-reads t c = λ next.
     record {
       by = (c.in_ok-opening.ensures.reads (open_block c.args.level next)).by ∙ c.statements.invariant.reads n
           ∙ same_at _ _ closing_brace (left c.statements.reader) (c.is_next.ensures.0 c.statements-test.false) (λ text p. refl)
-          ∙ (c.in_ok-closing.ensures.reads (n (map stmt_of c.statements.statements.items))).by;
+          ∙ (c.in_ok-closing.ensures.reads (n (map stmt_of c.statements.statements.items))).by
+          ∙ ap (λ (ss : List Stmt). run 250 (n (map stmt_of ss) (lexeme c.args.reader.now.text.now c.in_ok-closing.closing)) (left c.expect-2.new.self)) (sym c.shrink_to_fit.ensures.items);
     }
 
 -- items
@@ -141,7 +141,8 @@ pub clause_statements-returns-clause-reads : goal.clause_statements-returns-clau
 clause_statements-returns-clause-reads t c = λ done p values next.
     record {
       by = c.statements.invariant.reads done p values next
-          ∙ clause_done c.args.level done p values next (map stmt_of c.statements.statements.items) (left c.statements.reader) (c.ends_clause.ensures.0 c.statements-test.false);
+          ∙ clause_done c.args.level done p values next (map stmt_of c.statements.statements.items) (left c.statements.reader) (c.ends_clause.ensures.0 c.statements-test.false)
+          ∙ ap (λ (ss : List Stmt). run 250 (clauses_behind c.args.level (done ++ (p, (values, map stmt_of ss)) ∷ []) next) (left c.statements.reader)) (sym c.shrink_to_fit.ensures.items);
     }
 
 pub clauses-returns-in_err-clause-clause-reads : goal.clauses-returns-in_err-clause-clause-reads
@@ -270,14 +271,14 @@ otherwise-returns-clause-reads t c = λ p i e b next.
 pub statement-returns-in_err-statement-2-clause-reads : goal.statement-returns-in_err-statement-2-clause-reads
 statement-returns-in_err-statement-2-clause-reads t c = λ next.
     let l = c.args.level in
-    let one = passed_on (c.in_ok-statement.ensures.reads next (due_jump l next)) c.in_default.is in
+    let one = missed (c.in_ok-statement.ensures.reads next (due_jump l next)) c.in_default.is in
     then_fails one (c.in_err-statement-2.ensures.reads next (due_block l next)) c.from_residual-in_err-statement-2.ensures.1
 
 pub statement-returns-in_err-block-clause-reads : goal.statement-returns-in_err-block-clause-reads
 statement-returns-in_err-block-clause-reads t c = λ next.
     let l = c.args.level in
-    let one = passed_on (c.in_ok-statement.ensures.reads next (due_jump l next)) c.in_default.is in
-    let two = one ∙ passed_on (c.in_ok-statement-2.ensures.reads next (due_block l next)) c.in_default-2.is in
+    let one = missed (c.in_ok-statement.ensures.reads next (due_jump l next)) c.in_default.is in
+    let two = one ∙ missed (c.in_ok-statement-2.ensures.reads next (due_block l next)) c.in_default-2.is in
     let ts = left c.jump.new.reader in
     let n = λ (b : trees.Block). next (trees.block_statement b) in
     let three = two ∙ block_comes l next ts (c.if-is_next.ensures.0 refl) in
@@ -286,8 +287,8 @@ statement-returns-in_err-block-clause-reads t c = λ next.
 pub statement-returns-then-is_next-clause-reads : goal.statement-returns-then-is_next-clause-reads
 statement-returns-then-is_next-clause-reads t c = λ next.
     let l = c.args.level in
-    let one = passed_on (c.in_ok-statement.ensures.reads next (due_jump l next)) c.in_default.is in
-    let two = one ∙ passed_on (c.in_ok-statement-2.ensures.reads next (due_block l next)) c.in_default-2.is in
+    let one = missed (c.in_ok-statement.ensures.reads next (due_jump l next)) c.in_default.is in
+    let two = one ∙ missed (c.in_ok-statement-2.ensures.reads next (due_block l next)) c.in_default-2.is in
     let ts = left c.jump.new.reader in
     let n = λ (b : trees.Block). next (trees.block_statement b) in
     let three = two ∙ block_comes l next ts (c.if-is_next.ensures.0 refl) in
@@ -296,8 +297,8 @@ statement-returns-then-is_next-clause-reads t c = λ next.
 pub statement-returns-in_err-conditional-clause-reads : goal.statement-returns-in_err-conditional-clause-reads
 statement-returns-in_err-conditional-clause-reads t c = λ next.
     let l = c.args.level in
-    let one = passed_on (c.in_ok-statement.ensures.reads next (due_jump l next)) c.in_default.is in
-    let two = one ∙ passed_on (c.in_ok-statement-2.ensures.reads next (due_block l next)) c.in_default-2.is in
+    let one = missed (c.in_ok-statement.ensures.reads next (due_jump l next)) c.in_default.is in
+    let two = one ∙ missed (c.in_ok-statement-2.ensures.reads next (due_block l next)) c.in_default-2.is in
     let ts = left c.jump.new.reader in
     let three = two ∙ no_block l next ts (λ f. false_true (c.if-is_next.ensures.1 f)) in
     let n = λ (i : trees.If). next (trees.if_statement i) in
@@ -307,8 +308,8 @@ statement-returns-in_err-conditional-clause-reads t c = λ next.
 pub statement-returns-then-is_next-2-clause-reads : goal.statement-returns-then-is_next-2-clause-reads
 statement-returns-then-is_next-2-clause-reads t c = λ next.
     let l = c.args.level in
-    let one = passed_on (c.in_ok-statement.ensures.reads next (due_jump l next)) c.in_default.is in
-    let two = one ∙ passed_on (c.in_ok-statement-2.ensures.reads next (due_block l next)) c.in_default-2.is in
+    let one = missed (c.in_ok-statement.ensures.reads next (due_jump l next)) c.in_default.is in
+    let two = one ∙ missed (c.in_ok-statement-2.ensures.reads next (due_block l next)) c.in_default-2.is in
     let ts = left c.jump.new.reader in
     let three = two ∙ no_block l next ts (λ f. false_true (c.if-is_next.ensures.1 f)) in
     let n = λ (i : trees.If). next (trees.if_statement i) in
@@ -321,8 +322,8 @@ statement-returns-then-is_next-2-clause-reads t c = λ next.
 pub statement-returns-then-is_next-3-clause-reads : goal.statement-returns-then-is_next-3-clause-reads
 statement-returns-then-is_next-3-clause-reads t c = λ next.
     let l = c.args.level in
-    let one = passed_on (c.in_ok-statement.ensures.reads next (due_jump l next)) c.in_default.is in
-    let two = one ∙ passed_on (c.in_ok-statement-2.ensures.reads next (due_block l next)) c.in_default-2.is in
+    let one = missed (c.in_ok-statement.ensures.reads next (due_jump l next)) c.in_default.is in
+    let two = one ∙ missed (c.in_ok-statement-2.ensures.reads next (due_block l next)) c.in_default-2.is in
     let ts = left c.jump.new.reader in
     let three = two ∙ no_block l next ts (λ f. false_true (c.if-is_next.ensures.1 f)) in
     let four = three ∙ no_if l next ts (λ f. false_true (c.if-is_next-2.ensures.1 f)) in
@@ -331,8 +332,8 @@ statement-returns-then-is_next-3-clause-reads t c = λ next.
 pub statement-returns-then-is_next-4-clause-reads : goal.statement-returns-then-is_next-4-clause-reads
 statement-returns-then-is_next-4-clause-reads t c = λ next.
     let l = c.args.level in
-    let one = passed_on (c.in_ok-statement.ensures.reads next (due_jump l next)) c.in_default.is in
-    let two = one ∙ passed_on (c.in_ok-statement-2.ensures.reads next (due_block l next)) c.in_default-2.is in
+    let one = missed (c.in_ok-statement.ensures.reads next (due_jump l next)) c.in_default.is in
+    let two = one ∙ missed (c.in_ok-statement-2.ensures.reads next (due_block l next)) c.in_default-2.is in
     let ts = left c.jump.new.reader in
     let three = two ∙ no_block l next ts (λ f. false_true (c.if-is_next.ensures.1 f)) in
     let four = three ∙ no_if l next ts (λ f. false_true (c.if-is_next-2.ensures.1 f)) in
@@ -342,8 +343,8 @@ statement-returns-then-is_next-4-clause-reads t c = λ next.
 pub statement-returns-in_err-simple-clause-reads : goal.statement-returns-in_err-simple-clause-reads
 statement-returns-in_err-simple-clause-reads t c = λ next.
     let l = c.args.level in
-    let one = passed_on (c.in_ok-statement.ensures.reads next (due_jump l next)) c.in_default.is in
-    let two = one ∙ passed_on (c.in_ok-statement-2.ensures.reads next (due_block l next)) c.in_default-2.is in
+    let one = missed (c.in_ok-statement.ensures.reads next (due_jump l next)) c.in_default.is in
+    let two = one ∙ missed (c.in_ok-statement-2.ensures.reads next (due_block l next)) c.in_default-2.is in
     let ts = left c.jump.new.reader in
     let three = two ∙ no_block l next ts (λ f. false_true (c.if-is_next.ensures.1 f)) in
     let four = three ∙ no_if l next ts (λ f. false_true (c.if-is_next-2.ensures.1 f)) in
@@ -355,8 +356,8 @@ statement-returns-in_err-simple-clause-reads t c = λ next.
 pub statement-returns-clause-reads : goal.statement-returns-clause-reads
 statement-returns-clause-reads t c = λ next.
     let l = c.args.level in
-    let one = passed_on (c.in_ok-statement.ensures.reads next (due_jump l next)) c.in_default.is in
-    let two = one ∙ passed_on (c.in_ok-statement-2.ensures.reads next (due_block l next)) c.in_default-2.is in
+    let one = missed (c.in_ok-statement.ensures.reads next (due_jump l next)) c.in_default.is in
+    let two = one ∙ missed (c.in_ok-statement-2.ensures.reads next (due_block l next)) c.in_default-2.is in
     let ts = left c.jump.new.reader in
     let three = two ∙ no_block l next ts (λ f. false_true (c.if-is_next.ensures.1 f)) in
     let four = three ∙ no_if l next ts (λ f. false_true (c.if-is_next-2.ensures.1 f)) in

@@ -1,4 +1,4 @@
-use Rattle.std.proofs.Common.{◌≡◌, ℕ, ◌+◌, ◌*◌, ◌<◌, ◌≤◌, List, [], map, Option}
+use Rattle.std.proofs.Common.{◌≡◌, ◌+◌, ◌*◌, ◌<◌, ◌≤◌, List, [], map, Option}
 use Rattle.go_text.specs.declared.place.Place.{Place}
 use Rattle.go_ast.specs.Trees as trees
 use Rattle.go_ast.specs.Grammar.{Lexeme}

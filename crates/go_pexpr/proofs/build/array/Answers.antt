@@ -1,9 +1,6 @@
-use Rattle.std.proofs.Common.{◌≡◌, map, ap, sym, ◌∙◌, arith}
-use Rattle.go_ast.specs.Trees as trees
-use Rattle.go_ast.specs.Heights.{height, type_height}
-use Rattle.go_ast.specs.Views.{type_of, expr_of, exprs_in, element_of, field_of, unary_of, binary_of}
-use Rattle.go_ast.proofs.Rows.{array_seen, placed}
-use Rattle.go_pexpr.proofs.Built.{type_placed}
+use Rattle.std.proofs.Common.{ap, arith}
+use Rattle.go_ast.specs.Heights.{type_height}
+use Rattle.go_ast.proofs.Rows.{array_seen}
 use Rattle.go_pexpr.proofs.build.array.Goals as goal
 
 pub invariant_of-result : goal.invariant_of-result

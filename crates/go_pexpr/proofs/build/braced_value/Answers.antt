@@ -1,4 +1,4 @@
-use Rattle.std.proofs.Common.{◌≡◌, ap, arith}
+use Rattle.std.proofs.Common.{ap, arith}
 use Rattle.go_ast.specs.Heights.{element_height}
 use Rattle.go_ast.proofs.Rows.{value_seen}
 use Rattle.go_pexpr.proofs.build.braced_value.Goals as goal

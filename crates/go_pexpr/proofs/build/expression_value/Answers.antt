@@ -1,4 +1,4 @@
-use Rattle.std.proofs.Common.{◌≡◌, ap, sym, ◌∙◌}
+use Rattle.std.proofs.Common.{ap, sym, ◌∙◌}
 use Rattle.go_ast.specs.Heights.{element_height}
 use Rattle.go_ast.proofs.Rows.{expression_seen}
 use Rattle.go_pexpr.proofs.build.expression_value.Goals as goal

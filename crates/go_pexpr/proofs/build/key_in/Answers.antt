@@ -1,6 +1,5 @@
-use Rattle.std.proofs.Common.{◌≡◌, Some, None, ap, sym, ◌∙◌}
-use Rattle.go_ast.specs.Trees as trees
-use Rattle.go_ast.specs.Views.{expr_of, value_of}
+use Rattle.std.proofs.Common.{ap, ◌∙◌}
+use Rattle.go_ast.specs.Views.{value_of}
 use Rattle.go_ast.specs.Machine.{name_if}
 use Rattle.go_ast.proofs.Rows.{expression_seen}
 use Rattle.go_pexpr.specs.Turns.{key_in}

@@ -1,4 +1,4 @@
-use Rattle.std.proofs.Common.{◌≡◌, refl, ap, sym, ◌∙◌}
+use Rattle.std.proofs.Common.{refl, ap, sym, ◌∙◌}
 use Rattle.go_ast.specs.Trees as trees
 use Rattle.go_ast.specs.Views.{expr_of}
 use Rattle.go_ast.proofs.Rows.{name_seen}

@@ -1,6 +1,6 @@
-use Rattle.std.proofs.Common.{◌≡◌, Some, None, refl, ap, sym, ◌∙◌}
+use Rattle.std.proofs.Common.{Some, ap, sym, ◌∙◌}
 use Rattle.go_ast.specs.Trees as trees
-use Rattle.go_ast.specs.Views.{expr_of, type_of}
+use Rattle.go_ast.specs.Views.{expr_of}
 use Rattle.go_ast.specs.Machine.{literal_type}
 use Rattle.go_ast.proofs.Rows.{name_seen, selector_seen}
 use Rattle.go_pexpr.proofs.Built.{no_type, no_package}

@@ -1,7 +1,7 @@
-use Rattle.std.proofs.Common.{◌≡◌, ℕ, Bool, true, false, IsTrue, eqb, sym, ap, ◌∙◌, arith}
+use Rattle.std.proofs.Common.{◌≡◌, ℕ, true, IsTrue, eqb, sym, ap, ◌∙◌, arith}
 use Rattle.std.specs.Prelude.{nat_eq}
 use Rattle.std.proofs.lemmas.Bool.Decides.{nat_tests}
-use Rattle.go_pexpr.specs.Kinds.{code, same}
+use Rattle.go_pexpr.specs.Kinds.{code}
 use Rattle.go_pexpr.proofs.Codes.{are_same}
 use Rattle.go_pexpr.proofs.kind.is_kind.Goals as goal
 

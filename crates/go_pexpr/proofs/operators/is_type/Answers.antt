@@ -1,4 +1,4 @@
-use Rattle.std.proofs.Common.{◌≡◌, inl, inr, true, false, refl, sym, ap, ◌∙◌}
+use Rattle.std.proofs.Common.{◌≡◌, inl, inr, false, refl, sym, ap, ◌∙◌}
 use Rattle.go_ast.specs.Trees as trees
 use Rattle.go_ast.specs.Machine.{is_some, literal_type}
 use Rattle.go_text.specs.declared.place.Place.{Place}

@@ -1,55 +1,34 @@
-use Rattle.std.proofs.Common.{◌≡◌, ℕ, ◌+◌, ◌-◌, ◌≤◌, ◌<◌, Bool, true, false, List, [], ◌∷◌, ◌++◌, map, Option, Some, None, refl, sym, ap, ◌∙◌, subst, arith}
+use Rattle.std.proofs.Common.{◌≡◌, ◌+◌, ◌-◌, ◌≤◌, false, [], ◌∷◌, ◌++◌, map, Some, refl, sym, ap, ◌∙◌, arith}
 use Rattle.std.proofs.lemmas.Result.{IfOk-weaker}
-use Rattle.go_text.specs.declared.place.Place.{Place}
 use Rattle.go_ast.specs.declared.expression.Field.{Field}
-use Rattle.go_pexpr.specs.declared.operators.Beginning.{Beginning}
 use Rattle.go_pexpr.specs.declared.operators.Beginning.TheVariants as begins
 use Rattle.go_pexpr.proofs.Begins.{begins_as, name_first, integer_first, rune_first, string_first, parenthesis_first, bracket_first, structure_first}
 use Rattle.go_scan.specs.declared.token.TokenKind.TheVariants as kinds
 use Rattle.go_scan.specs.declared.keyword.Keyword.TheVariants as keywords
 use Rattle.go_ast.specs.Trees as trees
-use Rattle.go_ast.specs.Heights.{height}
-use Rattle.go_ast.specs.Expected.{an_operand, a_type, a_field_end, a_length, another}
-use Rattle.go_ast.specs.Grammar.{Lexeme, type_place, comma, opening, closing, opening_bracket, closing_bracket, opening_brace, closing_brace, period}
-use Rattle.go_ast.specs.Machine.{State, token, optional, type, expr, suffixes, operators, names, list_start, list_end, fields, arguments, elements, keyword, behind_bracket, behind_struct, behind_literal_type, is_some, literal_type, run}
-use Rattle.go_ast.specs.Tokens.{lexeme}
+use Rattle.go_ast.specs.Expected.{an_operand, a_field_end, another, an_index_end, an_element_end}
+use Rattle.go_ast.specs.Grammar.{type_place, opening, closing, opening_bracket, closing_bracket, opening_brace, period}
+use Rattle.go_ast.specs.Machine.{token, expr, suffixes, operators, names, list_start, fields, arguments, elements, keyword, behind_bracket, behind_struct, behind_literal_type, run}
 use Rattle.go_ast.specs.Views.{unary_of, binary_of, type_of, expr_of, field_of, element_of, value_of, if_some}
 use Rattle.go_pexpr.specs.Tall.{fields_tall, exprs_tall, elements_tall}
-use Rattle.go_ast.specs.Expected.{an_index_end, an_element_end}
 use Rattle.go_pexpr.proofs.SuffixTurns.{as_selector, as_index, as_call, as_literal, suffix_ends, literal_named}
-use Rattle.go_pexpr.specs.Turns.{behind_paren, behind_selector, behind_index, behind_call, behind_brace, behind_value, behind_first, behind_last, value_at, element_at}
-use Rattle.go_pexpr.specs.Reads.{left, either, first_kind, expected_of}
+use Rattle.go_pexpr.specs.Turns.{behind_paren, behind_selector, behind_index, behind_call, behind_brace, behind_value, behind_first, behind_last}
+use Rattle.go_pexpr.specs.Reads.{left, expected_of}
 use Rattle.go_pexpr.proofs.Pushed.{map_push, fields_push, exprs_push, elements_push}
 use Rattle.go_pexpr.proofs.ElementTurns.{no_colon_ends, key_takes}
 use Rattle.go_pexpr.proofs.Reading.{then_reads, then_fails, then_makes, then_refuses}
-use Rattle.go_pexpr.proofs.Steps.{first_of, optional_some, optional_none}
+use Rattle.go_pexpr.proofs.Steps.{optional_some, optional_none}
 use Rattle.go_pexpr.proofs.Turns.{type_as_name, type_as_array, type_as_struct, type_fails, splits_at, kind_at, operator_first, operator_takes, operator_ends, expr_as_name, expr_as_integer, expr_as_rune, expr_as_string, expr_as_paren, expr_as_array, expr_as_struct, expr_fails, sign_first, expr_as_sign}
 use Rattle.go_pexpr.proofs.ListTurns.{list_closes, list_ends, list_goes, list_item}
+use Rattle.go_pexpr.proofs.TreeStates.{false_true, other_not, either_same, behind_length, close_length, made_struct, open_struct, field_end, field_type, behind_operator, close_paren, behind_sign, typed_elements, typed_brace, typed_close, typed_value, typed_open, typed_end, argument_end, call_end, index_end, element_next, element_end, behind_colon, pushed, value_braces, value_alone, typed_by_brace, typed_by_parenthesis}
 use Rattle.go_pexpr.proofs.reader.Reader.+tree.Goals as goal
-
-false_true : false ≡ true → ⊥
-false_true e = cc (e)
-
-other_not : {b : Beginning} (x : Beginning) → (begins.Other ≡ x → ⊥) → b ≡ begins.Other → b ≡ x → ⊥
-other_not x never e f = never (sym e ∙ f)
-
-either_same : {A : Type 0} (s : State) (o : Option A) → either (λ _. s) s o ≡ s
-either_same s None = refl
-either_same s (Some a) = refl
 
 -- types of arrays
 
-abbrev behind_length : ℕ → (trees.TypeExpr → State) → Place → trees.Expr → Lexeme → State
-behind_length l next p e t = type (l + 1) a_type (λ a. next (trees.array p e a))
-
-abbrev close_length : ℕ → (trees.TypeExpr → State) → Place → trees.Expr → State
-close_length l next p e = token closing_bracket 0 another (behind_length l next p e)
-
 pub array_type-returns-in_err-length-clause-reads : goal.array_type-returns-in_err-length-clause-reads
 array_type-returns-in_err-length-clause-reads t c = λ next.
-    let p = c.in_ok-bracket.bracket.place in
     then_fails (c.in_ok-bracket.ensures.reads (behind_bracket c.args.level next)).by
-    (c.in_err-length.ensures.reads (close_length c.args.level next p)) c.from_residual-in_err-length.ensures.1
+    (c.in_err-length.ensures.reads (close_length c.args.level next c.in_ok-bracket.bracket.place)) c.from_residual-in_err-length.ensures.1
 
 pub array_type-returns-in_err-expect-clause-reads : goal.array_type-returns-in_err-expect-clause-reads
 array_type-returns-in_err-expect-clause-reads t c = λ next.
@@ -61,18 +40,11 @@ pub array_type-returns-in_err-item-clause-reads : goal.array_type-returns-in_err
 array_type-returns-in_err-item-clause-reads t c = λ next.
     let p = c.in_ok-bracket.bracket.place in
     let e = expr_of c.in_ok-length.length.expr in
-    then_fails (
-    (c.in_ok-bracket.ensures.reads (behind_bracket c.args.level next)).by ∙ (c.in_ok-length.ensures.reads (close_length c.args.level next p)).by
+    then_fails ((c.in_ok-bracket.ensures.reads (behind_bracket c.args.level next)).by ∙ (c.in_ok-length.ensures.reads (close_length c.args.level next p)).by
     ∙ (c.in_ok-expect.ensures.reads (behind_length c.args.level next p e)).by)
     (c.in_err-item.ensures.reads (λ a. next (trees.array p e a))) c.from_residual-in_err-item.ensures.1
 
 -- types of structs
-
-abbrev made_struct : (trees.TypeExpr → State) → Place → List (List trees.Name × trees.TypeExpr) → State
-made_struct next p fs = next (trees.struct p (trees.pack_fields fs))
-
-abbrev open_struct : ℕ → (trees.TypeExpr → State) → Place → Lexeme → State
-open_struct l next p t = list_start (fields (l + 1)) [] (λ fs _. made_struct next p fs)
 
 pub struct_type-returns-in_err-expect-clause-reads : goal.struct_type-returns-in_err-expect-clause-reads
 struct_type-returns-in_err-expect-clause-reads t c = λ next.
@@ -96,18 +68,11 @@ struct_type-returns-clause-reads t c = λ next.
 
 -- fields
 
-abbrev field_end : ℕ → (List (List trees.Name × trees.TypeExpr) → State) → List (List trees.Name × trees.TypeExpr) → List trees.Name → trees.TypeExpr → State
-field_end l next front ns a = list_end (fields l) a_field_end (front ++ (ns, a) ∷ []) (λ fs _. next fs)
-
-abbrev field_type : ℕ → (List (List trees.Name × trees.TypeExpr) → State) → List (List trees.Name × trees.TypeExpr) → List trees.Name → State
-field_type l next front ns = type l a_type (field_end l next front ns)
-
 pub fields-returns-in_err-names-clause-reads : goal.fields-returns-in_err-names-clause-reads
 fields-returns-in_err-names-clause-reads t c = λ next.
     let l = c.args.level in
     let front = map field_of c.fields.items.items in
-    then_fails (
-    c.fields.invariant.reads next
+    then_fails (c.fields.invariant.reads next
     ∙ list_item (fields l) front (λ fs _. next fs) (names l (field_type l next front)) (left c.fields.self) (λ u. refl) refl (λ h. false_true (c.fields-test.ensures.1 h)))
     (c.in_err-names.ensures.reads (field_type l next front)) c.from_residual.ensures.1
 
@@ -115,8 +80,7 @@ pub fields-returns-in_err-item-clause-reads : goal.fields-returns-in_err-item-cl
 fields-returns-in_err-item-clause-reads t c = λ next.
     let l = c.args.level in
     let front = map field_of c.fields.items.items in
-    then_fails (
-    c.fields.invariant.reads next
+    then_fails (c.fields.invariant.reads next
     ∙ list_item (fields l) front (λ fs _. next fs) (names l (field_type l next front)) (left c.fields.self) (λ u. refl) refl (λ h. false_true (c.fields-test.ensures.1 h))
     ∙ (c.in_ok-names.ensures.reads (field_type l next front)).by)
     (c.in_err-item.ensures.reads (field_end l next front c.in_ok-names.names.items)) c.from_residual-in_err-item.ensures.1
@@ -127,8 +91,7 @@ fields-returns-in_err-expect-clause-reads t c = λ next.
     let front = map field_of c.fields.items.items in
     let ns = c.in_ok-names.names.items in
     let more = front ++ (ns, type_of c.in_ok-item.item.type_expr) ∷ [] in
-    then_fails (
-    c.fields.invariant.reads next
+    then_fails (c.fields.invariant.reads next
     ∙ list_item (fields l) front (λ fs _. next fs) (names l (field_type l next front)) (left c.fields.self) (λ u. refl) refl (λ h. false_true (c.fields-test.ensures.1 h))
     ∙ (c.in_ok-names.ensures.reads (field_type l next front)).by
     ∙ (c.in_ok-item.ensures.reads (field_end l next front ns)).by
@@ -142,7 +105,6 @@ fields-fields-preserved-in_ok-expect t c =
     let ns = c.in_ok-names.names.items in
     let f : Field = record { names = c.in_ok-names.names; type_expr = c.in_ok-item.item.type_expr } in
     let more = front ++ (ns, type_of c.in_ok-item.item.type_expr) ∷ [] in
-    let all = ap (λ fs. map field_of fs) c.in_ok-push.ensures.items ∙ map_push field_of c.fields.items.items f in
     record {
       reads = λ next.
           c.fields.invariant.reads next
@@ -151,7 +113,7 @@ fields-fields-preserved-in_ok-expect t c =
           ∙ (c.in_ok-item.ensures.reads (field_end l next front ns)).by
           ∙ list_goes (fields l) more (λ fs _. next fs) a_field_end (left c.type_at.new.self) (λ h. false_true (c.if-not-is_next.ensures.1 h))
           ∙ (c.in_ok-expect.ensures.reads (λ _. list_start (fields l) more (λ fs _. next fs))).by
-          ∙ ap (λ fs. run 250 (list_start (fields l) fs (λ gs _. next gs)) (left c.expect.new.self)) (sym all);
+          ∙ ap (λ fs. run 250 (list_start (fields l) fs (λ gs _. next gs)) (left c.expect.new.self)) (sym (ap (λ fs. map field_of fs) c.in_ok-push.ensures.items ∙ map_push field_of c.fields.items.items f));
       counted = omega (arith, ap (λ fs. fields_tall fs) c.in_ok-push.ensures.items, fields_push c.fields.items.items f, c.fields.invariant.counted, c.in_ok-item.item.counted);
       fits = omega (arith, c.in_ok-item.ensures.fits, c.fields.invariant.fits);
       shorter = omega (arith, c.fields.invariant.shorter, c.in_ok-names.ensures.shorter, c.in_ok-item.ensures.shorter, c.in_ok-expect.ensures.shorter);
@@ -163,16 +125,14 @@ fields-fields-preserved t c =
     let front = map field_of c.fields.items.items in
     let ns = c.in_ok-names.names.items in
     let f : Field = record { names = c.in_ok-names.names; type_expr = c.in_ok-item.item.type_expr } in
-    let more = front ++ (ns, type_of c.in_ok-item.item.type_expr) ∷ [] in
-    let all = ap (λ fs. map field_of fs) c.in_ok-push.ensures.items ∙ map_push field_of c.fields.items.items f in
     record {
       reads = λ next.
           c.fields.invariant.reads next
           ∙ list_item (fields l) front (λ fs _. next fs) (names l (field_type l next front)) (left c.fields.self) (λ u. refl) refl (λ h. false_true (c.fields-test.ensures.1 h))
           ∙ (c.in_ok-names.ensures.reads (field_type l next front)).by
           ∙ (c.in_ok-item.ensures.reads (field_end l next front ns)).by
-          ∙ list_ends (fields l) more (λ fs _. next fs) a_field_end (left c.type_at.new.self) (c.if-not-is_next.ensures.0 refl)
-          ∙ ap (λ fs. run 250 (list_start (fields l) fs (λ gs _. next gs)) (left c.type_at.new.self)) (sym all);
+          ∙ list_ends (fields l) (front ++ (ns, type_of c.in_ok-item.item.type_expr) ∷ []) (λ fs _. next fs) a_field_end (left c.type_at.new.self) (c.if-not-is_next.ensures.0 refl)
+          ∙ ap (λ fs. run 250 (list_start (fields l) fs (λ gs _. next gs)) (left c.type_at.new.self)) (sym (ap (λ fs. map field_of fs) c.in_ok-push.ensures.items ∙ map_push field_of c.fields.items.items f));
       counted = omega (arith, ap (λ fs. fields_tall fs) c.in_ok-push.ensures.items, fields_push c.fields.items.items f, c.fields.invariant.counted, c.in_ok-item.item.counted);
       fits = omega (arith, c.in_ok-item.ensures.fits, c.fields.invariant.fits);
       shorter = omega (arith, c.fields.invariant.shorter, c.in_ok-names.ensures.shorter, c.in_ok-item.ensures.shorter);
@@ -236,10 +196,6 @@ binary-operators-init t c =
       shorter = c.in_ok-left.ensures.shorter;
     }
 
--- behind an operator
-abbrev behind_operator : ℕ → Bool → ℕ → trees.Expr → trees.BinaryOperator → (trees.Expr → State) → Lexeme → State
-behind_operator n h l a op next t = expr n h (l + 1) an_operand (λ r. operators n h l (trees.binary (trees.place_of a) op a r) next)
-
 pub binary-returns-in_err-bump-clause-reads : goal.binary-returns-in_err-bump-clause-reads
 binary-returns-in_err-bump-clause-reads t c = λ next.
     let n = c.args.limit - 1 in
@@ -249,8 +205,7 @@ binary-returns-in_err-bump-clause-reads t c = λ next.
     let op = binary_of c.in-Some.operator in
     let ts = left c.operators.self in
     let q = sym c.operator.ensures ∙ ap (if_some binary_of) c.in-Some.is in
-    then_fails (
-    c.operators.invariant.reads next ∙ operator_takes n h l a next ts op q
+    then_fails (c.operators.invariant.reads next ∙ operator_takes n h l a next ts op q
     ∙ ap (λ m. run 250 (token (kind_at ts) (l + m) another (behind_operator n h l a op next)) ts) (sym c.operators.left.counted))
     (c.in_err-bump.ensures.reads (kind_at ts) another (behind_operator n h l a op next) (operator_first n ts op q)) c.from_residual-in_err-bump.ensures.1
 
@@ -263,8 +218,7 @@ binary-returns-in_err-right-clause-reads t c = λ next.
     let op = binary_of c.in-Some.operator in
     let ts = left c.operators.self in
     let q = sym c.operator.ensures ∙ ap (if_some binary_of) c.in-Some.is in
-    then_fails (
-    c.operators.invariant.reads next ∙ operator_takes n h l a next ts op q
+    then_fails (c.operators.invariant.reads next ∙ operator_takes n h l a next ts op q
     ∙ ap (λ m. run 250 (token (kind_at ts) (l + m) another (behind_operator n h l a op next)) ts) (sym c.operators.left.counted)
     ∙ (c.in_ok-bump.ensures.reads (kind_at ts) another (behind_operator n h l a op next) (operator_first n ts op q)).by)
     (c.in_err-right.ensures.reads (λ r. operators n h l (trees.binary (trees.place_of a) op a r) next)) c.from_residual-in_err-right.ensures.1
@@ -292,8 +246,7 @@ binary-operators-preserved t c =
 
 pub binary-returns-clause-reads : goal.binary-returns-clause-reads
 binary-returns-clause-reads t c = λ next.
-    let q = sym c.operator.ensures ∙ ap (if_some binary_of) c.in_default.is in
-    record { by = c.operators.invariant.reads next ∙ operator_ends (c.args.limit - 1) c.args.header c.args.level (expr_of c.operators.left.expr) next (left c.operators.self) q }
+    record { by = c.operators.invariant.reads next ∙ operator_ends (c.args.limit - 1) c.args.header c.args.level (expr_of c.operators.left.expr) next (left c.operators.self) (sym c.operator.ensures ∙ ap (if_some binary_of) c.in_default.is) }
 
 -- operands
 
@@ -363,9 +316,6 @@ operand-returns-in-Other-clause-reads t c = λ h next.
 
 -- an expression in parentheses
 
-abbrev close_paren : (trees.Expr → State) → Place → trees.Expr → Lexeme → State
-close_paren next p e t = next (trees.parenthesized p e)
-
 pub parenthesized-returns-in_err-inner-clause-reads : goal.parenthesized-returns-in_err-inner-clause-reads
 parenthesized-returns-in_err-inner-clause-reads t c = λ next.
     then_fails (c.in_ok-token.ensures.reads (behind_paren c.args.level next)).by
@@ -382,9 +332,6 @@ parenthesized-returns-in_err-expect-clause-reads t c = λ next.
 pub unary-returns-in_default-clause-reads : goal.unary-returns-in_default-clause-reads
 unary-returns-in_default-clause-reads t c = λ next.
     then_reads c.suffixes.result (c.in_ok-operand.ensures.reads c.args.header next).by (c.suffixes.ensures.reads next)
-
-abbrev behind_sign : Bool → ℕ → trees.UnaryOperator → (trees.Expr → State) → Lexeme → State
-behind_sign h l op next t = expr 0 h (l + 1) an_operand (λ e. next (trees.unary t.place op e))
 
 pub unary-returns-in_err-token-clause-reads : goal.unary-returns-in_err-token-clause-reads
 unary-returns-in_err-token-clause-reads t c = λ next.
@@ -417,92 +364,66 @@ unary-returns-clause-reads t c = λ next.
 
 -- behind a type
 
-abbrev typed_elements : ℕ → (trees.Expr → State) → trees.TypeExpr → Place → List (Option trees.Name × trees.Element) → State
-typed_elements l next a q es = next (trees.literal (type_place a) a q (trees.pack_elements es))
-
-abbrev typed_brace : ℕ → (trees.Expr → State) → trees.TypeExpr → Lexeme → State
-typed_brace l next a o = list_start (elements (l + 2)) [] (λ es _. typed_elements l next a o.place es)
-
-abbrev typed_close : (trees.Expr → State) → trees.TypeExpr → trees.Expr → Lexeme → State
-typed_close next a e t = next (trees.conversion (type_place a) a e)
-
-abbrev typed_value : (trees.Expr → State) → trees.TypeExpr → trees.Expr → State
-typed_value next a e = optional comma 0 (λ _. token closing 0 another (typed_close next a e)) (token closing 0 another (typed_close next a e))
-
-abbrev typed_open : ℕ → (trees.Expr → State) → trees.TypeExpr → Lexeme → State
-typed_open l next a t = expr 5 false (l + 1) an_operand (typed_value next a)
-
 pub typed-returns-in_err-token-clause-reads : goal.typed-returns-in_err-token-clause-reads
 typed-returns-in_err-token-clause-reads t c = λ next.
-    let l = c.args.level in
     let a = type_of c.args.a.type_expr in
-    then_fails (optional_some opening_brace (l + 1) another (typed_brace l next a) (token opening (l + 1) another (typed_open l next a)) (left c.args.self.now) (c.if-is_next.ensures.0 refl))
-    (c.in_err-token.ensures.reads (typed_brace l next a)) c.from_residual.ensures.1
+    then_fails (typed_by_brace c.args.level next a (left c.args.self.now) (c.if-is_next.ensures.0 refl))
+    (c.in_err-token.ensures.reads (typed_brace c.args.level next a)) c.from_residual.ensures.1
 
 pub typed-returns-in_err-elements-clause-reads : goal.typed-returns-in_err-elements-clause-reads
 typed-returns-in_err-elements-clause-reads t c = λ next.
-    let l = c.args.level in
     let a = type_of c.args.a.type_expr in
-    then_fails (optional_some opening_brace (l + 1) another (typed_brace l next a) (token opening (l + 1) another (typed_open l next a)) (left c.args.self.now) (c.if-is_next.ensures.0 refl)
-    ∙ (c.in_ok-token.ensures.reads (typed_brace l next a)).by)
-    (c.in_err-elements.ensures.reads (typed_elements l next a c.in_ok-token.token.place)) c.from_residual-in_err-elements.ensures.1
+    then_fails (typed_by_brace c.args.level next a (left c.args.self.now) (c.if-is_next.ensures.0 refl)
+    ∙ (c.in_ok-token.ensures.reads (typed_brace c.args.level next a)).by)
+    (c.in_err-elements.ensures.reads (typed_elements c.args.level next a c.in_ok-token.token.place)) c.from_residual-in_err-elements.ensures.1
 
 pub typed-returns-then-is_next-clause-reads : goal.typed-returns-then-is_next-clause-reads
 typed-returns-then-is_next-clause-reads t c = λ next.
-    let l = c.args.level in
     let a = type_of c.args.a.type_expr in
     let q = c.in_ok-token.token.place in
-    then_makes c.literal.result (typed_elements l next a q (map element_of c.in_ok-elements.elements.items.items))
-    (optional_some opening_brace (l + 1) another (typed_brace l next a) (token opening (l + 1) another (typed_open l next a)) (left c.args.self.now) (c.if-is_next.ensures.0 refl)
-    ∙ (c.in_ok-token.ensures.reads (typed_brace l next a)).by ∙ (c.in_ok-elements.ensures.reads (typed_elements l next a q)).by)
+    then_makes c.literal.result (typed_elements c.args.level next a q (map element_of c.in_ok-elements.elements.items.items))
+    (typed_by_brace c.args.level next a (left c.args.self.now) (c.if-is_next.ensures.0 refl)
+    ∙ (c.in_ok-token.ensures.reads (typed_brace c.args.level next a)).by ∙ (c.in_ok-elements.ensures.reads (typed_elements c.args.level next a q)).by)
     (IfOk-weaker c.literal.result _ _ (λ e h. ap next h) c.literal.ensures.expr) c.literal.ensures.err
 
 pub typed-returns-in_err-expect-clause-reads : goal.typed-returns-in_err-expect-clause-reads
 typed-returns-in_err-expect-clause-reads t c = λ next.
-    let l = c.args.level in
     let a = type_of c.args.a.type_expr in
-    then_fails (optional_none opening_brace (l + 1) (typed_brace l next a) (token opening (l + 1) another (typed_open l next a)) (left c.args.self.now) (λ h. false_true (c.if-is_next.ensures.1 h)))
-    (c.in_err-expect.ensures.reads (typed_open l next a)) c.from_residual-in_err-expect.ensures.1
+    then_fails (typed_by_parenthesis c.args.level next a (left c.args.self.now) (λ h. false_true (c.if-is_next.ensures.1 h)))
+    (c.in_err-expect.ensures.reads (typed_open c.args.level next a)) c.from_residual-in_err-expect.ensures.1
 
 pub typed-returns-in_err-value-clause-reads : goal.typed-returns-in_err-value-clause-reads
 typed-returns-in_err-value-clause-reads t c = λ next.
-    let l = c.args.level in
     let a = type_of c.args.a.type_expr in
-    then_fails (optional_none opening_brace (l + 1) (typed_brace l next a) (token opening (l + 1) another (typed_open l next a)) (left c.args.self.now) (λ h. false_true (c.if-is_next.ensures.1 h))
-    ∙ (c.in_ok-expect.ensures.reads (typed_open l next a)).by)
+    then_fails (typed_by_parenthesis c.args.level next a (left c.args.self.now) (λ h. false_true (c.if-is_next.ensures.1 h))
+    ∙ (c.in_ok-expect.ensures.reads (typed_open c.args.level next a)).by)
     (c.in_err-value.ensures.reads (typed_value next a)) c.from_residual-in_err-value.ensures.1
-
-abbrev typed_end : (trees.Expr → State) → trees.TypeExpr → trees.Expr → State
-typed_end next a e = token closing 0 another (typed_close next a e)
 
 pub typed-returns-in_err-accept-clause-reads : goal.typed-returns-in_err-accept-clause-reads
 typed-returns-in_err-accept-clause-reads t c = λ next.
-    let l = c.args.level in
     let a = type_of c.args.a.type_expr in
     let e = expr_of c.in_ok-value.value.expr in
-    then_fails (optional_none opening_brace (l + 1) (typed_brace l next a) (token opening (l + 1) another (typed_open l next a)) (left c.args.self.now) (λ h. false_true (c.if-is_next.ensures.1 h))
-    ∙ (c.in_ok-expect.ensures.reads (typed_open l next a)).by ∙ (c.in_ok-value.ensures.reads (typed_value next a)).by)
+    then_fails (typed_by_parenthesis c.args.level next a (left c.args.self.now) (λ h. false_true (c.if-is_next.ensures.1 h))
+    ∙ (c.in_ok-expect.ensures.reads (typed_open c.args.level next a)).by ∙ (c.in_ok-value.ensures.reads (typed_value next a)).by)
     (c.in_err-accept.ensures.reads (λ _. typed_end next a e) (typed_end next a e)) c.from_residual-in_err-accept.ensures.1
 
 pub typed-returns-in_err-expect-2-clause-reads : goal.typed-returns-in_err-expect-2-clause-reads
 typed-returns-in_err-expect-2-clause-reads t c = λ next.
-    let l = c.args.level in
     let a = type_of c.args.a.type_expr in
     let e = expr_of c.in_ok-value.value.expr in
-    then_fails (optional_none opening_brace (l + 1) (typed_brace l next a) (token opening (l + 1) another (typed_open l next a)) (left c.args.self.now) (λ h. false_true (c.if-is_next.ensures.1 h))
-    ∙ (c.in_ok-expect.ensures.reads (typed_open l next a)).by ∙ (c.in_ok-value.ensures.reads (typed_value next a)).by
+    then_fails (typed_by_parenthesis c.args.level next a (left c.args.self.now) (λ h. false_true (c.if-is_next.ensures.1 h))
+    ∙ (c.in_ok-expect.ensures.reads (typed_open c.args.level next a)).by ∙ (c.in_ok-value.ensures.reads (typed_value next a)).by
     ∙ (c.in_ok-accept.ensures.reads (λ _. typed_end next a e) (typed_end next a e)).by
     ∙ ap (λ s. run 250 s (left c.accept.new.self)) (either_same (typed_end next a e) c.in_ok-accept.field-0))
     (c.in_err-expect-2.ensures.reads (typed_close next a e)) c.from_residual-in_err-expect-2.ensures.1
 
 pub typed-returns-clause-reads : goal.typed-returns-clause-reads
 typed-returns-clause-reads t c = λ next.
-    let l = c.args.level in
     let a = type_of c.args.a.type_expr in
     let e = expr_of c.in_ok-value.value.expr in
     then_makes c.conversion.result (next (trees.conversion (type_place a) a e))
-    (optional_none opening_brace (l + 1) (typed_brace l next a) (token opening (l + 1) another (typed_open l next a)) (left c.args.self.now) (λ h. false_true (c.if-is_next.ensures.1 h))
-    ∙ (c.in_ok-expect.ensures.reads (typed_open l next a)).by ∙ (c.in_ok-value.ensures.reads (typed_value next a)).by
+    (typed_by_parenthesis c.args.level next a (left c.args.self.now) (λ h. false_true (c.if-is_next.ensures.1 h))
+    ∙ (c.in_ok-expect.ensures.reads (typed_open c.args.level next a)).by ∙ (c.in_ok-value.ensures.reads (typed_value next a)).by
     ∙ (c.in_ok-accept.ensures.reads (λ _. typed_end next a e) (typed_end next a e)).by
     ∙ ap (λ s. run 250 s (left c.accept.new.self)) (either_same (typed_end next a e) c.in_ok-accept.field-0)
     ∙ (c.in_ok-expect-2.ensures.reads (typed_close next a e)).by)
@@ -510,15 +431,11 @@ typed-returns-clause-reads t c = λ next.
 
 -- arguments
 
-abbrev argument_end : ℕ → (List trees.Expr → State) → List trees.Expr → trees.Expr → State
-argument_end l next front e = list_end (arguments l) another (front ++ e ∷ []) (λ es _. next es)
-
 pub arguments-returns-in_err-item-clause-reads : goal.arguments-returns-in_err-item-clause-reads
 arguments-returns-in_err-item-clause-reads t c = λ next.
     let l = c.args.level in
     let front = map expr_of c.arguments.items.items in
-    then_fails (
-    c.arguments.invariant.reads next
+    then_fails (c.arguments.invariant.reads next
     ∙ list_item (arguments l) front (λ es _. next es) (expr 5 false l an_operand (argument_end l next front)) (left c.arguments.self) (λ u. refl) refl (λ h. false_true (c.arguments-test.ensures.1 h)))
     (c.in_err-item.ensures.reads (argument_end l next front)) c.from_residual.ensures.1
 
@@ -527,8 +444,7 @@ arguments-returns-in_err-expect-clause-reads t c = λ next.
     let l = c.args.level in
     let front = map expr_of c.arguments.items.items in
     let more = front ++ expr_of c.in_ok-item.item.expr ∷ [] in
-    then_fails (
-    c.arguments.invariant.reads next
+    then_fails (c.arguments.invariant.reads next
     ∙ list_item (arguments l) front (λ es _. next es) (expr 5 false l an_operand (argument_end l next front)) (left c.arguments.self) (λ u. refl) refl (λ h. false_true (c.arguments-test.ensures.1 h))
     ∙ (c.in_ok-item.ensures.reads (argument_end l next front)).by
     ∙ list_goes (arguments l) more (λ es _. next es) another (left c.binary.new.self) (λ h. false_true (c.if-not-is_next.ensures.1 h)))
@@ -540,7 +456,6 @@ arguments-arguments-preserved-in_ok-expect t c =
     let front = map expr_of c.arguments.items.items in
     let e = c.in_ok-item.item.expr in
     let more = front ++ expr_of e ∷ [] in
-    let all = ap (λ es. map expr_of es) c.in_ok-push.ensures.items ∙ map_push expr_of c.arguments.items.items e in
     record {
       reads = λ next.
           c.arguments.invariant.reads next
@@ -548,7 +463,7 @@ arguments-arguments-preserved-in_ok-expect t c =
           ∙ (c.in_ok-item.ensures.reads (argument_end l next front)).by
           ∙ list_goes (arguments l) more (λ es _. next es) another (left c.binary.new.self) (λ h. false_true (c.if-not-is_next.ensures.1 h))
           ∙ (c.in_ok-expect.ensures.reads (λ _. list_start (arguments l) more (λ es _. next es))).by
-          ∙ ap (λ es. run 250 (list_start (arguments l) es (λ fs _. next fs)) (left c.expect.new.self)) (sym all);
+          ∙ ap (λ es. run 250 (list_start (arguments l) es (λ fs _. next fs)) (left c.expect.new.self)) (sym (ap (λ es. map expr_of es) c.in_ok-push.ensures.items ∙ map_push expr_of c.arguments.items.items e));
       counted = omega (arith, ap (λ es. exprs_tall es) c.in_ok-push.ensures.items, exprs_push c.arguments.items.items e, c.arguments.invariant.counted, c.in_ok-item.item.counted);
       fits = omega (arith, c.in_ok-item.ensures.fits, c.arguments.invariant.fits);
       shorter = omega (arith, c.arguments.invariant.shorter, c.in_ok-item.ensures.shorter, c.in_ok-expect.ensures.shorter);
@@ -559,15 +474,13 @@ arguments-arguments-preserved t c =
     let l = c.args.level in
     let front = map expr_of c.arguments.items.items in
     let e = c.in_ok-item.item.expr in
-    let more = front ++ expr_of e ∷ [] in
-    let all = ap (λ es. map expr_of es) c.in_ok-push.ensures.items ∙ map_push expr_of c.arguments.items.items e in
     record {
       reads = λ next.
           c.arguments.invariant.reads next
           ∙ list_item (arguments l) front (λ es _. next es) (expr 5 false l an_operand (argument_end l next front)) (left c.arguments.self) (λ u. refl) refl (λ h. false_true (c.arguments-test.ensures.1 h))
           ∙ (c.in_ok-item.ensures.reads (argument_end l next front)).by
-          ∙ list_ends (arguments l) more (λ es _. next es) another (left c.binary.new.self) (c.if-not-is_next.ensures.0 refl)
-          ∙ ap (λ es. run 250 (list_start (arguments l) es (λ fs _. next fs)) (left c.binary.new.self)) (sym all);
+          ∙ list_ends (arguments l) (front ++ expr_of e ∷ []) (λ es _. next es) another (left c.binary.new.self) (c.if-not-is_next.ensures.0 refl)
+          ∙ ap (λ es. run 250 (list_start (arguments l) es (λ fs _. next fs)) (left c.binary.new.self)) (sym (ap (λ es. map expr_of es) c.in_ok-push.ensures.items ∙ map_push expr_of c.arguments.items.items e));
       counted = omega (arith, ap (λ es. exprs_tall es) c.in_ok-push.ensures.items, exprs_push c.arguments.items.items e, c.arguments.invariant.counted, c.in_ok-item.item.counted);
       fits = omega (arith, c.in_ok-item.ensures.fits, c.arguments.invariant.fits);
       shorter = omega (arith, c.arguments.invariant.shorter, c.in_ok-item.ensures.shorter);
@@ -589,9 +502,6 @@ arguments-returns-clause-reads t c = λ next.
 
 -- suffixes
 
-abbrev call_end : (trees.Expr → State) → trees.Expr → List trees.Expr → State
-call_end next f es = next (trees.call (trees.place_of f) f (trees.pack es))
-
 pub called-returns-in_err-arguments-clause-reads : goal.called-returns-in_err-arguments-clause-reads
 called-returns-in_err-arguments-clause-reads t c = λ next.
     let f = expr_of c.args.operand.expr in
@@ -604,9 +514,6 @@ called-returns-clause-reads t c = λ next.
     then_makes c.call.result (call_end next f (map expr_of c.in_ok-arguments.arguments.items.items))
     ((c.in_ok-expect.ensures.reads (behind_call c.args.level f next)).by ∙ (c.in_ok-arguments.ensures.reads (call_end next f)).by)
     (IfOk-weaker c.call.result _ _ (λ x h. ap next h) c.call.ensures.expr) c.call.ensures.err
-
-abbrev index_end : (trees.Expr → State) → trees.Expr → trees.Expr → Lexeme → State
-index_end next e i t = next (trees.index (trees.place_of e) e i)
 
 pub indexed-returns-in_err-at-clause-reads : goal.indexed-returns-in_err-at-clause-reads
 indexed-returns-in_err-at-clause-reads t c = λ next.
@@ -624,8 +531,7 @@ pub suffixes-returns-in_err-front-in-Selector-clause-reads : goal.suffixes-retur
 suffixes-returns-in_err-front-in-Selector-clause-reads t c = λ next.
     let e = expr_of c.suffixes.front.expr in
     let ts = left c.suffixes.self in
-    then_fails (
-    c.suffixes.invariant.reads next
+    then_fails (c.suffixes.invariant.reads next
     ∙ as_selector c.args.header c.args.level e next _ ts (sym c.suffix.ensures ∙ c.in-Some.is ∙ ap Some c.in-Selector.is)
     ∙ ap (λ m. run 250 (token period (c.args.level + m) another (behind_selector e (λ x. suffixes c.args.header c.args.level x next))) ts) (sym c.suffixes.front.counted))
     (c.in_err-front-in-Selector.ensures.reads (λ x. suffixes c.args.header c.args.level x next)) c.from_residual.ensures.1
@@ -648,8 +554,7 @@ pub suffixes-returns-in_err-front-in-Index-clause-reads : goal.suffixes-returns-
 suffixes-returns-in_err-front-in-Index-clause-reads t c = λ next.
     let e = expr_of c.suffixes.front.expr in
     let ts = left c.suffixes.self in
-    then_fails (
-    c.suffixes.invariant.reads next
+    then_fails (c.suffixes.invariant.reads next
     ∙ as_index c.args.header c.args.level e next _ ts (sym c.suffix.ensures ∙ c.in-Some.is ∙ ap Some c.in-Index.is)
     ∙ ap (λ m. run 250 (token opening_bracket (c.args.level + m) another (behind_index c.args.level e (λ x. suffixes c.args.header c.args.level x next))) ts) (sym c.suffixes.front.counted))
     (c.in_err-front-in-Index.ensures.reads (λ x. suffixes c.args.header c.args.level x next)) c.from_residual-in_err-front-in-Index.ensures.1
@@ -672,8 +577,7 @@ pub suffixes-returns-in_err-front-in-Call-clause-reads : goal.suffixes-returns-i
 suffixes-returns-in_err-front-in-Call-clause-reads t c = λ next.
     let e = expr_of c.suffixes.front.expr in
     let ts = left c.suffixes.self in
-    then_fails (
-    c.suffixes.invariant.reads next
+    then_fails (c.suffixes.invariant.reads next
     ∙ as_call c.args.header c.args.level e next _ ts (sym c.suffix.ensures ∙ c.in-Some.is ∙ ap Some c.in-Call.is)
     ∙ ap (λ m. run 250 (token opening (c.args.level + m) another (behind_call c.args.level e (λ x. suffixes c.args.header c.args.level x next))) ts) (sym c.suffixes.front.counted))
     (c.in_err-front-in-Call.ensures.reads (λ x. suffixes c.args.header c.args.level x next)) c.from_residual-in_err-front-in-Call.ensures.1
@@ -717,28 +621,15 @@ suffixes-suffixes-preserved t c =
 
 pub suffixes-returns-clause-reads : goal.suffixes-returns-clause-reads
 suffixes-returns-clause-reads t c = λ next.
-    let e = expr_of c.suffixes.front.expr in
-    let ts = left c.suffixes.self in
-    record { by = c.suffixes.invariant.reads next ∙ suffix_ends c.args.header c.args.level e next ts (sym c.suffix.ensures ∙ c.in_default.is) }
+    record { by = c.suffixes.invariant.reads next ∙ suffix_ends c.args.header c.args.level (expr_of c.suffixes.front.expr) next (left c.suffixes.self) (sym c.suffix.ensures ∙ c.in_default.is) }
 
 -- elements of a literal
-
-abbrev Elements : Type 0
-Elements = List (Option trees.Name × trees.Element)
-
--- an element is due, at the list's end it isn't
-abbrev element_next : ℕ → Elements → (Elements → State) → State
-element_next l front next = element_at l front (λ es _. next es)
-
-abbrev element_end : ℕ → Elements → (Elements → State) → State
-element_end l front next = list_start (elements l) front (λ es _. next es)
 
 pub elements-returns-in_err-item-clause-reads : goal.elements-returns-in_err-item-clause-reads
 elements-returns-in_err-item-clause-reads t c = λ next.
     let l = c.args.level in
     let front = map element_of c.elements.items.items in
-    then_fails (
-    c.elements.invariant.reads next
+    then_fails (c.elements.invariant.reads next
     ∙ list_item (elements l) front (λ es _. next es) (element_next l front next) (left c.elements.self) (λ u. refl) refl (λ h. false_true (c.elements-test.ensures.1 h)))
     (c.in_err-item.ensures.reads front (λ es _. next es)) c.from_residual.ensures.1
 
@@ -747,8 +638,7 @@ elements-returns-in_err-expect-clause-reads t c = λ next.
     let l = c.args.level in
     let front = map element_of c.elements.items.items in
     let more = front ++ element_of c.in_ok-item.item.element ∷ [] in
-    then_fails (
-    c.elements.invariant.reads next
+    then_fails (c.elements.invariant.reads next
     ∙ list_item (elements l) front (λ es _. next es) (element_next l front next) (left c.elements.self) (λ u. refl) refl (λ h. false_true (c.elements-test.ensures.1 h))
     ∙ (c.in_ok-item.ensures.reads front (λ es _. next es)).by
     ∙ list_goes (elements l) more (λ es _. next es) an_element_end (left c.element.new.self) (λ h. false_true (c.if-not-is_next.ensures.1 h)))
@@ -760,7 +650,6 @@ elements-elements-preserved-in_ok-expect t c =
     let front = map element_of c.elements.items.items in
     let e = c.in_ok-item.item.element in
     let more = front ++ element_of e ∷ [] in
-    let all = ap (λ es. map element_of es) c.in_ok-push.ensures.items ∙ map_push element_of c.elements.items.items e in
     record {
       reads = λ next.
           c.elements.invariant.reads next
@@ -768,7 +657,7 @@ elements-elements-preserved-in_ok-expect t c =
           ∙ (c.in_ok-item.ensures.reads front (λ es _. next es)).by
           ∙ list_goes (elements l) more (λ es _. next es) an_element_end (left c.element.new.self) (λ h. false_true (c.if-not-is_next.ensures.1 h))
           ∙ (c.in_ok-expect.ensures.reads (λ _. element_end l more next)).by
-          ∙ ap (λ es. run 250 (element_end l es next) (left c.expect.new.self)) (sym all);
+          ∙ ap (λ es. run 250 (element_end l es next) (left c.expect.new.self)) (sym (ap (λ es. map element_of es) c.in_ok-push.ensures.items ∙ map_push element_of c.elements.items.items e));
       counted = omega (arith, ap (λ es. elements_tall es) c.in_ok-push.ensures.items, elements_push c.elements.items.items e, c.elements.invariant.counted, c.in_ok-item.item.counted);
       fits = λ h. omega (arith, c.in_ok-item.ensures.fits, c.elements.invariant.fits h);
       shorter = omega (arith, c.elements.invariant.shorter, c.in_ok-item.ensures.shorter, c.in_ok-expect.ensures.shorter);
@@ -779,15 +668,13 @@ elements-elements-preserved t c =
     let l = c.args.level in
     let front = map element_of c.elements.items.items in
     let e = c.in_ok-item.item.element in
-    let more = front ++ element_of e ∷ [] in
-    let all = ap (λ es. map element_of es) c.in_ok-push.ensures.items ∙ map_push element_of c.elements.items.items e in
     record {
       reads = λ next.
           c.elements.invariant.reads next
           ∙ list_item (elements l) front (λ es _. next es) (element_next l front next) (left c.elements.self) (λ u. refl) refl (λ h. false_true (c.elements-test.ensures.1 h))
           ∙ (c.in_ok-item.ensures.reads front (λ es _. next es)).by
-          ∙ list_ends (elements l) more (λ es _. next es) an_element_end (left c.element.new.self) (c.if-not-is_next.ensures.0 refl)
-          ∙ ap (λ es. run 250 (element_end l es next) (left c.element.new.self)) (sym all);
+          ∙ list_ends (elements l) (front ++ element_of e ∷ []) (λ es _. next es) an_element_end (left c.element.new.self) (c.if-not-is_next.ensures.0 refl)
+          ∙ ap (λ es. run 250 (element_end l es next) (left c.element.new.self)) (sym (ap (λ es. map element_of es) c.in_ok-push.ensures.items ∙ map_push element_of c.elements.items.items e));
       counted = omega (arith, ap (λ es. elements_tall es) c.in_ok-push.ensures.items, elements_push c.elements.items.items e, c.elements.invariant.counted, c.in_ok-item.item.counted);
       fits = λ h. omega (arith, c.in_ok-item.ensures.fits, c.elements.invariant.fits h);
       shorter = omega (arith, c.elements.invariant.shorter, c.in_ok-item.ensures.shorter);
@@ -808,12 +695,6 @@ elements-returns-clause-reads t c = λ next.
     }
 
 -- an element
-
-abbrev behind_colon : ℕ → Elements → (Elements → Lexeme → State) → trees.Name → Lexeme → State
-behind_colon l front next n t = value_at l (behind_last l front next (Some n))
-
-abbrev pushed : ℕ → Elements → (Elements → Lexeme → State) → Option trees.Name × trees.Element → State
-pushed l front next e = list_end (elements l) an_element_end (front ++ e ∷ []) next
 
 pub element-returns-then-not-is_next-clause-reads : goal.element-returns-then-not-is_next-clause-reads
 element-returns-then-not-is_next-clause-reads t c = λ front next.
@@ -855,12 +736,6 @@ element-returns-in_ok-value-in-Ok-clause-reads t c = λ front next.
     }
 
 -- the value of an element
-
-abbrev value_braces : (trees.Element → State) → Place → Elements → State
-value_braces next p es = next (trees.value_element p (trees.pack_elements es))
-
-abbrev value_alone : (trees.Element → State) → trees.Expr → State
-value_alone next e = next (trees.expression_element e)
 
 pub value-returns-in_err-token-clause-reads : goal.value-returns-in_err-token-clause-reads
 value-returns-in_err-token-clause-reads t c = λ next.

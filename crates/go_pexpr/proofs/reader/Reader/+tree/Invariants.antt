@@ -1,4 +1,4 @@
-use Rattle.std.proofs.Common.{◌≡◌, ℕ, ◌+◌, ◌*◌, ◌<◌, ◌≤◌, List, [], map, Option}
+use Rattle.std.proofs.Common.{◌≡◌, ◌+◌, ◌*◌, ◌<◌, ◌≤◌, List, [], map, Option}
 use Rattle.go_ast.specs.Trees as trees
 use Rattle.go_ast.specs.Machine.{State, expr, suffixes, operators, list_start, fields, arguments, elements, run}
 use Rattle.go_ast.specs.Views.{expr_of, field_of, element_of}

@@ -1,9 +1,8 @@
-use Rattle.std.proofs.Common.{◌≡◌, ◌-◌, true, false, List, [], ◌∷◌, length, take, drop, refl, sym, ap, ◌∙◌, subst, arith}
+use Rattle.std.proofs.Common.{◌≡◌, ◌-◌, true, false, List, ◌∷◌, length, take, drop, refl, sym, ap, ◌∙◌, subst, arith}
 use Rattle.std.specs.Prelude.{slice_index_or}
 use Rattle.std.proofs.lemmas.List.Elements.{All-tail, All-same}
 use Rattle.go_scan.specs.declared.token.Token.{Token}
 use Rattle.go_scan.specs.declared.token.TokenKind.TheVariants as kinds
-use Rattle.go_ast.specs.Grammar.{Lexeme}
 use Rattle.go_ast.specs.Machine.{token, Refused, run}
 use Rattle.go_ast.specs.Tokens.{LiesIn}
 use Rattle.go_ast.specs.Tokens.{lexeme, lexemes}

@@ -1,5 +1,4 @@
-use Rattle.std.proofs.Common.{◌≡◌, sym, ◌∙◌}
-use Rattle.go_ast.specs.Views.{expr_of}
+use Rattle.std.proofs.Common.{sym, ◌∙◌}
 use Rattle.go_pexpr.specs.Reads.{left, expected_of}
 use Rattle.go_pexpr.proofs.Reading.{then_fails, then_refuses}
 use Rattle.go_pexpr.proofs.OptionalTurns.{expr_there, expr_out, expr_missing}

@@ -1,5 +1,5 @@
-use Rattle.std.proofs.Common.{◌≡◌, List, [], ◌∷◌, ◌++◌, map, sym, ap, ◌∙◌}
-use Rattle.go_ast.specs.Machine.{State, more_exprs, run}
+use Rattle.std.proofs.Common.{[], ◌∷◌, ◌++◌, map, sym, ap, ◌∙◌}
+use Rattle.go_ast.specs.Machine.{more_exprs, run}
 use Rattle.go_ast.specs.Views.{expr_of}
 use Rattle.go_pexpr.specs.Reads.{left}
 use Rattle.go_pexpr.proofs.Reading.{then_reads}

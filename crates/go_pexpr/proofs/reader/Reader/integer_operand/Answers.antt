@@ -1,4 +1,4 @@
-use Rattle.std.proofs.Common.{◌≡◌, refl, sym, ap, ◌∙◌}
+use Rattle.std.proofs.Common.{sym, ap, ◌∙◌}
 use Rattle.go_ast.specs.Trees as trees
 use Rattle.go_ast.specs.Machine.{run}
 use Rattle.go_ast.specs.Tokens.{bytes_of}

@@ -1,10 +1,10 @@
 use Rattle.std.proofs.Common.{◌≡◌, ℕ, Bool, List, [], ◌∷◌, ◌++◌, map, true, false, refl, sym, ap, ◌∙◌, arith}
-use Rattle.go_ast.specs.Expected.{an_operand, another}
+use Rattle.go_ast.specs.Expected.{an_operand}
 use Rattle.go_ast.specs.Trees as trees
-use Rattle.go_ast.specs.Grammar.{Lexeme, comma}
+use Rattle.go_ast.specs.Grammar.{Lexeme}
 use Rattle.go_ast.specs.Machine.{State, expr, more_exprs, run}
 use Rattle.go_ast.specs.Views.{expr_of}
-use Rattle.go_pexpr.specs.Reads.{left, expected_of}
+use Rattle.go_pexpr.specs.Reads.{left}
 use Rattle.go_pexpr.proofs.Pushed.{map_push}
 use Rattle.go_pexpr.proofs.Reading.{then_fails}
 use Rattle.go_pexpr.proofs.Turns.{more_exprs_takes, more_exprs_end}

@@ -1,9 +1,9 @@
-use Rattle.std.proofs.Common.{◌≡◌, ℕ, List, [], ◌∷◌, ◌++◌, true, false, refl, sym, ap, ◌∙◌, arith}
+use Rattle.std.proofs.Common.{◌≡◌, [], ◌∷◌, ◌++◌, true, false, refl, sym, ap, ◌∙◌, arith}
 use Rattle.go_scan.specs.declared.token.TokenKind.TheVariants as kinds
 use Rattle.go_ast.specs.Expected.{another}
-use Rattle.go_ast.specs.Grammar.{name_of, comma}
-use Rattle.go_ast.specs.Machine.{State, token, names, more_names, run}
-use Rattle.go_pexpr.specs.Reads.{left, lexeme_of}
+use Rattle.go_ast.specs.Grammar.{name_of}
+use Rattle.go_ast.specs.Machine.{token, more_names, run}
+use Rattle.go_pexpr.specs.Reads.{left}
 use Rattle.go_pexpr.proofs.Reading.{then_fails}
 use Rattle.go_pexpr.proofs.Turns.{more_names_takes, more_names_end}
 use Rattle.go_pexpr.proofs.reader.Reader.names.Goals as goal
