@@ -16,7 +16,7 @@ use Rattle.go_ast.specs.declared.statement.For.{For}
 use Rattle.go_ast.specs.declared.statement.Range.{Range}
 use Rattle.go_ast.specs.declared.statement.Clause.{Clause}
 use Rattle.go_ast.specs.Machine.{pack_clauses}
-use Rattle.go_ast.specs.Views.{expr_of, exprs_in, if_some, decl_of, simple_of, stmt_at, stmts_of, clauses_of, stmt_of, else_of, clause_of, block_of, if_of}
+use Rattle.go_ast.specs.Views.{expr_of, exprs_in, if_some, if_boxed, decl_of, simple_of, stmt_at, stmts_of, clauses_of, stmt_of, else_of, clause_of, block_of, if_of}
 
 stmt_items : (n : _) (row : Row_of-Stmt n) → stmts_of row ≡ trees.pack_stmts (map stmt_of (items-the_row-Stmt n row))
 unfolding stmt_of
@@ -40,19 +40,19 @@ block_seen b = ap (λ x. trees.block_statement (trees.block b.place x b.closing)
 pub if_seen : (i : If) → stmt_of (stmts.If i) ≡ trees.if_statement (if_of i)
 unfolding stmt_of else_of
 if_seen i =
-    ap (λ x. trees.if_statement (trees.conditional i.place (if_some simple_of i.start) (expr_of i.condition) (trees.block i.body.place x i.body.closing)
+    ap (λ x. trees.if_statement (trees.conditional i.place (if_boxed simple_of i.start) (expr_of i.condition.value) (trees.block i.body.place x i.body.closing)
     (else_of i.otherwise))) (stmts_seen i.body)
 
-pub for_seen : (f : For) → stmt_of (stmts.For f) ≡ trees.for_statement f.place (if_some simple_of f.start) (if_some expr_of f.condition)
-    (if_some simple_of f.step) (block_of f.body)
+pub for_seen : (f : For) → stmt_of (stmts.For f) ≡ trees.for_statement f.place (if_boxed simple_of f.start) (if_boxed expr_of f.condition)
+    (if_boxed simple_of f.step) (block_of f.body)
 unfolding stmt_of
 for_seen f =
-    ap (λ x. trees.for_statement f.place (if_some simple_of f.start) (if_some expr_of f.condition) (if_some simple_of f.step)
+    ap (λ x. trees.for_statement f.place (if_boxed simple_of f.start) (if_boxed expr_of f.condition) (if_boxed simple_of f.step)
     (trees.block f.body.place x f.body.closing)) (stmts_seen f.body)
 
-pub range_seen : (r : Range) → stmt_of (stmts.Range r) ≡ trees.range_statement r.place r.name (expr_of r.operand) (block_of r.body)
+pub range_seen : (r : Range) → stmt_of (stmts.Range r) ≡ trees.range_statement r.place r.name (expr_of r.operand.value) (block_of r.body)
 unfolding stmt_of
-range_seen r = ap (λ x. trees.range_statement r.place r.name (expr_of r.operand) (trees.block r.body.place x r.body.closing)) (stmts_seen r.body)
+range_seen r = ap (λ x. trees.range_statement r.place r.name (expr_of r.operand.value) (trees.block r.body.place x r.body.closing)) (stmts_seen r.body)
 
 pub no_else_seen : else_of elses.Nothing ≡ trees.no_else
 unfolding else_of
@@ -65,7 +65,7 @@ else_block_seen b = ap (λ x. trees.else_block (trees.block b.place x b.closing)
 pub else_if_seen : (box : Box If Global) (i : If) → box.value ≡ i → else_of (elses.If box) ≡ trees.else_if (if_of i)
 unfolding else_of
 else_if_seen box i e =
-    ap (λ x. trees.else_if (trees.conditional box.value.place (if_some simple_of box.value.start) (expr_of box.value.condition)
+    ap (λ x. trees.else_if (trees.conditional box.value.place (if_boxed simple_of box.value.start) (expr_of box.value.condition.value)
     (trees.block box.value.body.place x box.value.body.closing) (else_of box.value.otherwise))) (stmts_seen box.value.body)
     ∙ ap (λ (x : If). trees.else_if (if_of x)) e
 
@@ -112,10 +112,10 @@ abbrev clause_row : Stmt → (n : Count) × Row_of-Clause n
 clause_row (stmts.Switch' p s t n row) = (_, row)
 clause_row _ = (_, end_of-Clause)
 
-pub switch_seen : (p : Place) (s : Option Simple) (t : Option Expr) (cs : Vec Clause Global) →
-    stmt_of (stmts.Switch p s t cs) ≡ trees.switch_statement p (if_some simple_of s) (if_some expr_of t) (pack_clauses (map clause_of cs.items))
+pub switch_seen : (p : Place) (s : Option (Box Simple Global)) (t : Option (Box Expr Global)) (cs : Vec Clause Global) →
+    stmt_of (stmts.Switch p s t cs) ≡ trees.switch_statement p (if_boxed simple_of s) (if_boxed expr_of t) (pack_clauses (map clause_of cs.items))
 unfolding stmt_of
 switch_seen p s t cs =
     let row = clause_row (stmts.Switch p s t cs) in
-    ap (trees.switch_statement p (if_some simple_of s) (if_some expr_of t)) (clause_items row.0 row.1
+    ap (trees.switch_statement p (if_boxed simple_of s) (if_boxed expr_of t)) (clause_items row.0 row.1
     ∙ ap (λ xs. pack_clauses (map clause_of xs)) (items_hidden-the_row-Clause-1 cs))

@@ -1,5 +1,5 @@
 -- Which values the code's trees are.
-use Rattle.std.specs.Prelude.{List, map, string_bytes, Option, Some, None, Vec}
+use Rattle.std.specs.Prelude.{List, map, string_bytes, Option, Some, None, Box, Vec}
 use Rattle.std.specs.Global.{Global}
 use Rattle.go_text.specs.declared.place.Place.{Place}
 use Rattle.go_ast.specs.Trees as trees
@@ -121,6 +121,11 @@ abbrev pub if_some : {A B : Type 0} → (A → B) → Option A → Option B
 if_some f None = None
 if_some f (Some a) = Some (f a)
 
+-- the same, where it lies in a box
+abbrev pub if_boxed : {A B : Type 0} → (A → B) → Option (Box A Global) → Option B
+if_boxed f None = None
+if_boxed f (Some a) = Some (f a.value)
+
 abbrev pub exprs_in : List Expr → trees.Exprs
 exprs_in es = trees.pack (map expr_of es)
 
@@ -161,17 +166,17 @@ abbrev mutual
   stmt_at (stmts.Fallthrough p) = trees.fallthrough p
   stmt_at (stmts.Block' p n row q) = trees.block_statement (trees.block p (stmts_of row) q)
   stmt_at (stmts.If' p s c bp n row bq e) =
-      trees.if_statement (trees.conditional p (if_some simple_of s) (expr_of c) (trees.block bp (stmts_of row) bq) (else_at e))
+      trees.if_statement (trees.conditional p (if_boxed simple_of s) (expr_of c.value) (trees.block bp (stmts_of row) bq) (else_at e))
   stmt_at (stmts.For' p s c r bp n row bq) =
-      trees.for_statement p (if_some simple_of s) (if_some expr_of c) (if_some simple_of r) (trees.block bp (stmts_of row) bq)
-  stmt_at (stmts.Range' p name e bp n row bq) = trees.range_statement p name (expr_of e) (trees.block bp (stmts_of row) bq)
-  stmt_at (stmts.Switch' p s t n row) = trees.switch_statement p (if_some simple_of s) (if_some expr_of t) (clauses_of row)
+      trees.for_statement p (if_boxed simple_of s) (if_boxed expr_of c) (if_boxed simple_of r) (trees.block bp (stmts_of row) bq)
+  stmt_at (stmts.Range' p name e bp n row bq) = trees.range_statement p name (expr_of e.value) (trees.block bp (stmts_of row) bq)
+  stmt_at (stmts.Switch' p s t n row) = trees.switch_statement p (if_boxed simple_of s) (if_boxed expr_of t) (clauses_of row)
 
   pub else_at : Else → trees.Else
   else_at elses.Nothing = trees.no_else
   else_at (elses.Block' p n row q) = trees.else_block (trees.block p (stmts_of row) q)
   else_at (elses.If' x p s c bp n row bq e) =
-      trees.else_if (trees.conditional p (if_some simple_of s) (expr_of c) (trees.block bp (stmts_of row) bq) (else_at e))
+      trees.else_if (trees.conditional p (if_boxed simple_of s) (expr_of c.value) (trees.block bp (stmts_of row) bq) (else_at e))
 
   pub stmts_of : {m : _} → Row_of-Stmt m → trees.Stmts
   stmts_of end_of-Stmt = trees.no_stmts
@@ -195,7 +200,7 @@ abbrev pub block_of : Block → trees.Block
 block_of b = trees.block b.place (trees.pack_stmts (map stmt_of b.statements.items)) b.closing
 
 abbrev pub if_of : If → trees.If
-if_of i = trees.conditional i.place (if_some simple_of i.start) (expr_of i.condition) (block_of i.body) (else_of i.otherwise)
+if_of i = trees.conditional i.place (if_boxed simple_of i.start) (expr_of i.condition.value) (block_of i.body) (else_of i.otherwise)
 
 -- files
 

@@ -50,7 +50,7 @@ pub enum Stmt {
     Range(Range),
     /// A `switch`: the place of its keyword, the statement before the value and the value that is
     /// compared, if there are such, and the clauses.
-    Switch(Place, Option<Simple>, Option<Expr>, Vec<Clause>),
+    Switch(Place, Option<Box<Simple>>, Option<Box<Expr>>, Vec<Clause>),
 }
 
 /// The statements between two braces.
@@ -72,9 +72,9 @@ pub struct If {
     /// The place of its keyword.
     pub place: Place,
     /// The statement before the condition, if there is one.
-    pub start: Option<Simple>,
+    pub start: Option<Box<Simple>>,
     /// The condition.
-    pub condition: Expr,
+    pub condition: Box<Expr>,
     /// What is done where it holds.
     pub body: Block,
     /// What is done where it does not hold.
@@ -100,11 +100,11 @@ pub struct For {
     /// The place of its keyword.
     pub place: Place,
     /// The statement before the first turn, if there is one.
-    pub start: Option<Simple>,
+    pub start: Option<Box<Simple>>,
     /// The condition of each turn, if there is one.
-    pub condition: Option<Expr>,
+    pub condition: Option<Box<Expr>>,
     /// The statement behind each turn, if there is one.
-    pub step: Option<Simple>,
+    pub step: Option<Box<Simple>>,
     /// What is done in each turn.
     pub body: Block,
 }
@@ -118,7 +118,7 @@ pub struct Range {
     /// The variable that is declared, if there is one.
     pub name: Option<Name>,
     /// What is gone over.
-    pub operand: Expr,
+    pub operand: Box<Expr>,
     /// What is done in each turn.
     pub body: Block,
 }

@@ -12,7 +12,7 @@ use Rattle.go_pexpr.specs.declared.reader.Refusal.TheVariants.{Memory, Wrong}
 use Rattle.go_pexpr.specs.Reads.{Reads, Failing, Says, first_kind, fault_of, left}
 use Rattle.go_pexpr.proofs.Steps.{refuses}
 use Rattle.go_pexpr.proofs.Reading.{then_fails}
-use Rattle.go_parse.proofs.Steps.{same_state}
+use Rattle.go_pstmt.proofs.Steps.{same_state}
 
 append_assoc : {A : Type 0} (xs ys zs : List A) → xs ++ (ys ++ zs) ≡ (xs ++ ys) ++ zs
 append_assoc [] ys zs = refl

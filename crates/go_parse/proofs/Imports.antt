@@ -13,7 +13,7 @@ use Rattle.go_ast.specs.Machine.{State, token, package_name, import_path, Take, 
 use Rattle.go_ast.proofs.Same.{not_same}
 use Rattle.go_pexpr.specs.Reads.{First, fault_of}
 use Rattle.go_pexpr.proofs.Steps.{refuses, end_refuses}
-use Rattle.go_parse.proofs.Steps.{Kind, same_step, same_other}
+use Rattle.go_pstmt.proofs.Steps.{Kind, same_step, same_other}
 
 never_both : (b : Bool) → (b && false) ≡ false
 never_both false = refl

@@ -1,5 +1,2 @@
-pub mod Due
 pub mod Files
 pub mod Parse
-pub mod Statements
-pub mod Turns

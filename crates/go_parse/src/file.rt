@@ -7,13 +7,13 @@ ghost use Rattle.go_ast.specs.Views.{import_of, top_of, file_of};
 ghost use Rattle.go_pexpr.specs.Reads.{Reads, Failing, left, size, either};
 ghost use Rattle.go_parse.specs.Files.{declaration_at};
 
-use crate::declaration::{constants, types, variables};
 use crate::function::function;
 use crate::import::{imports_behind, package_name};
 use crate::marks::{CONST, FUNC, IMPORT, PACKAGE, SEMICOLON, TYPE, VAR};
 use go_ast::file::{File, ImportSpec, TopLevel};
 use go_pexpr::expected::Expected;
 use go_pexpr::reader::{Reader, Refusal};
+use go_pstmt::declaration::{constants, types, variables};
 
 /// Reads a file's imports.
 fn imports(reader: &mut Reader<'_>) -> Result<Vec<ImportSpec>, Refusal>

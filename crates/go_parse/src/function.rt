@@ -4,15 +4,15 @@ ghost use Rattle.go_ast.specs.Trees as trees;
 ghost use Rattle.go_ast.specs.Machine.{State, list_start, parameters, results, results_at, behind_func};
 ghost use Rattle.go_ast.specs.Grammar.{Lexeme};
 ghost use Rattle.go_ast.specs.Views.{type_of, parameter_of, function_of};
-ghost use Rattle.go_parse.specs.Due.{parameter_item};
+ghost use Rattle.go_parse.specs.Files.{parameter_item};
 ghost use Rattle.go_pexpr.specs.Reads.{Reads, size};
 
 use crate::marks::{CLOSING, COMMA, OPENING};
-use crate::statement::block;
 use go_ast::expression::TypeExpr;
 use go_ast::file::{Function, Parameter};
 use go_pexpr::expected::Expected;
 use go_pexpr::reader::{Reader, Refusal};
+use go_pstmt::statement::block;
 use go_text::place::Place;
 
 /// Reads parameters of one type.

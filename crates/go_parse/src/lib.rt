@@ -1,21 +1,13 @@
 //! The parser: the file that a source text is, or where it stops being one.
 #![tactic(auto)]
 
-mod clause;
-mod declaration;
 mod file;
-mod for_loop;
 mod function;
-mod header;
 mod import;
-mod jump;
 mod kept;
 mod law;
-mod made;
 mod marks;
 mod parser;
-mod simple;
-mod statement;
 #[cfg(test)]
 mod table;
 #[cfg(test)]

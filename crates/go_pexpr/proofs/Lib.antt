@@ -3,6 +3,7 @@ pub mod Built
 pub mod Codes
 pub mod ElementTurns
 pub mod ListTurns
+pub mod OperatorTurns
 pub mod OptionalTurns
 pub mod Pushed
 pub mod Reading

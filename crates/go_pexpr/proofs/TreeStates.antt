@@ -6,9 +6,10 @@ use Rattle.go_pexpr.specs.declared.operators.Beginning.TheVariants as begins
 use Rattle.go_ast.specs.Trees as trees
 use Rattle.go_ast.specs.Expected.{an_operand, a_type, a_field_end, another, an_element_end}
 use Rattle.go_ast.specs.Grammar.{Lexeme, type_place, comma, opening, closing, closing_bracket, opening_brace}
-use Rattle.go_ast.specs.Machine.{State, token, optional, type, expr, operators, list_start, list_end, fields, arguments, elements, behind_literal_type, run}
+use Rattle.go_ast.specs.Machine.{State, token, optional, type, expr, list_start, list_end, fields, arguments, elements, behind_literal_type, run}
 use Rattle.go_pexpr.specs.Turns.{behind_last, value_at, element_at}
 use Rattle.go_pexpr.specs.Reads.{First, either}
+use Rattle.go_pexpr.proofs.OperatorTurns.{followed}
 use Rattle.go_pexpr.proofs.Steps.{Kind, optional_some, optional_none}
 
 pub false_true : false ≡ true → ⊥
@@ -46,8 +47,8 @@ abbrev pub field_type : ℕ → (List (List trees.Name × trees.TypeExpr) → St
 field_type l next front ns = type l a_type (field_end l next front ns)
 
 -- behind an operator
-abbrev pub behind_operator : ℕ → Bool → ℕ → trees.Expr → trees.BinaryOperator → (trees.Expr → State) → Lexeme → State
-behind_operator n h l a op next t = expr n h (l + 1) an_operand (λ r. operators n h l (trees.binary (trees.place_of a) op a r) next)
+abbrev pub behind_operator : ℕ → ℕ → Bool → ℕ → trees.Expr → trees.BinaryOperator → (trees.Expr → State) → Lexeme → State
+behind_operator j c h l a op next t = expr j h (l + 1) an_operand (λ r. followed j c h l next (trees.binary (trees.place_of a) op a r))
 
 -- an expression in parentheses
 

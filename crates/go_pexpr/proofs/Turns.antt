@@ -1,20 +1,18 @@
 -- Where one state goes on as another does.
-use Rattle.std.proofs.Common.{◌≡◌, ℕ, zero, suc, ◌+◌, ◌-◌, ◌≤◌, Bool, true, false, List, [], ◌∷◌, ◌++◌, Option, Some, None, refl, sym, ap, ◌∙◌, arith}
-use Rattle.std.specs.Prelude.{nat_eq}
+use Rattle.std.proofs.Common.{◌≡◌, ℕ, suc, ◌+◌, Bool, List, [], ◌∷◌, ◌++◌, Option, Some, None, refl, sym, ap, ◌∙◌, arith}
 use Rattle.go_scan.specs.declared.token.TokenKind.{TokenKind}
 use Rattle.go_scan.specs.declared.token.TokenKind.TheVariants as kinds
 use Rattle.go_scan.specs.declared.keyword.Keyword.TheVariants as keywords
 use Rattle.go_ast.specs.Kinds.{same}
 use Rattle.go_ast.specs.Expected.{Expected, an_operand, another}
 use Rattle.go_ast.specs.Literals.{string_value, rune_value}
-use Rattle.go_ast.specs.Operators.{unary_of, binary_of, tighter}
-use Rattle.go_ast.specs.Trees.{Name, TypeExpr, Expr, name, integer, rune, string, unary, binary, place_of, UnaryOperator, BinaryOperator}
-use Rattle.go_ast.specs.Heights.{height}
+use Rattle.go_ast.specs.Operators.{unary_of}
+use Rattle.go_ast.specs.Trees.{Name, TypeExpr, Expr, name, integer, rune, string, unary, UnaryOperator}
 use Rattle.go_ast.specs.Grammar.{Lexeme, name_of, comma, opening, opening_bracket}
-use Rattle.go_ast.specs.Machine.{State, Move, Take, Fail, token, type, expr, suffixes, operators, more_names, more_exprs, behind_name, behind_bracket, behind_struct, on_unary, on_operator, keyword, behind_literal_type, behind_operand, behind_opening, step, cond, Refused, run}
+use Rattle.go_ast.specs.Machine.{State, Move, Take, Fail, token, type, expr, suffixes, operators, more_names, more_exprs, behind_name, behind_bracket, behind_struct, on_unary, keyword, behind_literal_type, behind_operand, behind_opening, step, cond, Refused, run}
 use Rattle.go_pexpr.specs.Reads.{First, fault_of}
 use Rattle.go_ast.proofs.Same.{not_same}
-use Rattle.go_pexpr.specs.Next.{some_if, of_level, operator_at, sign_at}
+use Rattle.go_pexpr.specs.Next.{sign_at}
 use Rattle.go_pexpr.specs.Turns.{behind_paren}
 use Rattle.go_pexpr.proofs.Steps.{Kind, same_run, same_step, same_end, same_at, refuses, end_refuses, passed, chosen, cond_false}
 
@@ -71,38 +69,6 @@ kind_at (t ∷ ts) = t.kind
 some_none : {A : Type 0} (o : Option A) (a : A) → o ≡ Some a → o ≡ None → ⊥
 some_none o a e f = cc (e, f)
 
--- an operator of a level
-level_takes : (n : ℕ) (h : Bool) (l : ℕ) (e : Expr) (behind : Expr → State) (other : Move) (o : Option BinaryOperator) (op : BinaryOperator) → of_level n o ≡ Some op → on_operator n h l e behind other o ≡ Take (l + height e) (expr n h (l + 1) an_operand (λ r. behind (binary (place_of e) op e r)))
-level_takes n h l e behind other None op q = cc (q)
-level_takes n h l e behind other (Some x) op q = by_test (nat_eq (tighter x) n) q
-  where
-    by_test : (b : Bool) → some_if b x ≡ Some op → cond b (Take (l + height e) (expr n h (l + 1) an_operand (λ r. behind (binary (place_of e) x e r)))) other ≡ Take (l + height e) (expr n h (l + 1) an_operand (λ r. behind (binary (place_of e) op e r)))
-    by_test true q = let same : x ≡ op = cc (q) in ap (λ y. Take (l + height e) (expr n h (l + 1) an_operand (λ r. behind (binary (place_of e) y e r)))) same
-    by_test false q = cc (q)
-
-level_ends : (n : ℕ) (h : Bool) (l : ℕ) (e : Expr) (behind : Expr → State) (other : Move) (o : Option BinaryOperator) → of_level n o ≡ None → on_operator n h l e behind other o ≡ other
-level_ends n h l e behind other None q = refl
-level_ends n h l e behind other (Some x) q = by_test (nat_eq (tighter x) n) q
-  where
-    by_test : (b : Bool) → some_if b x ≡ None → cond b (Take (l + height e) (expr n h (l + 1) an_operand (λ r. behind (binary (place_of e) x e r)))) other ≡ other
-    by_test true q = cc (q)
-    by_test false q = refl
-
-pub operator_first : (n : ℕ) (ts : List Lexeme) (op : BinaryOperator) → operator_at n ts ≡ Some op → First (Kind (kind_at ts)) ts
-operator_first n [] op e = cc (e)
-operator_first n (t ∷ ts) op e = refl
-
-pub operator_takes : (n : ℕ) (h : Bool) (l : ℕ) (a : Expr) (next : Expr → State) (ts : List Lexeme) (op : BinaryOperator) → operator_at n ts ≡ Some op → run 250 (operators n h l a next) ts ≡ run 250 (token (kind_at ts) (l + height a) another (λ _. expr n h (l + 1) an_operand (λ r. operators n h l (binary (place_of a) op a r) next))) ts
-operator_takes n h l a next [] op e = cc (e)
-operator_takes n h l a next (t ∷ ts) op e =
-    same_step (operators n h l a next) (token t.kind (l + height a) another (λ _. expr n h (l + 1) an_operand (λ r. operators n h l (binary (place_of a) op a r) next))) t ts (
-    level_takes n h l a (λ r. operators n h l r next) (step (next a) t) (binary_of t.kind) op e
-    ∙ sym (chosen t.kind t (Take (l + height a) (expr n h (l + 1) an_operand (λ r. operators n h l (binary (place_of a) op a r) next))) (Fail another) refl))
-
-pub operator_ends : (n : ℕ) (h : Bool) (l : ℕ) (a : Expr) (next : Expr → State) (ts : List Lexeme) → operator_at n ts ≡ None → run 250 (operators n h l a next) ts ≡ run 250 (next a) ts
-operator_ends n h l a next [] e = same_end (operators n h l a next) (next a) refl
-operator_ends n h l a next (t ∷ ts) e = same_step (operators n h l a next) (next a) t ts (level_ends n h l a (λ r. operators n h l r next) (step (next a) t) (binary_of t.kind) e)
-
 -- an expression without operators between operands, by its first token
 pub expr_as_name : (h : Bool) (l : ℕ) (x : Expected) (next : Expr → State) (ts : List Lexeme) → First (Kind kinds.Name) ts → run 250 (expr 0 h l x next) ts ≡ run 250 (token kinds.Name l another (λ t. suffixes h l (name t.place t.text) next)) ts
 expr_as_name h l x next ts f = same_at (expr 0 h l x next) (token kinds.Name l another (λ t. suffixes h l (name t.place t.text) next)) kinds.Name ts f (λ text p. refl)
@@ -156,13 +122,6 @@ expr_as_sign h l x next (t ∷ ts) op q =
     past h l next t (on_unary 0 h l next t (Fail x) (unary_of t.kind)) (λ e. no kinds.Name e refl) (λ e. no kinds.Integer e refl) (λ e. no kinds.Rune e refl) (λ e. no kinds.String e refl) (λ e. no opening e refl) (λ e. no opening_bracket e refl) (λ e. no (keyword keywords.Struct) e refl)
     ∙ ap (on_unary 0 h l next t (Fail x)) q
     ∙ sym (chosen t.kind t (Take (l + 1) (expr 0 h (l + 1) an_operand (λ e. next (unary t.place op e)))) (Fail another) refl))
-
--- the same split, by the number of levels
-pub splits_at : (n : ℕ) (h : Bool) (l : ℕ) (x : Expected) (next : Expr → State) (ts : List Lexeme) → 1 ≤ n → run 250 (expr n h l x next) ts ≡ run 250 (expr (n - 1) h l x (λ a. operators (n - 1) h l a next)) ts
-splits_at zero h l x next ts le = absurd (omega arith)
-splits_at (suc m) h l x next ts le =
-    let e : suc m - 1 ≡ m = omega arith in
-    splits m h l x next ts ∙ ap (λ j. run 250 (expr j h l x (λ a. operators j h l a next)) ts) (sym e)
 
 -- more expressions, and their end
 pub more_exprs_takes : (h : Bool) (l : ℕ) (front : List Expr) (next : List Expr → State) (ts : List Lexeme) → First (Kind comma) ts → run 250 (more_exprs h l front next) ts ≡ run 250 (token comma 0 another (λ _. expr 5 h l an_operand (λ e. more_exprs h l (front ++ e ∷ []) next))) ts

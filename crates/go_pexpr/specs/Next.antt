@@ -1,5 +1,5 @@
 -- What the next token is to an expression.
-use Rattle.std.specs.Prelude.{ℕ, nat_eq, Bool, true, false, ◌&&◌, not, List, [], ◌∷◌, Option, Some, None}
+use Rattle.std.specs.Prelude.{ℕ, nat_le, nat_lt, Bool, true, false, ◌&&◌, not, List, [], ◌∷◌, Option, Some, None}
 use Rattle.go_scan.specs.declared.token.TokenKind.{TokenKind}
 use Rattle.go_scan.specs.declared.token.TokenKind.TheVariants as kinds
 use Rattle.go_scan.specs.declared.keyword.Keyword.TheVariants as keywords
@@ -23,14 +23,19 @@ abbrev pub some_if : {A : Type 0} → Bool → A → Option A
 some_if true a = Some a
 some_if false a = None
 
-abbrev pub of_level : ℕ → Option BinaryOperator → Option BinaryOperator
-of_level n None = None
-of_level n (Some op) = some_if (nat_eq (tighter op) n) op
+-- the operator between two operands
+abbrev pub operator_of : List Lexeme → Option BinaryOperator
+operator_of [] = None
+operator_of (t ∷ ts) = binary_of t.kind
 
--- the operator of a level
-abbrev pub operator_at : ℕ → List Lexeme → Option BinaryOperator
-operator_at n [] = None
-operator_at n (t ∷ ts) = of_level n (binary_of t.kind)
+abbrev pub of_levels : ℕ → ℕ → Option BinaryOperator → Option BinaryOperator
+of_levels m n None = None
+of_levels m n (Some op) = some_if (nat_le m (tighter op) && nat_lt (tighter op) n) op
+
+-- the same, of a level from one on and below another
+abbrev pub operator_at : ℕ → ℕ → List Lexeme → Option BinaryOperator
+operator_at m n [] = None
+operator_at m n (t ∷ ts) = of_levels m n (binary_of t.kind)
 
 -- the suffix of an operand, which may be the type of a literal
 abbrev pub suffix_of : Bool → Bool → TokenKind → Option Suffix

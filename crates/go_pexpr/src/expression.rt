@@ -48,7 +48,7 @@ impl<'a> Reader<'a> {
         ensures reads { (next : List trees.Expr → State) → Reads (expr 5 header level (expected_of expected) (λ e. more_exprs header level (e ∷ []) next)) (λ es. next (map expr_of es.items)) self.old result self.new }
         ensures shorter { OnOk result (size self.new < size self.old) }
     {
-        let mut first = Vec::new(self.alloc);
+        let mut first = Vec::with_capacity(self.alloc, 1)?;
         first.push(self.expr_from(header, level, expected)?)?;
         self.more_exprs(header, level, first)
     }

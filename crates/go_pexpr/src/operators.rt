@@ -126,7 +126,7 @@ fn binary_operator(kind: TokenKind) -> Option<BinaryOperator>
 }
 
 /// How many levels of operators bind tighter.
-fn tighter(operator: BinaryOperator) -> u8
+pub(crate) fn tighter(operator: BinaryOperator) -> u8
     ensures { result ≡ operators.tighter (binary_of operator) }
 {
     match operator {
@@ -213,13 +213,15 @@ impl<'a> Reader<'a> {
         }
     }
 
-    /// The operator of a level that is next.
-    pub(crate) fn operator(&self, level: u8) -> Option<BinaryOperator>
-        ensures { if_some binary_of result ≡ operator_at level (left self.now) }
+    /// The operator of a level from `tightest` on and below `levels` that is next.
+    pub(crate) fn operator(&self, tightest: u8, levels: u8) -> Option<BinaryOperator>
+        ensures { if_some binary_of result ≡ operator_at tightest levels (left self.now) }
     {
         match self.tokens {
             [token, ..] => match binary_operator(token.kind) {
-                Some(operator) if tighter(operator) == level => Some(operator),
+                Some(operator) if tightest <= tighter(operator) && tighter(operator) < levels => {
+                    Some(operator)
+                }
                 _ => None,
             },
             [] => None,

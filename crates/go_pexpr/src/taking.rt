@@ -259,7 +259,7 @@ impl<'a> Reader<'a> {
         ensures shorter { OnOk result (size self.new < size self.old) }
     {
         let comma = TokenKind::Punctuation(Punctuation::Comma);
-        let mut names = Vec::new(self.alloc);
+        let mut names = Vec::with_capacity(self.alloc, 1)?;
         names.push(self.name(need, Expected::Another)?)?;
         'names: while self.is_next(comma) {
             self.expect(comma, 0, Expected::Another)?;

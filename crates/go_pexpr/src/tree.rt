@@ -17,7 +17,7 @@ use crate::build::{
     parenthesized, selector, structure, unary,
 };
 use crate::expected::Expected;
-use crate::operators::{Beginning, Suffix};
+use crate::operators::{Beginning, Suffix, tighter};
 use crate::reader::{Reader, Refusal};
 use go_ast::expression::{Element, ElementValue, Expr, ExprKind, Field, TypeExpr, TypeKind};
 use go_ast::name::Name;
@@ -119,14 +119,12 @@ impl<'a> Reader<'a> {
         ensures fits { IfOk result (λ e. level + e.height ≤ 251) }
         ensures shorter { OnOk result (size self.new < size self.old) }
     {
-        if limit == 0 {
-            return self.unary(header, level, expected);
-        }
-        let tightness = limit - 1;
-        let mut left = self.binary(tightness, header, level, expected)?;
-        'operators: while let Some(operator) = self.operator(tightness) {
+        let mut left = self.unary(header, level, expected)?;
+        let mut tightest = 0;
+        'operators: while let Some(operator) = self.operator(tightest, limit) {
+            tightest = tighter(operator);
             self.bump(level + left.height)?;
-            let right = self.binary(tightness, header, level + 1, Expected::Operand)?;
+            let right = self.binary(tightest, header, level + 1, Expected::Operand)?;
             left = binary(self.alloc, operator, left, right)?;
         }
         Ok(left)

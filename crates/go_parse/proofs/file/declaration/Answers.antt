@@ -2,7 +2,7 @@ use Rattle.std.proofs.Common.{refl, ◌∙◌}
 use Rattle.go_ast.specs.Trees as trees
 use Rattle.go_ast.specs.Tokens.{lexeme}
 use Rattle.go_pexpr.proofs.Reading.{then_fails}
-use Rattle.go_parse.proofs.Reading.{went, took, missed}
+use Rattle.go_pstmt.proofs.Reading.{went, took, missed}
 use Rattle.go_parse.proofs.file.declaration.Goals as goal
 
 pub returns-in_err-constants-clause-reads : goal.returns-in_err-constants-clause-reads

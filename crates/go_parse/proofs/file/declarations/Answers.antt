@@ -4,9 +4,9 @@ use Rattle.go_ast.specs.Machine.{State, decls_at, decl_end, ended, file_of, run}
 use Rattle.go_ast.specs.Views.{top_of}
 use Rattle.go_pexpr.specs.Reads.{left}
 use Rattle.go_parse.proofs.Files.{behind_declaration}
-use Rattle.go_parse.proofs.Lists.{pushed}
+use Rattle.go_pstmt.proofs.Lists.{pushed}
 use Rattle.go_pexpr.proofs.Reading.{then_fails}
-use Rattle.go_parse.proofs.Reading.{went, took, missed}
+use Rattle.go_pstmt.proofs.Reading.{went, took, missed}
 use Rattle.go_parse.proofs.file.declarations.Goals as goal
 
 -- what is due behind a declaration

@@ -3,7 +3,7 @@ use Rattle.go_ast.specs.Views.{import_of, top_of}
 use Rattle.go_ast.specs.Machine.{file_of, start}
 use Rattle.go_pexpr.specs.Reads.{left}
 use Rattle.go_parse.proofs.Files.{ends, refused_end, then_stops}
-use Rattle.go_parse.proofs.Reading.{went}
+use Rattle.go_pstmt.proofs.Reading.{went}
 use Rattle.go_parse.proofs.file.file.Goals as goal
 
 pub returns-in_err-package-clause-err : goal.returns-in_err-package-clause-err

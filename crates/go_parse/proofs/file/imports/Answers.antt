@@ -5,7 +5,7 @@ use Rattle.go_ast.specs.Views.{import_of}
 use Rattle.go_pexpr.specs.Reads.{left}
 use Rattle.go_parse.proofs.Files.{joined, behind_import}
 use Rattle.go_pexpr.proofs.Reading.{then_fails}
-use Rattle.go_parse.proofs.Reading.{went, took}
+use Rattle.go_pstmt.proofs.Reading.{went, took}
 use Rattle.go_parse.proofs.file.imports.Goals as goal
 
 -- what is due behind an import

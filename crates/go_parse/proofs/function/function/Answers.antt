@@ -5,7 +5,7 @@ use Rattle.go_ast.specs.Machine.{State, block_at, results_at, run}
 use Rattle.go_ast.specs.Views.{parameter_of, type_of, block_of}
 use Rattle.go_pexpr.specs.Reads.{left}
 use Rattle.go_pexpr.proofs.Reading.{then_fails}
-use Rattle.go_parse.proofs.Reading.{fails, went}
+use Rattle.go_pstmt.proofs.Reading.{fails, went}
 use Rattle.go_parse.proofs.function.function.Goals as goal
 
 -- what is due behind the parts of a function

@@ -1,6 +1,6 @@
 use Rattle.std.proofs.Common.{◌∙◌}
 use Rattle.go_pexpr.proofs.Reading.{then_fails}
-use Rattle.go_parse.proofs.Reading.{went}
+use Rattle.go_pstmt.proofs.Reading.{went}
 use Rattle.go_parse.proofs.function.parameter.Goals as goal
 
 pub returns-in_err-type_expr-clause-reads : goal.returns-in_err-type_expr-clause-reads

@@ -5,12 +5,12 @@ use Rattle.go_ast.specs.Grammar.{Lexeme, closing}
 use Rattle.go_ast.specs.Machine.{State, list_start, list_end, run, parameters}
 use Rattle.go_ast.specs.Views.{parameter_of}
 use Rattle.go_pexpr.specs.Reads.{First, left}
-use Rattle.go_parse.proofs.Lists.{pushed}
+use Rattle.go_pstmt.proofs.Lists.{pushed}
 use Rattle.go_pexpr.proofs.Reading.{then_fails}
-use Rattle.go_parse.proofs.Reading.{went}
-use Rattle.go_parse.proofs.Steps.{Kind, false_true, item_begins, list_closes, separator_due, ends_closed}
+use Rattle.go_pstmt.proofs.Reading.{went}
+use Rattle.go_pstmt.proofs.Steps.{Kind, false_true, item_begins, list_closes, separator_due, ends_closed}
 use Rattle.go_parse.proofs.function.parameters.Goals as goal
-use Rattle.go_parse.specs.Due.{parameter_item}
+use Rattle.go_parse.specs.Files.{parameter_item}
 
 -- what is due behind an item, and the item
 abbrev behind : List trees.Parameter → (List trees.Parameter → Lexeme → State) → trees.Parameter → State

@@ -1,5 +1,5 @@
 use Rattle.go_pexpr.proofs.Reading.{then_fails}
-use Rattle.go_parse.proofs.Reading.{then_reads, took, missed}
+use Rattle.go_pstmt.proofs.Reading.{then_reads, took, missed}
 use Rattle.go_parse.proofs.function.results.Goals as goal
 
 pub returns-in-Some-clause-reads : goal.returns-in-Some-clause-reads

@@ -5,10 +5,10 @@ use Rattle.go_ast.specs.Grammar.{Lexeme, closing}
 use Rattle.go_ast.specs.Machine.{State, list_start, list_end, run, import_spec, import_specs}
 use Rattle.go_ast.specs.Views.{import_of}
 use Rattle.go_pexpr.specs.Reads.{First, left}
-use Rattle.go_parse.proofs.Lists.{pushed}
+use Rattle.go_pstmt.proofs.Lists.{pushed}
 use Rattle.go_pexpr.proofs.Reading.{then_fails}
-use Rattle.go_parse.proofs.Reading.{went}
-use Rattle.go_parse.proofs.Steps.{Kind, false_true, item_begins, list_closes, separator_due, ends_closed}
+use Rattle.go_pstmt.proofs.Reading.{went}
+use Rattle.go_pstmt.proofs.Steps.{Kind, false_true, item_begins, list_closes, separator_due, ends_closed}
 use Rattle.go_parse.proofs.import.import_group.Goals as goal
 
 -- what is due behind an item, and the item

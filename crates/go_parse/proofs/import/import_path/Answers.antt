@@ -5,8 +5,8 @@ use Rattle.go_ast.specs.Literals.{string_value}
 use Rattle.go_pexpr.specs.Reads.{left, fault_of, expected_of}
 use Rattle.go_pexpr.proofs.Reading.{then_refuses, then_fails}
 use Rattle.go_parse.proofs.Imports.{no_path, path_c, path_means}
-use Rattle.go_parse.proofs.Reading.{went}
-use Rattle.go_parse.proofs.Steps.{false_true}
+use Rattle.go_pstmt.proofs.Reading.{went}
+use Rattle.go_pstmt.proofs.Steps.{false_true}
 use Rattle.go_parse.proofs.import.import_path.Goals as goal
 
 pub returns-then-not-is_next-clause-reads : goal.returns-then-not-is_next-clause-reads

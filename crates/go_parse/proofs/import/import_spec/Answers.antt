@@ -5,7 +5,7 @@ use Rattle.go_ast.specs.Grammar.{Lexeme, name_of}
 use Rattle.go_ast.specs.Machine.{State, run}
 use Rattle.go_pexpr.specs.Reads.{left, lexeme_of}
 use Rattle.go_pexpr.proofs.Reading.{then_fails}
-use Rattle.go_parse.proofs.Reading.{went, took, missed}
+use Rattle.go_pstmt.proofs.Reading.{went, took, missed}
 use Rattle.go_parse.proofs.import.import_spec.Goals as goal
 
 -- what is due behind a path, where a name stands before it, and where none does

@@ -1,6 +1,6 @@
 use Rattle.std.proofs.Common.{[], ◌∷◌}
 use Rattle.go_pexpr.proofs.Reading.{then_fails}
-use Rattle.go_parse.proofs.Reading.{then_reads, took, missed}
+use Rattle.go_pstmt.proofs.Reading.{then_reads, took, missed}
 use Rattle.go_parse.proofs.import.imports_behind.Goals as goal
 
 pub returns-in-Some-clause-reads : goal.returns-in-Some-clause-reads

@@ -3,8 +3,8 @@ use Rattle.go_ast.specs.Expected.{another}
 use Rattle.go_pexpr.specs.Reads.{left, fault_of}
 use Rattle.go_pexpr.proofs.Reading.{then_refuses}
 use Rattle.go_parse.proofs.Imports.{package_blank, package_named}
-use Rattle.go_parse.proofs.Reading.{then_reads}
-use Rattle.go_parse.proofs.Steps.{false_true}
+use Rattle.go_pstmt.proofs.Reading.{then_reads}
+use Rattle.go_pstmt.proofs.Steps.{false_true}
 use Rattle.go_parse.proofs.import.package_name.Goals as goal
 
 pub returns-then-is_written-clause-reads : goal.returns-then-is_written-clause-reads

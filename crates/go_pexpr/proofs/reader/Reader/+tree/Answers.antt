@@ -1,4 +1,4 @@
-use Rattle.std.proofs.Common.{◌≡◌, ◌+◌, ◌-◌, ◌≤◌, false, [], ◌∷◌, ◌++◌, map, Some, refl, sym, ap, ◌∙◌, arith}
+use Rattle.std.proofs.Common.{◌≡◌, ◌+◌, ◌-◌, false, [], ◌∷◌, ◌++◌, map, Some, refl, sym, ap, ◌∙◌, arith}
 use Rattle.std.proofs.lemmas.Result.{IfOk-weaker}
 use Rattle.go_ast.specs.declared.expression.Field.{Field}
 use Rattle.go_pexpr.specs.declared.operators.Beginning.TheVariants as begins
@@ -8,7 +8,7 @@ use Rattle.go_scan.specs.declared.keyword.Keyword.TheVariants as keywords
 use Rattle.go_ast.specs.Trees as trees
 use Rattle.go_ast.specs.Expected.{an_operand, a_field_end, another, an_index_end, an_element_end}
 use Rattle.go_ast.specs.Grammar.{type_place, opening, closing, opening_bracket, closing_bracket, opening_brace, period}
-use Rattle.go_ast.specs.Machine.{token, expr, suffixes, operators, names, list_start, fields, arguments, elements, keyword, behind_bracket, behind_struct, behind_literal_type, run}
+use Rattle.go_ast.specs.Machine.{token, expr, suffixes, names, list_start, fields, arguments, elements, keyword, behind_bracket, behind_struct, behind_literal_type, run}
 use Rattle.go_ast.specs.Views.{unary_of, binary_of, type_of, expr_of, field_of, element_of, value_of, if_some}
 use Rattle.go_pexpr.specs.Tall.{fields_tall, exprs_tall, elements_tall}
 use Rattle.go_pexpr.proofs.SuffixTurns.{as_selector, as_index, as_call, as_literal, suffix_ends, literal_named}
@@ -18,8 +18,9 @@ use Rattle.go_pexpr.proofs.Pushed.{map_push, fields_push, exprs_push, elements_p
 use Rattle.go_pexpr.proofs.ElementTurns.{no_colon_ends, key_takes}
 use Rattle.go_pexpr.proofs.Reading.{then_reads, then_fails, then_makes, then_refuses}
 use Rattle.go_pexpr.proofs.Steps.{optional_some, optional_none}
-use Rattle.go_pexpr.proofs.Turns.{type_as_name, type_as_array, type_as_struct, type_fails, splits_at, kind_at, operator_first, operator_takes, operator_ends, expr_as_name, expr_as_integer, expr_as_rune, expr_as_string, expr_as_paren, expr_as_array, expr_as_struct, expr_fails, sign_first, expr_as_sign}
+use Rattle.go_pexpr.proofs.Turns.{type_as_name, type_as_array, type_as_struct, type_fails, kind_at, expr_as_name, expr_as_integer, expr_as_rune, expr_as_string, expr_as_paren, expr_as_array, expr_as_struct, expr_fails, sign_first, expr_as_sign}
 use Rattle.go_pexpr.proofs.ListTurns.{list_closes, list_ends, list_goes, list_item}
+use Rattle.go_pexpr.proofs.OperatorTurns.{followed, splits_all, operator_first, operator_within, operator_due, operators_end}
 use Rattle.go_pexpr.proofs.TreeStates.{false_true, other_not, either_same, behind_length, close_length, made_struct, open_struct, field_end, field_type, behind_operator, close_paren, behind_sign, typed_elements, typed_brace, typed_close, typed_value, typed_open, typed_end, argument_end, call_end, index_end, element_next, element_end, behind_colon, pushed, value_braces, value_alone, typed_by_brace, typed_by_parenthesis}
 use Rattle.go_pexpr.proofs.reader.Reader.+tree.Goals as goal
 
@@ -181,72 +182,74 @@ type_at-returns-in_default-clause-reads t c = λ next.
 
 pub binary-returns-in_err-left-clause-reads : goal.binary-returns-in_err-left-clause-reads
 binary-returns-in_err-left-clause-reads t c = λ next.
-    let some : 1 ≤ c.args.limit = omega arith in
-    then_fails (splits_at c.args.limit c.args.header c.args.level (expected_of c.args.expected) next (left c.args.self.now) some)
-    (c.in_err-left.ensures.reads (λ a. operators (c.args.limit - 1) c.args.header c.args.level a next)) c.from_residual.ensures.1
+    then_fails (splits_all c.args.limit c.args.header c.args.level (expected_of c.args.expected) next (left c.args.self.now))
+    (c.in_err-left.ensures.reads (λ a. followed 0 (c.args.limit - 0) c.args.header c.args.level next a)) c.from_residual.ensures.1
 
 pub binary-operators-init : goal.binary-operators-init
 binary-operators-init t c =
-    let some : 1 ≤ c.args.limit = omega arith in
+    let n = c.args.limit in
     record {
-      reads = λ next. splits_at c.args.limit c.args.header c.args.level (expected_of c.args.expected) next (left c.args.self.now) some
-          ∙ (c.in_ok-left.ensures.reads (λ a. operators (c.args.limit - 1) c.args.header c.args.level a next)).by;
-      limit = omega arith;
+      reads = λ next. splits_all n c.args.header c.args.level (expected_of c.args.expected) next (left c.args.self.now)
+          ∙ (c.in_ok-left.ensures.reads (λ a. followed 0 (n - 0) c.args.header c.args.level next a)).by;
+      within = omega arith;
       fits = c.in_ok-left.ensures.fits;
       shorter = c.in_ok-left.ensures.shorter;
     }
 
 pub binary-returns-in_err-bump-clause-reads : goal.binary-returns-in_err-bump-clause-reads
 binary-returns-in_err-bump-clause-reads t c = λ next.
-    let n = c.args.limit - 1 in
     let h = c.args.header in
     let l = c.args.level in
+    let j = c.tighter-tightest.result in
     let a = expr_of c.operators.left.expr in
     let op = binary_of c.in-Some.operator in
     let ts = left c.operators.self in
     let q = sym c.operator.ensures ∙ ap (if_some binary_of) c.in-Some.is in
-    then_fails (c.operators.invariant.reads next ∙ operator_takes n h l a next ts op q
-    ∙ ap (λ m. run 250 (token (kind_at ts) (l + m) another (behind_operator n h l a op next)) ts) (sym c.operators.left.counted))
-    (c.in_err-bump.ensures.reads (kind_at ts) another (behind_operator n h l a op next) (operator_first n ts op q)) c.from_residual-in_err-bump.ensures.1
+    let due = behind_operator j (c.args.limit - j) h l a op next in
+    then_fails (c.operators.invariant.reads next ∙ operator_due c.operators.tightest c.args.limit j c.operators.left.height h l a next ts op q c.tighter-tightest.ensures c.operators.left.counted)
+    (c.in_err-bump.ensures.reads (kind_at ts) another due (operator_first c.operators.tightest c.args.limit ts op q)) c.from_residual-in_err-bump.ensures.1
 
 pub binary-returns-in_err-right-clause-reads : goal.binary-returns-in_err-right-clause-reads
 binary-returns-in_err-right-clause-reads t c = λ next.
-    let n = c.args.limit - 1 in
     let h = c.args.header in
     let l = c.args.level in
+    let j = c.tighter-tightest.result in
     let a = expr_of c.operators.left.expr in
     let op = binary_of c.in-Some.operator in
     let ts = left c.operators.self in
     let q = sym c.operator.ensures ∙ ap (if_some binary_of) c.in-Some.is in
-    then_fails (c.operators.invariant.reads next ∙ operator_takes n h l a next ts op q
-    ∙ ap (λ m. run 250 (token (kind_at ts) (l + m) another (behind_operator n h l a op next)) ts) (sym c.operators.left.counted)
-    ∙ (c.in_ok-bump.ensures.reads (kind_at ts) another (behind_operator n h l a op next) (operator_first n ts op q)).by)
-    (c.in_err-right.ensures.reads (λ r. operators n h l (trees.binary (trees.place_of a) op a r) next)) c.from_residual-in_err-right.ensures.1
+    let due = behind_operator j (c.args.limit - j) h l a op next in
+    then_fails (c.operators.invariant.reads next ∙ operator_due c.operators.tightest c.args.limit j c.operators.left.height h l a next ts op q c.tighter-tightest.ensures c.operators.left.counted
+    ∙ (c.in_ok-bump.ensures.reads (kind_at ts) another due (operator_first c.operators.tightest c.args.limit ts op q)).by)
+    (c.in_err-right.ensures.reads (λ r. followed j (c.args.limit - j) h l next (trees.binary (trees.place_of a) op a r))) c.from_residual-in_err-right.ensures.1
 
 pub binary-operators-preserved : goal.binary-operators-preserved
 binary-operators-preserved t c =
-    let n = c.args.limit - 1 in
     let h = c.args.header in
     let l = c.args.level in
+    let j = c.tighter-tightest.result in
     let a = expr_of c.operators.left.expr in
     let op = binary_of c.in-Some.operator in
     let ts = left c.operators.self in
     let q = sym c.operator.ensures ∙ ap (if_some binary_of) c.in-Some.is in
     record {
       reads = λ next.
-          c.operators.invariant.reads next ∙ operator_takes n h l a next ts op q
-          ∙ ap (λ m. run 250 (token (kind_at ts) (l + m) another (behind_operator n h l a op next)) ts) (sym c.operators.left.counted)
-          ∙ (c.in_ok-bump.ensures.reads (kind_at ts) another (behind_operator n h l a op next) (operator_first n ts op q)).by
-          ∙ (c.in_ok-right.ensures.reads (λ r. operators n h l (trees.binary (trees.place_of a) op a r) next)).by
-          ∙ ap (λ e. run 250 (operators n h l e next) (left c.binary-in-Some.new.self)) (sym c.in_ok-left-2.ensures.expr);
-      limit = c.operators.invariant.limit;
+          let due = behind_operator j (c.args.limit - j) h l a op next in
+          c.operators.invariant.reads next ∙ operator_due c.operators.tightest c.args.limit j c.operators.left.height h l a next ts op q c.tighter-tightest.ensures c.operators.left.counted
+          ∙ (c.in_ok-bump.ensures.reads (kind_at ts) another due (operator_first c.operators.tightest c.args.limit ts op q)).by
+          ∙ (c.in_ok-right.ensures.reads (λ r. followed j (c.args.limit - j) h l next (trees.binary (trees.place_of a) op a r))).by
+          ∙ ap (λ e. run 250 (followed j (c.args.limit - j) h l next e) (left c.binary.new.self)) (sym c.in_ok-left-2.ensures.expr);
+      within = omega (arith, (operator_within c.operators.tightest c.args.limit ts op q).1, c.tighter-tightest.ensures);
       fits = omega (arith, c.in_ok-bump.ensures.fits, c.in_ok-left-2.ensures.height, c.in_ok-right.ensures.fits);
       shorter = omega (arith, c.operators.invariant.shorter, c.in_ok-bump.ensures.shorter, c.in_ok-right.ensures.shorter);
     }
 
 pub binary-returns-clause-reads : goal.binary-returns-clause-reads
-binary-returns-clause-reads t c = λ next.
-    record { by = c.operators.invariant.reads next ∙ operator_ends (c.args.limit - 1) c.args.header c.args.level (expr_of c.operators.left.expr) next (left c.operators.self) (sym c.operator.ensures ∙ ap (if_some binary_of) c.in_default.is) }
+binary-returns-clause-reads t c = λ next. record {
+  by = c.operators.invariant.reads next
+      ∙ operators_end c.operators.tightest c.args.limit c.args.header c.args.level (expr_of c.operators.left.expr) next (left c.operators.self) c.operators.invariant.within
+      (sym c.operator.ensures ∙ ap (if_some binary_of) c.in_default.is);
+}
 
 -- operands
 

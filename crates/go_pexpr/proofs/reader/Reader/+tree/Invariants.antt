@@ -1,9 +1,10 @@
-use Rattle.std.proofs.Common.{◌≡◌, ◌+◌, ◌*◌, ◌<◌, ◌≤◌, List, [], map, Option}
+use Rattle.std.proofs.Common.{◌≡◌, ◌+◌, ◌-◌, ◌*◌, ◌<◌, ◌≤◌, List, [], map, Option}
 use Rattle.go_ast.specs.Trees as trees
-use Rattle.go_ast.specs.Machine.{State, expr, suffixes, operators, list_start, fields, arguments, elements, run}
+use Rattle.go_ast.specs.Machine.{State, expr, suffixes, list_start, fields, arguments, elements, run}
 use Rattle.go_ast.specs.Views.{expr_of, field_of, element_of}
 use Rattle.go_pexpr.specs.Reads.{left, size, expected_of}
 use Rattle.go_pexpr.specs.Tall.{fields_tall, exprs_tall, elements_tall}
+use Rattle.go_pexpr.proofs.OperatorTurns.{followed}
 use Rattle.go_pexpr.proofs.reader.Reader.+tree.Given as goal
 
 abbrev pub decreases-array_type : goal.decreases-array_type
@@ -35,8 +36,9 @@ decreases-unary l = 16 * size l.self.now + 2
 
 abbrev pub invariant-binary-operators : goal.invariant-binary-operators
 invariant-binary-operators l = record {
-  reads : (next : trees.Expr → State) → run 250 (expr l.limit l.header l.level (expected_of l.fn.expected) next) (left l.fn.self) ≡ run 250 (operators l.tightness l.header l.level (expr_of l.left.expr) next) (left l.self);
-  limit : l.limit ≡ l.tightness + 1;
+  reads : (next : trees.Expr → State) →
+      run 250 (expr l.limit l.header l.level (expected_of l.fn.expected) next) (left l.fn.self) ≡ run 250 (followed l.tightest (l.limit - l.tightest) l.header l.level next (expr_of l.left.expr)) (left l.self);
+  within : l.tightest ≤ l.limit;
   fits : l.level + l.left.height ≤ 251;
   shorter : size l.self < size l.fn.self;
 }

@@ -1,0 +1,51 @@
+//! Reads what begins the clauses of a `switch`.
+ghost use Rattle.std.specs.Prelude.{◌≡◌, ◌<◌, ◌≤◌, ◌+◌, List, [], OnOk};
+ghost use Rattle.go_ast.specs.Trees as trees;
+ghost use Rattle.go_ast.specs.Grammar.{Lexeme, closing_brace};
+ghost use Rattle.go_ast.specs.Machine as machine;
+ghost use Rattle.go_ast.specs.Machine.{State, clause_start};
+ghost use Rattle.go_ast.specs.Views.{clause_of, stmt_of};
+ghost use Rattle.go_pstmt.specs.Due.{behind_of, clauses_behind};
+ghost use Rattle.go_pexpr.specs.Reads.{Reads, First, left, size, expected_of};
+
+use crate::marks::{CASE, COLON, DEFAULT};
+use go_ast::statement::{Clause, Stmt};
+use go_pexpr::expected::Expected;
+use go_pexpr::reader::{Reader, Refusal};
+
+/// What is expected behind a statement, but a semicolon or the list's end.
+pub(crate) fn expected_behind(stmt: &Stmt) -> Expected
+    ensures { expected_of result ≡ behind_of (stmt_of stmt.now) }
+{
+    match stmt {
+        Stmt::Break(_) => Expected::BehindJump,
+        Stmt::Continue(_) => Expected::BehindJump,
+        _ => Expected::Another,
+    }
+}
+
+/// Reads what begins a clause, up to its colon.
+pub(crate) fn clause_from(reader: &mut Reader<'_>, level: u32) -> Result<Clause, Refusal>
+    requires level { level ≤ 251 }
+    requires some { First (λ t. t.kind ≡ closing_brace) (left reader.old) → ⊥ }
+    ensures reads { (done : List machine.Clause) (next : trees.Clauses → Lexeme → State) → Reads (clauses_behind level done next) (λ c. clause_start level done c.place (clause_of c).1.0 [] next) reader.old result reader.new }
+    ensures shorter { OnOk result (size reader.new < size reader.old) }
+{
+    if reader.is_next(DEFAULT) {
+        let token = reader.expect(DEFAULT, 0, Expected::Another)?;
+        reader.expect(COLON, 0, Expected::Another)?;
+        return Ok(Clause {
+            place: token.place,
+            values: None,
+            statements: Vec::new(reader.alloc),
+        });
+    }
+    let token = reader.expect(CASE, level + 1, Expected::Another)?;
+    let values = reader.exprs(false, level + 1, Expected::Operand)?;
+    reader.expect(COLON, 0, Expected::Another)?;
+    Ok(Clause {
+        place: token.place,
+        values: Some(values),
+        statements: Vec::new(reader.alloc),
+    })
+}

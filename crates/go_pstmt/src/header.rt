@@ -1,0 +1,123 @@
+//! Reads what is between an `if` or a `switch` and its block.
+ghost use Rattle.std.specs.Prelude.{◌≡◌, ◌+◌, ◌<◌, ◌≤◌, Option, Some, None, OnOk};
+ghost use Rattle.go_ast.specs.Trees as trees;
+ghost use Rattle.go_ast.specs.Grammar.{Lexeme};
+ghost use Rattle.go_ast.specs.Machine.{State, behind_if, if_condition, block_at, else_part, behind_switch, switch_tag, switch_body};
+ghost use Rattle.go_ast.specs.Views.{expr_of, simple_of, if_boxed};
+ghost use Rattle.go_text.specs.declared.place.Place.{Place};
+ghost use Rattle.go_pexpr.specs.Reads.{Reads, size};
+
+use crate::marks::{OPENING_BRACE, SEMICOLON};
+use crate::simple::{Header, Position, header_from};
+use go_ast::expression::Expr;
+use go_ast::statement::Simple;
+use go_pexpr::expected::Expected;
+use go_pexpr::reader::{Reader, Refusal};
+
+/// The head of an `if`.
+#[derive(Drop)]
+pub(crate) struct Condition {
+    /// The statement before the condition, if there is one.
+    pub start: Option<Box<Simple>>,
+    /// The condition.
+    pub condition: Box<Expr>,
+}
+
+/// The head of a `switch`.
+#[derive(Drop)]
+pub(crate) struct Compared {
+    /// The statement before the value, if there is one.
+    pub start: Option<Box<Simple>>,
+    /// The value that is compared, if there is one.
+    pub value: Option<Box<Expr>>,
+}
+
+/// Reads the condition of an `if`, behind the statement before it.
+fn condition_behind(
+    reader: &mut Reader<'_>,
+    level: u32,
+    start: Option<Box<Simple>>,
+) -> Result<Condition, Refusal>
+    requires { level ≤ 251 }
+    ensures reads { (p : Place) (next : trees.If → State) → Reads (if_condition level p next (if_boxed simple_of start)) (λ h. block_at (level + 1) (λ b. else_part level p (if_boxed simple_of h.start) (expr_of h.condition.value) b next)) reader.old result reader.new }
+    ensures shorter { OnOk result (size reader.new < size reader.old) }
+{
+    let condition = reader.expr_from(true, level + 1, Expected::Operand)?;
+    let condition = Box::new(reader.alloc, condition)?;
+    Ok(Condition { start, condition })
+}
+
+/// Reads what is between an `if` and its block.
+pub(crate) fn condition_from(reader: &mut Reader<'_>, level: u32) -> Result<Condition, Refusal>
+    requires { level ≤ 251 }
+    ensures reads { (t : Lexeme) (next : trees.If → State) → Reads (behind_if level next t) (λ h. block_at (level + 1) (λ b. else_part level t.place (if_boxed simple_of h.start) (expr_of h.condition.value) b next)) reader.old result reader.new }
+    ensures shorter { OnOk result (size reader.new < size reader.old) }
+{
+    if let Some(_) = reader.accept(SEMICOLON, 0)? {
+        return condition_behind(reader, level, None);
+    }
+    match header_from(reader, Position::Header, level + 1)? {
+        Header::Simple(start) => {
+            reader.expect(SEMICOLON, 0, Expected::Another)?;
+            condition_behind(reader, level, Some(start))
+        }
+        Header::Alone(condition) => Ok(Condition {
+            start: None,
+            condition,
+        }),
+        Header::Range(_name, _operand) => condition_behind(reader, level, None),
+    }
+}
+
+/// Reads the value that a `switch` compares, behind the statement before it, and the opening brace.
+fn compared_behind(
+    reader: &mut Reader<'_>,
+    level: u32,
+    start: Option<Box<Simple>>,
+) -> Result<Compared, Refusal>
+    requires { level ≤ 251 }
+    ensures reads { (p : Place) (next : trees.Stmt → State) → Reads (switch_tag level p next (if_boxed simple_of start)) (λ h. switch_body level p next (if_boxed simple_of h.start) (if_boxed expr_of h.value)) reader.old result reader.new }
+    ensures shorter { OnOk result (size reader.new < size reader.old) }
+{
+    if let Some(_) = reader.accept(OPENING_BRACE, 0)? {
+        return Ok(Compared { start, value: None });
+    }
+    let value = reader.expr_from(true, level + 1, Expected::Operand)?;
+    let value = Box::new(reader.alloc, value)?;
+    reader.expect(OPENING_BRACE, 0, Expected::Another)?;
+    Ok(Compared {
+        start,
+        value: Some(value),
+    })
+}
+
+/// Reads what is between a `switch` and its clauses.
+pub(crate) fn compared_from(reader: &mut Reader<'_>, level: u32) -> Result<Compared, Refusal>
+    requires { level ≤ 251 }
+    ensures reads { (t : Lexeme) (next : trees.Stmt → State) → Reads (behind_switch level next t) (λ h. switch_body level t.place next (if_boxed simple_of h.start) (if_boxed expr_of h.value)) reader.old result reader.new }
+    ensures shorter { OnOk result (size reader.new < size reader.old) }
+{
+    if let Some(_) = reader.accept(OPENING_BRACE, 0)? {
+        return Ok(Compared {
+            start: None,
+            value: None,
+        });
+    }
+    if let Some(_) = reader.accept(SEMICOLON, 0)? {
+        return compared_behind(reader, level, None);
+    }
+    match header_from(reader, Position::Header, level + 1)? {
+        Header::Simple(start) => {
+            reader.expect(SEMICOLON, 0, Expected::Another)?;
+            compared_behind(reader, level, Some(start))
+        }
+        Header::Alone(value) => {
+            reader.expect(OPENING_BRACE, 0, Expected::Another)?;
+            Ok(Compared {
+                start: None,
+                value: Some(value),
+            })
+        }
+        Header::Range(_name, _operand) => compared_behind(reader, level, None),
+    }
+}

@@ -1,0 +1,12 @@
+//! Reads declarations and statements.
+#![tactic(auto)]
+
+mod clause;
+pub mod declaration;
+mod for_loop;
+mod header;
+mod jump;
+mod made;
+mod marks;
+mod simple;
+pub mod statement;
