@@ -1,6 +1,5 @@
 -- What the code's trees are seen as, one law for each form.
 use Rattle.std.proofs.Common.{◌≡◌, ℕ, map, Box, Vec, Global, refl, ap, ◌∙◌}
-use Rattle.std.specs.Prelude.{string_bytes}
 use mathlib.Core.Former.{Count}
 use Rattle.go_text.specs.declared.place.Place.{Place}
 use Rattle.go_ast.specs.Trees as trees
@@ -66,11 +65,11 @@ struct_seen p fs =
 
 -- expressions
 
-pub name_seen : (p : Place) (text : _) → expr_of (record { place = p; kind = Name text }) ≡ trees.name p (string_bytes text)
+pub name_seen : (p : Place) (text : _) → expr_of (record { place = p; kind = Name text }) ≡ trees.name p text
 unfolding expr_of
 name_seen p text = refl
 
-pub integer_seen : (p : Place) (text : _) → expr_of (record { place = p; kind = Integer text }) ≡ trees.integer p (string_bytes text)
+pub integer_seen : (p : Place) (text : _) → expr_of (record { place = p; kind = Integer text }) ≡ trees.integer p text
 unfolding expr_of
 integer_seen p text = refl
 

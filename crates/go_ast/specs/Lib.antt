@@ -5,6 +5,7 @@ pub mod Kinds
 pub mod Literals
 pub mod Machine
 pub mod Operators
+pub mod Spellings
 pub mod Stops
 pub mod Tokens
 pub mod Trees

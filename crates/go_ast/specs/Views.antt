@@ -1,5 +1,5 @@
 -- Which values the code's trees are.
-use Rattle.std.specs.Prelude.{List, map, string_bytes, Option, Some, None, Box, Vec}
+use Rattle.std.specs.Prelude.{List, map, Option, Some, None, Box, Vec}
 use Rattle.std.specs.Global.{Global}
 use Rattle.go_text.specs.declared.place.Place.{Place}
 use Rattle.go_ast.specs.Trees as trees
@@ -75,8 +75,8 @@ abbrev mutual
   fields_of (more_of-Field names q a row) = trees.field names.items (type_at a q) (fields_of row)
 
   pub expr_at : ExprKind → Place → trees.Expr
-  expr_at (Name text) p = trees.name p (string_bytes text)
-  expr_at (Integer text) p = trees.integer p (string_bytes text)
+  expr_at (Name text) p = trees.name p text
+  expr_at (Integer text) p = trees.integer p text
   expr_at (Rune value) p = trees.rune p value
   expr_at (String value) p = trees.string p value.items
   expr_at (Parenthesized' x q e) p = trees.parenthesized p (expr_at e q)

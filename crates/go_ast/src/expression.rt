@@ -1,6 +1,7 @@
 //! Types and expressions.
 
 use crate::name::Name;
+use crate::spelling::Spelling;
 use go_text::place::Place;
 
 /// An operator in front of an operand.
@@ -85,9 +86,9 @@ pub struct Expr {
 #[derive(Drop)]
 pub enum ExprKind {
     /// A name, by its text.
-    Name(String),
+    Name(Spelling),
     /// An integer literal, by its text.
-    Integer(String),
+    Integer(Spelling),
     /// A rune literal, by the code point that it means.
     Rune(u32),
     /// A string literal, by the bytes that it means.

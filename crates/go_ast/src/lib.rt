@@ -6,6 +6,7 @@ pub mod expression;
 pub mod file;
 pub mod law;
 pub mod name;
+pub mod spelling;
 pub mod statement;
 #[cfg(test)]
 mod tests;

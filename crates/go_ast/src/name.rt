@@ -1,6 +1,7 @@
 //! Names.
-ghost use Rattle.std.specs.Prelude.{◌≡◌, IfOk, string_bytes};
+ghost use Rattle.std.specs.Prelude.{◌≡◌, IfOk};
 
+use crate::spelling::Spelling;
 use go_text::place::Place;
 use std::alloc::AllocError;
 use std::marker::Model;
@@ -8,23 +9,22 @@ use std::marker::Model;
 /// A name where it is written.
 #[derive(Drop)]
 pub struct Name {
-    text: String,
+    text: Spelling,
     place: Place,
 }
 
 impl Model for Name {
-    ghost use Rattle.std.specs.Prelude.{string_bytes};
     ghost use Rattle.go_ast.specs.Trees as trees;
 
     ghost Value = { trees.Name };
 
-    ghost view = { λ a. record { text = string_bytes a.text; place = a.place } };
+    ghost view = { λ a. record { text = a.text; place = a.place } };
 }
 
 impl Name {
     /// A name at a place.
-    pub fn new(text: String, place: Place) -> Name
-        ensures { result ≡ record { text = string_bytes text; place = place } }
+    pub fn new(text: Spelling, place: Place) -> Name
+        ensures { result ≡ record { text = text; place = place } }
     {
         Name { text, place }
     }
@@ -47,7 +47,7 @@ impl Name {
     pub fn copy(&self) -> Result<Name, AllocError>
         ensures { IfOk result (λ copy. copy ≡ self.now) }
     {
-        let text = self.text.clone()?;
+        let text = self.text.copy()?;
         Ok(Name {
             text,
             place: self.place,

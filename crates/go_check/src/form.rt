@@ -21,7 +21,7 @@ fn is_literal(e: &Expr) -> bool
     ensures { result ≡ is_literal (expr_of e.now) }
 {
     match &e.kind {
-        ExprKind::Integer(digits) => is_decimal(digits.as_bytes()),
+        ExprKind::Integer(digits) => is_decimal(digits.as_str().as_bytes()),
         ExprKind::String(_) => true,
         _ => false,
     }

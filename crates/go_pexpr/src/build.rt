@@ -1,5 +1,5 @@
 //! Makes trees from their parts, and counts their levels.
-ghost use Rattle.std.specs.Prelude.{◌≡◌, ℕ, ◌+◌, ◌<◌, max, map, IfOk, IfErr, Option, Some, None, string_bytes};
+ghost use Rattle.std.specs.Prelude.{◌≡◌, ℕ, ◌+◌, ◌<◌, max, map, IfOk, IfErr, Option, Some, None};
 ghost use Rattle.go_ast.specs.Trees as trees;
 ghost use Rattle.go_ast.specs.Grammar.{type_place};
 ghost use Rattle.go_ast.specs.Views.{unary_of, binary_of, type_of, expr_of, exprs_in, element_of, field_of, value_of, if_some};
@@ -12,6 +12,7 @@ use go_ast::expression::{
     BinaryOperator, Element, ElementValue, Expr, ExprKind, Field, TypeExpr, TypeKind, UnaryOperator,
 };
 use go_ast::name::Name;
+use go_ast::spelling::Spelling;
 use go_text::place::Place;
 use std::alloc::Global;
 
@@ -140,8 +141,8 @@ pub(crate) fn structure(place: Place, fields: Fields) -> TallType
 }
 
 /// A name.
-pub(crate) fn name(place: Place, text: String) -> Tall
-    ensures expr { expr_of result.expr ≡ trees.name place (string_bytes text) }
+pub(crate) fn name(place: Place, text: Spelling) -> Tall
+    ensures expr { expr_of result.expr ≡ trees.name place text }
     ensures height { result.height ≡ 1 }
 {
     Tall {
@@ -154,8 +155,8 @@ pub(crate) fn name(place: Place, text: String) -> Tall
 }
 
 /// An integer literal.
-pub(crate) fn integer(place: Place, text: String) -> Tall
-    ensures expr { expr_of result.expr ≡ trees.integer place (string_bytes text) }
+pub(crate) fn integer(place: Place, text: Spelling) -> Tall
+    ensures expr { expr_of result.expr ≡ trees.integer place text }
     ensures height { result.height ≡ 1 }
 {
     Tall {

@@ -1,7 +1,8 @@
 //! What the texts of tokens mean.
-ghost use Rattle.std.specs.Prelude.{◌≡◌, IfOk, IsUtf8, string_bytes};
+ghost use Rattle.std.specs.Prelude.{◌≡◌, IfOk, IsUtf8};
 ghost use Rattle.go_ast.specs.Literals.{string_value, rune_value};
 
+use go_ast::spelling::Spelling;
 use go_scan::values;
 use std::alloc::{AllocError, Global};
 
@@ -21,11 +22,11 @@ pub(crate) fn rune_value(text: &[u8]) -> u32
     code
 }
 
-/// The text that bytes are.
-pub(crate) fn text_from(alloc: Global, bytes: &[u8]) -> Result<String, AllocError>
+/// The spelling that bytes are.
+pub(crate) fn text_from(alloc: Global, bytes: &[u8]) -> Result<Spelling, AllocError>
     requires { IsUtf8 bytes.now }
-    ensures { IfOk result (λ s. string_bytes s ≡ bytes.now) }
+    ensures { IfOk result (λ s. s ≡ bytes.now) }
 {
     let text = str::from_utf8(bytes).unwrap();
-    String::from_str(alloc, text)
+    Spelling::new(alloc, text)
 }

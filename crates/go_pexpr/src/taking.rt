@@ -1,5 +1,5 @@
 //! Takes tokens.
-ghost use Rattle.std.specs.Prelude.{◌≡◌, ◌<◌, ◌≤◌, ◌↔◌, ◌⊎◌, List, [], ◌∷◌, length, map, Option, Some, None, OnOk, IfOk, IfErr, IsTrue, string_bytes};
+ghost use Rattle.std.specs.Prelude.{◌≡◌, ◌<◌, ◌≤◌, ◌↔◌, ◌⊎◌, List, [], ◌∷◌, length, map, Option, Some, None, OnOk, IfOk, IfErr, IsTrue};
 ghost use Rattle.go_ast.specs.Trees as trees;
 ghost use Rattle.go_scan.specs.declared.token.TokenKind.{TokenKind};
 ghost use Rattle.go_scan.specs.declared.token.TokenKind.TheVariants as kinds;
@@ -16,6 +16,7 @@ use crate::kind::is_kind;
 use crate::literal::text_from;
 use crate::reader::{Fault, LEVELS, Reader, Refusal};
 use go_ast::name::Name;
+use go_ast::spelling::Spelling;
 use go_scan::keyword::Keyword;
 use go_scan::punctuation::Punctuation;
 use go_scan::token::{Token, TokenKind};
@@ -209,10 +210,10 @@ impl<'a> Reader<'a> {
     }
 
     /// The text of a name or an integer literal.
-    pub(crate) fn text_of(&self, token: Token) -> Result<String, Refusal>
+    pub(crate) fn text_of(&self, token: Token) -> Result<Spelling, Refusal>
         requires stands { LiesIn self.now.text.now token }
         requires kind { (token.kind ≡ kinds.Name) ⊎ (token.kind ≡ kinds.Integer) }
-        ensures ok { IfOk result (λ s. string_bytes s ≡ bytes_of self.now.text.now token) }
+        ensures ok { IfOk result (λ s. s ≡ bytes_of self.now.text.now token) }
         ensures err { IfErr result (λ e. e ≡ Refusal.Memory) }
     {
         let text = text_from(self.alloc, spelling(self.text, token))?;

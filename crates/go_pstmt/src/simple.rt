@@ -16,6 +16,7 @@ ghost use Rattle.go_pstmt.specs.Statements.{position_of, is_bare, beginning, by_
 use crate::marks::{ASSIGN, COMMA, DECREMENT, DEFINE, INCREMENT, OPENING_BRACE, RANGE};
 use go_ast::expression::{BinaryOperator, Expr, ExprKind};
 use go_ast::name::Name;
+use go_ast::spelling::Spelling;
 use go_ast::statement::Simple;
 use go_pexpr::expected::Expected;
 use go_pexpr::reader::{Reader, Refusal};
@@ -157,7 +158,7 @@ fn names_of(alloc: Global, sides: &[Expr]) -> Result<Option<Vec<Name>>, AllocErr
         let Some(text) = text_of(side) else {
             return Ok(None);
         };
-        let text = String::from_str(alloc, text)?;
+        let text = Spelling::new(alloc, text)?;
         names.push(Name::new(text, side.place))?;
     }
     Ok(Some(names))

@@ -6,6 +6,7 @@ use crate::typed::{Const, GoType, Typed, TypedExprKind, TypedStmt};
 use go_ast::expression::{Expr, ExprKind};
 use go_ast::file::{File, Function, ImportSpec, TopLevel};
 use go_ast::name::Name;
+use go_ast::spelling::Spelling;
 use go_ast::statement::{Block, Simple, Stmt};
 use go_parse::Parsed;
 use go_text::fault::{Fault, FaultKind};
@@ -209,7 +210,7 @@ fn at(line: u32, column: u32) -> Place {
 }
 
 fn named(alloc: Global, text: &str, place: Place) -> Result<Name, AllocError> {
-    Ok(Name::new(String::from_str(alloc, text)?, place))
+    Ok(Name::new(Spelling::new(alloc, text)?, place))
 }
 
 /// A file with an import of a path, and a function of a name that calls fmt.Println with an integer
@@ -223,7 +224,7 @@ fn file(alloc: Global, path: u8, function: &str, digits: &str) -> Result<File, A
     };
     let operand = Expr {
         place: at(4, 2),
-        kind: ExprKind::Name(String::from_str(alloc, "fmt")?),
+        kind: ExprKind::Name(Spelling::new(alloc, "fmt")?),
     };
     let callee = Expr {
         place: at(4, 2),
@@ -234,7 +235,7 @@ fn file(alloc: Global, path: u8, function: &str, digits: &str) -> Result<File, A
     };
     let literal = Expr {
         place: at(4, 14),
-        kind: ExprKind::Integer(String::from_str(alloc, digits)?),
+        kind: ExprKind::Integer(Spelling::new(alloc, digits)?),
     };
     let call = Expr {
         place: at(4, 2),

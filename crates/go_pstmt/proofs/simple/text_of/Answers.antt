@@ -65,5 +65,5 @@ pub returns-in-Name : goal.returns-in-Name
 returns-in-Name c =
     let e = c.args.operand.now in
     let named : List ℕ → Option Name = λ x. Some (record { text = x; place = e.place }) in
-    ap named c.as_str.ensures.value
+    ap named c.as_str.ensures
     ∙ sym (ap (λ (k : ExprKind). name_if (expr_of (record { place = e.place; kind = k }))) c.in-Name.is ∙ ap name_if (name_seen e.place c.in-Name.text))
