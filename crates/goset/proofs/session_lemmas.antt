@@ -1,17 +1,3 @@
-pub mod Cuts
 pub mod Growth
-pub mod OneText
-pub mod Places
 pub mod Reaches
-pub mod RunTelling
-pub mod Runs
-pub mod Settled
-pub mod Settling
-pub mod Showing
-pub mod SomeText
-pub mod Standings
-pub mod Telling
 pub mod Texts
-pub mod Utf8
-pub mod Words
-pub mod Writing

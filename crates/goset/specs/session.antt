@@ -1,16 +1,5 @@
 pub mod Told
 pub mod Reading
-pub mod Lines
-pub mod Commands
-pub mod Pieces
-pub mod Seen
-pub mod Refusals
-pub mod Printing
-pub mod RunPrinting
-pub mod ShowPrinting
-pub mod World
-pub mod Standing
-pub mod Text
 pub mod Requests
 pub mod Ends
 pub mod Failures

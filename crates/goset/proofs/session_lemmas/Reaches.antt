@@ -1,11 +1,11 @@
 -- How a session's text goes on from a world that it has reached.
 use Rattle.std.proofs.Common.{◌≡◌, ℕ, zero, suc, List, [], ◌∷◌, ◌++◌, drop, take, refl, ap, sym, subst, ◌∙◌, inl, inr, append_assoc, append-nil, Option}
 use Rattle.std.proofs.lemmas.List.{take-append-drop}
-use Rattle.goset.specs.session.Commands.{Command, command_of, text_of, text_lines}
-use Rattle.goset.specs.session.World.{World, After, Prints}
-use Rattle.goset.specs.session.Lines.{lines_of}
+use Rattle.ws_command.specs.Commands.{Command, command_of, text_of, text_lines}
+use Rattle.ws_session.specs.World.{World, After, Prints}
+use Rattle.ws_command.specs.Lines.{lines_of}
 use Rattle.goset.specs.session.Requests.{IsFirst}
-use Rattle.goset.specs.session.Text.{TextFrom, BegunFrom, ReachedFrom}
+use Rattle.ws_session.specs.Text.{TextFrom, BegunFrom, ReachedFrom}
 
 -- From the first world's lines on, all that is said from here on follows this front, and each world that is reached from here is reached.
 pub record LeadsTo (first : World) (all : List (List ℕ)) (world : World) (left : List (List ℕ)) (front : List ℕ) : Type 0 where

@@ -7,9 +7,9 @@ use Rattle.std.proofs.lemmas.Bool.{false≢true}
 use Rattle.std.proofs.lemmas.List.{get_or-append_right}
 use Rattle.std.proofs.Math.Seq.{take-append_seam, take-suc, take-length}
 use Rattle.std.proofs.Math.Dec.{eqb-suc-zero}
-use Rattle.goset.specs.session.Lines.{lines_of}
-use Rattle.goset.specs.session.Commands.{text_of}
-use Rattle.goset.specs.session.Pieces.{without_newline, closed}
+use Rattle.ws_command.specs.Lines.{lines_of}
+use Rattle.ws_command.specs.Commands.{text_of}
+use Rattle.ws_command.specs.Pieces.{without_newline, closed}
 
 -- the front of a script is the text of its first lines, all but the last that are left
 pub record IsFront (script front rest : List ℕ) (lines left : ℕ) : Type 0 where

@@ -3,7 +3,7 @@ use Rattle.std.specs.Prelude.{ℕ, ◌⊎◌, ◌≤◌, List, [], length, Optio
 use Rattle.goset.specs.session.Told.{Told, Grows}
 use Rattle.goset.specs.session.Reading.{GaveAll, NotRead, limit}
 use Rattle.goset.specs.declared.session.reading.ReadError.TheVariants as reads
-use Rattle.goset.specs.session.Text.{SessionText, Begun, IsClear}
+use Rattle.ws_session.specs.Text.{SessionText, Begun, IsClear}
 use Rattle.goset.specs.declared.session.running.SessionError.{SessionError}
 use Rattle.goset.specs.declared.session.running.SessionError.TheVariants.{Memory, Read, Write, TooLong}
 

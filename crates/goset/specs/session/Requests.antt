@@ -1,7 +1,7 @@
 -- The first command of a script.
 use Rattle.std.specs.Prelude.{◌≡◌, ℕ, List, ◌∷◌, drop, Option}
-use Rattle.goset.specs.session.Lines.{lines_of}
-use Rattle.goset.specs.session.Commands.{Command, command_of, text_lines, text_of}
+use Rattle.ws_command.specs.Lines.{lines_of}
+use Rattle.ws_command.specs.Commands.{Command, command_of, text_lines, text_of}
 
 -- a script's first line asks for this command, on this text, and this is left behind the text
 pub record IsFirst (script : List ℕ) (command : Command) (text : Option (List ℕ)) (rest : List ℕ) : Type 0 where

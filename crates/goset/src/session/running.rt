@@ -1,23 +1,22 @@
 //! Running a script, each command's answer written before the next is read.
 ghost use Rattle.std.specs.Prelude.{◌≡◌, ℕ, ◌+◌, ◌<◌, ◌≤◌, ◌^◌, length, drop, IfOk, OnOk, OnErr, Option};
 ghost use Rattle.std.specs.Option.{option_map};
-ghost use Rattle.std.specs.Thread.{IsSync};
-ghost use Rattle.goset.specs.session.Lines.{lines_of};
-ghost use Rattle.goset.specs.session.Commands.{text_of};
-ghost use Rattle.goset.specs.session.Seen.{seen};
+ghost use Rattle.ws_command.specs.Lines.{lines_of};
+ghost use Rattle.ws_command.specs.Commands.{text_of};
+ghost use Rattle.ws_command.specs.Seen.{seen};
 ghost use Rattle.goset.specs.session.Requests.{IsFirst};
-ghost use Rattle.goset.specs.session.World.{World, opening, hashed, After, Prints};
-ghost use Rattle.ws_action.specs.Clash.{NoClash};
+ghost use Rattle.ws_session.specs.World.{opening};
 ghost use Rattle.goset.specs.session.Ends.{Wrote, WroteSome, Session};
 ghost use Rattle.goset.specs.session.Failures.{failed_writes, failed_reads, unwritten};
 
-use crate::session::commands::{Asked, ask};
-use crate::session::lines::{closed, cut_line, next_line};
 use crate::session::reading::{ReadError, ScriptIn, read_whole};
 use crate::session::writing::{ScriptOut, write_whole};
 use std::alloc::{AllocError, Global};
 use std::thread::Threads;
 use thiserror::Error;
+use ws_command::commands::{Asked, ask};
+use ws_command::lines::{closed, cut_line, next_line};
+use ws_session::steps::Steps;
 
 /// Why a session ended early: no memory, a failed read, a failed write, or a script that is too
 /// long.
@@ -38,29 +37,6 @@ pub enum SessionError {
 pub enum AnswerError {
     Memory,
     Write,
-}
-
-/// What runs single commands.
-pub trait Steps {
-    /// The worlds that it may stand for.
-    ghost stands_for: { Self → World → Type 0 };
-
-    /// Runs one command on its text, where the script had all of it, and answers what it prints.
-    /// It may start threads, and joins them. After an `Err`, want of memory, it may stand for no
-    /// world.
-    fn step<R: Threads + Sync>(
-        &mut self,
-        rt: &R,
-        asked: &Asked<'_>,
-        text: Option<Vec<u8>>,
-    ) -> Result<Vec<u8>, AllocError>
-        requires { IsSync R.row }
-        ensures { let command = seen asked.now in
-            let given = option_map (λ v. v.items) text in
-            (world : World) → stands_for self.old world → IfOk result (λ told.
-            (next : World) × After command given world next
-            × (NoClash (hashed next) →
-            Prints command given world told.items × stands_for self.new next)) };
 }
 
 /// A command with its text, and what is left of the script behind it.

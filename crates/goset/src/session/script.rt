@@ -5,7 +5,6 @@ ghost use Rattle.goset.specs.session.Ends.{Session};
 ghost use Rattle.goset.specs.session.Failures.{failed_reads, failed_writes};
 
 use crate::session::reading::ScriptIn;
-use crate::session::replicas::Replicas;
 use crate::session::running::{SessionError, play};
 use crate::session::writing::ScriptOut;
 use go_text::edition::Edition;
@@ -13,6 +12,7 @@ use std::alloc::Global;
 use std::sync::Wait;
 use std::thread::Threads;
 use ws_pool::Gate;
+use ws_session::replicas::Replicas;
 
 /// Reads a script to its end and writes its session's text, from no replica on. It starts threads
 /// to settle, and joins them.

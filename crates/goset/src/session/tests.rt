@@ -1,7 +1,6 @@
 //! Ends that give and take little and fail where they are told to, and sessions over them.
 ghost use Rattle.std.specs.Prelude.{◌≡◌, ◌+◌, ◌<◌, ◌^◌, None, Some};
 
-use crate::session::commands::{Asked, ask};
 use crate::session::ends::{FromReader, ToWriter};
 use crate::session::reading::{EndFault, ScriptIn};
 use crate::session::running::{SessionError, take_text};
@@ -11,6 +10,7 @@ use go_text::edition::Edition;
 use std::alloc::Global;
 use std::test::Fail;
 use std::thread::Threads;
+use ws_command::commands::{Asked, ask};
 
 /// A reader of some bytes, of which a call gives at most `step`, and call `fails_at` fails.
 #[derive(Drop)]

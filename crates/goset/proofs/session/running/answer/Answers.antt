@@ -1,7 +1,7 @@
 use Rattle.std.proofs.Common.{arith, ◌++◌, ap, take, List, ℕ}
-use Rattle.goset.specs.session.Lines.{lines_of}
+use Rattle.ws_command.specs.Lines.{lines_of}
 use Rattle.goset.specs.session.Told.{Grows}
-use Rattle.goset.specs.session.World.{World}
+use Rattle.ws_session.specs.World.{World}
 use Rattle.goset.proofs.session_lemmas.Texts.{empty_is}
 use Rattle.goset.proofs.session_lemmas.Growth.{on_ok, on_err, no_failures, grows_on, grows_by}
 use Rattle.goset.proofs.session_lemmas.Reaches.{all_said, front_said, first_reaches, first_leads, first_part}

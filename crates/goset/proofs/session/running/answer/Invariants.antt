@@ -1,8 +1,8 @@
 use Rattle.std.proofs.Common.{◌≡◌, List, ℕ, length}
 use Rattle.goset.specs.session.Told.{Grows}
-use Rattle.goset.specs.session.Lines.{lines_of}
-use Rattle.goset.specs.session.World.{World, opening}
-use Rattle.goset.specs.session.Text.{IsClear}
+use Rattle.ws_command.specs.Lines.{lines_of}
+use Rattle.ws_session.specs.World.{World, opening}
+use Rattle.ws_session.specs.Text.{IsClear}
 use Rattle.goset.proofs.session_lemmas.Reaches.{LeadsTo}
 use Rattle.goset.proofs.session.running.answer.Given as goal
 

@@ -1,8 +1,0 @@
-use Rattle.std.proofs.Common.{◌≡◌, ◌++◌, drop, map}
-use Rattle.std.specs.List.{flat_map}
-use Rattle.goset.specs.session.Printing.{row_text}
-use Rattle.ws_replica.specs.Reports.{row}
-use Rattle.goset.proofs.session.printing.push_rows.Given as goal
-
-abbrev pub invariant-loop-of : goal.invariant-loop-of
-invariant-loop-of l = l.out.items ++ flat_map row_text (map row (drop l.of-index l.all)) ≡ l.fn.out.items ++ flat_map row_text (map row l.all)

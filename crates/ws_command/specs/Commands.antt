@@ -1,0 +1,90 @@
+-- What a line of a script asks for.
+use Rattle.std.specs.Prelude.{ℕ, zero, suc, ◌==◌, ◌&&◌, ◌||◌, nat_lt, Bool, true, false, cond, List, [], ◌∷◌, ◌++◌, length, Option, None, Some, codes}
+use Rattle.std.specs.Str.{bytes_eq}
+use Rattle.std.specs.Option.{option_map}
+use Rattle.ws_command.specs.Lines.{words_of, number_of, without_return, is_digit}
+
+-- A command with its words: names, a path, a directory, and a number of lines or of ticks. What is applied has a counter, a number,
+-- and so many lines, or none where it is a removal.
+pub data Command : Type 0 where
+  Nothing : Command
+  Bad : Command
+  Create : List ℕ → Command
+  Write : List ℕ → List ℕ → ℕ → Command
+  Remove : List ℕ → List ℕ → Command
+  Apply : List ℕ → List ℕ → ℕ → ℕ → Option ℕ → Command
+  Merge : List ℕ → List ℕ → Command
+  Settle : Command
+  Build : List ℕ → List ℕ → Command
+  Run : List ℕ → List ℕ → ℕ → Command
+  Show : List ℕ → Command
+
+abbrev pub is_name_byte : ℕ → Bool
+is_name_byte b = is_digit b || (nat_lt 96 b && nat_lt b 123) || (nat_lt 64 b && nat_lt b 91) || (b == 95) || (b == 45)
+
+abbrev pub all_name_bytes : List ℕ → Bool
+all_name_bytes [] = true
+all_name_bytes (b ∷ bytes) = is_name_byte b && all_name_bytes bytes
+
+-- 1 to 32 letters, digits, `_` and `-`
+abbrev pub is_name : List ℕ → Bool
+is_name word = nat_lt 0 (length word) && nat_lt (length word) 33 && all_name_bytes word
+
+-- a command of names that are good
+abbrev pub if_good : Bool → Command → Command
+if_good true command = command
+if_good false command = Bad
+
+abbrev pub if_number : Option ℕ → (ℕ → Command) → Command
+if_number None command = Bad
+if_number (Some n) command = command n
+
+-- counters and the numbers of replicas are above 0, and those below 2^32
+abbrev pub is_version : ℕ → ℕ → Bool
+is_version counter number = nat_lt 0 counter && (nat_lt 0 number && nat_lt number 4294967296)
+
+-- a write that is applied is a number of lines, or `-`, a removal
+abbrev pub apply_of : List ℕ → List ℕ → ℕ → ℕ → List ℕ → Command
+apply_of name path counter number word = cond (bytes_eq word (codes "-")) (Apply name path counter number None) (if_number (number_of word) (λ lines. Apply name path counter number (Some lines)))
+
+abbrev pub of_words : List (List ℕ) → Command
+of_words [] = Nothing
+of_words (word ∷ []) = cond (bytes_eq word (codes "settle")) Settle Bad
+of_words (word ∷ a ∷ []) =
+    cond (bytes_eq word (codes "replica")) (if_good (is_name a) (Create a))
+    (cond (bytes_eq word (codes "show")) (if_good (is_name a) (Show a)) Bad)
+of_words (word ∷ a ∷ b ∷ []) =
+    cond (bytes_eq word (codes "merge")) (if_good (is_name a && is_name b) (Merge a b))
+    (cond (bytes_eq word (codes "build")) (if_good (is_name a) (Build a b))
+    (cond (bytes_eq word (codes "remove")) (if_good (is_name a) (Remove a b)) Bad))
+of_words (word ∷ a ∷ b ∷ c ∷ []) =
+    cond (bytes_eq word (codes "write")) (if_good (is_name a) (if_number (number_of c) (Write a b)))
+    (cond (bytes_eq word (codes "run")) (if_good (is_name a) (if_number (number_of c) (Run a b))) Bad)
+of_words (word ∷ a ∷ b ∷ c ∷ d ∷ []) = Bad
+of_words (word ∷ a ∷ b ∷ c ∷ d ∷ e ∷ []) =
+    cond (bytes_eq word (codes "apply")) (if_good (is_name a) (if_number (number_of c) (λ counter. if_number (number_of d) (λ number. if_good (is_version counter number) (apply_of a b counter number e))))) Bad
+of_words (word ∷ a ∷ b ∷ c ∷ d ∷ e ∷ f ∷ words) = Bad
+
+abbrev pub command_of : List ℕ → Command
+command_of line = of_words (words_of (without_return line))
+
+-- how many lines of text follow it
+abbrev pub text_lines : Command → ℕ
+text_lines (Write name path lines) = lines
+text_lines (Apply name path counter number (Some lines)) = lines
+text_lines (Apply name path counter number None) = 0
+text_lines (Remove name path) = 0
+text_lines Settle = 0
+text_lines (Show name) = 0
+text_lines Nothing = 0
+text_lines Bad = 0
+text_lines (Create name) = 0
+text_lines (Merge name other) = 0
+text_lines (Build name directory) = 0
+text_lines (Run name directory ticks) = 0
+
+-- the text of the first n lines, each with a newline, where there are so many
+abbrev pub text_of : ℕ → List (List ℕ) → Option (List ℕ)
+text_of zero lines = Some []
+text_of (suc n) [] = None
+text_of (suc n) (line ∷ lines) = option_map (λ text. line ++ 10 ∷ text) (text_of n lines)

@@ -1,0 +1,12 @@
+pub mod OneText
+pub mod Places
+pub mod RunTelling
+pub mod Runs
+pub mod Settled
+pub mod Settling
+pub mod Showing
+pub mod SomeText
+pub mod Standings
+pub mod Telling
+pub mod Utf8
+pub mod Writing

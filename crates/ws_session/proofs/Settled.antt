@@ -1,0 +1,86 @@
+-- Replicas of a session of which each takes what all hold.
+use Rattle.std.proofs.Common.{◌≡◌, ℕ, List, [], ◌∷◌, ◌++◌, map, Option, None, refl, sym, ap, ◌∙◌, subst, length, Vec, Global}
+use Rattle.std.specs.List.{flat_map}
+use Rattle.std.proofs.lemmas.List.{length-map}
+use Rattle.ws_version.specs.Writes.{Write as AWrite}
+use Rattle.ws_action.specs.Actions.{Action}
+use Rattle.ws_action.specs.Clash.{AllSized}
+use Rattle.ws_replica.specs.Joins as joins
+use Rattle.ws_replica.specs.Holdings.{ReplicaStandsFor, Took, AllStandFor, all_taken}
+use Rattle.ws_session.specs.declared.replicas.Named.{Named}
+use Rattle.ws_command.specs.Commands.{Settle}
+use Rattle.ws_session.specs.World.{World, Replica, with_replicas, settled}
+use Rattle.ws_session.specs.Standing.{Stands, AllStand, Settles, labels_of, replicas_of}
+use Rattle.ws_session.proofs.Settling.{sized_both}
+use Rattle.ws_session.proofs.Places.{none_sized}
+
+-- a settled list is as long as it was
+pub settled_length : {J : Type 0} (f : J → J → J) (all : List J) → length (joins.settled f all) ≡ length all
+settled_length f [] = refl
+settled_length f (first ∷ rest) = length-map (first ∷ rest) (λ _. joins.joined_from f first rest)
+
+-- what replicas of the world took
+abbrev pub took_of : List Replica → List Took
+took_of rs = map (λ r. record { writes = r.writes; actions = r.actions }) rs
+
+pub all_stand_for : (ns : List Named) (rs : List Replica) → AllStand ns rs → AllStandFor (replicas_of ns) (took_of rs)
+all_stand_for [] [] h = tt
+all_stand_for [] (r ∷ rs) h = absurd h
+all_stand_for (n ∷ ns) [] h = absurd h
+all_stand_for (n ∷ ns) (r ∷ rs) h = (h.0.holds, all_stand_for ns rs h.1)
+
+all_writes : (rs : List Replica) → (all_taken (took_of rs)).writes ≡ flat_map (λ r. r.writes) rs
+all_writes [] = refl
+all_writes (r ∷ rs) = ap (λ (W : List AWrite). r.writes ++ W) (all_writes rs)
+
+all_actions : (rs : List Replica) → (all_taken (took_of rs)).actions ≡ flat_map (λ r. r.actions) rs
+all_actions [] = refl
+all_actions (r ∷ rs) = ap (λ (E : List Action). r.actions ++ E) (all_actions rs)
+
+all_sized : (ns : List Named) (rs : List Replica) → AllStand ns rs → AllSized (flat_map (λ r. r.actions) rs)
+all_sized [] [] h = none_sized
+all_sized [] (r ∷ rs) h = absurd h
+all_sized (n ∷ ns) [] h = absurd h
+all_sized (n ∷ ns) (r ∷ rs) h = sized_both r.actions (flat_map (λ s. s.actions) rs) h.0.sized (all_sized ns rs h.1)
+
+-- the replicas of the world with these writes and actions
+abbrev with_all : List AWrite → List Action → List Replica → List Replica
+with_all W E rs = map (λ r. record { name = r.name; number = r.number; writes = W; actions = E }) rs
+
+first_label : (n m : Named) (ns ms : List Named) → labels_of (m ∷ ms) ≡ labels_of (n ∷ ns) → ◌≡◌ {A = Vec ℕ Global × ℕ} (m.name, m.number) (n.name, n.number)
+first_label n m ns ms e = cc
+
+later_labels : (n m : Named) (ns ms : List Named) → labels_of (m ∷ ms) ≡ labels_of (n ∷ ns) → labels_of ms ≡ labels_of ns
+later_labels n m ns ms e = cc
+
+all_stand : (t : Took) (ns ms : List Named) (rs : List Replica) → labels_of ms ≡ labels_of ns → AllStand ns rs → AllStandFor (replicas_of ms) (map (λ _. t) (took_of rs)) → AllSized t.actions → AllStand ms (with_all t.writes t.actions rs)
+all_stand t [] [] [] e h k s = tt
+all_stand t [] [] (r ∷ rs) e h k s = absurd h
+all_stand t (n ∷ ns) ms [] e h k s = absurd h
+all_stand t [] (m ∷ ms) rs e h k s = cc
+all_stand t (n ∷ ns) [] (r ∷ rs) e h k s = cc
+all_stand t (n ∷ ns) (m ∷ ms) (r ∷ rs) e h k s =
+    let label = first_label n m ns ms e in
+    let stand : Stands m (record { name = r.name; number = r.number; writes = t.writes; actions = t.actions }) = record {
+      name = ap (λ (l : Vec ℕ Global × ℕ). l.0.items) label ∙ h.0.name;
+      number = ap (λ (l : Vec ℕ Global × ℕ). l.1) label ∙ h.0.number;
+      holds = k.0;
+      sized = s;
+    } in
+    (stand, all_stand t ns ms rs (later_labels n m ns ms e) h.1 k.1 s)
+
+-- each has its name and number, and stands for what all took
+pub settles : (text : Option (List ℕ)) (world : World) (ns ms : List Named) → labels_of ms ≡ labels_of ns
+    → ((took : List Took) → AllStandFor (replicas_of ns) took → AllStandFor (replicas_of ms) (map (λ _. all_taken took) took)) → AllStand ns world.replicas → Settles Settle text world None ms
+settles text world ns ms e stands h =
+    let rs = world.replicas in
+    let all = all_taken (took_of rs) in
+    let sized = subst AllSized (sym (all_actions rs)) (all_sized ns rs h) in
+    let stand = all_stand all ns ms rs e h (stands (took_of rs) (all_stand_for ns rs h)) sized in
+    record {
+      refuses = refl;
+      next = with_replicas world (settled rs);
+      after = refl;
+      edition = refl;
+      stand = subst (λ W. AllStand ms (with_all W (flat_map (λ r. r.actions) rs) rs)) (all_writes rs) (subst (λ E. AllStand ms (with_all all.writes E rs)) (all_actions rs) stand);
+    }

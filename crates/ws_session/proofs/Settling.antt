@@ -1,0 +1,163 @@
+-- What a command makes of the replicas of a session, and what of those of the world.
+use Rattle.std.proofs.Common.{◌≡◌, ◌<◌, ◌≤◌, ◌+◌, ℕ, List, [], ◌∷◌, ◌++◌, Option, None, Some, true, false, Bool, not, refl, sym, ap, ◌∙◌, cond, subst, length, get_or, append-nil, arith}
+use Rattle.std.specs.Prelude.{is_some, nat_lt, ◌&&◌}
+use Rattle.std.proofs.lemmas.Bool.{lt-ltb, le-ltb, eq-eqb, false_from_ne_true, eqb-true}
+use Rattle.std.proofs.Common.{inl, inr}
+use Rattle.std.proofs.lemmas.List.Elements.{Contains-append_cases}
+use Rattle.ws_version.specs.Writes.{Write as AWrite}
+use Rattle.ws_register.specs.Sources.{top}
+use Rattle.ws_action.specs.Actions.{Action}
+use Rattle.ws_action.specs.Clash.{AllSized}
+use Rattle.ws_replica.specs.Holdings.{ReplicaStandsFor}
+use Rattle.ws_session.specs.declared.replicas.Named.{Named}
+use Rattle.ws_command.specs.declared.refusal.Refusal.{Refusal}
+use Rattle.ws_command.specs.declared.refusal.Refusal.TheVariants.{BadCommand, Unknown, Exists, BadPath, CounterFull, BadText}
+use Rattle.ws_command.specs.Commands.{Command, Create, Write, Merge}
+use Rattle.ws_command.specs.Refusals.{first_of}
+use Rattle.ws_session.specs.World.{World, Replica, replica_at, knows, writes_in, writes_of, actions_in, actions_held, number_in, taking, grown, with_replicas, edit_of, refusals, is_text, text_in, is_path_word}
+use Rattle.ws_session.specs.Standing.{place_of, Stands, AllStand, Settles, ChangedAt, Edited, MergedFrom}
+use Rattle.ws_session.proofs.Standings.{found, not_found, same_length, stands_push}
+
+-- a refused command changes nothing
+pub refused_settles : (command : Command) (text : Option (List ℕ)) (world : World) (refusal : Refusal) (ns : List Named) → first_of (refusals command text world) ≡ Some refusal → AllStand ns world.replicas → Settles command text world (Some refusal) ns
+refused_settles command text world refusal ns e h = record { refuses = e; next = world; after = refl; edition = refl; stand = h }
+
+pub knows_none : (name : List ℕ) (world : World) (ns : List Named) → AllStand ns world.replicas → place_of name ns ≡ None → knows name world ≡ false
+knows_none name world ns h e = ap (λ (o : Option Replica). is_some o) (not_found name ns world.replicas h e)
+
+pub knows_some : (name : List ℕ) (k : ℕ) (world : World) (ns : List Named) → AllStand ns world.replicas → place_of name ns ≡ Some k → knows name world ≡ true
+knows_some name k world ns h e = ap (λ (o : Option Replica). is_some o) (found name k ns world.replicas h e).at
+
+-- ---- a new replica
+
+first_two : (a b c d : Bool) (x y : Refusal) → a ≡ c → b ≡ d → first_of ((a, x) ∷ (b, y) ∷ []) ≡ first_of ((c, x) ∷ (d, y) ∷ [])
+first_two a b c d x y e f = ap (λ z. cond z (Some x) (cond b (Some y) None)) e ∙ ap (λ z. cond c (Some x) (cond z (Some y) None)) f
+
+pub create_full : (name : List ℕ) (text : Option (List ℕ)) (world : World) (ns : List Named) → 64 ≤ length ns → AllStand ns world.replicas → Settles (Create name) text world (Some BadCommand) ns
+create_full name text world ns le h =
+    let full : nat_lt 63 (length world.replicas) ≡ true = lt-ltb 63 (length world.replicas) (omega (arith, same_length ns world.replicas h)) in
+    refused_settles (Create name) text world BadCommand ns (ap (λ z. cond z (Some BadCommand) (cond (knows name world) (Some Exists) None)) full) h
+
+not_full : (world : World) (ns : List Named) → length ns < 64 → AllStand ns world.replicas → nat_lt 63 (length world.replicas) ≡ false
+not_full world ns lt h = le-ltb 63 (length world.replicas) (omega (arith, same_length ns world.replicas h))
+
+pub create_exists : (name : List ℕ) (k : ℕ) (text : Option (List ℕ)) (world : World) (ns : List Named) → length ns < 64 → place_of name ns ≡ Some k → AllStand ns world.replicas → Settles (Create name) text world (Some Exists) ns
+create_exists name k text world ns lt e h =
+    refused_settles (Create name) text world Exists ns (first_two _ _ false true BadCommand Exists (not_full world ns lt h) (knows_some name k world ns h e)) h
+
+pub created : (name : List ℕ) (text : Option (List ℕ)) (world : World) (ns : List Named) (n : Named) → length ns < 64 → place_of name ns ≡ None → AllStand ns world.replicas
+    → n.name.items ≡ name → n.number ≡ length ns + 1 → ReplicaStandsFor n.replica [] [] → AllSized [] → Settles (Create name) text world None (ns ++ n ∷ [])
+created name text world ns n lt e h same number holds sized =
+    let r : Replica = record { name = name; number = length world.replicas + 1; writes = []; actions = [] } in
+    record {
+      refuses = first_two _ _ false false BadCommand Exists (not_full world ns lt h) (knows_none name world ns h e);
+      next = with_replicas world (world.replicas ++ r ∷ []);
+      after = refl;
+      edition = refl;
+      stand = stands_push ns world.replicas n r h (record { name = same; number = number ∙ ap (λ k. k + 1) (same_length ns world.replicas h); holds = holds; sized = sized });
+    }
+
+-- ---- a write
+
+abbrev write_row : Bool → Bool → Bool → Bool → Option Refusal
+write_row a b c d = cond a (Some Unknown) (cond b (Some BadPath) (cond c (Some CounterFull) (cond d (Some BadText) None)))
+
+write_rows : (a b c d a' b' c' d' : Bool) → a ≡ a' → b ≡ b' → c ≡ c' → d ≡ d' → write_row a b c d ≡ write_row a' b' c' d'
+write_rows a b c d a' b' c' d' e f g h = ap (λ z. write_row z b c d) e ∙ ap (λ z. write_row a' z c d) f ∙ ap (λ z. write_row a' b' z d) g ∙ ap (λ z. write_row a' b' c' z) h
+
+module _ (name path : List ℕ) (lines : ℕ) (text : Option (List ℕ)) (world : World) (ns : List Named) (h : AllStand ns world.replicas) where
+  pub write_unknown : place_of name ns ≡ None → Settles (Write name path lines) text world (Some Unknown) ns
+  write_unknown e = refused_settles (Write name path lines) text world Unknown ns (write_rows _ _ _ _ true _ _ _ (ap not (knows_none name world ns h e)) refl refl refl) h
+
+  module _ (k : ℕ) (e : place_of name ns ≡ Some k) where
+    known : not (knows name world) ≡ false
+    known = ap not (knows_some name k world ns h e)
+
+    pub write_path : is_path_word path ≡ false → Settles (Write name path lines) text world (Some BadPath) ns
+    write_path f = refused_settles (Write name path lines) text world BadPath ns (write_rows _ _ _ _ false true _ _ known (ap not f) refl refl) h
+
+    pub write_full : is_path_word path ≡ true → top (writes_of name world) ≡ 18446744073709551615 → Settles (Write name path lines) text world (Some CounterFull) ns
+    write_full f g = refused_settles (Write name path lines) text world CounterFull ns (write_rows _ _ _ _ false false true _ known (ap not f) (eq-eqb _ _ g) refl) h
+
+    pub write_text : is_path_word path ≡ true → (top (writes_of name world) ≡ 18446744073709551615 → ⊥) → is_text text ≡ false → Settles (Write name path lines) text world (Some BadText) ns
+    write_text f g t = refused_settles (Write name path lines) text world BadText ns (write_rows _ _ _ _ false false false true known (ap not f) (false_from_ne_true _ (λ q. g (eqb-true _ _ q))) (ap not t)) h
+
+    -- what the definition reads of the replica is what the code keeps
+    writes_are : writes_of name world ≡ (found name k ns world.replicas h e).replica.writes
+    writes_are = ap writes_in (found name k ns world.replicas h e).at
+
+    pub top_is : (n : ℕ) → ((one : Named) (W : List AWrite) (E : List Action) → one ≡ get_or ns k one → ReplicaStandsFor one.replica W E → n ≡ top W) → n ≡ top (writes_of name world)
+    top_is n tops =
+        let f = found name k ns world.replicas h e in
+        tops f.one f.replica.writes f.replica.actions f.is (f.stands f.one f.is).holds ∙ ap top (sym writes_are)
+
+    pub written : (bytes : List ℕ) (ms : List Named) → is_path_word path ≡ true → (top (writes_of name world) ≡ 18446744073709551615 → ⊥) → is_text text ≡ true → Some bytes ≡ text → ChangedAt (Edited path bytes) ns k ms → Settles (Write name path lines) text world None ms
+    written bytes ms p g t b change =
+        let f = found name k ns world.replicas h e in
+        let r = f.replica in
+        let s = f.stands f.one f.is in
+        let edited = change.so f.one f.is in
+        let w : AWrite = edit_of name path (text_in text) world in
+        let same : AWrite = (path, record { counter = top r.writes + 1; number = f.one.number; text = Some bytes }) in
+        let texts : bytes ≡ text_in text = ap text_in b in
+        let numbers : f.one.number ≡ number_in (replica_at name world.replicas) = s.number ∙ sym (ap number_in f.at) in
+        let is : same ≡ w =
+        ap (λ n. let x : AWrite = (path, record { counter = top r.writes + 1; number = n; text = Some bytes }) in x) numbers
+        ∙ ap (λ q. let x : AWrite = (path, record { counter = top r.writes + 1; number = number_in (replica_at name world.replicas); text = Some q }) in x) texts
+        ∙ ap (λ V. let x : AWrite = (path, record { counter = top V + 1; number = number_in (replica_at name world.replicas); text = Some (text_in text) }) in x) (sym writes_are) in
+        let stand : Stands change.changed (grown r (w ∷ []) []) = record {
+          name = edited.name ∙ s.name;
+          number = edited.number ∙ s.number;
+          holds = subst (λ E. ReplicaStandsFor change.changed.replica (r.writes ++ w ∷ []) E) (sym (append-nil r.actions)) (subst (λ x. ReplicaStandsFor change.changed.replica (r.writes ++ x ∷ []) r.actions) is (edited.holds r.writes r.actions s.holds));
+          sized = subst AllSized (sym (append-nil r.actions)) s.sized;
+        } in
+        record {
+          refuses = write_rows _ _ _ _ false false false false known (ap not p) (false_from_ne_true _ (λ q. g (eqb-true _ _ q))) (ap not t);
+          next = with_replicas world (taking name (w ∷ []) [] world.replicas);
+          after = refl;
+          edition = refl;
+          stand = subst (λ z. AllStand z (taking name (w ∷ []) [] world.replicas)) (sym change.is) (f.grows change.changed (w ∷ []) [] stand);
+        }
+
+-- ---- a merge
+
+pub sized_both : (E F : List Action) → AllSized E → AllSized F → AllSized (E ++ F)
+sized_both E F h k a c = elim (Contains-append_cases E F a c) [ inl l ↦ h a l | inr r ↦ k a r ]
+
+merge_row : (a b : Bool) → a ≡ b → first_of ((not a, Unknown) ∷ []) ≡ cond (not b) (Some Unknown) None
+merge_row a b e = ap (λ z. cond (not z) (Some Unknown) None) e
+
+module _ (name other : List ℕ) (text : Option (List ℕ)) (world : World) (ns : List Named) (h : AllStand ns world.replicas) where
+  pub merge_unknown : place_of name ns ≡ None → Settles (Merge name other) text world (Some Unknown) ns
+  merge_unknown e = refused_settles (Merge name other) text world Unknown ns (merge_row _ false (ap (λ z. z && knows other world) (knows_none name world ns h e))) h
+
+  module _ (k : ℕ) (e : place_of name ns ≡ Some k) where
+    pub merge_other_unknown : place_of other ns ≡ None → Settles (Merge name other) text world (Some Unknown) ns
+    merge_other_unknown f = refused_settles (Merge name other) text world Unknown ns
+        (merge_row _ false (ap (λ z. z && knows other world) (knows_some name k world ns h e) ∙ knows_none other world ns h f)) h
+
+    pub merged : (j : ℕ) (ms : List Named) → place_of other ns ≡ Some j → ChangedAt (MergedFrom ns j) ns k ms → Settles (Merge name other) text world None ms
+    merged j ms d change =
+        let f = found name k ns world.replicas h e in
+        let g = found other j ns world.replicas h d in
+        let r = f.replica in
+        let s = f.stands f.one f.is in
+        let t = g.stands g.one g.is in
+        let took = change.so f.one f.is in
+        let writes : g.replica.writes ≡ writes_of other world = sym (ap writes_in g.at) in
+        let actions : g.replica.actions ≡ actions_held other world = sym (ap actions_in g.at) in
+        let stand : Stands change.changed (grown r (writes_of other world) (actions_held other world)) = record {
+          name = took.name ∙ s.name;
+          number = took.number ∙ s.number;
+          holds = subst (λ E. ReplicaStandsFor change.changed.replica (r.writes ++ writes_of other world) (r.actions ++ E)) actions
+              (subst (λ W. ReplicaStandsFor change.changed.replica (r.writes ++ W) (r.actions ++ g.replica.actions)) writes
+              (took.holds g.one g.is r.writes g.replica.writes r.actions g.replica.actions s.holds t.holds));
+          sized = subst (λ E. AllSized (r.actions ++ E)) actions (sized_both r.actions g.replica.actions s.sized t.sized);
+        } in
+        record {
+          refuses = merge_row _ true (ap (λ z. z && knows other world) (knows_some name k world ns h e) ∙ knows_some other j world ns h d);
+          next = with_replicas world (taking name (writes_of other world) (actions_held other world) world.replicas);
+          after = refl;
+          edition = refl;
+          stand = subst (λ z. AllStand z (taking name (writes_of other world) (actions_held other world) world.replicas)) (sym change.is) (f.grows change.changed (writes_of other world) (actions_held other world) stand);
+        }

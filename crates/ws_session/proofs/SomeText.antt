@@ -1,0 +1,115 @@
+-- Each script has a session text.
+use Rattle.std.proofs.Common.{◌≡◌, ℕ, zero, suc, List, [], ◌∷◌, ◌++◌, Option, None, Some, refl, inl, inr}
+use Rattle.std.specs.Prelude.{◌⊎◌}
+use Rattle.ws_action.specs.Actions.{Action}
+use Rattle.ws_cache.specs.Count.{compiled_count}
+use Rattle.ws_graph.specs.Plan.{Planned, NoFiles, Faulty, Sound, IsPlan}
+use Rattle.ws_replica.specs.Reports.{actions_of}
+use Rattle.ws_command.specs.declared.refusal.Refusal.{Refusal}
+use Rattle.ws_command.specs.declared.refusal.Refusal.TheVariants.{NoPackage, NotBuilt}
+use Rattle.ws_command.specs.Commands.{Command, Nothing, Bad, Create, Write, Remove, Apply, Merge, Settle, Build, Run, Show, command_of, text_lines, text_of}
+use Rattle.ws_command.specs.Refusals.{first_of, refused}
+use Rattle.ws_command.specs.Printing.{report_text}
+use Rattle.ws_command.specs.RunPrinting.{run_text}
+use Rattle.ws_command.specs.ShowPrinting.{show_text}
+use Rattle.std.specs.FinMap.{entries}
+use Rattle.ws_register.specs.Exists.{some_contents}
+use Rattle.ws_command.specs.Lines.{lines_of}
+use Rattle.ws_session.specs.World.{World, opening, writes_of, actions_held, taking, with_replicas, seeking, refusals, Accepted, AfterBy, After, Answers, PrintsBy, Prints, Told, Ran, RanOr}
+use Rattle.ws_session.specs.Text.{TextFrom, SessionText}
+use Rattle.ws_replica.proofs.SomePlan.{some_plan_of, some_report}
+use Rattle.ws_replica.proofs.OneProgram.{Decided, program_decided, some_meaning}
+use Rattle.ws_replica.specs.Programs.{IsPlannedProgram}
+use Rattle.go_check.specs.Typed.{Typed}
+use Rattle.go_check.specs.Meaning.{SourceMeaning}
+use Rattle.go_code.specs.declared.ending.Ending.{Ending}
+
+some_told : (edition : ℕ) (name directory : List ℕ) (held : List Action) (files : List (List ℕ × List ℕ)) (p : Planned) → IsPlan files p → (told : List ℕ) × Told edition name directory held p told
+some_told edition name directory held files NoFiles h = (refused NoPackage, refl)
+some_told edition name directory held files (Faulty fault) h =
+    let r = some_report edition directory files (Faulty fault) h in
+    (report_text name directory r.0 (compiled_count held (actions_of edition directory (Faulty fault))), (r.0, r.1, refl))
+some_told edition name directory held files (Sound parsed) h =
+    let r = some_report edition directory files (Sound parsed) h in
+    (report_text name directory r.0 (compiled_count held (actions_of edition directory (Sound parsed))), (r.0, r.1, refl))
+
+ran_by : (edition : ℕ) (name directory : List ℕ) (ticks : ℕ) (held : List Action) (planned : Planned) → Decided (IsPlannedProgram edition directory held planned)
+    → (told : List ℕ) × RanOr edition name directory ticks held planned told
+ran_by edition name directory ticks held planned (inl (typed, program)) =
+    let means = some_meaning edition directory held planned typed program ticks in
+    (run_text name directory means.0 means.1, inl (typed, program, means.0, means.1, means.2, refl))
+ran_by edition name directory ticks held planned (inr no_program) = (refused NotBuilt, inr (no_program, refl))
+
+some_ran : (edition : ℕ) (name directory : List ℕ) (ticks : ℕ) (held : List Action) (files : List (List ℕ × List ℕ)) (planned : Planned) → IsPlan files planned → (told : List ℕ) × Ran edition name directory ticks held planned told
+some_ran edition name directory ticks held files NoFiles plan = (refused NoPackage, refl)
+some_ran edition name directory ticks held files (Faulty fault) plan = ran_by edition name directory ticks held (Faulty fault) (program_decided edition directory held files (Faulty fault) plan)
+some_ran edition name directory ticks held files (Sound parsed) plan = ran_by edition name directory ticks held (Sound parsed) (program_decided edition directory held files (Sound parsed) plan)
+
+some_answer : (command : Command) (world : World) → (told : List ℕ) × Answers command world told
+some_answer (Build name directory) world =
+    let p = some_plan_of (writes_of name world) directory in
+    let t = some_told world.edition name directory (actions_held name world) _ p.0 p.1.2 in
+    (t.0, (p.0, p.1, t.1))
+some_answer (Run name directory ticks) world =
+    let p = some_plan_of (writes_of name world) directory in
+    let t = some_ran world.edition name directory ticks (actions_held name world) _ p.0 p.1.2 in
+    (t.0, (p.0, p.1, t.1))
+some_answer Nothing world = ([], refl)
+some_answer Bad world = ([], refl)
+some_answer (Create name) world = ([], refl)
+some_answer (Write name path lines) world = ([], refl)
+some_answer (Remove name path) world = ([], refl)
+some_answer (Apply name path counter number lines) world = ([], refl)
+some_answer (Merge name other) world = ([], refl)
+some_answer Settle world = ([], refl)
+some_answer (Show name) world =
+    let m = some_contents (writes_of name world) in
+    (show_text name (entries m.0), (entries m.0, (m.0, m.1, refl), refl))
+
+some_print_by : (refusal : Option Refusal) (command : Command) (world : World) → (told : List ℕ) × PrintsBy refusal command world told
+some_print_by None command world = some_answer command world
+some_print_by (Some refusal) command world = (refused refusal, refl)
+
+some_print : (command : Command) (text : Option (List ℕ)) (world : World) → (told : List ℕ) × Prints command text world told
+unfolding Prints
+some_print command text world = some_print_by (first_of (refusals command text world)) command world
+
+some_accepted : (command : Command) (text : Option (List ℕ)) (world : World) → (next : World) × Accepted command text world next
+some_accepted (Build name directory) text world =
+    let p = some_plan_of (writes_of name world) directory in
+    (with_replicas world (taking name [] (actions_of world.edition directory p.0) world.replicas), (p.0, p.1, refl))
+some_accepted (Run name directory ticks) text world =
+    let p = some_plan_of (writes_of name world) directory in
+    (seeking world (actions_of world.edition directory p.0), (p.0, p.1, refl))
+some_accepted Nothing text world = (world, refl)
+some_accepted Bad text world = (world, refl)
+some_accepted (Create name) text world = (_, refl)
+some_accepted (Write name path lines) text world = (_, refl)
+some_accepted (Remove name path) text world = (_, refl)
+some_accepted (Apply name path counter number lines) text world = (_, refl)
+some_accepted (Merge name other) text world = (_, refl)
+some_accepted Settle text world = (_, refl)
+some_accepted (Show name) text world = (world, refl)
+
+some_after_by : (refusal : Option Refusal) (command : Command) (text : Option (List ℕ)) (world : World) → (next : World) × AfterBy refusal command text world next
+some_after_by None command text world = some_accepted command text world
+some_after_by (Some refusal) command text world = (world, refl)
+
+some_after : (command : Command) (text : Option (List ℕ)) (world : World) → (next : World) × After command text world next
+unfolding After
+some_after command text world = some_after_by (first_of (refusals command text world)) command text world
+
+some_text_from : (taken : ℕ) (lines : List (List ℕ)) (world : World) → (told : List ℕ) × TextFrom taken lines world told
+unfolding TextFrom
+some_text_from taken [] world = ([], refl)
+some_text_from (suc taken) (line ∷ lines) world = some_text_from taken lines world
+some_text_from zero (line ∷ lines) world =
+    let command = command_of line in
+    let text = text_of (text_lines command) lines in
+    let now = some_print command text world in
+    let next = some_after command text world in
+    let later = some_text_from (text_lines command) lines next.0 in
+    (now.0 ++ later.0, (now.0, later.0, next.0, now.1, next.1, later.1, refl))
+
+pub some_session_text : (edition : ℕ) (script : List ℕ) → (text : List ℕ) × SessionText edition script text
+some_session_text edition script = some_text_from 0 (lines_of script) (opening edition)

@@ -1,0 +1,97 @@
+-- Replicas of a session and of a world, place by place.
+use Rattle.std.proofs.Common.{◌≡◌, ℕ, zero, suc, List, [], ◌∷◌, ◌++◌, Option, None, Some, true, false, Bool, refl, sym, ap, ◌∙◌, cond, subst, length, get_or, arith}
+use Rattle.std.proofs.Math.ListN.{set}
+use Rattle.std.specs.Prelude.{Result, Ok, Err, OnOk, IfOk}
+use Rattle.std.specs.Option.{option_map}
+use Rattle.std.specs.Str.{bytes_eq}
+use Rattle.ws_version.specs.Writes.{Write}
+use Rattle.ws_action.specs.Actions.{Action}
+use Rattle.ws_session.specs.declared.replicas.Named.{Named}
+use Rattle.ws_session.specs.World.{Replica, replica_at, taking, grown}
+use Rattle.std.specs.Prelude.{◌<◌}
+use Rattle.ws_session.specs.Standing.{place_of, Stands, AllStand, ChangedAt}
+
+-- what stands at the first place of a name
+pub record Found (name : List ℕ) (k : ℕ) (ns : List Named) (rs : List Replica) : Type 0 where
+  pub replica : Replica
+  pub one : Named
+  pub is : one ≡ get_or ns k one
+  pub at : replica_at name rs ≡ Some replica
+  pub stands : (n : Named) → n ≡ get_or ns k n → Stands n replica
+  pub grows : (n : Named) (writes : List Write) (actions : List Action) → Stands n (grown replica writes actions) → AllStand (set ns k n) (taking name writes actions rs)
+
+pub same_length : (ns : List Named) (rs : List Replica) → AllStand ns rs → length ns ≡ length rs
+same_length [] [] h = refl
+same_length [] (r ∷ rs) h = absurd h
+same_length (n ∷ ns) [] h = absurd h
+same_length (n ∷ ns) (r ∷ rs) h = ap (λ k. suc k) (same_length ns rs h.1)
+
+pub stands_push : (ns : List Named) (rs : List Replica) (n : Named) (r : Replica) → AllStand ns rs → Stands n r → AllStand (ns ++ n ∷ []) (rs ++ r ∷ [])
+stands_push [] [] n r h s = (s, tt)
+stands_push [] (q ∷ rs) n r h s = absurd h
+stands_push (m ∷ ns) [] n r h s = absurd h
+stands_push (m ∷ ns) (q ∷ rs) n r h s = (h.0, stands_push ns rs n r h.1 s)
+
+abbrev FoundAt : List ℕ → List Named → List Replica → Option ℕ → Type 0
+FoundAt name ns rs None = replica_at name rs ≡ None
+FoundAt name ns rs (Some k) = Found name k ns rs
+
+found_later : (name : List ℕ) (n : Named) (r : Replica) (ns : List Named) (rs : List Replica) → Stands n r → bytes_eq r.name name ≡ false → (o : Option ℕ) → FoundAt name ns rs o → FoundAt name (n ∷ ns) (r ∷ rs) (option_map (λ k. suc k) o)
+found_later name n r ns rs s e None f = ap (λ b. cond b (Some r) (replica_at name rs)) e ∙ f
+found_later name n r ns rs s e (Some k) f = record {
+  replica = f.replica;
+  one = f.one;
+  is = f.is;
+  at = ap (λ b. cond b (Some r) (replica_at name rs)) e ∙ f.at;
+  stands = f.stands;
+  grows = λ m writes actions h. subst (λ z. AllStand (n ∷ set ns k m) z) (sym (ap (λ b. cond b (grown r writes actions ∷ rs) (r ∷ taking name writes actions rs)) e)) (s, f.grows m writes actions h);
+}
+
+found_here : (name : List ℕ) (n : Named) (r : Replica) (ns : List Named) (rs : List Replica) → Stands n r → AllStand ns rs → bytes_eq r.name name ≡ true → Found name 0 (n ∷ ns) (r ∷ rs)
+found_here name n r ns rs s h e = record {
+  replica = r;
+  one = n;
+  is = refl;
+  at = ap (λ b. cond b (Some r) (replica_at name rs)) e;
+  stands = λ m q. subst (λ z. Stands z r) (sym q) s;
+  grows = λ m writes actions g. subst (λ z. AllStand (m ∷ ns) z) (sym (ap (λ b. cond b (grown r writes actions ∷ rs) (r ∷ taking name writes actions rs)) e)) (g, h);
+}
+
+by_test : (name : List ℕ) (n : Named) (r : Replica) (ns : List Named) (rs : List Replica) → Stands n r → AllStand ns rs → (b : Bool) → bytes_eq r.name name ≡ b → (o : Option ℕ) → FoundAt name ns rs o → FoundAt name (n ∷ ns) (r ∷ rs) (cond b (Some 0) (option_map (λ k. suc k) o))
+by_test name n r ns rs s h true e o f = found_here name n r ns rs s h e
+by_test name n r ns rs s h false e o f = found_later name n r ns rs s e o f
+
+-- the first place of a name in what the code keeps is that in the world
+pub found_at : (name : List ℕ) (ns : List Named) (rs : List Replica) → AllStand ns rs → FoundAt name ns rs (place_of name ns)
+found_at name [] [] h = refl
+found_at name [] (r ∷ rs) h = absurd h
+found_at name (n ∷ ns) [] h = absurd h
+found_at name (n ∷ ns) (r ∷ rs) h = by_test name n r ns rs h.0 h.1 (bytes_eq n.name.items name) (ap (λ z. bytes_eq z name) (sym h.0.name)) (place_of name ns) (found_at name ns rs h.1)
+
+pub found : (name : List ℕ) (k : ℕ) (ns : List Named) (rs : List Replica) → AllStand ns rs → place_of name ns ≡ Some k → Found name k ns rs
+found name k ns rs h e = subst (FoundAt name ns rs) e (found_at name ns rs h)
+
+pub not_found : (name : List ℕ) (ns : List Named) (rs : List Replica) → AllStand ns rs → place_of name ns ≡ None → replica_at name rs ≡ None
+not_found name ns rs h e = subst (FoundAt name ns rs) e (found_at name ns rs h)
+
+-- what an index reads doesn't hang on a default
+pub one_element : {X : Type 0} (xs : List X) (k : ℕ) (n m : X) → k < length xs → n ≡ get_or xs k n → m ≡ get_or xs k m → n ≡ m
+one_element [] k n m lt e f = absurd (omega arith)
+one_element (x ∷ xs) zero n m lt e f = e ∙ sym f
+one_element (x ∷ xs) (suc k) n m lt e f = one_element xs k n m (omega (arith, lt)) e f
+
+-- a change of the one element that was read
+pub changed_one : (Change : Named → Named → Type 0) (old : List Named) (place : ℕ) (one new : Named) → place < length old → one ≡ get_or old place one → Change one new → ChangedAt Change old place (set old place new)
+changed_one Change old place one new lt e h = record {
+  changed = new;
+  is = refl;
+  so = λ n f. subst (λ z. Change z new) (one_element old place one n lt e f) h;
+}
+
+pub on_ok_map : {A E P Q : Type 0} (r : Result A E) → (P → Q) → OnOk r P → OnOk r Q
+on_ok_map (Ok a) f h = f h
+on_ok_map (Err e) f h = tt
+
+pub if_ok_map : {A E : Type 0} {P Q : A → Type 0} (r : Result A E) → ((a : A) → P a → Q a) → IfOk r P → IfOk r Q
+if_ok_map (Ok a) f h = f a h
+if_ok_map (Err e) f h = tt

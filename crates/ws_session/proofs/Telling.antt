@@ -1,0 +1,194 @@
+-- What a build tells of the replicas of a session, and of those of the world.
+use Rattle.std.proofs.Common.{◌≡◌, ℕ, zero, suc, List, [], ◌∷◌, ◌++◌, Option, None, Some, true, false, Bool, not, refl, sym, ap, ◌∙◌, cond, subst, get_or, append-nil}
+use Rattle.std.specs.Prelude.{◌≢◌}
+use Rattle.std.specs.List.{flat_map, Contains}
+use Rattle.std.specs.Str.{bytes_eq, is_utf8}
+use Rattle.std.proofs.Math.ListN.{set}
+use Rattle.std.proofs.lemmas.List.Elements.{Contains-append_left, Contains-append_right}
+use Rattle.ws_version.specs.Writes.{Write as AWrite}
+use Rattle.ws_action.specs.Actions.{Action}
+use Rattle.ws_action.specs.Clash.{NoClash, AllSized, hashed_actions}
+use Rattle.ws_cache.specs.Count.{compiled_count}
+use Rattle.ws_graph.specs.Plan.{Planned, NoFiles, Faulty, Sound, IsPlanOf}
+use Rattle.ws_replica.specs.Holdings.{ReplicaStandsFor}
+use Rattle.ws_replica.specs.Reports.{Verdict, IsReport, actions_of}
+use Rattle.ws_session.specs.declared.replicas.Named.{Named}
+use Rattle.ws_command.specs.declared.refusal.Refusal.{Refusal}
+use Rattle.ws_command.specs.declared.refusal.Refusal.TheVariants.{BadCommand, Unknown, NoPackage}
+use Rattle.go_text.specs.Editions.{edition_number}
+use Rattle.ws_session.specs.declared.replicas.Replicas.{Replicas}
+use Rattle.ws_command.specs.Commands.{Command, Nothing, Bad, Create, Write, Remove, Apply, Merge, Settle, Build}
+use Rattle.ws_command.specs.Refusals.{first_of, refused}
+use Rattle.ws_command.specs.Printing.{report_text}
+use Rattle.ws_session.specs.World.{World, Replica, replica_at, writes_in, writes_of, actions_in, actions_held, taking, grown, with_replicas, refusals, AfterBy, After, PrintsBy, Prints, Told, hashed, texts_of_replica, text_list}
+use Rattle.ws_session.specs.Standing.{StandFor, place_of, Stands, AllStand, Settles, Tells, told_of, ChangedAt, Built, BuildOf}
+use Rattle.ws_session.proofs.Standings.{found}
+use Rattle.ws_session.proofs.Settling.{knows_none, knows_some, sized_both}
+
+-- what a command that prints no more than its refusal tells
+pub settled_tells : (command : Command) (text : Option (List ℕ)) (world : World) (refusal : Option Refusal) (told : List ℕ) (ns : List Named)
+    → ((t : List ℕ) → t ≡ told_of refusal → PrintsBy refusal command world t) → told ≡ told_of refusal → Settles command text world refusal ns → Tells command text world told ns
+unfolding After Prints
+settled_tells command text world refusal told ns prints e s = record {
+  next = s.next;
+  after = subst (λ r. AfterBy r command text world s.next) (sym s.refuses) s.after;
+  edition = s.edition;
+  clear = λ _. (subst (λ r. PrintsBy r command world told) (sym s.refuses) (prints told e), s.stand);
+}
+
+pub set_same : {X : Type 0} (xs : List X) (k : ℕ) (x : X) → x ≡ get_or xs k x → set xs k x ≡ xs
+set_same [] k x e = refl
+set_same (y ∷ xs) zero x e = ap (λ z. z ∷ xs) e
+set_same (y ∷ xs) (suc k) x e = ap (λ zs. y ∷ zs) (set_same xs k x e)
+
+abbrev Held : List ℕ → List AWrite → List Action → List Replica → Replica → Type 0
+Held name writes actions rs r = (s : List ℕ) → Contains (texts_of_replica (grown r writes actions)) s → Contains (flat_map texts_of_replica (taking name writes actions rs)) s
+
+held_by_test : (name : List ℕ) (writes : List AWrite) (actions : List Action) (q : Replica) (rs : List Replica) (r : Replica) (b : Bool) → bytes_eq q.name name ≡ b → cond b (Some q) (replica_at name rs) ≡ Some r → (replica_at name rs ≡ Some r → Held name writes actions rs r) → Held name writes actions (q ∷ rs) r
+held_by_test name writes actions q rs r true t e later s c =
+    let same : q ≡ r = cc in
+    subst (λ z. Contains (flat_map texts_of_replica z) s) (sym (ap (λ b. cond b (grown q writes actions ∷ rs) (q ∷ taking name writes actions rs)) t))
+    (Contains-append_left (texts_of_replica (grown q writes actions)) (flat_map texts_of_replica rs) s (subst (λ z. Contains (texts_of_replica (grown z writes actions)) s) (sym same) c))
+held_by_test name writes actions q rs r false t e later s c =
+    subst (λ z. Contains (flat_map texts_of_replica z) s) (sym (ap (λ b. cond b (grown q writes actions ∷ rs) (q ∷ taking name writes actions rs)) t))
+    (Contains-append_right (texts_of_replica q) (flat_map texts_of_replica (taking name writes actions rs)) s (later e s c))
+
+-- what is hashed of the replica that took them is hashed of the world
+pub held : (name : List ℕ) (writes : List AWrite) (actions : List Action) (rs : List Replica) (r : Replica) → replica_at name rs ≡ Some r → Held name writes actions rs r
+held name writes actions [] r e = cc
+held name writes actions (q ∷ rs) r e = held_by_test name writes actions q rs r (bytes_eq q.name name) refl e (held name writes actions rs r)
+
+-- so where the world's texts don't clash, no more do those of its actions
+clear_held : (name : List ℕ) (actions : List Action) (world : World) (r : Replica) → replica_at name world.replicas ≡ Some r → NoClash (hashed (with_replicas world (taking name [] actions world.replicas))) → NoClash (hashed_actions (r.actions ++ actions))
+unfolding hashed
+clear_held name actions world r e clear s t c d q =
+    let at = λ (x : List ℕ) (g : Contains (hashed_actions (r.actions ++ actions)) x). Contains-append_left (flat_map texts_of_replica (taking name [] actions world.replicas)) (hashed_actions world.sought) x (held name [] actions world.replicas r e x (Contains-append_right (flat_map (λ w. text_list w.1.text) (r.writes ++ [])) (hashed_actions (r.actions ++ actions)) x g)) in
+    clear s t (at s c) (at t d) q
+
+pub build_row : (a b c d : Bool) → a ≡ c → b ≡ d → first_of ((not a, Unknown) ∷ (not b, NoPackage) ∷ []) ≡ cond (not c) (Some Unknown) (cond (not d) (Some NoPackage) None)
+build_row a b c d e f = ap (λ z. cond (not z) (Some Unknown) (cond (not b) (Some NoPackage) None)) e ∙ ap (λ z. cond (not c) (Some Unknown) (cond (not z) (Some NoPackage) None)) f
+
+told_of_plan : (edition : ℕ) (name directory : List ℕ) (actions : List Action) (planned : Planned) (report : List (List ℕ × Verdict)) (told : List ℕ) → planned ≢ NoFiles → IsReport edition directory planned report → told ≡ report_text name directory report (compiled_count actions (actions_of edition directory planned)) → Told edition name directory actions planned told
+told_of_plan edition name directory actions NoFiles report told some r e = absurd (some refl)
+told_of_plan edition name directory actions (Faulty fault) report told some r e = (report, r, e)
+told_of_plan edition name directory actions (Sound parsed) report told some r e = (report, r, e)
+
+module _ (name directory : List ℕ) (text : Option (List ℕ)) (world : World) (ns : List Named) (h : AllStand ns world.replicas) where
+  pub build_unknown : (told : List ℕ) → place_of name ns ≡ None → told ≡ refused Unknown → Tells (Build name directory) text world told ns
+  build_unknown told e t = settled_tells (Build name directory) text world (Some Unknown) told ns (λ _ q. q) t
+      (record { refuses = build_row _ _ false _ (knows_none name world ns h e) refl; next = world; after = refl; edition = refl; stand = h })
+
+  module _ (k : ℕ) (e : place_of name ns ≡ Some k) where
+    pub build_word : (told : List ℕ) → is_utf8 directory ≡ false → told ≡ refused NoPackage → Tells (Build name directory) text world told ns
+    build_word told u t = settled_tells (Build name directory) text world (Some NoPackage) told ns (λ _ q. q) t
+        (record { refuses = build_row _ _ true false (knows_some name k world ns h e) u; next = world; after = refl; edition = refl; stand = h })
+
+    writes_are : writes_of name world ≡ (found name k ns world.replicas h e).replica.writes
+    writes_are = ap writes_in (found name k ns world.replicas h e).at
+
+    actions_are : actions_held name world ≡ (found name k ns world.replicas h e).replica.actions
+    actions_are = ap actions_in (found name k ns world.replicas h e).at
+
+    allowed : is_utf8 directory ≡ true → first_of (refusals (Build name directory) text world) ≡ None
+    allowed u = build_row _ _ true true (knows_some name k world ns h e) u
+
+    pub build_none : (told : List ℕ) → is_utf8 directory ≡ true → told ≡ refused NoPackage
+        → ((n : Named) (W : List AWrite) (E : List Action) → n ≡ get_or ns k n → ReplicaStandsFor n.replica W E → IsPlanOf W directory NoFiles) → Tells (Build name directory) text world told ns
+    unfolding After Prints
+    build_none told u t plans =
+        let f = found name k ns world.replicas h e in
+        let r = f.replica in
+        let s = f.stands f.one f.is in
+        let plan : IsPlanOf (writes_of name world) directory NoFiles = subst (λ W. IsPlanOf W directory NoFiles) (sym writes_are) (plans f.one r.writes r.actions f.is s.holds) in
+        let stand : Stands f.one (grown r [] []) = record {
+          name = s.name;
+          number = s.number;
+          holds = subst (λ W. ReplicaStandsFor f.one.replica W (r.actions ++ [])) (sym (append-nil r.writes)) (subst (λ E. ReplicaStandsFor f.one.replica r.writes E) (sym (append-nil r.actions)) s.holds);
+          sized = subst AllSized (sym (append-nil r.actions)) s.sized;
+        } in
+        record {
+          next = with_replicas world (taking name [] [] world.replicas);
+          after = subst (λ z. AfterBy z (Build name directory) text world (with_replicas world (taking name [] [] world.replicas))) (sym (allowed u)) (NoFiles, plan, refl);
+          edition = refl;
+          clear = λ _. (
+            subst (λ z. PrintsBy z (Build name directory) world told) (sym (allowed u)) (NoFiles, plan, t),
+            subst (λ z. AllStand z (taking name [] [] world.replicas)) (set_same ns k f.one f.is) (f.grows f.one [] [] stand),
+          );
+        }
+
+    pub build_told : (edition compiled : ℕ) (report : List (List ℕ × Verdict)) (told : List ℕ) (ms : List Named) → edition ≡ world.edition → is_utf8 directory ≡ true
+        → told ≡ report_text name directory report compiled → ChangedAt (Built edition directory report compiled) ns k ms → Tells (Build name directory) text world told ms
+    unfolding After Prints
+    build_told edition compiled report told ms same u t change =
+        let f = found name k ns world.replicas h e in
+        let r = f.replica in
+        let s = f.stands f.one f.is in
+        let built = change.so f.one f.is in
+        let b = subst (λ n. BuildOf n directory report compiled change.changed r.writes r.actions) same (built.builds r.writes r.actions s.holds s.sized) in
+        let made : List Action = actions_of world.edition directory b.planned in
+        let next : World = with_replicas world (taking name [] made world.replicas) in
+        let plan : IsPlanOf (writes_of name world) directory b.planned = subst (λ W. IsPlanOf W directory b.planned) (sym writes_are) b.plan in
+        record {
+          next = next;
+          after = subst (λ z. AfterBy z (Build name directory) text world next) (sym (allowed u)) (b.planned, plan, refl);
+          edition = refl;
+          clear = λ clear.
+              let d = b.built (clear_held name made world r f.at clear) in
+              let stand : Stands change.changed (grown r [] made) = record {
+                name = built.name ∙ s.name;
+                number = built.number ∙ s.number;
+                holds = subst (λ W. ReplicaStandsFor change.changed.replica W (r.actions ++ made)) (sym (append-nil r.writes)) d.holds;
+                sized = sized_both r.actions made s.sized b.sized;
+              } in
+              let counted : compiled ≡ compiled_count (actions_held name world) made = d.counts ∙ ap (λ E. compiled_count E made) (sym actions_are) in (
+                subst (λ z. PrintsBy z (Build name directory) world told) (sym (allowed u)) (b.planned, plan, told_of_plan world.edition name directory (actions_held name world) b.planned report told b.some d.reports (t ∙ ap (report_text name directory report) counted)),
+                subst (λ z. AllStand z (taking name [] made world.replicas)) (sym change.is) (f.grows change.changed [] made stand),
+              );
+        }
+
+pub prints_nothing : (world : World) (r : Option Refusal) (t : List ℕ) → t ≡ told_of r → PrintsBy r Nothing world t
+prints_nothing world None t e = e
+prints_nothing world (Some r) t e = e
+
+pub prints_bad : (world : World) (r : Option Refusal) (t : List ℕ) → t ≡ told_of r → PrintsBy r Bad world t
+prints_bad world None t e = e
+prints_bad world (Some r) t e = e
+
+pub prints_create : (name : List ℕ) (world : World) (r : Option Refusal) (t : List ℕ) → t ≡ told_of r → PrintsBy r (Create name) world t
+prints_create name world None t e = e
+prints_create name world (Some r) t e = e
+
+pub prints_write : (name path : List ℕ) (lines : ℕ) (world : World) (r : Option Refusal) (t : List ℕ) → t ≡ told_of r → PrintsBy r (Write name path lines) world t
+prints_write name path lines world None t e = e
+prints_write name path lines world (Some r) t e = e
+
+pub prints_merge : (name other : List ℕ) (world : World) (r : Option Refusal) (t : List ℕ) → t ≡ told_of r → PrintsBy r (Merge name other) world t
+prints_merge name other world None t e = e
+prints_merge name other world (Some r) t e = e
+
+pub prints_remove : (name path : List ℕ) (world : World) (r : Option Refusal) (t : List ℕ) → t ≡ told_of r → PrintsBy r (Remove name path) world t
+prints_remove name path world None t e = e
+prints_remove name path world (Some r) t e = e
+
+pub prints_apply : (name path : List ℕ) (counter number : ℕ) (lines : Option ℕ) (world : World) (r : Option Refusal) (t : List ℕ) → t ≡ told_of r → PrintsBy r (Apply name path counter number lines) world t
+prints_apply name path counter number lines world None t e = e
+prints_apply name path counter number lines world (Some r) t e = e
+
+pub prints_settle : (world : World) (r : Option Refusal) (t : List ℕ) → t ≡ told_of r → PrintsBy r Settle world t
+prints_settle world None t e = e
+prints_settle world (Some r) t e = e
+
+pub nothing_settles : (text : Option (List ℕ)) (world : World) (ns : List Named) → AllStand ns world.replicas → Settles Nothing text world None ns
+nothing_settles text world ns h = record { refuses = refl; next = world; after = refl; edition = refl; stand = h }
+
+pub bad_settles : (text : Option (List ℕ)) (world : World) (ns : List Named) → AllStand ns world.replicas → Settles Bad text world (Some BadCommand) ns
+bad_settles text world ns h = record { refuses = refl; next = world; after = refl; edition = refl; stand = h }
+
+-- what a step owes, of a command that is what was asked
+pub stepped : (s : Replicas) (asked command : Command) (text : Option (List ℕ)) (world : World) (told : List ℕ) → asked ≡ command → edition_number s.edition ≡ world.edition → Tells command text world told s.named.items
+    → (next : World) × After asked text world next × (NoClash (hashed next) → Prints asked text world told × StandFor s next)
+stepped s asked command text world told e same t = (
+  t.next,
+  subst (λ k. After k text world t.next) (sym e) t.after,
+  λ clear. let p = t.clear clear in (subst (λ k. Prints k text world told) (sym e) p.0, record { edition = same ∙ sym t.edition; replicas = p.1 }),
+)

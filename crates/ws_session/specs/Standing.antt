@@ -1,0 +1,166 @@
+-- What the replicas of a session stand for.
+use Rattle.std.specs.Prelude.{◌≡◌, ◌≢◌, ℕ, ◌+◌, ◌==◌, suc, cond, true, false, is_some, List, [], ◌∷◌, ◌++◌, map, slice_set, slice_index_or, Option, None, Some, Result, Ok, Err, Vec}
+use Rattle.std.specs.Global.{Global}
+use Rattle.std.specs.Str.{bytes_eq}
+use Rattle.std.specs.Option.{option_map}
+use Rattle.go_text.specs.Editions.{edition_number}
+use Rattle.ws_session.specs.declared.replicas.Named.{Named}
+use Rattle.ws_session.specs.declared.replicas.Replicas.{Replicas}
+use Rattle.ws_version.specs.Writes.{Write}
+use Rattle.ws_register.specs.Sources.{top}
+use Rattle.ws_register.specs.Edits.{greatest_at, is_missing, removed}
+use Rattle.ws_action.specs.Actions.{Action}
+use Rattle.ws_action.specs.Clash.{AllSized, NoClash, hashed_actions}
+use Rattle.ws_cache.specs.Count.{compiled_count}
+use Rattle.ws_graph.specs.Plan.{Planned, NoFiles, IsPlanOf}
+use Rattle.ws_replica.specs.Reports.{Verdict, IsReport, actions_of}
+use Rattle.ws_replica.specs.Holdings as holdings
+use Rattle.ws_replica.specs.Holdings.{ReplicaStandsFor}
+use Rattle.ws_replica.specs.Programs.{IsPlannedProgram}
+use Rattle.go_check.specs.Typed.{Typed}
+use Rattle.go_check.specs.Meaning.{SourceMeaning}
+use Rattle.go_vm.specs.Outcomes.{Outcome}
+use Rattle.ws_command.specs.Refusals.{refused, first_of}
+use Rattle.ws_command.specs.Commands.{Command}
+use Rattle.ws_session.specs.World.{World, Replica, refusals, AfterBy, After, Prints, hashed, is_content, content_in}
+use Rattle.ws_command.specs.declared.refusal.Refusal.{Refusal}
+use Rattle.ws_command.specs.declared.refusal.Refusal.TheVariants.{NoFile, CounterFull, BadText}
+
+-- the first place of that name
+abbrev pub place_of : List ℕ → List Named → Option ℕ
+place_of name [] = None
+place_of name (n ∷ ns) = cond (bytes_eq n.name.items name) (Some 0) (option_map (λ k. suc k) (place_of name ns))
+
+-- a replica of the world, and what the code keeps of it
+pub record Stands (n : Named) (r : Replica) : Type 0 where
+  pub name : n.name.items ≡ r.name
+  pub number : n.number ≡ r.number
+  pub holds : ReplicaStandsFor n.replica r.writes r.actions
+  pub sized : AllSized r.actions
+
+-- the same of each, in order
+abbrev pub AllStand : List Named → List Replica → Type 0
+AllStand [] [] = Unit {0}
+AllStand [] (r ∷ rs) = ⊥
+AllStand (n ∷ ns) [] = ⊥
+AllStand (n ∷ ns) (r ∷ rs) = Stands n r × AllStand ns rs
+
+pub record StandFor (s : Replicas) (world : World) : Type 0 where
+  pub edition : edition_number s.edition ≡ world.edition
+  pub replicas : AllStand s.named.items world.replicas
+
+-- A command that prints no more than its refusal: the refusal is the definition's, and the replicas stand for the world after it.
+pub record Settles (command : Command) (text : Option (List ℕ)) (world : World) (refusal : Option Refusal) (named : List Named) : Type 0 where
+  pub refuses : first_of (refusals command text world) ≡ refusal
+  pub next : World
+  pub after : AfterBy refusal command text world next
+  pub edition : next.edition ≡ world.edition
+  pub stand : AllStand named next.replicas
+
+abbrev pub told_of : Option Refusal → List ℕ
+told_of None = []
+told_of (Some refusal) = refused refusal
+
+-- A command and what it tells: the world after it is the definition's, and, if no two texts that are hashed in that world
+-- clash, so is what it tells, and the replicas stand for that world.
+pub record Tells (command : Command) (text : Option (List ℕ)) (world : World) (told : List ℕ) (named : List Named) : Type 0 where
+  pub next : World
+  pub after : After command text world next
+  pub edition : next.edition ≡ world.edition
+  pub clear : NoClash (hashed next) → Prints command text world told × AllStand named next.replicas
+
+-- one replica is changed so, and no other
+pub record ChangedAt (Change : Named → Named → Type 0) (old : List Named) (place : ℕ) (new : List Named) : Type 0 where
+  pub changed : Named
+  pub is : new ≡ slice_set old place changed
+  pub so : (n : Named) → n ≡ slice_index_or old place n → Change n changed
+
+-- it took an edit of its own
+pub record Edited (path text : List ℕ) (old new : Named) : Type 0 where
+  pub name : new.name.items ≡ old.name.items
+  pub number : new.number ≡ old.number
+  pub holds : (W : List Write) (E : List Action) → ReplicaStandsFor old.replica W E
+      → ReplicaStandsFor new.replica (W ++ (path, record { counter = top W + 1; number = old.number; text = Some text }) ∷ []) E
+
+-- it took a removal of its own
+pub record Removed (path : List ℕ) (old new : Named) : Type 0 where
+  pub name : new.name.items ≡ old.name.items
+  pub number : new.number ≡ old.number
+  pub holds : (W : List Write) (E : List Action) → ReplicaStandsFor old.replica W E → ReplicaStandsFor new.replica (W ++ (path, removed (top W) old.number) ∷ []) E
+
+-- why a replica that took these writes removes no file at a path
+abbrev pub removal_row : List ℕ → List Write → Option Refusal
+removal_row path W = first_of ((is_missing (greatest_at path W), NoFile) ∷ (top W == 18446744073709551615, CounterFull) ∷ [])
+
+abbrev pub RemovedOr : List ℕ → List Named → ℕ → Option Refusal → List Named → Type 0
+RemovedOr path old place None new = ChangedAt (Removed path) old place new
+RemovedOr path old place (Some refusal) new = new ≡ old
+
+-- a removal by the replica at a place: refused as what it took says, with no change, or taken
+pub record Removal (path : List ℕ) (old : List Named) (place : ℕ) (refusal : Option Refusal) (new : List Named) : Type 0 where
+  pub refuses : (n : Named) (W : List Write) (E : List Action) → n ≡ slice_index_or old place n → ReplicaStandsFor n.replica W E → removal_row path W ≡ refusal
+  pub changes : RemovedOr path old place refusal new
+
+-- it took that write
+pub record Applied (write : Write) (old new : Named) : Type 0 where
+  pub name : new.name.items ≡ old.name.items
+  pub number : new.number ≡ old.number
+  pub holds : (W : List Write) (E : List Action) → ReplicaStandsFor old.replica W E → ReplicaStandsFor new.replica (W ++ write ∷ []) E
+
+-- what is applied, or that it is no content
+abbrev pub IsContent : Option ℕ → Option (List ℕ) → Result (Option (List ℕ)) Refusal → Type 0
+IsContent lines text (Ok content) = (is_content lines text ≡ true) × (content ≡ content_in lines text)
+IsContent lines text (Err refusal) = (is_content lines text ≡ false) × (refusal ≡ BadText)
+
+-- names with their numbers
+abbrev pub labels_of : List Named → List (Vec ℕ Global × ℕ)
+labels_of ns = map (λ n. (n.name, n.number)) ns
+
+abbrev pub replicas_of : List Named → List holdings.Replica
+replicas_of ns = map (λ n. n.replica) ns
+
+-- it took what the replica at that place holds
+pub record MergedFrom (named : List Named) (theirs : ℕ) (old new : Named) : Type 0 where
+  pub name : new.name.items ≡ old.name.items
+  pub number : new.number ≡ old.number
+  pub holds : (other : Named) → other ≡ slice_index_or named theirs other → (V W : List Write) (E F : List Action)
+      → ReplicaStandsFor old.replica V E → ReplicaStandsFor other.replica W F → ReplicaStandsFor new.replica (V ++ W) (E ++ F)
+
+-- what is known of a build where no two texts clash
+pub record IsBuilt (edition : ℕ) (directory : List ℕ) (report : List (List ℕ × Verdict)) (compiled : ℕ) (new : Named) (W : List Write) (E : List Action) (planned : Planned) : Type 0 where
+  pub reports : IsReport edition directory planned report
+  pub counts : compiled ≡ compiled_count E (actions_of edition directory planned)
+  pub holds : ReplicaStandsFor new.replica W (E ++ actions_of edition directory planned)
+
+-- what is known of a build
+pub record BuildOf (edition : ℕ) (directory : List ℕ) (report : List (List ℕ × Verdict)) (compiled : ℕ) (new : Named) (W : List Write) (E : List Action) : Type 0 where
+  pub planned : Planned
+  pub plan : IsPlanOf W directory planned
+  pub some : planned ≢ NoFiles
+  pub sized : AllSized (actions_of edition directory planned)
+  pub built : NoClash (hashed_actions (E ++ actions_of edition directory planned)) → IsBuilt edition directory report compiled new W E planned
+
+-- it built a directory, with this report
+pub record Built (edition : ℕ) (directory : List ℕ) (report : List (List ℕ × Verdict)) (compiled : ℕ) (old new : Named) : Type 0 where
+  pub name : new.name.items ≡ old.name.items
+  pub number : new.number ≡ old.number
+  pub builds : (W : List Write) (E : List Action) → ReplicaStandsFor old.replica W E → AllSized E → BuildOf edition directory report compiled new W E
+
+-- what a run came to: an outcome that the sources mean, if there is a compiled program, and none if there is none
+abbrev pub IsOutcome : ℕ → List ℕ → ℕ → List Action → Planned → Option Outcome → Type 0
+IsOutcome edition directory ticks held planned None = (typed : Typed) → IsPlannedProgram edition directory held planned typed → ⊥
+IsOutcome edition directory ticks held planned (Some outcome) =
+    (typed : Typed) × IsPlannedProgram edition directory held planned typed × SourceMeaning typed ticks outcome.ending outcome.output
+
+-- what is known of a run
+pub record RunOf (edition : ℕ) (directory : List ℕ) (ticks : ℕ) (W : List Write) (E : List Action) (outcome : Option Outcome) : Type 0 where
+  pub planned : Planned
+  pub plan : IsPlanOf W directory planned
+  pub some : planned ≢ NoFiles
+  pub ran : NoClash (hashed_actions (E ++ actions_of edition directory planned)) → IsOutcome edition directory ticks E planned outcome
+
+-- the replica at a place ran a directory, with this outcome
+abbrev pub RanAt : ℕ → List ℕ → ℕ → List Named → ℕ → Option Outcome → Type 0
+RanAt edition directory ticks named place outcome =
+    (n : Named) (W : List Write) (E : List Action) → n ≡ slice_index_or named place n → ReplicaStandsFor n.replica W E → AllSized E
+    → RunOf edition directory ticks W E outcome

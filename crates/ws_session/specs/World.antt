@@ -1,0 +1,227 @@
+-- The world of a session: replicas, each a set of writes and a set of actions.
+use Rattle.std.specs.Prelude.{◌≡◌, ℕ, ◌⊎◌, ◌+◌, ◌==◌, ◌&&◌, not, nat_lt, Bool, true, false, cond, List, [], ◌∷◌, ◌++◌, length, map, Option, None, Some, is_some, is_none}
+use Rattle.std.specs.List.{flat_map}
+use Rattle.std.specs.Str.{bytes_eq, is_utf8}
+use Rattle.go_text.specs.Texts.{text_error}
+use Rattle.ws_version.specs.Writes.{Write as AWrite}
+use Rattle.ws_version.specs.Paths.{is_path}
+use Rattle.ws_register.specs.Sources.{top, IsShown}
+use Rattle.ws_register.specs.Edits.{edited, removed, greatest_at, is_missing}
+use Rattle.ws_action.specs.Actions.{Action}
+use Rattle.ws_action.specs.Clash.{hashed_actions}
+use Rattle.ws_cache.specs.Count.{compiled_count}
+use Rattle.ws_graph.specs.Plan.{Planned, NoFiles, Faulty, Sound, IsPlanOf}
+use Rattle.ws_replica.specs.Reports.{Verdict, actions_of, IsReport}
+use Rattle.ws_replica.specs.Programs.{IsPlannedProgram}
+use Rattle.go_check.specs.Typed.{Typed}
+use Rattle.go_check.specs.Meaning.{SourceMeaning}
+use Rattle.go_code.specs.declared.ending.Ending.{Ending}
+use Rattle.ws_command.specs.declared.refusal.Refusal.{Refusal}
+use Rattle.ws_command.specs.declared.refusal.Refusal.TheVariants.{BadCommand, Unknown, Exists, BadPath, NoFile, CounterFull, BadText, NoPackage, NotBuilt}
+use Rattle.ws_command.specs.Refusals.{refused, first_of}
+use Rattle.ws_command.specs.Printing.{report_text}
+use Rattle.ws_command.specs.RunPrinting.{run_text}
+use Rattle.ws_command.specs.ShowPrinting.{show_text}
+use Rattle.ws_command.specs.Commands.{Command, Nothing, Bad, Create, Write, Remove, Apply, Merge, Settle, Build, Run, Show}
+
+-- A replica: what it took, as two sets that are read by membership. A number is never given twice.
+pub record Replica : Type 0 where
+  pub name : List ℕ
+  pub number : ℕ
+  pub writes : List AWrite
+  pub actions : List Action
+
+-- The replicas in order of creation, the edition that all is built in, and the actions that runs looked for, which no command
+-- reads: their texts are hashed too.
+pub record World : Type 0 where
+  pub edition : ℕ
+  pub replicas : List Replica
+  pub sought : List Action
+
+abbrev pub opening : ℕ → World
+opening edition = record { edition = edition; replicas = []; sought = [] }
+
+-- the replica of that name
+abbrev pub replica_at : List ℕ → List Replica → Option Replica
+replica_at name [] = None
+replica_at name (r ∷ rs) = cond (bytes_eq r.name name) (Some r) (replica_at name rs)
+
+abbrev pub knows : List ℕ → World → Bool
+knows name world = is_some (replica_at name world.replicas)
+
+abbrev pub writes_in : Option Replica → List AWrite
+writes_in None = []
+writes_in (Some r) = r.writes
+
+abbrev pub actions_in : Option Replica → List Action
+actions_in None = []
+actions_in (Some r) = r.actions
+
+-- what the replica of that name took
+abbrev pub writes_of : List ℕ → World → List AWrite
+writes_of name world = writes_in (replica_at name world.replicas)
+
+abbrev pub actions_held : List ℕ → World → List Action
+actions_held name world = actions_in (replica_at name world.replicas)
+
+-- a replica that takes these writes and actions too
+abbrev pub grown : Replica → List AWrite → List Action → Replica
+grown r writes actions = record { name = r.name; number = r.number; writes = r.writes ++ writes; actions = r.actions ++ actions }
+
+-- the replica of that name takes them
+abbrev pub taking : List ℕ → List AWrite → List Action → List Replica → List Replica
+taking name writes actions [] = []
+taking name writes actions (r ∷ rs) = cond (bytes_eq r.name name) (grown r writes actions ∷ rs) (r ∷ taking name writes actions rs)
+
+abbrev pub number_in : Option Replica → ℕ
+number_in None = 0
+number_in (Some r) = r.number
+
+-- An edit by the replica of that name: one more than the greatest counter that it took, and its number.
+abbrev pub edit_of : List ℕ → List ℕ → List ℕ → World → AWrite
+edit_of name path text world = (path, edited (top (writes_of name world)) (number_in (replica_at name world.replicas)) text)
+
+-- A removal by the replica of that name: one more than the greatest counter that it took, and its number.
+abbrev pub removal_of : List ℕ → List ℕ → World → AWrite
+removal_of name path world = (path, removed (top (writes_of name world)) (number_in (replica_at name world.replicas)))
+
+-- the replica of that name holds no text at the path
+abbrev pub lacks : List ℕ → List ℕ → World → Bool
+lacks name path world = is_missing (greatest_at path (writes_of name world))
+
+-- a whole text: there are so many lines, they are UTF-8, and a source may hold them
+abbrev pub is_text : Option (List ℕ) → Bool
+is_text None = false
+is_text (Some text) = is_utf8 text && is_none (text_error text)
+
+-- what is applied: a removal, or a whole text
+abbrev pub is_content : Option ℕ → Option (List ℕ) → Bool
+is_content None text = true
+is_content (Some lines) text = is_text text
+
+-- a word that is UTF-8 and spells a path
+abbrev pub is_path_word : List ℕ → Bool
+is_path_word word = is_utf8 word && is_path word
+
+-- For each command its refusals in order of their numbers, and when each holds. A word that isn't UTF-8 is no directory;
+-- whether a directory has package files is a matter of its plan.
+abbrev pub refusals : Command → Option (List ℕ) → World → List (Bool × Refusal)
+refusals Nothing text world = []
+refusals Bad text world = (true, BadCommand) ∷ []
+refusals (Create name) text world = (nat_lt 63 (length world.replicas), BadCommand) ∷ (knows name world, Exists) ∷ []
+refusals (Write name path lines) text world =
+    (not (knows name world), Unknown) ∷ (not (is_path_word path), BadPath) ∷ (top (writes_of name world) == 18446744073709551615, CounterFull) ∷ (not (is_text text), BadText) ∷ []
+refusals (Remove name path) text world =
+    (not (knows name world), Unknown) ∷ (not (is_path_word path), BadPath) ∷ (lacks name path world, NoFile) ∷ (top (writes_of name world) == 18446744073709551615, CounterFull) ∷ []
+refusals (Apply name path counter number lines) text world =
+    (not (knows name world), Unknown) ∷ (not (is_path_word path), BadPath) ∷ (not (is_content lines text), BadText) ∷ []
+refusals Settle text world = []
+refusals (Show name) text world = (not (knows name world), Unknown) ∷ []
+refusals (Merge name other) text world = (not (knows name world && knows other world), Unknown) ∷ []
+refusals (Build name directory) text world = (not (knows name world), Unknown) ∷ (not (is_utf8 directory), NoPackage) ∷ []
+refusals (Run name directory ticks) text world = (not (knows name world), Unknown) ∷ (not (is_utf8 directory), NoPackage) ∷ []
+
+abbrev pub text_in : Option (List ℕ) → List ℕ
+text_in None = []
+text_in (Some text) = text
+
+-- the text of what is applied, and none where it is a removal
+abbrev pub content_in : Option ℕ → Option (List ℕ) → Option (List ℕ)
+content_in None text = None
+content_in (Some lines) text = Some (text_in text)
+
+-- every replica takes what all took
+abbrev pub settled : List Replica → List Replica
+settled rs = map (λ r. record { name = r.name; number = r.number; writes = flat_map (λ s. s.writes) rs; actions = flat_map (λ s. s.actions) rs }) rs
+
+abbrev pub with_replicas : World → List Replica → World
+with_replicas world replicas = record { edition = world.edition; replicas = replicas; sought = world.sought }
+
+-- the world in which these actions were looked for
+abbrev pub seeking : World → List Action → World
+seeking world actions = record { edition = world.edition; replicas = world.replicas; sought = world.sought ++ actions }
+
+-- the world after a command that isn't refused
+abbrev pub Accepted : Command → Option (List ℕ) → World → World → Type 0
+Accepted Nothing text world next = next ≡ world
+Accepted Bad text world next = next ≡ world
+Accepted (Create name) text world next =
+    next ≡ with_replicas world (world.replicas ++ record { name = name; number = length world.replicas + 1; writes = []; actions = [] } ∷ [])
+Accepted (Write name path lines) text world next =
+    next ≡ with_replicas world (taking name (edit_of name path (text_in text) world ∷ []) [] world.replicas)
+Accepted (Remove name path) text world next =
+    next ≡ with_replicas world (taking name (removal_of name path world ∷ []) [] world.replicas)
+Accepted (Apply name path counter number lines) text world next =
+    next ≡ with_replicas world (taking name ((path, record { counter = counter; number = number; text = content_in lines text }) ∷ []) [] world.replicas)
+Accepted Settle text world next = next ≡ with_replicas world (settled world.replicas)
+Accepted (Show name) text world next = next ≡ world
+Accepted (Merge name other) text world next =
+    next ≡ with_replicas world (taking name (writes_of other world) (actions_held other world) world.replicas)
+Accepted (Build name directory) text world next =
+    (planned : Planned) × IsPlanOf (writes_of name world) directory planned
+    × (next ≡ with_replicas world (taking name [] (actions_of world.edition directory planned) world.replicas))
+Accepted (Run name directory ticks) text world next =
+    (planned : Planned) × IsPlanOf (writes_of name world) directory planned × (next ≡ seeking world (actions_of world.edition directory planned))
+
+abbrev pub AfterBy : Option Refusal → Command → Option (List ℕ) → World → World → Type 0
+AfterBy None command text world next = Accepted command text world next
+AfterBy (Some refusal) command text world next = next ≡ world
+
+-- the world after a command, of which a refused one changes nothing
+unfoldable pub After : Command → Option (List ℕ) → World → World → Type 0
+After command text world next = AfterBy (first_of (refusals command text world)) command text world next
+
+-- what a plan's report prints
+abbrev pub Told : ℕ → List ℕ → List ℕ → List Action → Planned → List ℕ → Type 0
+Told edition name directory held NoFiles told = told ≡ refused NoPackage
+Told edition name directory held planned told =
+    (report : List (List ℕ × Verdict)) × IsReport edition directory planned report
+    × (told ≡ report_text name directory report (compiled_count held (actions_of edition directory planned)))
+
+-- for so many ticks what the sources mean, if they are a program that the replica holds compiled, and else a refusal
+abbrev pub RanOr : ℕ → List ℕ → List ℕ → ℕ → List Action → Planned → List ℕ → Type 0
+RanOr edition name directory ticks held planned told =
+    ((typed : Typed) × IsPlannedProgram edition directory held planned typed
+    × (ending : Ending) × (output : List ℕ) × SourceMeaning typed ticks ending output × (told ≡ run_text name directory ending output))
+    ⊎ (((typed : Typed) → IsPlannedProgram edition directory held planned typed → ⊥) × (told ≡ refused NotBuilt))
+
+-- what a run prints
+abbrev pub Ran : ℕ → List ℕ → List ℕ → ℕ → List Action → Planned → List ℕ → Type 0
+Ran edition name directory ticks held NoFiles told = told ≡ refused NoPackage
+Ran edition name directory ticks held (Faulty fault) told = RanOr edition name directory ticks held (Faulty fault) told
+Ran edition name directory ticks held (Sound parsed) told = RanOr edition name directory ticks held (Sound parsed) told
+
+-- what a command that isn't refused prints
+abbrev pub Answers : Command → World → List ℕ → Type 0
+Answers (Build name directory) world told =
+    (planned : Planned) × IsPlanOf (writes_of name world) directory planned × Told world.edition name directory (actions_held name world) planned told
+Answers (Run name directory ticks) world told =
+    (planned : Planned) × IsPlanOf (writes_of name world) directory planned × Ran world.edition name directory ticks (actions_held name world) planned told
+Answers (Show name) world told = (shown : List AWrite) × IsShown (writes_of name world) shown × (told ≡ show_text name shown)
+Answers Nothing world told = told ≡ []
+Answers Bad world told = told ≡ []
+Answers (Create name) world told = told ≡ []
+Answers (Write name path lines) world told = told ≡ []
+Answers (Remove name path) world told = told ≡ []
+Answers (Apply name path counter number lines) world told = told ≡ []
+Answers (Merge name other) world told = told ≡ []
+Answers Settle world told = told ≡ []
+
+abbrev pub PrintsBy : Option Refusal → Command → World → List ℕ → Type 0
+PrintsBy None command world told = Answers command world told
+PrintsBy (Some refusal) command world told = told ≡ refused refusal
+
+-- what a command prints
+unfoldable pub Prints : Command → Option (List ℕ) → World → List ℕ → Type 0
+Prints command text world told = PrintsBy (first_of (refusals command text world)) command world told
+
+abbrev pub text_list : Option (List ℕ) → List (List ℕ)
+text_list None = []
+text_list (Some text) = text ∷ []
+
+abbrev pub texts_of_replica : Replica → List (List ℕ)
+texts_of_replica r = flat_map (λ w. text_list w.1.text) r.writes ++ hashed_actions r.actions
+
+-- The texts that are hashed: of the files written and compiled, and of the actions, also of those that runs looked for.
+unfoldable pub hashed : World → List (List ℕ)
+hashed world = flat_map texts_of_replica world.replicas ++ hashed_actions world.sought

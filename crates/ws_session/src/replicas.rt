@@ -1,0 +1,566 @@
+//! The replicas of a session: what each command does to them.
+ghost use Rattle.std.specs.Prelude.{◌≡◌, ◌≢◌, ◌<◌, ℕ, List, length, slice_index_or, vec_len, true, false, IfOk, OnOk, OnErr, IfSome, MatchOption, Option, Some, None, Err};
+ghost use Rattle.std.specs.Option.{option_map};
+ghost use Rattle.ws_version.specs.Paths.{file_name};
+ghost use Rattle.go_text.specs.Editions.{edition_number};
+ghost use Rattle.ws_version.specs.Writes.{Write as AWrite};
+ghost use Rattle.ws_register.specs.Sources.{top};
+ghost use Rattle.ws_session.specs.declared.replicas.Named.{Named as ANamed};
+ghost use Rattle.ws_action.specs.Actions.{Action as AnAction};
+ghost use Rattle.ws_graph.specs.Plan.{NoFiles, IsPlanOf};
+ghost use Rattle.ws_replica.specs.Holdings.{ReplicaStandsFor};
+ghost use Rattle.ws_replica.specs.Reports.{rows};
+ghost use Rattle.std.specs.Thread.{IsSync};
+ghost use Rattle.ws_version.specs.Paths.{is_path};
+ghost use Rattle.ws_session.specs.Standing.{StandFor, place_of, AllStand, Settles, Tells, told_of, ChangedAt, Edited, Removal, Applied, MergedFrom, Built, RanAt, replicas_of, labels_of, IsContent};
+ghost use Rattle.ws_session.specs.World.{World, opening, is_text, is_path_word};
+ghost use Rattle.ws_command.specs.Commands.{Create, Write, Remove, Apply, Merge, Settle, Build, Run, Show};
+
+use crate::steps::Steps;
+use go_text::edition::Edition;
+use go_text::source::Source;
+use go_text::text::{Text, TextError};
+use go_vm::run::{Outcome, RunError, run};
+use std::alloc::{AllocError, Global};
+use std::thread::Threads;
+use std::{mem, str};
+use ws_command::commands::Asked;
+use ws_command::printing::{report_lines, run_lines, show_lines};
+use ws_command::refusal::{Refusal, refused};
+use ws_register::EditError;
+use ws_replica::join::settle;
+use ws_replica::{BuildError, Replica, Report, build, image};
+use ws_version::path::{file_name, is_path};
+use ws_version::{Held, Join, Version};
+
+/// How many replicas a session may have.
+const MOST_REPLICAS: usize = 64;
+
+/// A replica of a session, with its name and the number of its edits.
+#[derive(Drop)]
+pub struct Named {
+    name: Vec<u8>,
+    number: u32,
+    replica: Replica,
+}
+
+/// The replicas of a session in order of creation, and the edition in which they build.
+#[derive(Drop)]
+pub struct Replicas {
+    alloc: Global,
+    edition: Edition,
+    named: Vec<Named>,
+}
+
+/// Where the replica of that name stands.
+fn place_of(named: &[Named], name: &[u8]) -> Option<usize>
+    ensures value { result ≡ place_of name.now named.now }
+    ensures within { IfSome result (λ place. place < length named.now) }
+{
+    for (i, one) in named.iter().enumerate() {
+        if one.name.as_slice() == name {
+            return Some(i);
+        }
+    }
+    None
+}
+
+/// A word as a path, if it is one.
+fn path_of(word: &[u8]) -> Option<&str>
+    ensures { MatchOption result (is_path_word word.now ≡ false) (λ path. (is_path_word word.now ≡ true) × (path.now ≡ word.now)) }
+{
+    match str::from_utf8(word) {
+        Err(_) => None,
+        Ok(path) => { if is_path(path) { Some(path) } else { None } }
+    }
+}
+
+/// A text as the source of a path's file, if a source may hold it.
+fn source_of(alloc: Global, path: &str, text: Option<Vec<u8>>) -> Result<Option<Source>, AllocError>
+    ensures { IfOk result (λ source. MatchOption source (is_text (option_map (λ v. v.items) text) ≡ false) (λ s. (is_text (option_map (λ v. v.items) text) ≡ true) × (s.name ≡ file_name path.now) × (Some s.text ≡ option_map (λ v. v.items) text))) }
+{
+    let Some(bytes) = text else {
+        return Ok(None);
+    };
+    let Ok(text) = String::from_utf8(bytes) else {
+        return Ok(None);
+    };
+    let name = String::from_str(alloc, file_name(path))?;
+    match Source::new(alloc, name, text) {
+        Ok(source) => Ok(Some(source)),
+        Err(TextError::Memory) => Err(AllocError),
+        Err(_) => Ok(None),
+    }
+}
+
+/// A new replica, whose number is one more than the number of those before it.
+fn create(alloc: Global, named: &mut Vec<Named>, name: &[u8]) -> Result<Option<Refusal>, AllocError>
+    ensures { IfOk result (λ refusal. (text : Option (List ℕ)) (world : World) → AllStand named.old.items world.replicas → Settles (Create name.now) text world refusal named.new.items) }
+{
+    if named.len() >= MOST_REPLICAS {
+        return Ok(Some(Refusal::BadCommand));
+    }
+    if place_of(named.as_slice(), name).is_some() {
+        return Ok(Some(Refusal::Exists));
+    }
+    let number = named.len() as u32 + 1;
+    let name = Vec::from_slice(alloc, name)?;
+    let replica = Replica::new(alloc);
+    named.push(Named {
+        name,
+        number,
+        replica,
+    })?;
+    Ok(None)
+}
+
+/// The greatest counter that the replica at a place holds.
+fn greatest_at(named: &Vec<Named>, place: usize) -> u64
+    requires { place < vec_len named.now }
+    ensures { (n : ANamed) (W : List AWrite) (E : List AnAction) → n ≡ slice_index_or named.now.items place n → ReplicaStandsFor n.replica W E → result ≡ top W }
+{
+    named[place].replica.greatest_counter()
+}
+
+/// The replica at a place edits a path.
+fn edit_at(
+    alloc: Global,
+    named: &mut Vec<Named>,
+    place: usize,
+    path: &str,
+    source: Source,
+) -> Result<(), AllocError>
+    requires { place < vec_len named.old }
+    ensures { OnOk result (ChangedAt (Edited path.now source.text) named.old.items place named.new.items) }
+{
+    let path = String::from_str(alloc, path)?;
+    let one = &mut named[place];
+    let number = one.number;
+    match one.replica.edit(path, source, number) {
+        Ok(()) => Ok(()),
+        Err(_) => Err(AllocError),
+    }
+}
+
+/// The replica at a place takes what the replica at another holds.
+fn merge_at(
+    alloc: Global,
+    named: &mut Vec<Named>,
+    mine: usize,
+    theirs: usize,
+) -> Result<(), AllocError>
+    requires mine { mine < vec_len named.old }
+    requires theirs { theirs < vec_len named.old }
+    requires others { mine ≢ theirs }
+    ensures { OnOk result (ChangedAt (MergedFrom named.old.items theirs) named.old.items mine named.new.items) }
+{
+    let mut one = mem::replace(&mut named[mine].replica, Replica::new(alloc));
+    let merged = one.merge(&named[theirs].replica);
+    named[mine].replica = one;
+    merged
+}
+
+/// The replica at a place builds a directory.
+fn build_at(
+    alloc: Global,
+    edition: Edition,
+    named: &mut Vec<Named>,
+    place: usize,
+    directory: &str,
+) -> Result<Report, BuildError>
+    requires { place < vec_len named.old }
+    ensures ok { IfOk result (λ report. ChangedAt (Built (edition_number edition) directory.now (rows report.directories.items) report.compiled) named.old.items place named.new.items) }
+    ensures none { result ≡ Err BuildError.NoPackage → (n : ANamed) (W : List AWrite) (E : List AnAction) → n ≡ slice_index_or named.old.items place n → ReplicaStandsFor n.replica W E → IsPlanOf W directory.now NoFiles }
+    ensures err { OnErr result (named.new.items ≡ named.old.items) }
+{
+    let one = &mut named[place];
+    build(alloc, &mut one.replica, directory, edition)
+}
+
+/// A write of a text to a path by the replica of that name.
+fn write(
+    alloc: Global,
+    named: &mut Vec<Named>,
+    name: &[u8],
+    word: &[u8],
+    text: Option<Vec<u8>>,
+) -> Result<Option<Refusal>, AllocError>
+    ensures { IfOk result (λ refusal. (lines : ℕ) (world : World) → AllStand named.old.items world.replicas → Settles (Write name.now word.now lines) (option_map (λ v. v.items) text) world refusal named.new.items) }
+{
+    let Some(place) = place_of(named.as_slice(), name) else {
+        return Ok(Some(Refusal::Unknown));
+    };
+    let Some(path) = path_of(word) else {
+        return Ok(Some(Refusal::BadPath));
+    };
+    if greatest_at(named, place) == u64::MAX {
+        return Ok(Some(Refusal::CounterFull));
+    }
+    let Some(source) = source_of(alloc, path, text)? else {
+        return Ok(Some(Refusal::BadText));
+    };
+    edit_at(alloc, named, place, path, source)?;
+    Ok(None)
+}
+
+/// The replica at a place takes what it holds.
+fn merge_itself(named: &mut Vec<Named>, place: usize) -> Result<(), AllocError>
+    requires { place < vec_len named.old }
+    ensures { OnOk result (ChangedAt (MergedFrom named.old.items place) named.old.items place named.new.items) }
+{
+    let other = named[place].replica.copy()?;
+    let one = &mut named[place];
+    one.replica.merge(&other)
+}
+
+/// The replica at a place removes the file at a path; or why it doesn't.
+fn remove_at(
+    alloc: Global,
+    named: &mut Vec<Named>,
+    place: usize,
+    path: &str,
+) -> Result<Option<Refusal>, AllocError>
+    requires place { place < vec_len named.old }
+    requires path { is_path path.now ≡ true }
+    ensures { IfOk result (λ refusal. Removal path.now named.old.items place refusal named.new.items) }
+{
+    let path = String::from_str(alloc, path)?;
+    let one = &mut named[place];
+    let number = one.number;
+    match one.replica.remove(path, number) {
+        Ok(()) => Ok(None),
+        Err(EditError::BadPath) => Ok(Some(Refusal::BadPath)),
+        Err(EditError::NoFile) => Ok(Some(Refusal::NoFile)),
+        Err(EditError::CounterFull) => Ok(Some(Refusal::CounterFull)),
+        Err(EditError::Memory) => Err(AllocError),
+    }
+}
+
+/// A removal of the file at a path by the replica of that name.
+fn remove(
+    alloc: Global,
+    named: &mut Vec<Named>,
+    name: &[u8],
+    word: &[u8],
+) -> Result<Option<Refusal>, AllocError>
+    ensures { IfOk result (λ refusal. (text : Option (List ℕ)) (world : World) → AllStand named.old.items world.replicas → Settles (Remove name.now word.now) text world refusal named.new.items) }
+{
+    let Some(place) = place_of(named.as_slice(), name) else {
+        return Ok(Some(Refusal::Unknown));
+    };
+    let Some(path) = path_of(word) else {
+        return Ok(Some(Refusal::BadPath));
+    };
+    remove_at(alloc, named, place, path)
+}
+
+/// The replica at a place takes a write to a path.
+fn apply_at(
+    alloc: Global,
+    named: &mut Vec<Named>,
+    place: usize,
+    path: &str,
+    held: Held,
+) -> Result<(), AllocError>
+    requires { place < vec_len named.old }
+    ensures { OnOk result (ChangedAt (Applied (path.now, held)) named.old.items place named.new.items) }
+{
+    let path = String::from_str(alloc, path)?;
+    let one = &mut named[place];
+    one.replica.apply(ws_version::Write::new(path, held))
+}
+
+/// What is applied to a path: a text, or none for a removal; or why it isn't.
+fn content_of(
+    alloc: Global,
+    path: &str,
+    lines: Option<u64>,
+    text: Option<Vec<u8>>,
+) -> Result<Result<Option<Text>, Refusal>, AllocError>
+    ensures { IfOk result (λ content. IsContent lines (option_map (λ v. v.items) text) content) }
+{
+    if lines.is_none() {
+        return Ok(Ok(None));
+    }
+    let Some(source) = source_of(alloc, path, text)? else {
+        return Ok(Err(Refusal::BadText));
+    };
+    let (_, text) = source.into_parts();
+    Ok(Ok(Some(text)))
+}
+
+/// The replica of that name takes a write that another may have made.
+fn apply(
+    alloc: Global,
+    named: &mut Vec<Named>,
+    name: &[u8],
+    word: &[u8],
+    version: Version,
+    lines: Option<u64>,
+    text: Option<Vec<u8>>,
+) -> Result<Option<Refusal>, AllocError>
+    ensures { IfOk result (λ refusal. (world : World) → AllStand named.old.items world.replicas → Settles (Apply name.now word.now version.counter version.number lines) (option_map (λ v. v.items) text) world refusal named.new.items) }
+{
+    let Some(place) = place_of(named.as_slice(), name) else {
+        return Ok(Some(Refusal::Unknown));
+    };
+    let Some(path) = path_of(word) else {
+        return Ok(Some(Refusal::BadPath));
+    };
+    match content_of(alloc, path, lines, text)? {
+        Err(refusal) => Ok(Some(refusal)),
+        Ok(content) => {
+            apply_at(alloc, named, place, path, Held::new(version, content))?;
+            Ok(None)
+        }
+    }
+}
+
+/// What the replica of that name holds, and what is printed of it.
+fn show(alloc: Global, named: &Vec<Named>, name: &[u8]) -> Result<Vec<u8>, AllocError>
+    ensures { IfOk result (λ told. (text : Option (List ℕ)) (world : World) → AllStand named.now.items world.replicas → Tells (Show name.now) text world told.items named.now.items) }
+{
+    let Some(place) = place_of(named.as_slice(), name) else {
+        return refused(alloc, Refusal::Unknown);
+    };
+    let writes = named[place].replica.writes()?;
+    show_lines(alloc, name, writes.as_slice())
+}
+
+/// The names and numbers of replicas, and the replicas, each in its order.
+fn parted(
+    alloc: Global,
+    named: Vec<Named>,
+) -> Result<(Vec<(Vec<u8>, u32)>, Vec<Replica>), AllocError>
+    ensures labels { IfOk result (λ parts. parts.0.items ≡ labels_of named.items) }
+    ensures replicas { IfOk result (λ parts. parts.1.items ≡ replicas_of named.items) }
+{
+    let mut labels = Vec::new(alloc);
+    let mut replicas = Vec::new(alloc);
+    for one in named {
+        let Named {
+            name,
+            number,
+            replica,
+        } = one;
+        labels.push((name, number))?;
+        replicas.push(replica)?;
+    }
+    Ok((labels, replicas))
+}
+
+/// Replicas with their names and numbers again.
+fn rejoined(
+    alloc: Global,
+    labels: Vec<(Vec<u8>, u32)>,
+    replicas: Vec<Replica>,
+) -> Result<Vec<Named>, AllocError>
+    requires { vec_len labels ≡ vec_len replicas }
+    ensures labels { IfOk result (λ named. labels_of named.items ≡ labels.items) }
+    ensures replicas { IfOk result (λ named. replicas_of named.items ≡ replicas.items) }
+{
+    let mut named = Vec::new(alloc);
+    let mut labels = labels.into_iter();
+    for replica in replicas {
+        let Some((name, number)) = labels.next() else {
+            unreachable!();
+        };
+        named.push(Named {
+            name,
+            number,
+            replica,
+        })?;
+    }
+    Ok(named)
+}
+
+/// Every replica takes what all hold.
+fn settle_all<R: Threads + Sync>(
+    rt: &R,
+    alloc: Global,
+    named: &mut Vec<Named>,
+) -> Result<(), AllocError>
+    ensures { OnOk result ((text : Option (List ℕ)) (world : World) → AllStand named.old.items world.replicas → Settles Settle text world None named.new.items) }
+{
+    let (labels, mut replicas) = parted(alloc, mem::replace(named, Vec::new(alloc)))?;
+    settle(rt, alloc, replicas.as_mut_slice())?;
+    *named = rejoined(alloc, labels, replicas)?;
+    Ok(())
+}
+
+/// The replica of one name takes what that of the other holds.
+fn merge(
+    alloc: Global,
+    named: &mut Vec<Named>,
+    name: &[u8],
+    other: &[u8],
+) -> Result<Option<Refusal>, AllocError>
+    ensures { IfOk result (λ refusal. (text : Option (List ℕ)) (world : World) → AllStand named.old.items world.replicas → Settles (Merge name.now other.now) text world refusal named.new.items) }
+{
+    let Some(mine) = place_of(named.as_slice(), name) else {
+        return Ok(Some(Refusal::Unknown));
+    };
+    let Some(theirs) = place_of(named.as_slice(), other) else {
+        return Ok(Some(Refusal::Unknown));
+    };
+    if mine == theirs {
+        merge_itself(named, mine)?;
+    } else {
+        merge_at(alloc, named, mine, theirs)?;
+    }
+    Ok(None)
+}
+
+/// A build of a directory by the replica of that name, and what it prints.
+fn build_target(
+    alloc: Global,
+    edition: Edition,
+    named: &mut Vec<Named>,
+    name: &[u8],
+    word: &[u8],
+) -> Result<Vec<u8>, AllocError>
+    ensures { IfOk result (λ told. (text : Option (List ℕ)) (world : World) → edition_number edition ≡ world.edition → AllStand named.old.items world.replicas → Tells (Build name.now word.now) text world told.items named.new.items) }
+{
+    let Some(place) = place_of(named.as_slice(), name) else {
+        return refused(alloc, Refusal::Unknown);
+    };
+    let Ok(directory) = str::from_utf8(word) else {
+        return refused(alloc, Refusal::NoPackage);
+    };
+    match build_at(alloc, edition, named, place, directory) {
+        Ok(report) => report_lines(alloc, name, directory, &report),
+        Err(BuildError::NoPackage) => refused(alloc, Refusal::NoPackage),
+        Err(BuildError::Memory) => Err(AllocError),
+    }
+}
+
+/// What a run of a directory by the replica at a place comes to; none where no program is built.
+fn run_at(
+    alloc: Global,
+    edition: Edition,
+    named: &Vec<Named>,
+    place: usize,
+    directory: &str,
+    ticks: u64,
+) -> Result<Option<Outcome>, BuildError>
+    requires { place < vec_len named.now }
+    ensures ok { IfOk result (λ outcome. RanAt (edition_number edition) directory.now ticks named.now.items place outcome) }
+    ensures none { result ≡ Err BuildError.NoPackage → (n : ANamed) (W : List AWrite) (E : List AnAction) → n ≡ slice_index_or named.now.items place n → ReplicaStandsFor n.replica W E → IsPlanOf W directory.now NoFiles }
+{
+    let Some(image) = image(alloc, &named[place].replica, directory, edition)? else {
+        return Ok(None);
+    };
+    match run(alloc, &image, ticks) {
+        Ok(outcome) => Ok(Some(outcome)),
+        Err(RunError::Memory) => Err(BuildError::Memory),
+        Err(RunError::BadCode) => unreachable!(),
+    }
+}
+
+/// A run of a directory by the replica of that name, and what it prints.
+fn run_target(
+    alloc: Global,
+    edition: Edition,
+    named: &Vec<Named>,
+    name: &[u8],
+    word: &[u8],
+    ticks: u64,
+) -> Result<Vec<u8>, AllocError>
+    ensures { IfOk result (λ told. (text : Option (List ℕ)) (world : World) → edition_number edition ≡ world.edition → AllStand named.now.items world.replicas → Tells (Run name.now word.now ticks) text world told.items named.now.items) }
+{
+    let Some(place) = place_of(named.as_slice(), name) else {
+        return refused(alloc, Refusal::Unknown);
+    };
+    let Ok(directory) = str::from_utf8(word) else {
+        return refused(alloc, Refusal::NoPackage);
+    };
+    match run_at(alloc, edition, named, place, directory, ticks) {
+        Ok(Some(outcome)) => run_lines(alloc, name, directory, outcome.ending(), outcome.output()),
+        Ok(None) => refused(alloc, Refusal::NotBuilt),
+        Err(BuildError::NoPackage) => refused(alloc, Refusal::NoPackage),
+        Err(BuildError::Memory) => Err(AllocError),
+    }
+}
+
+/// What is printed for a command that prints no more than its refusal.
+fn told(alloc: Global, refusal: Option<Refusal>) -> Result<Vec<u8>, AllocError>
+    ensures { IfOk result (λ line. line.items ≡ told_of refusal) }
+{
+    match refusal {
+        None => Ok(Vec::new(alloc)),
+        Some(refusal) => refused(alloc, refusal),
+    }
+}
+
+impl Replicas {
+    /// No replica yet.
+    pub fn new(alloc: Global, edition: Edition) -> Replicas
+        ensures stands { StandFor result (opening (edition_number edition)) }
+    {
+        Replicas {
+            alloc,
+            edition,
+            named: Vec::new(alloc),
+        }
+    }
+}
+
+impl Steps for Replicas {
+    ghost use Rattle.ws_session.specs.Standing.{StandFor};
+
+    ghost stands_for = { StandFor };
+
+    fn step<R: Threads + Sync>(
+        &mut self,
+        rt: &R,
+        asked: &Asked<'_>,
+        text: Option<Vec<u8>>,
+    ) -> Result<Vec<u8>, AllocError> {
+        let alloc = self.alloc;
+        match asked {
+            Asked::Nothing => told(alloc, None),
+            Asked::Bad => told(alloc, Some(Refusal::BadCommand)),
+            Asked::Create(name) => {
+                let refusal = create(alloc, &mut self.named, name)?;
+                told(alloc, refusal)
+            }
+            Asked::Write(name, path, _) => {
+                let refusal = write(alloc, &mut self.named, name, path, text)?;
+                told(alloc, refusal)
+            }
+            Asked::Remove(name, path) => {
+                let refusal = remove(alloc, &mut self.named, name, path)?;
+                told(alloc, refusal)
+            }
+            Asked::Apply {
+                name,
+                path,
+                counter,
+                number,
+                lines,
+            } => {
+                let version = Version {
+                    counter: *counter,
+                    number: *number,
+                };
+                let refusal = apply(alloc, &mut self.named, name, path, version, *lines, text)?;
+                told(alloc, refusal)
+            }
+            Asked::Settle => {
+                settle_all(rt, alloc, &mut self.named)?;
+                told(alloc, None)
+            }
+            Asked::Show(name) => show(alloc, &self.named, name),
+            Asked::Merge(name, other) => {
+                let refusal = merge(alloc, &mut self.named, name, other)?;
+                told(alloc, refusal)
+            }
+            Asked::Build(name, directory) => {
+                build_target(alloc, self.edition, &mut self.named, name, directory)
+            }
+            Asked::Run(name, directory, ticks) => {
+                run_target(alloc, self.edition, &self.named, name, directory, *ticks)
+            }
+        }
+    }
+}
