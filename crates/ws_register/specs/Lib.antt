@@ -4,5 +4,6 @@ pub mod Edits
 pub mod Exists
 pub mod Greatest
 pub mod Laws
+pub mod Shared
 pub mod Sources
 pub mod Texted

@@ -16,6 +16,9 @@ ghost use Rattle.ws_register.specs.Between.{is_between};
 ghost use Rattle.ws_register.specs.Sources.{texts_of, is_built, is_package_path, package_file, package_files, package_files_of, pair_of, IsShown, IsSources};
 ghost use Rattle.ws_register.specs.Edits.{top, greatest_at, greatest_counter, fits, is_missing, edit_refusal, removal_refusal, IsRefusal, edited, removed};
 
+mod contents;
+
+use contents::Contents;
 use go_text::source::Source;
 use go_text::text::Text;
 use std::alloc::{AllocError, Global};
@@ -49,7 +52,7 @@ pub enum EditError {
 #[derive(Drop)]
 pub struct Registers {
     alloc: Global,
-    held: BTreeMap<String, Held>,
+    held: Contents,
     greatest: u64,
 }
 
@@ -62,12 +65,11 @@ impl Model for Registers {
 
     ghost coded = { finite.code (coded_list coded_ℕ) held_code };
 
-    ghost use Rattle.ws_register.specs.Texted.{by_path};
     ghost use Rattle.ws_register.specs.Edits.{IsGreatestCounter};
 
-    ghost view = { λ a. by_path a.held.entries };
+    ghost view = { λ a. a.held };
 
-    ghost invariant = { λ a. IsGreatestCounter (by_path a.held.entries) a.greatest };
+    ghost invariant = { λ a. IsGreatestCounter a.held a.greatest };
 }
 
 impl Registers {
@@ -77,7 +79,7 @@ impl Registers {
     {
         Registers {
             alloc,
-            held: BTreeMap::new(alloc),
+            held: Contents::new(alloc),
             greatest: 0,
         }
     }
@@ -136,7 +138,10 @@ impl Registers {
     fn take_all(&mut self, other: &Registers) -> Result<(), AllocError>
         ensures { OnOk result (self.new ≡ joined_by greater_held self.old other.now) }
     {
-        take_entries(self, &other.held)?;
+        let Some(entries) = other.held.map() else {
+            return Ok(());
+        };
+        take_entries(self, entries)?;
         Ok(())
     }
 
@@ -144,7 +149,10 @@ impl Registers {
     fn knows(&self, other: &Registers) -> bool
         ensures { result ≡ true → joined_by greater_held self.now other.now ≡ self.now }
     {
-        are_known(&self.held, &other.held)
+        let (Some(mine), Some(others)) = (self.held.map(), other.held.map()) else {
+            return false;
+        };
+        are_known(mine, others)
     }
 
     /// Copies of the held writes, removals too, in path order. An `Err` is for want of memory.
@@ -152,7 +160,10 @@ impl Registers {
         ensures ok { IfOk result (λ writes. writes.items ≡ map.entries self.now) }
         ensures stands { IfOk result (λ writes. (W : List AWrite) → StandsFor held_cmp self.now W → IsShown W writes.items) }
     {
-        let writes = list_of(self.alloc, &self.held)?;
+        let Some(entries) = self.held.map() else {
+            return Ok(Vec::new(self.alloc));
+        };
+        let writes = list_of(self.alloc, entries)?;
         Ok(writes)
     }
 
@@ -162,7 +173,10 @@ impl Registers {
         ensures ok { IfOk result (λ sources. texted sources.items ≡ texts_of (map.entries self.now)) }
         ensures stands { IfOk result (λ sources. (W : List AWrite) → StandsFor held_cmp self.now W → IsSources W (texted sources.items)) }
     {
-        let sources = sources_of(self.alloc, &self.held)?;
+        let Some(entries) = self.held.map() else {
+            return Ok(Vec::new(self.alloc));
+        };
+        let sources = sources_of(self.alloc, entries)?;
         Ok(sources)
     }
 
@@ -173,7 +187,10 @@ impl Registers {
         ensures ok { IfOk result (λ files. map_list pair_of files.items ≡ package_files_of directory.now self.now) }
         ensures stands { IfOk result (λ files. (W : List AWrite) → StandsFor held_cmp self.now W → (S : List (List ℕ × List ℕ)) × IsSources W S × (map_list pair_of files.items ≡ package_files directory.now S)) }
     {
-        let files = files_of(self.alloc, &self.held, directory)?;
+        let Some(entries) = self.held.map() else {
+            return Ok(Vec::new(self.alloc));
+        };
+        let files = files_of(self.alloc, entries, directory)?;
         Ok(files)
     }
 
@@ -477,7 +494,7 @@ impl Join for Registers {
     ghost idempotent = { joined-idempotent path_cmp_total path_cmp-IsAntisymmetric held-semilattice };
 
     fn copy(&self) -> Result<Registers, AllocError> {
-        let held = self.held.clone()?;
+        let held = self.held.copy()?;
         Ok(Registers {
             alloc: self.alloc,
             held,
@@ -490,8 +507,12 @@ impl Join for Registers {
         ensures err { OnErr result (self.new ≡ self.old) }
         ensures stands { OnOk result ((V W : List AWrite) → StandsFor held_cmp self.old V → StandsFor held_cmp other.now W → StandsFor held_cmp self.new (V ++ W)) }
     {
-        // What brings no news costs no copy.
+        // What brings no news changes nothing, and what is all news is shared: neither costs a clone.
         if self.knows(other) {
+            return Ok(());
+        }
+        if other.knows(self) {
+            *self = other.copy()?;
             return Ok(());
         }
         let mut both = self.copy()?;

@@ -276,6 +276,39 @@ fn merges_agree(rt: HostRuntime) -> Result<(), Fail> {
 }
 
 #[test]
+fn copies_change_apart(rt: HostRuntime) -> Result<(), Fail> {
+    let alloc = rt.alloc();
+    let mut first = taken(alloc, &[("p/x.go", 1, 1, Some("x"))])?;
+    let mut second = first.copy()?;
+    assert!(rt; edited(alloc, &mut second, "p/x.go", "x.go")?.is_ok());
+    assert_eq!(rt; shown(alloc, &first)?.as_str(), "p/x.go 1.1 x;");
+    assert_eq!(rt; shown(alloc, &second)?.as_str(), "p/x.go 2.7 new;");
+    // All that the second has is news, so that the first shares its map.
+    first.merge(&second)?;
+    assert_eq!(rt; removed(alloc, &mut first, "p/x.go")?, "removed");
+    assert_eq!(rt; shown(alloc, &first)?.as_str(), "p/x.go 3.7 removed;");
+    assert_eq!(rt; shown(alloc, &second)?.as_str(), "p/x.go 2.7 new;");
+    Ok(())
+}
+
+#[test]
+fn nothing_joins_with_anything(rt: HostRuntime) -> Result<(), Fail> {
+    let alloc = rt.alloc();
+    let (mut first, mut second) = (Registers::new(alloc), Registers::new(alloc));
+    first.merge(&second)?;
+    assert_eq!(rt; shown(alloc, &first)?.as_str(), "");
+    assert_eq!(rt; named(alloc, &first, "p")?.as_str(), "");
+    assert!(rt; first.copy()?.get("p/x.go").is_none());
+    take(alloc, &mut first, &[("p/x.go", 1, 1, Some("x"))])?;
+    first.merge(&second)?;
+    second.merge(&first)?;
+    assert_eq!(rt; shown(alloc, &first)?.as_str(), "p/x.go 1.1 x;");
+    assert_eq!(rt; shown(alloc, &second)?.as_str(), "p/x.go 1.1 x;");
+    assert_eq!(rt; second.greatest_counter(), 1);
+    Ok(())
+}
+
+#[test]
 fn gets_what_is_held(rt: HostRuntime) -> Result<(), Fail> {
     let alloc = rt.alloc();
     let registers = taken(

@@ -1,6 +1,6 @@
-use Rattle.std.proofs.Common.{◌≡◌, String}
+use Rattle.std.proofs.Common.{◌≡◌}
 use Rattle.std.specs.List.{Contains}
-use Rattle.ws_version.specs.Writes.{Held, greater_held}
+use Rattle.ws_version.specs.Writes.{greater_held}
 use Rattle.ws_version.specs.Gathered.{gathered}
 use Rattle.ws_register.specs.Texted.{texted, by_path}
 use Rattle.ws_register.proofs.are_known.Given as goal

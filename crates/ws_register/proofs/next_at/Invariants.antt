@@ -1,4 +1,4 @@
-use Rattle.std.proofs.Common.{◌≡◌, length}
+use Rattle.std.proofs.Common.{length}
 use Rattle.std.specs.List.{Contains}
 use Rattle.ws_register.proofs.next_at.Given as goal
 

@@ -7,7 +7,8 @@ use Rattle.ws_register.proofs.Registers.knows.Goals as goal
 
 pub returns : goal.returns
 returns c known =
-    sym (ap (joined greater_held c.args.self.now) c.other.view_is)
-    ∙ sym (gathered_entries path_cmp_total path_cmp-IsAntisymmetric greater_held c.args.self.now (by_path c.other.inside.held.entries))
-    ∙ ap (gathered greater_held c.args.self.now) (entries-by_path c.other.inside.held.entries c.are_known.ensures.ordered)
-    ∙ subst (λ m. gathered greater_held m (texted c.other.inside.held.entries) ≡ m) c.self.view_is (c.are_known.ensures.known known)
+    let others = c.in-Some-Some.others.now.entries in
+    sym (ap (joined greater_held c.args.self.now) (c.in-Some-Some.ensures' ∙ c.other.view_is))
+    ∙ sym (gathered_entries path_cmp_total path_cmp-IsAntisymmetric greater_held c.args.self.now (by_path others))
+    ∙ ap (gathered greater_held c.args.self.now) (entries-by_path others c.are_known.ensures.ordered)
+    ∙ subst (λ m. gathered greater_held m (texted others) ≡ m) (c.in-Some-Some.ensures ∙ c.self.view_is) (c.are_known.ensures.known known)

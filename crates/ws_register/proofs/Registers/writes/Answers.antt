@@ -1,11 +1,17 @@
 use Rattle.std.proofs.Common.{ap, sym, ◌∙◌}
 use Rattle.std.specs.FinMap.{entries}
-use Rattle.ws_register.specs.Texted.{entries-by_path}
+use Rattle.ws_register.specs.Texted.{entries-by_path, entries-empty}
 use Rattle.ws_register.proofs.Registers.writes.Goals as goal
+
+pub returns-in_default-clause-ok : goal.returns-in_default-clause-ok
+returns-in_default-clause-ok c = c.new.ensures.items ∙ sym entries-empty ∙ ap entries (sym c.in_default.ensures ∙ c.self.view_is)
+
+pub returns-in_default-clause-stands : goal.returns-in_default-clause-stands
+returns-in_default-clause-stands c W h = (c.args.self.now, h, returns-in_default-clause-ok c)
 
 pub returns-clause-ok : goal.returns-clause-ok
 returns-clause-ok c =
-    c.in_ok-writes.ensures.ok ∙ sym (entries-by_path c.self.inside.held.entries c.list_of.ensures.ordered) ∙ ap entries c.self.view_is
+    c.in_ok-writes.ensures.ok ∙ sym (entries-by_path c.in-Some.entries.now.entries c.list_of.ensures.ordered) ∙ ap entries (c.in-Some.ensures ∙ c.self.view_is)
 
 pub returns-clause-stands : goal.returns-clause-stands
 returns-clause-stands c W h = (c.args.self.now, h, returns-clause-ok c)
