@@ -149,7 +149,10 @@ impl Registers {
     fn knows(&self, other: &Registers) -> bool
         ensures { result ≡ true → joined_by greater_held self.now other.now ≡ self.now }
     {
-        let (Some(mine), Some(others)) = (self.held.map(), other.held.map()) else {
+        let Some(others) = other.held.map() else {
+            return true;
+        };
+        let Some(mine) = self.held.map() else {
             return false;
         };
         are_known(mine, others)
