@@ -4,3 +4,4 @@ pub mod Held
 pub mod Joined
 pub mod Listed
 pub mod Laws
+pub mod Shared

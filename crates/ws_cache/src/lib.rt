@@ -1,7 +1,7 @@
 //! Compiled packages by the id of what they were compiled from.
 #![tactic(auto)]
 
-ghost use Rattle.std.specs.Prelude.{◌≡◌, ℕ, ◌++◌, ◌∷◌, [], List, OnOk, OnErr, IfOk, IfErr, Some, is_some, if◌then◌else◌, option_copied};
+ghost use Rattle.std.specs.Prelude.{◌≡◌, ℕ, ◌++◌, ◌∷◌, [], List, OnOk, OnErr, IfOk, IfErr, Some, is_some, if◌then◌else◌, option_copied, MatchOption};
 ghost use Rattle.std.specs.FinMap as map;
 ghost use Rattle.std.specs.BTreeMap.{IsOrdered};
 ghost use Rattle.std.specs.List.{Contains};
@@ -14,6 +14,9 @@ ghost use Rattle.ws_cache.specs.Count.{compiled_count, new_actions_count};
 ghost use Rattle.ws_cache.specs.Held.{IsHeld, CacheStandsFor, id_cmp};
 ghost use Rattle.ws_cache.specs.Joined.{downwards, lesser};
 
+mod contents;
+
+use contents::Contents;
 use go_code::object::Object;
 use go_text::fault::Fault;
 use std::alloc::{AllocError, Global};
@@ -118,11 +121,18 @@ impl Entry {
     }
 }
 
+impl Clone for Entry {
+    ghost is_clone = { λ entry clone. clone ≡ entry };
+
+    fn clone(&self) -> Result<Entry, AllocError> {
+        self.copy()
+    }
+}
+
 /// Entries by their ids: for each id the entry of the least action that was put with it.
 #[derive(Drop)]
 pub struct Cache {
-    alloc: Global,
-    entries: BTreeMap<[u8; 32], Entry>,
+    entries: Contents,
 }
 
 impl Model for Cache {
@@ -135,7 +145,7 @@ impl Model for Cache {
 
     ghost coded = { finite.code (coded_list coded_ℕ) actions.action_code };
 
-    ghost view = { λ a. finite.from_entries a.entries.entries };
+    ghost view = { λ a. a.entries };
 }
 
 impl Cache {
@@ -145,8 +155,7 @@ impl Cache {
         ensures stands { CacheStandsFor result [] }
     {
         Cache {
-            alloc,
-            entries: BTreeMap::new(alloc),
+            entries: Contents::new(alloc),
         }
     }
 
@@ -170,20 +179,6 @@ impl Cache {
         }
     }
 
-    fn insert(&mut self, id: [u8; 32], entry: Entry) -> Result<(), Entry>
-        ensures ok { OnOk result (self.new ≡ map.insert self.old id entry) }
-        ensures back { IfErr result (λ back. back ≡ entry) }
-        ensures err { OnErr result (self.new ≡ self.old) }
-    {
-        match self.entries.insert(id, entry) {
-            Ok(_) => Ok(()),
-            Err(failed) => {
-                let (_, back) = failed.value;
-                Err(back)
-            }
-        }
-    }
-
     fn take(&mut self, id: [u8; 32], entry: Entry) -> Result<(), Entry>
         ensures ok { OnOk result (self.new ≡ taken lesser self.old id entry) }
         ensures back { IfErr result (λ back. back ≡ entry) }
@@ -192,7 +187,7 @@ impl Cache {
         if !self.is_news(&id, entry.action()) {
             return Ok(());
         }
-        self.insert(id, entry)?;
+        self.entries.insert(id, entry)?;
         Ok(())
     }
 
@@ -209,22 +204,44 @@ impl Cache {
         Ok(())
     }
 
+    /// The entries, and none where nothing was ever put.
+    fn map(&self) -> Option<&BTreeMap<[u8; 32], Entry>>
+        ensures { MatchOption result (self.now ≡ map.empty) (λ entries. map.from_entries {R = id_cmp} entries.now.entries ≡ self.now) }
+    {
+        self.entries.map()
+    }
+
+    fn insert_copy(&mut self, id: [u8; 32], entry: &Entry) -> Result<(), AllocError>
+        ensures { OnOk result (self.new ≡ map.insert self.old id entry.now) }
+    {
+        match self.entries.insert(id, entry.copy()?) {
+            Ok(()) => Ok(()),
+            Err(_) => Err(AllocError),
+        }
+    }
+
     fn take_all(&mut self, other: &Cache) -> Result<(), AllocError>
         ensures { OnOk result (self.new ≡ joined_by lesser self.old other.now) }
     {
-        take_entries(self, &other.entries)?;
+        let Some(entries) = other.map() else {
+            return Ok(());
+        };
+        match self.map() {
+            None => *self = other.copy()?,
+            Some(_) => take_entries(self, entries)?,
+        }
         Ok(())
     }
 }
 
-/// Adds a copy of each entry.
+/// Adds a copy of each entry that is news.
 fn take_entries(all: &mut Cache, entries: &BTreeMap<[u8; 32], Entry>) -> Result<(), AllocError>
     ensures ok { OnOk result (all.new ≡ gathered lesser all.old entries.now.entries) }
     ensures ordered { IsOrdered id_cmp entries.now }
 {
     for (id, entry) in entries {
-        if all.take(*id, entry.copy()?).is_err() {
-            return Err(AllocError);
+        if all.is_news(id, entry.action()) {
+            all.insert_copy(*id, entry)?;
         }
     }
     Ok(())
@@ -242,11 +259,10 @@ impl Join for Cache {
 
     ghost idempotent = { joined-idempotent id_cmp_total id_cmp-IsAntisymmetric lesser-semilattice };
 
-    /// Another of equal contents, which shares the texts. An `Err` only where memory ran out.
+    /// Another of equal contents, which shares them. An `Err` only where memory ran out.
     fn copy(&self) -> Result<Cache, AllocError> {
-        let mut all = Cache::new(self.alloc);
-        all.take_all(self)?;
-        Ok(all)
+        let entries = self.entries.copy()?;
+        Ok(Cache { entries })
     }
 
     /// Adds all entries of the other: of two with one id that of the lesser action stays. An
