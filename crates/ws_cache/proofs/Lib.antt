@@ -1,2 +1,3 @@
 pub mod Outcomes
 mod Cloned
+pub mod Crossing
