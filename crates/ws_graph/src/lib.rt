@@ -13,12 +13,13 @@ ghost use Rattle.ws_register.specs.Sources.{pair_of};
 ghost use Rattle.go_parse.specs.Parse.{Derived, Stopped, IsParse, IsNamed, IsOther};
 ghost use Rattle.ws_graph.specs.Plan.{Planned, NoFiles, source_of, AreParsed, AllNamed, HasOther, StopsIn, IsPlan, IsPlanOf};
 ghost use Rattle.ws_graph.specs.Node.{planned_of};
+ghost use Rattle.ws_graph.specs.declared.FileError.TheVariants.{Memory};
 
 use go_parse::{ParseError, Parsed};
 use go_text::fault::{Fault, FaultKind};
 use go_text::source::Source;
 pub use planned::{Node, Plan, PlanError};
-use std::alloc::Global;
+use std::alloc::{AllocError, AllocFailed, Global};
 use ws_register::Registers;
 
 mod planned;
@@ -30,13 +31,27 @@ enum FileError {
     Memory,
 }
 
+impl From<AllocError> for FileError {
+    ghost from_gives = { λ _ e. e ≡ Memory };
+
+    fn from(_e: AllocError) -> FileError {
+        FileError::Memory
+    }
+}
+
+impl<T: Drop> From<AllocFailed<T>> for FileError {
+    ghost from_gives = { λ _ e. e ≡ Memory };
+
+    fn from(_e: AllocFailed<T>) -> FileError {
+        FileError::Memory
+    }
+}
+
 fn parsed_file(alloc: Global, source: Source) -> Result<Parsed, FileError>
     ensures ok { IfOk result (λ p. (source_of p ≡ pair_of source) × ((file : AFile) × IsParse p.text (Derived file))) }
     ensures stopped { (fault : AFault) → result ≡ Err (FileError.Stopped fault) → (kind : AKind) × (place : APlace) × IsParse source.text (Stopped kind place) × (fault ≡ record { file = source.name; place = place; kind = kind }) }
 {
-    let Ok(name) = String::from_str(alloc, source.name()) else {
-        return Err(FileError::Memory);
-    };
+    let name = String::from_str(alloc, source.name())?;
     match Parsed::new(alloc, source) {
         Ok(parsed) => {
             // The accessor is what says that the text is a file.
@@ -56,14 +71,8 @@ fn parsed_files(alloc: Global, files: Vec<Source>) -> Result<Vec<Parsed>, FileEr
 {
     let mut all = Vec::new(alloc);
     for source in files {
-        match parsed_file(alloc, source) {
-            Ok(parsed) => {
-                if all.push(parsed).is_err() {
-                    return Err(FileError::Memory);
-                }
-            }
-            Err(error) => return Err(error),
-        }
+        let parsed = parsed_file(alloc, source)?;
+        all.push(parsed)?;
     }
     Ok(all)
 }
@@ -98,9 +107,7 @@ fn judged(alloc: Global, parsed: Vec<Parsed>) -> Result<Node, PlanError>
     let Some(other) = first_other(first.package().text(), rest) else {
         return Ok(Node::Sound(parsed));
     };
-    let Ok(file) = String::from_str(alloc, other.name()) else {
-        return Err(PlanError::Memory);
-    };
+    let file = String::from_str(alloc, other.name())?;
     let place = other.package().place();
     Ok(Node::Faulty(Fault::new(file, place, FaultKind::PackageName)))
 }
@@ -114,12 +121,8 @@ pub fn plan(alloc: Global, registers: &Registers, directory: &str) -> Result<Pla
     ensures ok { (writes : List Write) → StandsFor held_cmp registers.now writes → IfOk result (λ plan. IsPlanOf writes directory.now (planned_of plan.node) × (planned_of plan.node ≢ NoFiles)) }
     ensures none { (writes : List Write) → StandsFor held_cmp registers.now writes → result ≡ Err PlanError.NoPackage → IsPlanOf writes directory.now NoFiles }
 {
-    let Ok(name) = String::from_str(alloc, directory) else {
-        return Err(PlanError::Memory);
-    };
-    let Ok(files) = registers.files(directory) else {
-        return Err(PlanError::Memory);
-    };
+    let name = String::from_str(alloc, directory)?;
+    let files = registers.files(directory)?;
     let node = match parsed_files(alloc, files) {
         Ok(parsed) => judged(alloc, parsed)?,
         Err(FileError::Stopped(fault)) => Node::Faulty(fault),

@@ -1,6 +1,10 @@
 //! What a plan is.
+ghost use Rattle.std.specs.Prelude.{◌≡◌};
+ghost use Rattle.ws_graph.specs.declared.planned.PlanError.TheVariants.{Memory};
+
 use go_parse::Parsed;
 use go_text::fault::Fault;
+use std::alloc::AllocError;
 use thiserror::Error;
 
 /// Why there is no plan.
@@ -12,6 +16,14 @@ pub enum PlanError {
     /// An allocation was refused.
     #[error("memory")]
     Memory,
+}
+
+impl From<AllocError> for PlanError {
+    ghost from_gives = { λ _ e. e ≡ Memory };
+
+    fn from(_e: AllocError) -> PlanError {
+        PlanError::Memory
+    }
 }
 
 /// The files of a directory, parsed, or the fault that stands in the way.

@@ -14,6 +14,7 @@ ghost use Rattle.ws_version.specs.Gathered.{is_news, gathered};
 ghost use Rattle.ws_register.specs.Texted.{texted, by_path, Stands};
 ghost use Rattle.ws_register.specs.Between.{is_between};
 ghost use Rattle.ws_register.specs.Sources.{texts_of, is_built, is_package_path, package_file, package_files, package_files_of, pair_of, IsShown, IsSources};
+ghost use Rattle.ws_register.specs.declared.EditError.TheVariants.{Memory};
 ghost use Rattle.ws_register.specs.Edits.{top, greatest_at, greatest_counter, fits, is_missing, edit_refusal, removal_refusal, IsRefusal, edited, removed};
 
 mod contents;
@@ -46,6 +47,14 @@ pub enum EditError {
     /// Memory ran out.
     #[error("out of memory")]
     Memory,
+}
+
+impl From<AllocError> for EditError {
+    ghost from_gives = { λ _ e. e ≡ Memory };
+
+    fn from(_e: AllocError) -> EditError {
+        EditError::Memory
+    }
 }
 
 /// The greatest write for each path, in the order of paths, and the greatest counter of all.
@@ -221,10 +230,8 @@ impl Registers {
             number,
         };
         let (_, text) = source.into_parts();
-        match self.apply(Write::new(path, Held::new(version, Some(text)))) {
-            Ok(()) => Ok(()),
-            Err(_) => Err(EditError::Memory),
-        }
+        self.apply(Write::new(path, Held::new(version, Some(text))))?;
+        Ok(())
     }
 
     /// Whether nothing is held at a path, or a removal.
@@ -264,10 +271,8 @@ impl Registers {
             counter: last + 1,
             number,
         };
-        match self.apply(Write::new(path, Held::new(version, None))) {
-            Ok(()) => Ok(()),
-            Err(_) => Err(EditError::Memory),
-        }
+        self.apply(Write::new(path, Held::new(version, None)))?;
+        Ok(())
     }
 }
 

@@ -1,5 +1,5 @@
 -- The image of what a cache holds, and what it is where no two texts clash.
-use Rattle.std.proofs.Common.{◌≡◌, ℕ, List, [], ◌∷◌, ◌++◌, Option, Some, None, refl, sym, ap, subst, ◌∙◌, inl, inr}
+use Rattle.std.proofs.Common.{◌≡◌, ℕ, List, [], ◌∷◌, ◌++◌, Option, Some, None, refl, sym, subst, ◌∙◌}
 use Rattle.std.specs.Prelude.{Result, Ok, Err, IfOk, IfSome}
 use Rattle.std.specs.List.{Contains}
 use Rattle.std.specs.FinMap.{FinMap, get}
@@ -17,15 +17,14 @@ use Rattle.go_parse.specs.Parse.{Parsed}
 use Rattle.ws_version.specs.Writes.{Write}
 use Rattle.ws_action.specs.Actions.{Action, action_id, action_of, IsSized}
 use Rattle.ws_action.specs.Clash.{NoClash, AllSized, hashed, hashed_actions}
-use Rattle.ws_cache.specs.Compiles.{Compiled, Good, Faulty, Compiles}
-use Rattle.ws_cache.specs.Held.{id_cmp, IsHeld, IsLeast, CacheStandsFor}
+use Rattle.ws_cache.specs.Compiles.{Good, Faulty, Compiles}
+use Rattle.ws_cache.specs.Held.{id_cmp, IsHeld, CacheStandsFor}
 use Rattle.ws_cache.specs.Joined.{cache_stands}
 use Rattle.ws_cache.specs.Laws.{found_itself, found_no_other}
 use Rattle.ws_cache.proofs.Outcomes.{one_outcome}
 use Rattle.ws_graph.specs.Plan.{Planned, NoFiles, Sound, IsPlanOf}
 use Rattle.ws_graph.specs.Plan as plans
-use Rattle.ws_replica.specs.Reports.{actions_of}
-use Rattle.ws_replica.specs.Programs.{IsHeldProgram, IsPlannedProgram, MeansProgram, IsImageOf, IsImage, IsLinked, IsImageHeld}
+use Rattle.ws_replica.specs.Programs.{MeansProgram, IsImageOf, IsImage, IsLinked, IsImageHeld}
 use Rattle.ws_replica.proofs.OneProgram.{answer_typed}
 use Rattle.ws_replica.proofs.ReplicaBuilds.{sized_more}
 
@@ -101,5 +100,5 @@ sound_image edition W E directory parsed cache image plan stands sized its held 
 }
 
 pub some_means : (cache : FinMap id_cmp Action) (action : Action) (image : Option Image) → IsImageHeld cache action image → IfSome image (λ image. (typed : Typed) × IsWellTyped typed × IsProgram typed × MeansProgram image typed)
-some_means cache action None h = tt
-some_means cache action (Some image) h = held_means cache action image h
+some_means cache a None h = tt
+some_means cache a (Some image) h = held_means cache a image h

@@ -1,5 +1,5 @@
 -- Objects of typed packages, linked.
-use Rattle.std.proofs.Common.{◌≡◌, ℕ, List, [], ◌∷◌, Option, Some, None, sym, ◌∙◌, inl, inr}
+use Rattle.std.proofs.Common.{◌≡◌, [], ◌∷◌, Some, None, sym, ◌∙◌, inl, inr}
 use Rattle.go_check.specs.Typed.{Typed}
 use Rattle.go_check.specs.Meaning.{IsProgram}
 use Rattle.go_code.specs.Images.{Image}

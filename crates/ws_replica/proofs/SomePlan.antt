@@ -1,6 +1,6 @@
 -- There is a plan of each directory for each set of writes, and a report of each plan.
-use Rattle.std.proofs.Common.{◌≡◌, ℕ, List, [], ◌∷◌, ◌++◌, true, false, Bool, refl, ap, subst, inl, inr}
-use Rattle.std.specs.Prelude.{◌⊎◌, map, codes}
+use Rattle.std.proofs.Common.{◌≡◌, ℕ, List, [], ◌∷◌, true, false, Bool, refl, ap, subst, inl, inr}
+use Rattle.std.specs.Prelude.{◌⊎◌, map}
 use Rattle.std.specs.Str.{bytes_eq}
 use Rattle.std.specs.FinMap.{entries}
 use Rattle.std.proofs.lemmas.Slice.Eq.{bytes_eq-Decides}

@@ -6,11 +6,20 @@ use Rattle.ws_action.specs.Clash.{NoClash, AllSized, hashed_actions}
 use Rattle.ws_cache.specs.Held.{id_cmp, CacheStandsFor}
 use Rattle.ws_cache.specs.Count.{compiled_count}
 use Rattle.ws_cache.specs.Compiles.{Compiled, Compiles}
+use Rattle.ws_graph.specs.declared.planned.PlanError.{PlanError}
+use Rattle.ws_graph.specs.declared.planned.PlanError.TheVariants as plan
+use Rattle.ws_replica.specs.declared.BuildError.{BuildError}
+use Rattle.ws_replica.specs.declared.BuildError.TheVariants as build
 use Rattle.ws_replica.specs.declared.Report.{Report}
 use Rattle.ws_replica.specs.Reports.{rows, verdict_of, actions_of, IsReport}
 use Rattle.ws_replica.specs.Holdings.{Replica, ReplicaStandsFor}
 use Rattle.ws_graph.specs.Plan.{Planned, NoFiles, IsPlanOf}
 use Rattle.ws_version.specs.Writes.{Write}
+
+-- what is answered where there is no plan
+abbrev pub refusal_of : PlanError → BuildError
+refusal_of plan.NoPackage = build.NoPackage
+refusal_of plan.Memory = build.Memory
 
 -- where texts don't clash: the directory's row says what compiling gives, the count is right, and the cache takes the action
 pub record IsRight (actions : List Action) (action : Action) (directory : List ℕ) (report : Report) (cache : FinMap id_cmp Action) : Type 0 where

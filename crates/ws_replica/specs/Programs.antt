@@ -1,5 +1,5 @@
 -- The program of a directory, and the image of what is compiled.
-use Rattle.std.specs.Prelude.{◌≡◌, ◌≢◌, ℕ, List, [], ◌∷◌, ◌++◌, map, Option, None, Some}
+use Rattle.std.specs.Prelude.{◌≡◌, ◌≢◌, ℕ, List, ◌++◌, map, Option, None, Some}
 use Rattle.std.specs.FinMap.{FinMap, get}
 use Rattle.std.specs.List.{Contains}
 use Rattle.go_check.specs.Packages as answers

@@ -20,7 +20,8 @@ ghost use Rattle.ws_graph.specs.Plan.{Planned, Sound, NoFiles, IsPlanOf};
 ghost use Rattle.ws_board.specs.Machine.{opening, is_finish};
 ghost use Rattle.ws_pool.specs.Runs.{RunsTo};
 ghost use Rattle.ws_replica.specs.Holdings.{ReplicaStandsFor, both};
-ghost use Rattle.ws_replica.specs.Builds.{IsBuilt};
+ghost use Rattle.ws_replica.specs.declared.BuildError.TheVariants.{Memory};
+ghost use Rattle.ws_replica.specs.Builds.{IsBuilt, refusal_of};
 ghost use Rattle.ws_replica.specs.Programs.{IsTranslated, IsLinked, IsImageHeld, IsImage, MeansProgram};
 ghost use Rattle.go_check.specs.Typed.{Typed, IsWellTyped};
 ghost use Rattle.go_check.specs.Meaning.{IsProgram};
@@ -60,6 +61,25 @@ pub enum BuildError {
     /// An allocation was refused.
     #[error("memory")]
     Memory,
+}
+
+impl From<PlanError> for BuildError {
+    ghost from_gives = { λ refusal e. e ≡ refusal_of refusal };
+
+    fn from(refusal: PlanError) -> BuildError {
+        match refusal {
+            PlanError::NoPackage => BuildError::NoPackage,
+            PlanError::Memory => BuildError::Memory,
+        }
+    }
+}
+
+impl From<AllocError> for BuildError {
+    ghost from_gives = { λ _ e. e ≡ Memory };
+
+    fn from(_e: AllocError) -> BuildError {
+        BuildError::Memory
+    }
 }
 
 /// What a build says of a directory.
@@ -261,30 +281,21 @@ fn build_sound(
     directory: String,
     parsed: Vec<Parsed>,
     edition: Edition,
-) -> Result<(Report, Cache), BuildError>
-    ensures ok { IfOk result (λ built. (actions : List AnAction) → CacheStandsFor cache.now actions → AllSized actions → IsBuilt actions (action_of (edition_number edition) (string_bytes directory) parsed.items) (string_bytes directory) built.0 built.1) }
-    ensures memory { IfErr result (λ error. error ≡ BuildError.Memory) }
+) -> Result<(Report, Cache), AllocError>
+    ensures { IfOk result (λ built. (actions : List AnAction) → CacheStandsFor cache.now actions → AllSized actions → IsBuilt actions (action_of (edition_number edition) (string_bytes directory) parsed.items) (string_bytes directory) built.0 built.1) }
 {
-    let Ok(path) = directory.clone() else {
-        return Err(BuildError::Memory);
-    };
+    let path = directory.clone()?;
     // The plan's files are in order of their names and have one package name.
     let Ok(action) = Action::new(alloc, edition, path, parsed) else {
-        return Err(BuildError::Memory);
+        return Err(AllocError);
     };
-    let Ok(built) = run_action(alloc, action, cache) else {
-        return Err(BuildError::Memory);
-    };
+    let built = run_action(alloc, action, cache)?;
     let Some(outcome) = built.result(0) else {
         unreachable!();
     };
-    let Ok(verdict) = verdict_of(outcome) else {
-        return Err(BuildError::Memory);
-    };
+    let verdict = verdict_of(outcome)?;
     let compiled = built.compiled() as u64;
-    let Ok(report) = report_of(alloc, directory, verdict, compiled) else {
-        return Err(BuildError::Memory);
-    };
+    let report = report_of(alloc, directory, verdict, compiled)?;
     Ok((report, built.into_cache()))
 }
 
@@ -302,30 +313,19 @@ pub fn build(
     ensures none { result ≡ Err BuildError.NoPackage → (W : List AWrite) (E : List AnAction) → ReplicaStandsFor replica.old W E → IsPlanOf W directory.now NoFiles }
     ensures err { OnErr result (replica.new ≡ replica.old) }
 {
-    let plan = match plan(alloc, &replica.registers, directory) {
-        Ok(plan) => plan,
-        Err(PlanError::NoPackage) => return Err(BuildError::NoPackage),
-        Err(PlanError::Memory) => return Err(BuildError::Memory),
-    };
     let Plan {
         directory: path,
         node,
-    } = plan;
+    } = plan(alloc, &replica.registers, directory)?;
     match node {
         Node::Faulty(fault) => {
-            let Ok(report) = report_of(alloc, path, Verdict::Faulty(fault), 0) else {
-                return Err(BuildError::Memory);
-            };
+            let report = report_of(alloc, path, Verdict::Faulty(fault), 0)?;
             Ok(report)
         }
         Node::Sound(parsed) => {
-            match build_sound(alloc, &replica.cache, path, parsed, edition) {
-                Ok((report, cache)) => {
-                    replica.cache = cache;
-                    Ok(report)
-                }
-                Err(_) => Err(BuildError::Memory),
-            }
+            let (report, cache) = build_sound(alloc, &replica.cache, path, parsed, edition)?;
+            replica.cache = cache;
+            Ok(report)
         }
     }
 }
@@ -374,25 +374,18 @@ pub fn image(
     ensures none { result ≡ Err BuildError.NoPackage → (W : List AWrite) (E : List AnAction) → ReplicaStandsFor replica.now W E → IsPlanOf W directory.now NoFiles }
 {
     let registers = &replica.registers;
-    let plan = match plan(alloc, registers, directory) {
-        Ok(plan) => plan,
-        Err(PlanError::NoPackage) => return Err(BuildError::NoPackage),
-        Err(_) => return Err(BuildError::Memory),
-    };
     let Plan {
         directory: path,
         node,
-    } = plan;
+    } = plan(alloc, registers, directory)?;
     let Node::Sound(parsed) = node else {
         return Ok(None);
     };
     let Ok(action) = Action::new(alloc, edition, path, parsed) else {
         return Err(BuildError::Memory);
     };
-    match held_image(alloc, &replica.cache, &action) {
-        Ok(image) => Ok(image),
-        Err(_) => Err(BuildError::Memory),
-    }
+    let image = held_image(alloc, &replica.cache, &action)?;
+    Ok(image)
 }
 
 /// A plan has one report.

@@ -1,8 +1,7 @@
-use Rattle.std.proofs.Common.{rules, ◌≡◌, Option, Some, None, sym, ap, subst, ◌∙◌}
-use Rattle.std.specs.Prelude.{Result, Ok, Err, IfOk}
+use Rattle.std.proofs.Common.{rules, ◌≡◌, Some, ap, subst}
 use Rattle.std.specs.Arc.{arc_value}
 use Rattle.std.specs.FinMap.{get}
-use Rattle.ws_action.specs.Actions.{Action, action_id}
+use Rattle.ws_action.specs.Actions.{action_id}
 use Rattle.ws_cache.specs.Compiles.{Compiled, Good, Faulty, Compiles, compiled_of}
 use Rattle.ws_replica.proofs.HeldImages.{image_held, faulty_held, if_ok_map}
 use Rattle.ws_replica.proofs.held_image.Goals as goal
