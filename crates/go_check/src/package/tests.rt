@@ -34,24 +34,55 @@ fn typed(alloc: Global, text: &str) -> Result<Typed, AllocError> {
     }
 }
 
-/// The fault of the package of one file.
-fn fault_of(alloc: Global, text: &str) -> Result<Fault, AllocError> {
-    match check(alloc, "cmd/a", &[parsed(alloc, "a.go", text)?]) {
-        Err(CheckError::Faulty(fault)) => Ok(fault),
-        _ => Err(AllocError),
+/// The files whose texts a `¦` parts. In a text `␊` stands for a newline and `␉` for a tab.
+fn files_of(alloc: Global, texts: &str) -> Result<Vec<Parsed>, AllocError> {
+    let texts = texts.replace(alloc, "␊", "\n")?;
+    let texts = texts.as_str().replace(alloc, "␉", "\t")?;
+    match texts.as_str().split_once('¦') {
+        None => {
+            let only = parsed(alloc, "a.go", texts.as_str())?;
+            Ok(Vec::from_array(alloc, [only])?)
+        }
+        Some((first, second)) => {
+            let first = parsed(alloc, "a.go", first)?;
+            let second = parsed(alloc, "b.go", second)?;
+            Ok(Vec::from_array(alloc, [first, second])?)
+        }
     }
 }
 
-/// The fault of the package of two files.
-fn fault_of_two(alloc: Global, first: &str, second: &str) -> Result<Fault, AllocError> {
-    let files = [
-        parsed(alloc, "a.go", first)?,
-        parsed(alloc, "b.go", second)?,
-    ];
+/// What the check of the files says: `good`, or the place and the number of the fault.
+fn answer(alloc: Global, texts: &str) -> Result<String, AllocError> {
+    let files = files_of(alloc, texts)?;
     match check(alloc, "cmd/a", &files) {
-        Err(CheckError::Faulty(fault)) => Ok(fault),
-        _ => Err(AllocError),
+        Ok(_) => String::from_str(alloc, "good"),
+        Err(CheckError::Faulty(fault)) => {
+            let (file, place, number) = (fault.file(), fault.place(), fault.kind().number());
+            format!(in alloc; "{file}:{}:{} {number}", place.line, place.column)
+        }
+        Err(CheckError::Memory) => Err(AllocError),
     }
+}
+
+/// How many rows have the answer that is wanted, behind those that haven't, and behind lines that are no rows.
+fn differing(alloc: Global, rows: &str) -> Result<String, AllocError> {
+    let mut told = String::new(alloc);
+    let mut agreeing = 0usize;
+    for row in rows.lines() {
+        let Some((wanted, texts)) = row.split_once(" | ") else {
+            told.push_str(row)?;
+            continue;
+        };
+        let got = answer(alloc, texts)?;
+        let got = got.as_str();
+        if got == wanted {
+            agreeing = agreeing.wrapping_add(1);
+        } else {
+            told.push_str(format!(in alloc; "{row:?} is {got}. ")?.as_str())?;
+        }
+    }
+    told.push_str(format!(in alloc; "{agreeing} rows agree")?.as_str())?;
+    Ok(told)
 }
 
 fn stands(fault: &Fault, file: &str, line: u32, column: u32, kind: FaultKind) -> bool {
@@ -61,13 +92,6 @@ fn stands(fault: &Fault, file: &str, line: u32, column: u32, kind: FaultKind) ->
 /// A good program.
 const GOOD: &str =
     "package main\nimport \"fmt\"\nfunc main() {\n\tfmt.Println(\"hi\", 3)\n\tfmt.Println(9223372036854775807)\n}\n";
-
-/// One that prints 2^63, which is no int.
-const PAST_INT: &str =
-    "package main\nimport \"fmt\"\nfunc main() { fmt.Println(9223372036854775808) }\n";
-
-/// An import that nothing refers to.
-const IDLE: &str = "package main\n\nimport \"fmt\"\n";
 
 #[test]
 fn good(rt: HostRuntime) -> Result<(), AllocError> {
@@ -107,81 +131,56 @@ fn good_without_main(rt: HostRuntime) -> Result<(), AllocError> {
     Ok(())
 }
 
+/// The rules, and which of two broken ones counts.
+static RULES: &str = r#"
+good | package main␊import "fmt"␊func main() {␊␉fmt.Println("hi", 3)␊␉fmt.Println(9223372036854775807)␊}␊
+a.go:2:8 12 | package main␊import "fmt"␊func main() {}␊
+a.go:3:2 11 | package main␊func main() {␊␉fmt.Println()␊}␊
+a.go:2:15 11 | package main␊func main() { fmt.Println(170141183460469231731687303715884105728) }␊
+a.go:3:15 14 | package main␊import "fmt"␊func main() { fmt.Println(9223372036854775808) }␊
+a.go:5:2 14 | package main␊import "fmt"␊func main() {␊␉fmt.Println(1)␊␉fmt.Println("a", 170141183460469231731687303715884105727)␊}␊
+a.go:4:35 15 | package main␊import "fmt"␊func main() {␊␉fmt.Println(9223372036854775808, 170141183460469231731687303715884105728)␊}␊
+a.go:4:2 14 | package main␊import "fmt"␊func main() {␊␉fmt.Println(9223372036854775808)␊␉fmt.Println(170141183460469231731687303715884105728)␊}␊
+b.go:3:6 10 | package main␊import "fmt"␊func main() {␊␉fmt.Println("hi", 3)␊␉fmt.Println(9223372036854775807)␊}␊¦package main␊import "fmt"␊func main() { fmt.Println(9223372036854775808) }␊
+b.go:2:8 12 | package main␊import "fmt"␊func main() {␊␉fmt.Println("hi", 3)␊␉fmt.Println(9223372036854775807)␊}␊¦package main␊import "fmt"␊func main() {}␊
+a.go:3:15 14 | package main␊import "fmt"␊func main() { fmt.Println(9223372036854775808) }␊¦package main␊␊import "fmt"␊
+a.go:3:8 12 | package main␊␊import "fmt"␊¦package main␊import "fmt"␊func main() { fmt.Println(9223372036854775808) }␊
+a.go:1:9 23 | package main¦package main
+b.go:3:8 12 | package main¦package main␊␊import "fmt"␊
+"#;
+
 #[test]
-fn unused_import(rt: HostRuntime) -> Result<(), AllocError> {
-    let alloc = rt.alloc();
-    let text = "package main\nimport \"fmt\"\nfunc main() {}\n";
-    let fault = fault_of(alloc, text)?;
-    assert!(rt; stands(&fault, "a.go", 2, 8, FaultKind::UnusedImport));
+fn rules(rt: HostRuntime) -> Result<(), AllocError> {
+    let told = differing(rt.alloc(), RULES)?;
+    assert_eq!(rt; told.as_str(), "14 rows agree");
     Ok(())
 }
 
-#[test]
-fn undeclared(rt: HostRuntime) -> Result<(), AllocError> {
-    let alloc = rt.alloc();
-    let fault = fault_of(alloc, "package main\nfunc main() {\n\tfmt.Println()\n}\n")?;
-    assert!(rt; stands(&fault, "a.go", 3, 2, FaultKind::Undeclared));
-    let with_literal =
-        "package main\nfunc main() { fmt.Println(170141183460469231731687303715884105728) }\n";
-    let fault = fault_of(alloc, with_literal)?;
-    assert!(rt; stands(&fault, "a.go", 2, 15, FaultKind::Undeclared));
-    Ok(())
-}
+/// Forms that aren't known so far. The last comes before a rule that is broken in a file before it.
+static UNKNOWN: &str = r#"
+a.go:2:1 2 | package main␊const c = 1␊func main() {}␊
+a.go:2:1 2 | package main␊var x = 1␊func main() {}␊
+a.go:2:1 2 | package main␊type T struct{}␊func main() {}␊
+a.go:2:8 2 | package main␊import f "fmt"␊func main() {}␊
+a.go:4:2 2 | package main␊import (␊␉"fmt"␊␉"os"␊)␊func main() {}␊
+a.go:2:1 2 | package main␊func f() {}␊
+a.go:2:1 2 | package main␊func main(a int) { x = 1 }␊
+a.go:2:1 2 | package main␊func main() int { x = 1 }␊
+a.go:2:15 2 | package main␊func main() { x = 1 }␊
+a.go:2:17 2 | package main␊func main() { ; { fmt.Println(x) } }␊
+a.go:2:15 2 | package main␊func main() { fmt.Print(x) }␊
+a.go:2:15 2 | package main␊func main() { (fmt.Println)(x) }␊
+a.go:2:30 2 | package main␊func main() { fmt.Println(1, (2)) }␊
+a.go:2:27 2 | package main␊func main() { fmt.Println(0x10) }␊
+a.go:2:27 2 | package main␊func main() { fmt.Println(1_0) }␊
+a.go:2:27 2 | package main␊func main() { fmt.Println('a') }␊
+b.go:2:1 2 | package main␊␊import "fmt"␊¦package main␊var x int␊
+"#;
 
 #[test]
-fn range(rt: HostRuntime) -> Result<(), AllocError> {
-    let alloc = rt.alloc();
-    let fault = fault_of(alloc, PAST_INT)?;
-    assert!(rt; stands(&fault, "a.go", 3, 15, FaultKind::Range));
-    let largest_constant =
-        "package main\nimport \"fmt\"\nfunc main() {\n\tfmt.Println(1)\n\tfmt.Println(\"a\", 170141183460469231731687303715884105727)\n}\n";
-    let fault = fault_of(alloc, largest_constant)?;
-    assert!(rt; stands(&fault, "a.go", 5, 2, FaultKind::Range));
-    Ok(())
-}
-
-#[test]
-fn constant(rt: HostRuntime) -> Result<(), AllocError> {
-    let alloc = rt.alloc();
-    let behind_an_int =
-        "package main\nimport \"fmt\"\nfunc main() {\n\tfmt.Println(9223372036854775808, 170141183460469231731687303715884105728)\n}\n";
-    let fault = fault_of(alloc, behind_an_int)?;
-    assert!(rt; stands(&fault, "a.go", 4, 35, FaultKind::Constant));
-    let behind_a_statement =
-        "package main\nimport \"fmt\"\nfunc main() {\n\tfmt.Println(9223372036854775808)\n\tfmt.Println(170141183460469231731687303715884105728)\n}\n";
-    let fault = fault_of(alloc, behind_a_statement)?;
-    assert!(rt; stands(&fault, "a.go", 4, 2, FaultKind::Range));
-    Ok(())
-}
-
-#[test]
-fn second_main(rt: HostRuntime) -> Result<(), AllocError> {
-    let alloc = rt.alloc();
-    let fault = fault_of_two(alloc, GOOD, PAST_INT)?;
-    assert!(rt; stands(&fault, "b.go", 3, 6, FaultKind::Redeclared));
-    let with_import = "package main\nimport \"fmt\"\nfunc main() {}\n";
-    let fault = fault_of_two(alloc, GOOD, with_import)?;
-    assert!(rt; stands(&fault, "b.go", 2, 8, FaultKind::UnusedImport));
-    Ok(())
-}
-
-#[test]
-fn order_of_files(rt: HostRuntime) -> Result<(), AllocError> {
-    let alloc = rt.alloc();
-    let fault = fault_of_two(alloc, PAST_INT, IDLE)?;
-    assert!(rt; stands(&fault, "a.go", 3, 15, FaultKind::Range));
-    let fault = fault_of_two(alloc, IDLE, PAST_INT)?;
-    assert!(rt; stands(&fault, "a.go", 3, 8, FaultKind::UnusedImport));
-    Ok(())
-}
-
-#[test]
-fn no_main(rt: HostRuntime) -> Result<(), AllocError> {
-    let alloc = rt.alloc();
-    let fault = fault_of_two(alloc, "package main", "package main")?;
-    assert!(rt; stands(&fault, "a.go", 1, 9, FaultKind::Main));
-    let fault = fault_of_two(alloc, "package main", IDLE)?;
-    assert!(rt; stands(&fault, "b.go", 3, 8, FaultKind::UnusedImport));
+fn unknown_forms(rt: HostRuntime) -> Result<(), AllocError> {
+    let told = differing(rt.alloc(), UNKNOWN)?;
+    assert_eq!(rt; told.as_str(), "17 rows agree");
     Ok(())
 }
 
@@ -286,47 +285,6 @@ fn left_out(rt: HostRuntime) -> Result<(), AllocError> {
     unnamed.imports = Vec::new(alloc);
     let fault = fault_of_tree(alloc, &unnamed)?;
     assert!(rt; stands(&fault, "a.go", 4, 2, FaultKind::Undeclared));
-    Ok(())
-}
-
-/// Texts, and the place of the first node of a form that isn't known so far.
-const UNKNOWN: [(&str, u32, u32); 16] = [
-    ("package main\nconst c = 1\nfunc main() {}\n", 2, 1),
-    ("package main\nvar x = 1\nfunc main() {}\n", 2, 1),
-    ("package main\ntype T struct{}\nfunc main() {}\n", 2, 1),
-    ("package main\nimport f \"fmt\"\nfunc main() {}\n", 2, 8),
-    (
-        "package main\nimport (\n\t\"fmt\"\n\t\"os\"\n)\nfunc main() {}\n",
-        4,
-        2,
-    ),
-    ("package main\nfunc f() {}\n", 2, 1),
-    ("package main\nfunc main(a int) { x = 1 }\n", 2, 1),
-    ("package main\nfunc main() int { x = 1 }\n", 2, 1),
-    ("package main\nfunc main() { x = 1 }\n", 2, 15),
-    (
-        "package main\nfunc main() { ; { fmt.Println(x) } }\n",
-        2,
-        17,
-    ),
-    ("package main\nfunc main() { fmt.Print(x) }\n", 2, 15),
-    ("package main\nfunc main() { (fmt.Println)(x) }\n", 2, 15),
-    ("package main\nfunc main() { fmt.Println(1, (2)) }\n", 2, 30),
-    ("package main\nfunc main() { fmt.Println(0x10) }\n", 2, 27),
-    ("package main\nfunc main() { fmt.Println(1_0) }\n", 2, 27),
-    ("package main\nfunc main() { fmt.Println('a') }\n", 2, 27),
-];
-
-#[test]
-fn unknown_forms(rt: HostRuntime) -> Result<(), AllocError> {
-    let alloc = rt.alloc();
-    for (text, line, column) in UNKNOWN {
-        let fault = fault_of(alloc, text)?;
-        assert!(rt; stands(&fault, "a.go", line, column, FaultKind::LeftOut));
-    }
-    // A form that isn't known comes before a rule that is broken in a file before it.
-    let fault = fault_of_two(alloc, IDLE, "package main\nvar x int\n")?;
-    assert!(rt; stands(&fault, "b.go", 2, 1, FaultKind::LeftOut));
     Ok(())
 }
 
