@@ -1,7 +1,6 @@
 -- What a list and another after it join to.
-use Rattle.std.specs.Prelude.{◌≡◌, ◌<◌, ℕ, suc, List, [], ◌∷◌, ◌++◌, length, map, replicate, slice_index_or, take, drop, Result, Ok, Err, IfOk}
-use Rattle.std.proofs.Common.{refl, sym, ap, ap₂, ◌∙◌, arith, Vec, subst, take-append-drop}
-use Rattle.std.proofs.lemmas.List.{length-map}
+use Rattle.std.specs.Prelude.{◌≡◌, ◌<◌, ℕ, List, [], ◌∷◌, ◌++◌, length, replicate, take, drop}
+use Rattle.std.proofs.Common.{refl, sym, ap, ap₂, ◌∙◌, subst, take-append-drop}
 use Rattle.std.proofs.lemmas.Simd.{splat_is_map}
 use Rattle.ws_replica.specs.Joins.{joined_from, IsJoinOf, settled}
 
@@ -37,23 +36,8 @@ module _ {J : Type 0} (f : J → J → J) (associative : (a b c : J) → f (f a 
   IsJoinOf-halves all front back n x y first rest some more left right =
       subst (λ (whole : List J). IsJoinOf f whole (f x y)) (ap₂ ◌++◌ first rest ∙ take-append-drop n all) (IsJoinOf-append front back x y some more left right)
 
-all_same : {X E : Type 0} (values : List X) (x : X) → ((i : ℕ) (d : Result X E) → i < length values → IfOk (slice_index_or (map Ok values) i d) (λ value. value ≡ x)) → values ≡ replicate (length values) x
-all_same [] x same = refl
-all_same (v ∷ values) x same = ap₂ ◌∷◌ (same 0 (Ok v) (omega arith)) (all_same values x (λ i d within. same (suc i) d (omega arith)))
-
--- values each of which is the same
-pub replicated : {X E : Type 0} (values : List X) (made : List (Result X E)) (x : X) (n : ℕ) → map Ok values ≡ made → length made ≡ n → ((i : ℕ) (d : Result X E) → i < n → IfOk (slice_index_or made i d) (λ value. value ≡ x)) → values ≡ replicate n x
-replicated {E = E} values made x n e size same =
-    let count : length values ≡ n = sym (length-map values Ok) ∙ ap length e ∙ size in
-    all_same {E = E} values x (λ i d within. rw e (same i d (rw (← count) within))) ∙ ap (λ k. replicate k x) count
-
 -- as many of what a list joins to as it has members
 pub settled-replicate : {J : Type 0} (f : J → J → J) (all : List J) (joined : J) → IsJoinOf f all joined → replicate (length all) joined ≡ settled f all
 settled-replicate f [] joined is = refl
 settled-replicate f (first ∷ rest) joined is =
     ap (replicate (length (first ∷ rest))) (is first rest refl) ∙ splat_is_map (first ∷ rest) (length (first ∷ rest)) (joined_from f first rest) refl
-
--- the values of a result, if it has any, of which each is the same
-pub replicated_ok : {X A E F : Type 0} (result : Result (Vec X A) F) (made : List (Result X E)) (x : X) (n : ℕ) → IfOk result (λ values. map Ok values.items ≡ made) → length made ≡ n → ((i : ℕ) (d : Result X E) → i < n → IfOk (slice_index_or made i d) (λ value. value ≡ x)) → IfOk result (λ values. values.items ≡ replicate n x)
-replicated_ok (Ok values) made x n e size same = replicated values.items made x n e size same
-replicated_ok (Err error) made x n e size same = tt

@@ -1,13 +1,12 @@
 //! What several hold together.
 
-ghost use Rattle.std.specs.Prelude.{◌≡◌, ◌<◌, List, length, IfOk, OnOk, OnErr, map, replicate, Ok};
+ghost use Rattle.std.specs.Prelude.{◌≡◌, ◌<◌, List, length, IfOk, OnOk, OnErr, map, replicate};
 ghost use Rattle.std.specs.Thread.{IsSync, IsSend};
 ghost use Rattle.ws_replica.specs.Holdings.{both, Took, AllStandFor, all_taken};
 ghost use Rattle.ws_replica.specs.Joins.{IsJoinOf, settled};
 
 use crate::Replica;
 use std::alloc::{AllocError, Global};
-use std::thread;
 use std::thread::{Threads, join};
 use ws_version::Join;
 
@@ -38,28 +37,16 @@ pub fn join_all<R: Threads + Sync, J: Join + Drop>(rt: &R, all: &[J]) -> Result<
     Ok(joined)
 }
 
-/// The values, or an `Err` where one is missing.
-fn values<J: Drop>(alloc: Global, made: Vec<Result<J, AllocError>>) -> Result<Vec<J>, AllocError>
-    ensures { IfOk result (λ values. map Ok values.items ≡ made.items) }
-{
-    let mut values = Vec::new(alloc);
-    for value in made {
-        values.push(value?)?;
-    }
-    Ok(values)
-}
-
-/// As many copies as asked for, made side by side, or an `Err` for want of memory.
-fn copies<R: Threads + Sync, J: Join + Drop>(
-    rt: &R,
-    alloc: Global,
-    count: usize,
-    joined: &J,
-) -> Result<Vec<J>, AllocError>
+/// As many copies as asked for, or an `Err` for want of memory.
+fn copies<J: Join + Drop>(alloc: Global, count: usize, joined: &J) -> Result<Vec<J>, AllocError>
     ensures { IfOk result (λ copies. copies.items ≡ replicate count joined.now) }
 {
-    let made = thread::map_indices(rt, alloc, count, &|_| joined.copy())?;
-    values(alloc, made)
+    let mut copies = Vec::with_capacity(alloc, count)?;
+    for _ in 0..count {
+        let copy = joined.copy()?;
+        copies.push(copy)?;
+    }
+    Ok(copies)
 }
 
 /// Each becomes what all hold together. An `Err`, for want of memory, changes nothing.
@@ -75,7 +62,7 @@ fn settle_all<R: Threads + Sync, J: Join + Drop>(
         return Ok(());
     }
     let joined = join_all(rt, all)?;
-    let mut copies = copies(rt, alloc, all.len(), &joined)?;
+    let mut copies = copies(alloc, all.len(), &joined)?;
     all.swap_with_slice(copies.as_mut_slice());
     Ok(())
 }
