@@ -1,3 +1,4 @@
 pub mod Growth
 pub mod Reaches
+pub mod Refused
 pub mod Texts

@@ -3,3 +3,4 @@ pub mod Reading
 pub mod Requests
 pub mod Ends
 pub mod Failures
+pub mod Answers

@@ -1,13 +1,10 @@
 -- How what is known grows.
-use Rattle.std.proofs.Common.{◌≡◌, ℕ, zero, suc, ◌+◌, List, [], ◌∷◌, ◌++◌, take, drop, map, Option, None, Some, Result, Ok, Err, append_assoc, ap, subst, ◌∙◌, sym, refl, append-nil}
-use Rattle.std.specs.Prelude.{◌==◌, Bool, true, false, not, if◌then◌else◌}
+use Rattle.std.proofs.Common.{◌≡◌, ℕ, zero, suc, ◌+◌, List, [], ◌∷◌, ◌++◌, take, drop, map, Option, None, Some, append_assoc, ap, subst, ◌∙◌, sym, refl, append-nil}
+use Rattle.std.specs.Prelude.{◌==◌, false}
 use Rattle.std.proofs.Math.Dec.{eqb-suc-zero}
 use Rattle.std.proofs.Math.Seq.{take-add}
 use Rattle.std.proofs.lemmas.List.{map-append}
-use Rattle.std.specs.Prelude.{OnOk, OnErr}
-use Rattle.std.specs.Result.{is_err}
-use Rattle.std.proofs.lemmas.Bool.{false≢true}
-use Rattle.goset.specs.session.Told.{Told, Gave, Grows, read_failures}
+use Rattle.goset.specs.session.Told.{Told, Gave, Grows}
 use Rattle.goset.specs.session.Reading.{joined}
 
 pub grows_on : {A : Type 0} (a b c : Option (List A)) (xs ys : List A) → Grows a b xs → Grows b c ys → Grows a c (xs ++ ys)
@@ -42,19 +39,6 @@ pub not_zero : (n : ℕ) → (n ≡ 0 → ⊥) → (n == 0) ≡ false
 not_zero zero h = absurd (h refl)
 not_zero (suc n) h = eqb-suc-zero n
 
-pub extended : (ok err : Bool) (new old piece more : List ℕ) → ok ≡ not err → err ≡ false → new ≡ (if ok then old ++ piece else old) → piece ≡ more → new ≡ old ++ more
-extended true false new old piece more e f h k = h ∙ ap (λ (s : List ℕ). old ++ s) k
-extended false false new old piece more e f h k = cc
-extended ok true new old piece more e f h k = cc
-
-pub on_ok : {A E : Type 0} (P : Type 0) (r : Result A E) (b : Bool) → b ≡ is_err r → b ≡ false → OnOk r P → P
-on_ok P (Ok a) b e f h = h
-on_ok P (Err x) b e f h = absurd (false≢true (sym f ∙ e))
-
-pub on_err : {A E : Type 0} (P : Type 0) (r : Result A E) (b : Bool) → b ≡ is_err r → b ≡ true → OnErr r P → P
-on_err P (Ok a) b e f h = absurd (false≢true (sym e ∙ f))
-on_err P (Err x) b e f h = h
-
-pub no_failures : {A E : Type 0} (r : Result A E) (b : Bool) → b ≡ is_err r → b ≡ false → read_failures r ≡ 0
-no_failures (Ok a) b e f = refl
-no_failures (Err x) b e f = absurd (false≢true (sym f ∙ e))
+-- one more piece behind the bytes of those before
+pub piece_on : (new old piece more bytes : List ℕ) → new ≡ old ++ piece → piece ≡ more → bytes ≡ old → new ≡ bytes ++ more
+piece_on new old piece more bytes h k e = cc

@@ -2,8 +2,9 @@
 ghost use Rattle.std.specs.Prelude.{◌≡◌, ℕ, ◌+◌, ◌<◌, ◌≤◌, ◌^◌, List, [], ◌∷◌, length, Option, IfOk, MatchResult};
 ghost use Rattle.goset.specs.session.Told.{Told, told_by, read_failures, Grows};
 ghost use Rattle.goset.specs.session.Reading.{limit, GaveAll, NotRead, failures_of};
+ghost use Rattle.goset.specs.declared.session.reading.ReadError.TheVariants.{Memory, Read};
 
-use std::alloc::Global;
+use std::alloc::{AllocError, Global};
 
 /// A read or a write that didn't work.
 #[derive(Clone, Copy, Debug, PartialEq, Eq, Drop)]
@@ -41,6 +42,22 @@ pub enum ReadError {
     TooLong,
 }
 
+impl From<AllocError> for ReadError {
+    ghost from_gives = { λ _ e. e ≡ Memory };
+
+    fn from(_e: AllocError) -> ReadError {
+        ReadError::Memory
+    }
+}
+
+impl From<EndFault> for ReadError {
+    ghost from_gives = { λ _ e. e ≡ Read };
+
+    fn from(_e: EndFault) -> ReadError {
+        ReadError::Read
+    }
+}
+
 /// Reads all that a reader has, and its end.
 ///
 /// - `Memory`: there was none for the bytes.
@@ -57,20 +74,14 @@ pub fn read_whole<R: ScriptIn>(alloc: Global, reader: &mut R) -> Result<Vec<u8>,
     let mut script = Vec::new(alloc);
     let mut buffer = [0u8; 16384];
     'pieces: loop {
-        match reader.read(&mut buffer) {
-            Ok(n) => {
-                if n == 0 {
-                    return Ok(script);
-                }
-                let (piece, _) = buffer.split_at(n);
-                if script.extend_from_slice(piece).is_err() {
-                    return Err(ReadError::Memory);
-                }
-                if script.len() > LIMIT {
-                    return Err(ReadError::TooLong);
-                }
-            }
-            Err(EndFault) => return Err(ReadError::Read),
+        let n = reader.read(&mut buffer)?;
+        if n == 0 {
+            return Ok(script);
+        }
+        let (piece, _) = buffer.split_at(n);
+        script.extend_from_slice(piece)?;
+        if script.len() > LIMIT {
+            return Err(ReadError::TooLong);
         }
     }
 }

@@ -8,8 +8,10 @@ ghost use Rattle.goset.specs.session.Requests.{IsFirst};
 ghost use Rattle.ws_session.specs.World.{opening};
 ghost use Rattle.goset.specs.session.Ends.{Wrote, WroteSome, Session};
 ghost use Rattle.goset.specs.session.Failures.{failed_writes, failed_reads, unwritten};
+ghost use Rattle.goset.specs.session.Answers.{unread, unanswered};
+ghost use Rattle.goset.specs.declared.session.running.AnswerError.TheVariants.{Memory, Write};
 
-use crate::session::reading::{ReadError, ScriptIn, read_whole};
+use crate::session::reading::{EndFault, ReadError, ScriptIn, read_whole};
 use crate::session::writing::{ScriptOut, write_whole};
 use std::alloc::{AllocError, Global};
 use std::thread::Threads;
@@ -32,11 +34,50 @@ pub enum SessionError {
     TooLong,
 }
 
+impl From<ReadError> for SessionError {
+    ghost from_gives = { λ refusal e. e ≡ unread refusal };
+
+    fn from(refusal: ReadError) -> SessionError {
+        match refusal {
+            ReadError::Memory => SessionError::Memory,
+            ReadError::Read => SessionError::Read,
+            ReadError::TooLong => SessionError::TooLong,
+        }
+    }
+}
+
+impl From<AnswerError> for SessionError {
+    ghost from_gives = { λ refusal e. e ≡ unanswered refusal };
+
+    fn from(refusal: AnswerError) -> SessionError {
+        match refusal {
+            AnswerError::Memory => SessionError::Memory,
+            AnswerError::Write => SessionError::Write,
+        }
+    }
+}
+
 /// Why answers weren't written: no memory for a command, or a failed write.
 #[derive(Clone, Copy, Debug, PartialEq, Eq, Drop)]
 pub enum AnswerError {
     Memory,
     Write,
+}
+
+impl From<AllocError> for AnswerError {
+    ghost from_gives = { λ _ e. e ≡ Memory };
+
+    fn from(_e: AllocError) -> AnswerError {
+        AnswerError::Memory
+    }
+}
+
+impl From<EndFault> for AnswerError {
+    ghost from_gives = { λ _ e. e ≡ Write };
+
+    fn from(_e: EndFault) -> AnswerError {
+        AnswerError::Write
+    }
 }
 
 /// A command with its text, and what is left of the script behind it.
@@ -111,20 +152,13 @@ pub fn answer<R: Threads + Sync, S: Steps, O: ScriptOut>(
 {
     let mut rest = script;
     'commands: while !rest.is_empty() {
-        let Ok(request) = first_request(alloc, rest) else {
-            return Err(AnswerError::Memory);
-        };
         let Request {
             asked,
             text,
             behind,
-        } = request;
-        let Ok(told) = steps.step(rt, &asked, text) else {
-            return Err(AnswerError::Memory);
-        };
-        if write_whole(writer, told.as_slice()).is_err() {
-            return Err(AnswerError::Write);
-        }
+        } = first_request(alloc, rest)?;
+        let told = steps.step(rt, &asked, text)?;
+        write_whole(writer, told.as_slice())?;
         rest = behind;
     }
     Ok(())
@@ -152,14 +186,7 @@ pub fn play<R: Threads + Sync, S: Steps, I: ScriptIn, O: ScriptOut>(
     ensures reads { I.failed reader.new ≡ I.failed reader.old + failed_reads result }
     ensures writes { O.failed writer.new ≡ O.failed writer.old + failed_writes result }
 {
-    match read_whole(alloc, reader) {
-        Err(ReadError::Memory) => Err(SessionError::Memory),
-        Err(ReadError::Read) => Err(SessionError::Read),
-        Err(ReadError::TooLong) => Err(SessionError::TooLong),
-        Ok(script) => match answer(rt, alloc, steps, script.as_slice(), writer) {
-            Ok(()) => Ok(()),
-            Err(AnswerError::Memory) => Err(SessionError::Memory),
-            Err(AnswerError::Write) => Err(SessionError::Write),
-        },
-    }
+    let script = read_whole(alloc, reader)?;
+    answer(rt, alloc, steps, script.as_slice(), writer)?;
+    Ok(())
 }

@@ -36,15 +36,11 @@ pub fn write_whole<W: ScriptOut>(writer: &mut W, bytes: &[u8]) -> Result<(), End
     let mut done = 0;
     while done < bytes.len() {
         let (_, rest) = bytes.split_at(done);
-        match writer.write(rest) {
-            Ok(n) => {
-                if n == 0 {
-                    return Err(EndFault);
-                }
-                done += n;
-            }
-            Err(e) => return Err(e),
+        let n = writer.write(rest)?;
+        if n == 0 {
+            return Err(EndFault);
         }
+        done += n;
     }
     Ok(())
 }

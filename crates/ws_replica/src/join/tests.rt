@@ -1,8 +1,6 @@
 //! That joins and settling succeed: all that any replica wrote is there.
 use super::*;
-use crate::build;
-use crate::tests::{shown, take};
-use go_text::edition::Edition;
+use crate::tests::{built, shown, take};
 use std::test::Fail;
 
 /// A replica that wrote a file of its own and one that each writes, its number being the counter.
@@ -35,25 +33,31 @@ fn union(alloc: Global, count: u32) -> Result<String, Fail> {
     Ok(all)
 }
 
+/// What some replicas hold together, of which there is one at least: joined by halves.
+fn joined<R: Threads + Sync>(rt: &R, alloc: Global, count: u32) -> Result<String, Fail> {
+    let replicas = several(alloc, count)?;
+    if replicas.is_empty() {
+        return Ok(String::new(alloc));
+    }
+    shown(alloc, &join_all(rt, replicas.as_slice())?)
+}
+
+/// The same, joined one after another.
+fn folded(alloc: Global, count: u32) -> Result<String, Fail> {
+    let mut all = Replica::new(alloc);
+    for replica in &several(alloc, count)? {
+        all.merge(replica)?;
+    }
+    shown(alloc, &all)
+}
+
 #[test]
 fn halves_join_to_what_one_after_another_does(rt: HostRuntime) -> Result<(), Fail> {
     let alloc = rt.alloc();
     for count in 1..=9 {
-        let replicas = several(alloc, count)?;
-        assert!(rt; !replicas.is_empty());
-        let joined = join_all(&rt, replicas.as_slice())?;
-        let mut folded = Replica::new(alloc);
-        for replica in &replicas {
-            folded.merge(replica)?;
-        }
-        assert_eq!(rt;
-            shown(alloc, &joined)?.as_str(),
-            union(alloc, count)?.as_str()
-        );
-        assert_eq!(rt;
-            shown(alloc, &folded)?.as_str(),
-            union(alloc, count)?.as_str()
-        );
+        let union = union(alloc, count)?;
+        assert_eq!(rt; joined(&rt, alloc, count)?.as_str(), union.as_str());
+        assert_eq!(rt; folded(alloc, count)?.as_str(), union.as_str());
     }
     Ok(())
 }
@@ -63,13 +67,11 @@ fn replicas_settle_on_the_union(rt: HostRuntime) -> Result<(), Fail> {
     let alloc = rt.alloc();
     for count in 1..=9 {
         let mut replicas = several(alloc, count)?;
+        let union = union(alloc, count)?;
         settle(&rt, alloc, replicas.as_mut_slice())?;
         assert_eq!(rt; replicas.len(), count as usize);
         for replica in &replicas {
-            assert_eq!(rt;
-                shown(alloc, replica)?.as_str(),
-                union(alloc, count)?.as_str()
-            );
+            assert_eq!(rt; shown(alloc, replica)?.as_str(), union.as_str());
         }
     }
     Ok(())
@@ -88,10 +90,10 @@ fn replicas_settle_on_what_is_compiled(rt: HostRuntime) -> Result<(), Fail> {
     let alloc = rt.alloc();
     let mut first = Replica::new(alloc);
     take(alloc, &mut first, ("p/x.go", 1, Some("package p\n")))?;
-    assert_eq!(rt; build(alloc, &mut first, "p", Edition::One)?.compiled, 1);
+    assert_eq!(rt; built(alloc, &mut first, "p")?.as_str(), "p good; 1");
     let mut both = [first, Replica::new(alloc)];
     settle(&rt, alloc, &mut both)?;
     let [_, second] = &mut both;
-    assert_eq!(rt; build(alloc, second, "p", Edition::One)?.compiled, 0);
+    assert_eq!(rt; built(alloc, second, "p")?.as_str(), "p good; 0");
     Ok(())
 }

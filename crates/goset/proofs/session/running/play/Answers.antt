@@ -1,11 +1,12 @@
-use Rattle.std.proofs.Common.{subst, inr, List, ℕ}
+use Rattle.std.proofs.Common.{◌∙◌, ap, subst, Err, List, ℕ}
+use Rattle.std.proofs.lemmas.Result.{err_from_is_err_and}
 use Rattle.goset.specs.session.Ends.{WroteSome}
+use Rattle.goset.proofs.session_lemmas.Refused.{session_unanswered}
 use Rattle.goset.proofs.session.running.play.Goals as goal
 
-pub returns-in-Err-Memory-answer-clause-session : goal.returns-in-Err-Memory-answer-clause-session
-returns-in-Err-Memory-answer-clause-session g c = λ edition h.
-    inr (
-      c.in-Ok.script.items,
-      c.in-Ok.ensures.told,
-      subst (λ (s : List ℕ). WroteSome edition s (g.O.ScriptOut.written c.args.writer.now) (g.O.ScriptOut.written c.answer.new.writer)) c.as_slice.ensures.value (c.in-Err-Memory-answer.ensures.err edition h),
-    )
+pub returns-in_err-answer-clause-session : goal.returns-in_err-answer-clause-session
+returns-in_err-answer-clause-session g c = λ edition h.
+    let written = g.O.ScriptOut.written in
+    let p = err_from_is_err_and c.from_residual-in_err-answer.result c.from_residual-in_err-answer.ensures.1 in
+    let wrote = subst (λ (s : List ℕ). WroteSome edition s (written c.args.writer.now) (written c.answer.new.writer)) c.as_slice.ensures.value (c.in_err-answer.ensures.err edition h) in
+    session_unanswered edition c.in_err-answer.field-0.0 _ _ _ _ _ c.in_ok-script.script.items (p.1 ∙ ap Err p.2) c.in_ok-script.ensures.told wrote

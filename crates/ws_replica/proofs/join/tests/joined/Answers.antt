@@ -1,6 +1,6 @@
 use denote.Param.Send.{sendable}
 use Rattle.ws_replica.proofs.Crossing.{replica_send, replica_sync}
-use Rattle.ws_replica.proofs.join.tests.halves_join_to_what_one_after_another_does.Goals as goal
+use Rattle.ws_replica.proofs.join.tests.joined.Goals as goal
 
 pub join_all-requires-send-J : goal.join_all-requires-send-J
 join_all-requires-send-J g c κs = search (replica_send, sendable) depth 20
