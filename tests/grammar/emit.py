@@ -1,12 +1,12 @@
 #!/usr/bin/env python3
-"""Writes the rows as the tests of go_parse, in files by subject."""
+"""Writes the rows as the tests of the parser, in files by subject."""
 import os
 import unicodedata
 
 from check import deeps, groups
 
 TOP = os.path.dirname(os.path.dirname(os.path.dirname(os.path.abspath(__file__))))
-FOLDER = os.path.join(TOP, "crates", "go_parse", "src", "table")
+FOLDER = os.path.join(TOP, "crates", "go_parse_tests", "src", "tests")
 # Each file's name and subject, and its tests with what stands before each of their texts, and their groups.
 FILES = [
     ("tokens", "Tokens, and where a semicolon is inserted.",
@@ -78,8 +78,8 @@ def table(name, before, notes_and_rows):
 
 #[test]
 fn {name}(rt: HostRuntime) -> Result<(), AllocError> {{
-    let told = differing(rt.alloc(), {escaped(before)}, {name.upper()})?;
-    assert_eq!(rt; told.as_str(), "{count} rows agree");
+    let told = differing(rt.alloc(), Told::Verdict, {escaped(before)}, {name.upper()})?;
+    assert!(rt; told.as_str() == "{count} rows agree");
     Ok(())
 }}
 """
@@ -94,8 +94,8 @@ fn unseen_characters(rt: HostRuntime) -> Result<(), AllocError> {{
 {lines}
     ];
     for (text, wanted) in rows {{
-        let got = answer(rt.alloc(), text)?;
-        assert_eq!(rt; got.as_str(), wanted, "at {{text:?}}");
+        let got = answer(rt.alloc(), Told::Verdict, text)?;
+        assert!(rt; got.as_str() == wanted);
     }}
     Ok(())
 }}
@@ -117,10 +117,10 @@ def main():
             if not members:
                 listed = [(DEEP[group], [deep_row(*row[:6], wanted) for row, _, wanted, _ in rows]) for group, _, rows in deeps()]
             pieces.append(table(test, before, listed))
-        uses = "differing"
+        uses = "{Told, differing}"
         if unseen:
             pieces.append(unseen_table(unseen))
-            uses = "{answer, differing}"
+            uses = "{Told, answer, differing}"
         text = f"//! {note}\nuse super::{uses};\nuse std::alloc::AllocError;\n\n" + "\n".join(pieces)
         with open(os.path.join(FOLDER, name + ".rt"), "w", encoding="utf-8") as file:
             file.write(text)

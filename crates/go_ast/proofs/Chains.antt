@@ -3,10 +3,11 @@ use Rattle.std.proofs.Common.{◌≡◌, ℕ, zero, suc, ◌<◌, ◌≤◌, ◌
 use Rattle.std.specs.Prelude.{nat_eq}
 use Rattle.std.proofs.lemmas.Bool.Decides.{nat_tests}
 use Rattle.go_scan.specs.declared.token.TokenKind.TheVariants as kinds
+use Rattle.go_scan.specs.Runes.{RuneValue}
+use Rattle.go_scan.specs.Strings.{StringValue}
 use Rattle.go_ast.specs.Operators.{tighter}
-use Rattle.go_ast.specs.Trees.{TypeExpr, named, qualified, array, struct, Expr, name, integer, rune, string, parenthesized, literal, conversion, selector, index, call, unary, binary, place_of}
+use Rattle.go_ast.specs.Trees.{TypeExpr, named, qualified, array, struct, Expr, name, integer, rune, string, parenthesized, composite_lit, conversion, selector, index, call, unary, binary, place_of}
 use Rattle.go_ast.specs.Heights.{height}
-use Rattle.go_ast.specs.Literals.{string_value, rune_value}
 use Rattle.go_ast.specs.Grammar.{Lexeme, Token, name_of, opening, closing, opening_brace, closing_brace, comma, MayBe, IsType, IsExpr, AreElements, IsPrimary, is_named, type_place}
 use Rattle.go_ast.specs.Machine.{literal_type}
 use Rattle.go_ast.proofs.Means.{Itself, IsTypeName, Suffixed, Joined}
@@ -15,11 +16,11 @@ use Rattle.go_ast.proofs.Means.{Itself, IsTypeName, Suffixed, Joined}
 abbrev pub IsOperand : Expr → List Lexeme → List Lexeme → Type 0
 IsOperand (name p text) us ws = (t : Lexeme) × Token kinds.Name t us ws × (p ≡ t.place) × (text ≡ t.text)
 IsOperand (integer p text) us ws = (t : Lexeme) × Token kinds.Integer t us ws × (p ≡ t.place) × (text ≡ t.text)
-IsOperand (rune p value) us ws = (t : Lexeme) × Token kinds.Rune t us ws × (p ≡ t.place) × (value ≡ rune_value t.text)
-IsOperand (string p value) us ws = (t : Lexeme) × Token kinds.String t us ws × (p ≡ t.place) × (value ≡ string_value t.text)
+IsOperand (rune p value) us ws = (t : Lexeme) × Token kinds.Rune t us ws × (p ≡ t.place) × RuneValue t.text value
+IsOperand (string p value) us ws = (t : Lexeme) × Token kinds.String t us ws × (p ≡ t.place) × StringValue t.text value
 IsOperand (parenthesized p e) us ws =
     (o c : Lexeme) × (vs xs : List Lexeme) × Token opening o us vs × (p ≡ o.place) × IsExpr 5 false e vs xs × Token closing c xs ws
-IsOperand (literal p a q es) us ws =
+IsOperand (composite_lit p a q es) us ws =
     (o c : Lexeme) × (vs xs ys : List Lexeme) × (is_named a ≡ false) × IsType a us vs × (p ≡ type_place a)
     × Token opening_brace o vs xs × (q ≡ o.place) × AreElements es xs ys × Token closing_brace c ys ws
 IsOperand (conversion p a e) us ws =
@@ -134,7 +135,7 @@ type_name_up a x b us vs ws d n e = elim n [
 
 -- an operand is an expression with no operator outside
 operand_is : (h : Bool) (a : Expr) (us ws : List Lexeme) → IsOperand a us ws → IsExpr 0 h a us ws × IsPrimary a
-operand_is h (literal p a q es) us ws d = ((d.0, d.1, d.2, d.3, d.4, λ _. d.5, d.6, d.7, d.8, d.9, d.10, d.11), tt)
+operand_is h (composite_lit p a q es) us ws d = ((d.0, d.1, d.2, d.3, d.4, λ _. d.5, d.6, d.7, d.8, d.9, d.10, d.11), tt)
 operand_is h (selector p e f) us ws d = absurd d
 operand_is h (index p e i) us ws d = absurd d
 operand_is h (call p e es) us ws d = absurd d
@@ -161,8 +162,8 @@ suffixes_up h a (call p e es) us vs ws d s = elim s [
   | inl i ↦ operand_itself h a (call p e es) us vs ws d i
   | inr r ↦ (let b = suffixes_up h a e us vs r.2 d r.6 in ((r.0, r.1, r.2, r.3, r.4, r.5, b.1, b.0, r.7, r.8, r.9), tt))
 ]
-suffixes_up h a (literal p b q es) us vs ws d s = elim s [
-  | inl i ↦ operand_itself h a (literal p b q es) us vs ws d i
+suffixes_up h a (composite_lit p b q es) us vs ws d s = elim s [
+  | inl i ↦ operand_itself h a (composite_lit p b q es) us vs ws d i
   | inr r ↦ (
     (
       r.0,
@@ -189,7 +190,7 @@ no_header true a e f = let never : true ≡ false = sym e ∙ f refl in absurd (
 
 suffixes_down : (h : Bool) (e : Expr) (us ws : List Lexeme) → IsExpr 0 h e us ws → IsPrimary e →
     (a : Expr) × (vs : List Lexeme) × IsOperand a us vs × Suffixed h a e vs ws
-suffixes_down h (literal p (named q n) o es) us ws d prim =
+suffixes_down h (composite_lit p (named q n) o es) us ws d prim =
     let t = d.6.0 in
     let type : Some (named t.place (name_of t)) ≡ Some (named q n) = ap (λ x. Some (named x (name_of t))) (sym d.6.2)
     ∙ ap (λ x. Some (named q x)) (sym d.6.3) in (
@@ -198,7 +199,7 @@ suffixes_down h (literal p (named q n) o es) us ws d prim =
       (t, d.6.1, refl, refl),
       inr (d.0, d.1, d.2, d.3, d.4, name t.place t.text, no_header h (named q n) refl d.5, inl (refl, refl), type, d.7, d.8, d.9, d.10, d.11),
     )
-suffixes_down h (literal p (qualified q m n) o es) us ws d prim =
+suffixes_down h (composite_lit p (qualified q m n) o es) us ws d prim =
     let t = d.6.0 in
     let s = d.6.2 in
     let type : Some (qualified t.place (name_of t) (name_of s)) ≡ Some (qualified q m n) =
@@ -224,10 +225,10 @@ suffixes_down h (literal p (qualified q m n) o es) us ws d prim =
         d.11,
       ),
     )
-suffixes_down h (literal p (array q e a) o es) us ws d prim =
-    (literal p (array q e a) o es, ws, (d.0, d.1, d.2, d.3, d.4, refl, d.6, d.7, d.8, d.9, d.10, d.11), inl (refl, refl))
-suffixes_down h (literal p (struct q fs) o es) us ws d prim =
-    (literal p (struct q fs) o es, ws, (d.0, d.1, d.2, d.3, d.4, refl, d.6, d.7, d.8, d.9, d.10, d.11), inl (refl, refl))
+suffixes_down h (composite_lit p (array q e a) o es) us ws d prim =
+    (composite_lit p (array q e a) o es, ws, (d.0, d.1, d.2, d.3, d.4, refl, d.6, d.7, d.8, d.9, d.10, d.11), inl (refl, refl))
+suffixes_down h (composite_lit p (struct q fs) o es) us ws d prim =
+    (composite_lit p (struct q fs) o es, ws, (d.0, d.1, d.2, d.3, d.4, refl, d.6, d.7, d.8, d.9, d.10, d.11), inl (refl, refl))
 suffixes_down h (selector p e f) us ws d prim =
     let r = suffixes_down h e us d.2 d.6 d.5 in
     (r.0, r.1, r.2, inr (d.0, d.1, d.2, d.3, d.4, r.3, d.7, d.8, d.9))
@@ -287,8 +288,8 @@ suffixed_height h a (call p e es) us ws s = elim s [
   | inl i ↦ itself_height a (call p e es) us ws i
   | inr r ↦ (let less = suffixed_height h a e us r.2 r.6 in omega (arith, less))
 ]
-suffixed_height h a (literal p b q es) us ws s = elim s [
-  | inl i ↦ itself_height a (literal p b q es) us ws i
+suffixed_height h a (composite_lit p b q es) us ws s = elim s [
+  | inl i ↦ itself_height a (composite_lit p b q es) us ws i
   | inr r ↦ (let less = type_name_height a r.5 b us r.2 r.7 r.8 in omega (arith, less))
 ]
 suffixed_height h a e us ws s = itself_height a e us ws s

@@ -1,11 +1,9 @@
 -- Tokens are a file or stop being one, never both, and they stop at one place, with one number.
-use Rattle.std.proofs.Common.{◌≡◌, ◌≢◌, ℕ, ◌⊎◌, inl, inr, Bool, true, false, List, [], ◌∷◌, ◌++◌, Some, refl, sym, ap, ◌∙◌, subst, arith, append_assoc, append-nil}
+use Rattle.std.proofs.Common.{◌≡◌, ◌≢◌, ℕ, ◌⊎◌, inl, inr, Bool, true, false, List, [], ◌∷◌, ◌++◌, refl, sym, ap, ◌∙◌, subst, arith, append_assoc, append-nil}
 use Rattle.std.specs.Prelude.{nat_eq}
 use Rattle.std.proofs.lemmas.Bool.Decides.{nat_tests}
 use Rattle.go_ast.specs.Trees.{File}
 use Rattle.go_ast.specs.Grammar.{Lexeme, Derives, Begins}
-use Rattle.go_ast.specs.Expected.{fault_at}
-use Rattle.go_ast.specs.Machine.{Fail, step}
 use Rattle.go_ast.specs.Stops.{NoneAfter, GoesOn, IsFault, StopsAt}
 
 -- of two beginnings of a list one goes on to the other
@@ -59,12 +57,10 @@ same_place levels ts m n xs ys s r = elim (split s.good xs r.good ys (sym s.whol
 
 same_fault : (good bad : List Lexeme) (m n : ℕ) → IsFault good bad m → IsFault good bad n → m ≡ n
 same_fault good [] m n a b = a ∙ sym b
-same_fault good (t ∷ ts) m n a b =
-    let there : Some a.1.0 ≡ Some b.1.0 = sym a.1.1 ∙ b.1.1 in
-    let state : a.1.0 ≡ b.1.0 = cc (there) in
-    let moves : Fail a.0 ≡ Fail b.0 = sym a.1.2 ∙ ap (λ x. step x t) state ∙ b.1.2 in
-    let expected : a.0 ≡ b.0 = cc (moves) in
-    a.2 ∙ ap (λ x. fault_at x t.kind) expected ∙ sym b.2
+same_fault good (t ∷ ts) m n (inl a) (inl b) = a.0 ∙ sym b.0
+same_fault good (t ∷ ts) m n (inl a) (inr b) = absurd (b.1 a.1)
+same_fault good (t ∷ ts) m n (inr a) (inl b) = absurd (a.1 b.1)
+same_fault good (t ∷ ts) m n (inr a) (inr b) = a.0 ∙ sym b.0
 
 -- the place and the number are determined
 pub only_stop : (levels : ℕ) (ts : List Lexeme) (m n : ℕ) (xs ys : List Lexeme) → StopsAt levels ts m xs → StopsAt levels ts n ys → (m ≡ n) × (xs ≡ ys)

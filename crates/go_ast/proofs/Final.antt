@@ -8,7 +8,7 @@ use Rattle.go_ast.specs.Trees.{File}
 use Rattle.go_ast.specs.Grammar.{Lexeme, Derives, Begins}
 use Rattle.go_ast.specs.Expected.{Expected, is_left_out, fault_at}
 use Rattle.go_ast.specs.Machine.{State, Move, Take, Fail, step, start, final, Done, Refused, at_end, by_level, by_move, run}
-use Rattle.go_ast.specs.Stops.{NoneAfter, GoesOn, led, led_by, IsFault, StopsAt}
+use Rattle.go_ast.specs.Stops.{NoneAfter, GoesOn, IsFault, StopsAt}
 use Rattle.go_ast.proofs.Means.{Means, Okay, Good, After, Kept}
 
 -- each token keeps, both ways, what leads from a state to a file
@@ -24,7 +24,7 @@ pub record Theory (B : ℕ) : Type 0 where
   pub good : 1 ≤ B → Good B start
 
 -- the tokens lead from a state to another, within the bound
-abbrev Leads : ℕ → State → List Lexeme → State → Type 0
+abbrev pub Leads : ℕ → State → List Lexeme → State → Type 0
 Leads B s [] r = s ≡ r
 Leads B s (t ∷ ts) r = (need : ℕ) × (q : State) × (step s t ≡ Take need q) × (need ≤ B) × Leads B q ts r
 
@@ -76,19 +76,15 @@ stops B (t ∷ ts) s n bad e = by_moves (λ r q. stops B ts r n bad q) (step s t
             let rest : t ∷ ts ≡ bad = cc in
             ([], s, rest, refl, subst (λ y. Stuck B s y n) rest (inr (need, r, k, lt, number)))
 
-deeper : (B C : ℕ) → B ≤ C → (ts : List Lexeme) (s r : State) → Leads B s ts r → Leads C s ts r
+pub deeper : (B C : ℕ) → B ≤ C → (ts : List Lexeme) (s r : State) → Leads B s ts r → Leads C s ts r
 deeper B C le [] s r h = h
 deeper B C le (t ∷ ts) s r h = (h.0, h.1, h.2, omega (arith, h.3), deeper B C le ts h.1 r h.4)
-
-leads_led : (B : ℕ) (ts : List Lexeme) (s r : State) → Leads B s ts r → led s ts ≡ Some r
-leads_led B [] s r h = ap Some h
-leads_led B (t ∷ ts) s r h = ap (λ m. led_by (λ q. led q ts) m) h.2 ∙ leads_led B ts h.1 r h.4
 
 pub larger : (B C : ℕ) (ts : List Lexeme) (f : File) → B ≤ C → Derives B ts f → Derives C ts f
 larger B C ts f le d = record { derived = d.derived; fits = omega (arith, d.fits) }
 
 module _ (B : ℕ) (th : Theory B) where
-  leads_good : (ts : List Lexeme) (s r : State) → Leads B s ts r → Good B s → Good B r
+  pub leads_good : (ts : List Lexeme) (s r : State) → Leads B s ts r → Good B s → Good B r
   leads_good [] s r h g = subst (Good B) h g
   leads_good (t ∷ ts) s r h g =
       let kept : Kept B (Take h.0 h.1) = subst (Kept B) h.2 (th.kept s t g.1) in
@@ -153,14 +149,14 @@ module _ (B : ℕ) (th : Theory B) where
   pub only_one : (ts : List Lexeme) (f g : File) → 1 ≤ B → Derives B ts f → Derives B ts g → f ≡ g
   only_one ts f g one d e = let a = sym (is_done ts f one d) ∙ is_done ts g one e in cc
 
-  begins_so : (good : List Lexeme) (r : State) → 1 ≤ B → Leads B start good r → Begins B good
+  pub begins_so : (good : List Lexeme) (r : State) → 1 ≤ B → Leads B start good r → Begins B good
   begins_so good r one h =
       let g = th.good one in
       let c = th.comes r (leads_good good start r h g) in
       (c.0, c.1, th.derived (good ++ c.0) c.1 (leads_back good start r c.0 c.1 h g c.2))
 
   -- the tokens that lead on behind some
-  behind : (good us : List Lexeme) (r : State) (f : File) → 1 ≤ B → Leads B start good r → Derives B (good ++ us) f → Means B r us f
+  pub behind : (good us : List Lexeme) (r : State) (f : File) → 1 ≤ B → Leads B start good r → Derives B (good ++ us) f → Means B r us f
   behind good us r f one h d = leads_forth good start r us f h (th.good one) (th.started (good ++ us) f d)
 
   ended_there : (good : List Lexeme) (r : State) (f : File) → 1 ≤ B → Leads B start good r → final r ≡ None → Derives B good f → ⊥
@@ -199,7 +195,13 @@ module _ (B : ℕ) (th : Theory B) where
       let c : After B (Take s.0 s.1) a.0 a.1 = subst (λ x. After B x a.0 a.1) s.2 a.2 in
       absurd (omega (arith, c.0, s.3))
 
-module _ (theory : (B : ℕ) → Theory B) where
+-- the machine's answer at a token that may not come is right
+abbrev pub Told : Type 0
+Told =
+    (B : ℕ) (good : List Lexeme) (r : State) (t : Lexeme) (ts : List Lexeme) (x : Expected) → 1 ≤ B → Leads B start good r → step r t ≡ Fail x →
+    IsFault good (t ∷ ts) (fault_at x t.kind)
+
+module _ (theory : (B : ℕ) → Theory B) (told : Told) where
   deep : (B n : ℕ) (good bad : List Lexeme) (r : State) → 1 ≤ B → Leads B start good r → Stuck B r bad n → n ≡ 4 → GoesOn good bad
   deep B n good [] r one h stuck four = absurd (omega (arith, stuck.1, four))
   deep B n good (t ∷ ts) r one h (inl s) four = absurd (not_four s.0 t.kind (sym s.2 ∙ four))
@@ -219,10 +221,10 @@ module _ (theory : (B : ℕ) → Theory B) where
       subst (λ x. After C x a.0 a.1) s.1 a.2
   not_deep B n good (t ∷ ts) r one h (inr s) ne g = absurd (ne s.4)
 
-  fault : (B n : ℕ) (good bad : List Lexeme) (r : State) → Leads B start good r → Stuck B r bad n → n ≢ 4 → IsFault good bad n
-  fault B n good [] r h stuck ne = stuck.1
-  fault B n good (t ∷ ts) r h (inl s) ne = (s.0, (r, leads_led B good start r h, s.1), s.2)
-  fault B n good (t ∷ ts) r h (inr s) ne = absurd (ne s.4)
+  fault : (B n : ℕ) (good bad : List Lexeme) (r : State) → 1 ≤ B → Leads B start good r → Stuck B r bad n → n ≢ 4 → IsFault good bad n
+  fault B n good [] r one h stuck ne = stuck.1
+  fault B n good (t ∷ ts) r one h (inl s) ne = subst (IsFault good (t ∷ ts)) (sym s.2) (told B good r t ts s.0 one h s.1)
+  fault B n good (t ∷ ts) r one h (inr s) ne = absurd (ne s.4)
 
   pub stops_at : (B : ℕ) (ts : List Lexeme) (n : ℕ) (bad : List Lexeme) → 1 ≤ B → run B start ts ≡ Refused n bad → StopsAt B ts n bad
   stops_at B ts n bad one e =
@@ -234,5 +236,5 @@ module _ (theory : (B : ℕ) → Theory B) where
         ends = none_after B (theory B) n s.0 bad s.1 one s.3 s.4;
         too_deep = λ four. deep B n s.0 bad s.1 one s.3 s.4 four;
         wrong = λ ne. not_deep B n s.0 bad s.1 one s.3 s.4 ne;
-        fault = λ ne. fault B n s.0 bad s.1 s.3 s.4 ne;
+        fault = λ ne. fault B n s.0 bad s.1 one s.3 s.4 ne;
       }

@@ -7,7 +7,7 @@ use Rattle.go_ast.specs.Kinds.{same}
 use Rattle.go_ast.specs.Expected.{an_operand, another}
 use Rattle.go_ast.specs.Trees.{Name, Expr, Simple, call_statement, Stmt, for_statement, range_statement, Block, block, File}
 use Rattle.go_ast.specs.Heights.{height, simple_height_if, height_if, block_height, stmt_height}
-use Rattle.go_ast.specs.Grammar.{Lexeme, Token, define, semicolon, opening_brace, IsExpr, IsExpr?, IsSimple?, IsForHead, IsRangeName, IsBlock, IsStmt, is_definition}
+use Rattle.go_ast.specs.Grammar.{Lexeme, Token, define, semicolon, opening_brace, IsExpr, IsExpr?, IsSimple?, IsForHead, IsRangeName, IsBlock, IsStmt, is_short_var_decl}
 use Rattle.go_ast.specs.Machine.{in_for, behind_turns, State, token, keyword, name_if, names_if, block_at, for_body, for_turns, for_condition, range_body, behind_for}
 use Rattle.go_ast.proofs.Same.{are_same}
 use Rattle.go_ast.proofs.Means.{continues, Closes, Means, Good, Ends}
@@ -39,7 +39,7 @@ module _ (B : ℕ) where
   -- the third part and the block
   abbrev Turns : ℕ → Place → (Stmt → State) → Option Simple → Option Expr → List Lexeme → File → Type 0
   Turns l p next i c us f =
-      (n : Option Simple) × (b : Block) × (xs ws : List Lexeme) × IsSimple? n us xs × ((s : Simple) → n ≡ Some s → is_definition s ≡ false) × IsBlock b xs ws
+      (n : Option Simple) × (b : Block) × (xs ws : List Lexeme) × IsSimple? n us xs × ((s : Simple) → n ≡ Some s → is_short_var_decl s ≡ false) × IsBlock b xs ws
       × (l + stmt_height (for_statement p i c n b) ≤ B + 1) × Means B (next (for_statement p i c n b)) ws f
 
   turns_back : (l : ℕ) (p : Place) (next : Stmt → State) (i : Option Simple) (c : Option Expr) (us : List Lexeme) (f : File) →
@@ -55,7 +55,7 @@ module _ (B : ℕ) where
             s.1,
             g.1,
             simple_back true a.0 s.0 us a.1 s.1 a.2 s.2,
-            (λ x q. (let z : Some s.0 ≡ Some x = q in let w : s.0 ≡ x = cc (z) in subst (λ y. is_definition y ≡ false) w (s.4 refl))),
+            (λ x q. (let z : Some s.0 ≡ Some x = q in let w : s.0 ≡ x = cc (z) in subst (λ y. is_short_var_decl y ≡ false) w (s.4 refl))),
             g.2,
             omega (arith, hi, hc, fit, g.3),
             g.4,
@@ -150,7 +150,7 @@ module _ (B : ℕ) where
   -- the other way round
   turns_forth : (l : ℕ) (p : Place) (next : Stmt → State) (i : Option Simple) (c : Option Expr) (n : Option Simple) (b : Block) (us xs ws : List Lexeme)
       (f : File) →
-      IsSimple? n us xs → ((s : Simple) → n ≡ Some s → is_definition s ≡ false) → IsBlock b xs ws → l + stmt_height (for_statement p i c n b) ≤ B + 1 →
+      IsSimple? n us xs → ((s : Simple) → n ≡ Some s → is_short_var_decl s ≡ false) → IsBlock b xs ws → l + stmt_height (for_statement p i c n b) ≤ B + 1 →
       Means B (next (for_statement p i c n b)) ws f → Means B (for_turns l p next i c) us f
   turns_forth l p next i c None b us xs ws f d never e le m =
       inl (block_forth B (l + 1) (for_body l p next i c None) b us ws f (subst (λ x. IsBlock b x ws) (sym d) e) (omega (arith, le)) m)
@@ -173,7 +173,7 @@ module _ (B : ℕ) where
 
   condition_forth : (l : ℕ) (p : Place) (next : Stmt → State) (i : Option Simple) (c : Option Expr) (n : Option Simple) (b : Block) (r : Lexeme)
       (us xs ys zs ws : List Lexeme) (f : File) →
-      IsExpr? c us xs → Token semicolon r xs ys → IsSimple? n ys zs → ((s : Simple) → n ≡ Some s → is_definition s ≡ false) → IsBlock b zs ws →
+      IsExpr? c us xs → Token semicolon r xs ys → IsSimple? n ys zs → ((s : Simple) → n ≡ Some s → is_short_var_decl s ≡ false) → IsBlock b zs ws →
       l + stmt_height (for_statement p i c n b) ≤ B + 1 → Means B (next (for_statement p i c n b)) ws f → Means B (for_condition l p next i) us f
   condition_forth l p next i None n b r us xs ys zs ws f d k q never e le m =
       inl (r, ys, subst (λ x. Token semicolon r x ys) (sym d) k, omega arith, turns_forth l p next i None n b ys zs ws f q never e le m)

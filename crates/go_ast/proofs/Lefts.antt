@@ -7,10 +7,10 @@ use Rattle.go_scan.specs.declared.punctuation.Punctuation.TheVariants as marks
 use Rattle.go_ast.specs.Kinds.{same}
 use Rattle.go_ast.specs.Operators.{assignment_of}
 use Rattle.go_ast.specs.Expected.{an_operand, a_value, another}
-use Rattle.go_ast.specs.Trees.{Name, BinaryOperator, Expr, Exprs, Simple, call_statement, increment, decrement, assignment, operator_assignment, definition, File, pack}
+use Rattle.go_ast.specs.Trees.{Name, BinaryOperator, Expr, Exprs, Simple, call_statement, increment, decrement, assignment, operator_assignment, short_var_decl, File, pack}
 use Rattle.go_ast.specs.Heights.{height, exprs_height, simple_height}
-use Rattle.go_ast.specs.Grammar.{Lexeme, Token, assign, comma, define, opening_brace, IsExpr, AreMoreExprs, AreExprs, is_call, is_definition}
-use Rattle.go_ast.specs.Machine.{Position, in_list, in_header, in_for, behind_turns, State, lefts, Move, Take, Fail, cond, keyword, is_some, name_if, names_if, may_define, is_header, is_for, definition_values, behind_define, on_define, on_assignment, on_lefts, on_left, behind_left, step}
+use Rattle.go_ast.specs.Grammar.{Lexeme, Token, assign, comma, define, opening_brace, IsExpr, AreMoreExprs, AreExprs, is_call, is_short_var_decl}
+use Rattle.go_ast.specs.Machine.{Position, in_list, in_header, in_for, behind_turns, State, lefts, Move, Take, Fail, cond, keyword, is_some, name_if, names_if, may_define, is_header, is_for, short_var_decl_values, behind_define, on_define, on_assignment, on_lefts, on_left, behind_left, step}
 use Rattle.go_ast.proofs.Same.{are_same, is_same, not_same}
 use Rattle.go_ast.proofs.Means.{begins, continues, Continues, AllFit, Means, Okay, After}
 use Rattle.go_ast.proofs.Base.{false_true, both_true, after_cond, after_same, after_other, token_here, first_is, both_are, either_false}
@@ -56,7 +56,7 @@ after_comma h front e (decrement a) t us vs ws some k d c = absurd (not_one fron
 after_comma h front e (assignment ls rs) t us vs ws some k d c =
     (e ∷ c.0, c.1, c.2, c.3, (t, us, vs, token_here comma t us k, d, c.4), c.5 ∙ ap pack (push_assoc front e c.0), c.6, c.7)
 after_comma h front e (operator_assignment op l r) t us vs ws some k d c = absurd (not_one front e l some c.2)
-after_comma h front e (definition ns rs) t us vs ws some k d c =
+after_comma h front e (short_var_decl ns rs) t us vs ws some k d c =
     (e ∷ c.0, c.1, c.2, c.3, (t, us, vs, token_here comma t us k, d, c.4), sym (ap names_if (push_assoc front e c.0)) ∙ c.5, c.6, c.7)
 
 -- kinds that are none of these
@@ -108,18 +108,18 @@ module _ (B : ℕ) where
       × IsExpr 5 h e xs ws × (l + height e ≤ B + 1) × Means B (range n e) ws f
 
   abbrev Defines : Bool → ℕ → List Name → (Simple → State) → List Lexeme → File → Type 0
-  Defines h l ns next us f = (rs : Exprs) × (ws : List Lexeme) × AreExprs h rs us ws × (l + exprs_height rs ≤ B + 1) × Means B (next (definition ns rs)) ws f
+  Defines h l ns next us f = (rs : Exprs) × (ws : List Lexeme) × AreExprs h rs us ws × (l + exprs_height rs ≤ B + 1) × Means B (next (short_var_decl ns rs)) ws f
 
   define_back : (m : Position) (h : Bool) (l : ℕ) (ns : List Name) (next : Simple → State) (range : Name → Expr → State) (us : List Lexeme) (f : File) →
       Means B (behind_define m h l ns next range) us f → Defines h l ns next us f ⊎ Ranges m h l ns range us f
   define_back in_for h l (n ∷ []) next range us f g = elim g [
     | inl a ↦ inr (n, a.4.0, a.0, a.1, a.4.1, refl, refl, a.2, a.4.2, a.4.3, a.4.4)
-    | inr a ↦ inl (values_back B h l an_operand (λ rs. next (definition (n ∷ []) rs)) us f a)
+    | inr a ↦ inl (values_back B h l an_operand (λ rs. next (short_var_decl (n ∷ []) rs)) us f a)
   ]
-  define_back m h l ns next range us f g = inl (values_back B h l an_operand (λ rs. next (definition ns rs)) us f g)
+  define_back m h l ns next range us f g = inl (values_back B h l an_operand (λ rs. next (short_var_decl ns rs)) us f g)
 
   values_behind : (m : Position) (h : Bool) (l : ℕ) (ns : List Name) (next : Simple → State) (range : Name → Expr → State) (us : List Lexeme) (f : File) →
-      Means B (definition_values h l ns next) us f → Means B (behind_define m h l ns next range) us f
+      Means B (short_var_decl_values h l ns next) us f → Means B (behind_define m h l ns next range) us f
   values_behind in_for h l (n ∷ []) next range us f g = inr g
   values_behind m h l ns next range us f g = g
 
@@ -157,7 +157,7 @@ module _ (B : ℕ) where
               let kind = are_same define t.kind k.0 in
               elim (define_back m h l ns next range us f c.1.1) [
                 | inl d ↦ inl (
-                  definition ns d.0,
+                  short_var_decl ns d.0,
                   d.1,
                   ([], t, t ∷ us, us, refl, ap names_if (append-nil front) ∙ q, token_here define t us kind, d.2),
                   d.3,
@@ -262,19 +262,19 @@ module _ (B : ℕ) where
         continued front other e more.2 i.2 (subst (λ x. IsExpr 5 h e x more.2) (sym i.1) more.4) (omega (arith, le, same_height, height_in front e es))
         (inl (assignment ls rs, ws, (es, c, vs, xs, more.5, q ∙ ap pack (sym (push_assoc front e es)), k, d), le, (λ _. refl), g))
 
-    definition_forth : (front : List Expr) (other : Move) (es : List Expr) (ns : List Name) (rs : Exprs) (c : Lexeme) (vs xs ws : List Lexeme) → l ≤ B →
+    short_var_decl_forth : (front : List Expr) (other : Move) (es : List Expr) (ns : List Name) (rs : Exprs) (c : Lexeme) (vs xs ws : List Lexeme) → l ≤ B →
         AreMoreExprs h (pack es) (t ∷ us) vs → names_if (front ++ es) ≡ Some ns → Token define c vs xs → AreExprs h rs xs ws →
-        l + exprs_height rs ≤ B + 1 → may_define m ≡ true → Means B (next (definition ns rs)) ws f →
+        l + exprs_height rs ≤ B + 1 → may_define m ≡ true → Means B (next (short_var_decl ns rs)) ws f →
         After B (on_lefts m h l front next alone range t other) us f
-    definition_forth front other [] ns rs c vs xs ws room more q k d le may g =
+    short_var_decl_forth front other [] ns rs c vs xs ws room more q k d le may g =
         let i = first_is define t c us xs (record { whole = more ∙ k.whole; is = k.is }) in
         defined front other ns (sym (ap names_if (append-nil front)) ∙ q) i.2 may
-        (values_behind m h l ns next range us f (values_forth B h l an_operand (λ r. next (definition ns r)) rs us ws f
+        (values_behind m h l ns next range us f (values_forth B h l an_operand (λ r. next (short_var_decl ns r)) rs us ws f
         (subst (λ x. AreExprs h rs x ws) (sym i.1) d) le g))
-    definition_forth front other (e ∷ es) ns rs c vs xs ws room more q k d le may g =
+    short_var_decl_forth front other (e ∷ es) ns rs c vs xs ws room more q k d le may g =
         let i = first_is comma t more.0 us more.1 more.3 in
         continued front other e more.2 i.2 (subst (λ x. IsExpr 5 h e x more.2) (sym i.1) more.4) (omega (arith, room, named_height front e es ns q))
-        (inl (definition ns rs, ws, (es, c, vs, xs, more.5, ap names_if (push_assoc front e es) ∙ q, k, d), le, (λ n. absurd (false_true (sym n ∙ may))), g))
+        (inl (short_var_decl ns rs, ws, (es, c, vs, xs, more.5, ap names_if (push_assoc front e es) ∙ q, k, d), le, (λ n. absurd (false_true (sym n ∙ may))), g))
 
     -- others pass those tests
     on_define_passes : (other : Move) (o : Option (List Name)) → same define t.kind ≡ false → After B other us f →
@@ -345,7 +345,7 @@ module _ (B : ℕ) where
     statement_forth : (front : List Expr) → Okay B (lefts m h l front next alone range) →
         ((s : Simple) → Okay B (next s) → Means B (next s) (t ∷ us) f → After B (step (next s) t) us f) →
         ((s : Simple) → Means B (next s) (t ∷ us) f → begins (next s) t.kind ≡ true) →
-        (s : Simple) (ws : List Lexeme) → Continues h front s (t ∷ us) ws → l + simple_height s ≤ B + 1 → (may_define m ≡ false → is_definition s ≡ false) →
+        (s : Simple) (ws : List Lexeme) → Continues h front s (t ∷ us) ws → l + simple_height s ≤ B + 1 → (may_define m ≡ false → is_short_var_decl s ≡ false) →
         Means B (next s) ws f → After B (step (lefts m h l front next alone range) t) us f
     statement_forth front ok by_next first (call_statement e) ws c le may g =
         let there : Means B (next (call_statement e)) (t ∷ us) f = subst (λ x. Means B (next (call_statement e)) x f) (sym c.2) g in
@@ -361,8 +361,8 @@ module _ (B : ℕ) where
         let rest_same : us ≡ c.1 = cc (w) in
         one front e c.2 (operator_forth op e r ws (ap (λ (x : Lexeme). assignment_of x.kind) first_same ∙ c.4)
         (subst (λ x. IsExpr 5 h r x ws) (sym rest_same) c.5) (omega (arith, le)) g)
-    statement_forth front ok by_next first (definition ns rs) ws c le may g =
-        tested front ok.2 (λ other. definition_forth front other c.0 ns rs c.1 c.2 c.3 ws ok.0 c.4 c.5 c.6 c.7 le (defines m may) g)
+    statement_forth front ok by_next first (short_var_decl ns rs) ws c le may g =
+        tested front ok.2 (λ other. short_var_decl_forth front other c.0 ns rs c.1 c.2 c.3 ws ok.0 c.4 c.5 c.6 c.7 le (defines m may) g)
 
     pub lefts_forth : (front : List Expr) → Okay B (lefts m h l front next alone range) →
         ((e : Expr) → Okay B (alone e) → Means B (alone e) (t ∷ us) f → After B (step (alone e) t) us f) →

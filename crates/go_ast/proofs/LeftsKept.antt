@@ -6,10 +6,10 @@ use Rattle.go_scan.specs.declared.punctuation.Punctuation.TheVariants as marks
 use Rattle.go_ast.specs.Kinds.{same}
 use Rattle.go_ast.specs.Operators.{binary_of, assignment_of}
 use Rattle.go_ast.specs.Expected.{Expected, an_operand, a_value, another}
-use Rattle.go_ast.specs.Trees.{Name, BinaryOperator, Expr, name, no_exprs, some_exprs, Simple, call_statement, increment, decrement, assignment, operator_assignment, definition, File, pack}
+use Rattle.go_ast.specs.Trees.{Name, BinaryOperator, Expr, name, no_exprs, some_exprs, Simple, call_statement, increment, decrement, assignment, operator_assignment, short_var_decl, File, pack}
 use Rattle.go_ast.specs.Heights.{height, simple_height}
 use Rattle.go_ast.specs.Grammar.{Lexeme, Token, assign, comma, define, period, opening, opening_bracket, opening_brace, AreMoreExprs, is_call}
-use Rattle.go_ast.specs.Machine.{Position, in_for, State, expr, lefts, Move, Fail, cond, is_some, names_if, may_define, is_header, is_for, definition_values, behind_define, on_define, on_assignment, on_lefts, on_left, behind_left, step}
+use Rattle.go_ast.specs.Machine.{Position, in_for, State, expr, lefts, Move, Fail, cond, is_some, names_if, may_define, is_header, is_for, short_var_decl_values, behind_define, on_define, on_assignment, on_lefts, on_left, behind_left, step}
 use Rattle.go_ast.proofs.Same.{are_same, is_same}
 use Rattle.go_ast.proofs.Means.{begins, continues, is_tail, Closes, Continues, Means, Okay, Good, Ends, EndsSimple, Kept}
 use Rattle.go_ast.proofs.Base.{false_true, either_true, left_true, right_true, both_true, kept_cond, token_here, first_is, both_are}
@@ -41,7 +41,7 @@ simple_first h front (operator_assignment op l r) t us ws c =
     let w : t ∷ us ≡ c.0 ∷ c.1 = c.3 in
     let first_same : t ≡ c.0 = cc (w) in
     inl (operator_continues t.kind op (ap (λ (x : Lexeme). assignment_of x.kind) first_same ∙ c.4))
-simple_first h front (definition ns rs) t us ws c = inl (more_first h c.0 define t c.1 us c.2 c.3 refl c.4 c.6)
+simple_first h front (short_var_decl ns rs) t us ws c = inl (more_first h c.0 define t c.1 us c.2 c.3 refl c.4 c.6)
 
 -- what continues a simple statement is no part of an expression
 assigns_close : (h : Bool) (k : TokenKind) (op : BinaryOperator) → assignment_of k ≡ Some op → Closes h k
@@ -146,15 +146,15 @@ module _ (B : ℕ) where
     no_comma : EndsSimple B m h next → (s : Simple) → begins (next s) comma ≡ false
     no_comma ends s = by_closing (begins (next s) comma) (continues comma) (λ b. (ends s comma b).0) refl
 
-    definition_good : (ns : List Name) → l ≤ B → ((s : Simple) → l + simple_height s ≤ B + 1 → Good B (next s)) → EndsSimple B m h next →
-        Good B (definition_values h l ns next)
-    definition_good ns le good ends =
-        values_good B h l an_operand (λ rs. next (definition ns rs)) le (λ rs fits. good (definition ns rs) fits) (λ rs. no_comma ends (definition ns rs))
-        (λ rs k b. (ends (definition ns rs) k b).2)
+    short_var_decl_good : (ns : List Name) → l ≤ B → ((s : Simple) → l + simple_height s ≤ B + 1 → Good B (next s)) → EndsSimple B m h next →
+        Good B (short_var_decl_values h l ns next)
+    short_var_decl_good ns le good ends =
+        values_good B h l an_operand (λ rs. next (short_var_decl ns rs)) le (λ rs fits. good (short_var_decl ns rs) fits) (λ rs. no_comma ends (short_var_decl ns rs))
+        (λ rs k b. (ends (short_var_decl ns rs) k b).2)
 
     define_good : (q : Position) (ns : List Name) →
         l ≤ B → (is_for q ≡ true → (n : Name) → ((e : Expr) → l + height e ≤ B + 1 → Good B (range n e)) × Ends B 5 h (range n)) →
-        Good B (definition_values h l ns next) → Good B (behind_define q h l ns next range)
+        Good B (short_var_decl_values h l ns next) → Good B (behind_define q h l ns next range)
     define_good in_for (n ∷ []) le by_range g = (inl (omega arith), ((λ t k need. (le, by_range refl n)), g.1, refl))
     define_good q ns le by_range g = g
 
@@ -164,7 +164,7 @@ module _ (B : ℕ) where
           Kept B (on_define m h l next range t other o)
       on_define_kept front other None ok rest = rest
       on_define_kept front other (Some ns) ok rest =
-          kept_cond B (same define t.kind && may_define m) _ other (λ _ need. define_good m ns ok.0 ok.6 (definition_good ns ok.0 ok.3 ok.4)) (λ _. rest)
+          kept_cond B (same define t.kind && may_define m) _ other (λ _ need. define_good m ns ok.0 ok.6 (short_var_decl_good ns ok.0 ok.3 ok.4)) (λ _. rest)
 
       on_lefts_kept : (front : List Expr) (other : Move) → Okay B (Left front) → Kept B other → Kept B (on_lefts m h l front next alone range t other)
       on_lefts_kept front other ok rest =

@@ -1,6 +1,6 @@
 -- Each expression and each type has a level.
 use Rattle.std.proofs.Common.{◌≤◌, arith}
-use Rattle.go_ast.specs.Trees.{TypeExpr, named, qualified, array, struct, Expr, name, integer, rune, string, parenthesized, literal, conversion, selector, index, call, unary, binary}
+use Rattle.go_ast.specs.Trees.{TypeExpr, named, qualified, array, struct, Expr, name, integer, rune, string, parenthesized, composite_lit, conversion, selector, index, call, unary, binary}
 use Rattle.go_ast.specs.Heights.{height, type_height}
 
 pub height_positive : (e : Expr) → 1 ≤ height e
@@ -9,7 +9,7 @@ height_positive (integer p text) = omega arith
 height_positive (rune p value) = omega arith
 height_positive (string p value) = omega arith
 height_positive (parenthesized p e) = omega arith
-height_positive (literal p a q es) = omega arith
+height_positive (composite_lit p a q es) = omega arith
 height_positive (conversion p a e) = omega arith
 height_positive (selector p e f) = omega arith
 height_positive (index p e i) = omega arith

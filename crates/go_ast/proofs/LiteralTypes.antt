@@ -4,7 +4,7 @@ use Rattle.go_text.specs.declared.place.Place.{Place}
 use Rattle.go_scan.specs.declared.token.TokenKind.{TokenKind}
 use Rattle.go_ast.specs.Kinds.{same}
 use Rattle.go_ast.specs.Operators.{binary_of}
-use Rattle.go_ast.specs.Trees.{TypeExpr, Expr, literal, conversion, Elements, File, pack_elements}
+use Rattle.go_ast.specs.Trees.{TypeExpr, Expr, composite_lit, conversion, Elements, File, pack_elements}
 use Rattle.go_ast.specs.Heights.{height, type_height}
 use Rattle.go_ast.specs.Grammar.{Lexeme, Token, closing, comma, IsType, is_named, type_place}
 use Rattle.go_ast.specs.Machine.{State, behind_literal_type}
@@ -33,7 +33,7 @@ module _ (B : ℕ) where
       l + 1 + type_height a ≤ B + 1 → Means B (behind_literal_type l next a) vs f → Operated l next us f
   behind_literal_type_back l next a us vs f unnamed d le m = elim m [
     | inl h ↦ (let i = h.4 in (
-      literal (type_place a) a h.0.place (pack_elements i.0),
+      composite_lit (type_place a) a h.0.place (pack_elements i.0),
       i.3,
       (h.0, i.1, vs, h.1, i.2, unnamed, d, refl, h.2, refl, elements_from (l + 2) i.0 h.1 i.2 i.4, i.6),
       omega (arith, elements_fit B (l + 2) i.0 (omega arith) i.5),
@@ -49,7 +49,7 @@ module _ (B : ℕ) where
 
   -- behind the type, whose tokens end in front of vs
   pub literal_forth : (l : ℕ) (next : Expr → State) (us ws : List Lexeme) (f : File) (p : Place) (a : TypeExpr) (q : Place) (es : Elements) →
-      (d : IsOperand (literal p a q es) us ws) → l + height (literal p a q es) ≤ B + 1 → Means B (next (literal p a q es)) ws f →
+      (d : IsOperand (composite_lit p a q es) us ws) → l + height (composite_lit p a q es) ≤ B + 1 → Means B (next (composite_lit p a q es)) ws f →
       Means B (behind_literal_type l next a) d.2 f
   literal_forth l next us ws f p a q es d le m =
       let place : p ≡ type_place a = d.7 in
@@ -68,7 +68,7 @@ module _ (B : ℕ) where
           elements_to (l + 2) es d.3 d.4 d.10,
           fit_elements B (l + 2) es (omega arith),
           d.11,
-          led B next (literal (type_place a) a d.0.place (pack_elements (unpack_elements es))) (literal p a q es) ws ws f (cc (place, brace, whole)) refl m,
+          led B next (composite_lit (type_place a) a d.0.place (pack_elements (unpack_elements es))) (composite_lit p a q es) ws ws f (cc (place, brace, whole)) refl m,
         ),
       )
 
@@ -107,7 +107,7 @@ module _ (B : ℕ) where
             (
               omega arith,
               tt,
-              λ is c fits. on (literal (type_place a) a o.place (pack_elements is))
+              λ is c fits. on (composite_lit (type_place a) a o.place (pack_elements is))
                   (omega (arith, elements_fit B (l + 2) is (omega arith) fits)),
             ),
           )),

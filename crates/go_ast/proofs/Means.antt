@@ -11,9 +11,9 @@ use Rattle.go_ast.specs.Kinds.{same}
 use Rattle.go_ast.specs.Literals.{string_value}
 use Rattle.go_ast.specs.Operators.{binary_of, assignment_of, tighter}
 use Rattle.go_ast.specs.Expected.{is_left_out_at}
-use Rattle.go_ast.specs.Trees.{Name, BinaryOperator, TypeExpr, Expr, literal, selector, index, call, binary, Simple, call_statement, increment, decrement, assignment, operator_assignment, definition, Stmt, conditional, Else, no_else, Clauses, TopLevel, ImportSpec, File, place_of, pack, pack_stmts}
+use Rattle.go_ast.specs.Trees.{Name, BinaryOperator, TypeExpr, Expr, composite_lit, selector, index, call, binary, Simple, call_statement, increment, decrement, assignment, operator_assignment, short_var_decl, Stmt, conditional, Else, no_else, Clauses, TopLevel, ImportSpec, File, place_of, pack, pack_stmts}
 use Rattle.go_ast.specs.Heights.{height, type_height, element_height, simple_height, const_height, var_height, type_spec_height, parameter_height, stmt_height, if_height, clauses_height, top_height}
-use Rattle.go_ast.specs.Grammar.{Lexeme, Token, name_of, assign, opening, closing, opening_bracket, closing_bracket, opening_brace, closing_brace, comma, period, semicolon, define, Behind, AreItems, AreMoreNames, AreNames, IsType, IsExpr, AreArguments, AreElements, IsKey, IsElement, AreMoreExprs, AreExprs, is_call, is_definition, type_place, IsConstSpec, IsVarSpec, IsTypeSpec, IsStmt, IsElse, AreStmts, AreClauses, is_last, IsParameter, IsImportSpec, AreImports, AreTopLevels, concat}
+use Rattle.go_ast.specs.Grammar.{Lexeme, Token, name_of, assign, opening, closing, opening_bracket, closing_bracket, opening_brace, closing_brace, comma, period, semicolon, define, Behind, AreItems, AreMoreNames, AreNames, IsType, IsExpr, AreArguments, AreElements, IsKey, IsElement, AreMoreExprs, AreExprs, is_call, is_short_var_decl, type_place, IsConstSpec, IsVarSpec, IsTypeSpec, IsStmt, IsElse, AreStmts, AreClauses, is_last, IsParameter, IsImportSpec, AreImports, AreTopLevels, concat}
 use Rattle.go_ast.specs.Machine.{ListKind, fields, arguments, elements, const_specs, var_specs, type_specs, import_specs, statements, parameters, results, Item, separator, closer, Position, Clause, pack_clauses, State, ended, token, package_name, import_path, optional, type, optional_type, expr, optional_expr, suffixes, operators, more_names, more_exprs, list_start, list_end, lefts, else_part, clause_start, clause_end, import_end, decl_end, Move, Take, Fail, keyword, begins_type, begins_expr, literal_type, is_some, names_if, may_define, is_header, is_for, with_clause, file_of}
 
 -- the expression is a itself, and takes no tokens
@@ -39,8 +39,8 @@ Suffixed h a (call p e es) us ws =
     Itself a (call p e es) us ws
     ⊎ ((o c : Lexeme) × (vs xs ys : List Lexeme) × (p ≡ place_of e) × Suffixed h a e us vs × Token opening o vs xs × AreArguments es xs ys
     × Token closing c ys ws)
-Suffixed h a (literal p b q es) us ws =
-    Itself a (literal p b q es) us ws
+Suffixed h a (composite_lit p b q es) us ws =
+    Itself a (composite_lit p b q es) us ws
     ⊎ ((o c : Lexeme) × (vs xs ys : List Lexeme) × (x : Expr) × (h ≡ false) × IsTypeName a x us vs × (literal_type x ≡ Some b) × (p ≡ type_place b)
     × Token opening_brace o vs xs × (q ≡ o.place) × AreElements es xs ys × Token closing_brace c ys ws)
 Suffixed h a e us ws = Itself a e us ws
@@ -100,7 +100,7 @@ Continues h front (assignment ls rs) us ws =
     × AreExprs h rs xs ws
 Continues h front (operator_assignment op l r) us ws =
     (t : Lexeme) × (vs : List Lexeme) × (front ≡ l ∷ []) × (us ≡ t ∷ vs) × (assignment_of t.kind ≡ Some op) × IsExpr 5 h r vs ws
-Continues h front (definition ns rs) us ws =
+Continues h front (short_var_decl ns rs) us ws =
     (es : List Expr) × (t : Lexeme) × (vs xs : List Lexeme) × AreMoreExprs h (pack es) us vs × (names_if (front ++ es) ≡ Some ns) × Token define t vs xs
     × AreExprs h rs xs ws
 
@@ -215,7 +215,7 @@ module _ (B : ℕ) where
       (is : List (Item k)) × (c : Lexeme) × (vs ws : List Lexeme) × Behind (separator k) (AreItems (IsItem k) (separator k) is) (is ≡ []) us vs
       × FitItems k is × Token (closer k) c vs ws × Means (next (front ++ is) c) ws f
   Means (lefts m h l front next alone range) us f =
-      ((s : Simple) × (ws : List Lexeme) × Continues h front s us ws × (l + simple_height s ≤ B + 1) × (may_define m ≡ false → is_definition s ≡ false)
+      ((s : Simple) × (ws : List Lexeme) × Continues h front s us ws × (l + simple_height s ≤ B + 1) × (may_define m ≡ false → is_short_var_decl s ≡ false)
       × Means (next s) ws f)
       ⊎ ((e : Expr) × (front ≡ e ∷ []) × (is_header m ≡ true) × IsFirst opening_brace us × Means (alone e) us f)
       ⊎ ((n : Name) × (e : Expr) × (d r : Lexeme) × (vs xs ws : List Lexeme) × (is_for m ≡ true) × (names_if front ≡ Some (n ∷ [])) × Token define d us vs

@@ -2,7 +2,7 @@
 use Rattle.std.proofs.Common.{◌≡◌, ◌⊎◌, inl, inr, Bool, false, List, [], Option, Some, None, sym, subst}
 use Rattle.go_scan.specs.declared.token.TokenKind.TheVariants as kinds
 use Rattle.go_scan.specs.declared.keyword.Keyword.TheVariants as keywords
-use Rattle.go_ast.specs.Trees.{Name, Exprs, no_exprs, some_exprs, Element, expression_element, value_element, Simple, call_statement, increment, decrement, assignment, operator_assignment, definition, Decl, constants, variables, types, Stmt, empty, declaration, simple, return, break, continue, fallthrough, block_statement, if_statement, for_statement, range_statement, switch_statement, Block, block, If, conditional, ImportSpec}
+use Rattle.go_ast.specs.Trees.{Name, Exprs, no_exprs, some_exprs, Element, expression_element, value_element, Simple, call_statement, increment, decrement, assignment, operator_assignment, short_var_decl, Decl, constants, variables, types, Stmt, empty, declaration, simple, return, break, continue, fallthrough, block_statement, if_statement, for_statement, range_statement, switch_statement, Block, block, If, conditional, ImportSpec}
 use Rattle.go_ast.specs.Grammar.{Lexeme, Token, name_of, opening_brace, semicolon, IsKey, IsElement, AreExprs, IsSimple, IsDecl, IsBlock, IsIf, IsStmt}
 use Rattle.go_ast.specs.Machine.{ListKind, fields, arguments, elements, const_specs, var_specs, type_specs, import_specs, statements, parameters, results, Item, keyword}
 use Rattle.go_ast.proofs.Means.{IsItem}
@@ -21,7 +21,7 @@ simple_never h (increment e) ws d = expr_never 5 h e d.1 d.2
 simple_never h (decrement e) ws d = expr_never 5 h e d.1 d.2
 simple_never h (assignment ls rs) ws d = exprs_never h ls d.1 d.3
 simple_never h (operator_assignment op l r) ws d = expr_never 5 h l d.1 d.3
-simple_never h (definition ns rs) ws d = names_never ns d.1 d.3
+simple_never h (short_var_decl ns rs) ws d = names_never ns d.1 d.3
 
 pub decl_never : (d : Decl) (ws : List Lexeme) → IsDecl d [] ws → ⊥
 decl_never (constants p ss) ws d = no_token (keyword keywords.Const) d.0 d.1 d.2

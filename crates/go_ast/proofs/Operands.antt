@@ -8,11 +8,12 @@ use Rattle.go_ast.specs.Kinds.{same}
 use Rattle.go_ast.specs.Literals.{string_value, rune_value}
 use Rattle.go_ast.specs.Operators.{unary_of, binary_of}
 use Rattle.go_ast.specs.Expected.{Expected, another}
-use Rattle.go_ast.specs.Trees.{UnaryOperator, TypeExpr, named, qualified, array, struct, Expr, name, integer, rune, string, parenthesized, literal, conversion, selector, index, call, unary, binary, File}
+use Rattle.go_ast.specs.Trees.{UnaryOperator, TypeExpr, named, qualified, array, struct, Expr, name, integer, rune, string, parenthesized, composite_lit, conversion, selector, index, call, unary, binary, File}
 use Rattle.go_ast.specs.Heights.{height, type_height}
 use Rattle.go_ast.specs.Grammar.{Lexeme, opening, closing, opening_bracket, IsType, IsExpr, is_named}
 use Rattle.go_ast.specs.Operators.{tighter}
 use Rattle.go_ast.specs.Machine.{State, expr, type, Move, Take, Fail, cond, keyword, begins_type, begins_expr, behind_bracket, behind_struct, tails, behind_operand, behind_opening, behind_literal_type, on_unary, on_expr, step}
+use Rattle.go_ast.proofs.Valued.{rune_means, rune_computed, string_means, string_computed}
 use Rattle.go_ast.proofs.Same.{are_same}
 use Rattle.go_ast.proofs.Means.{is_tail, begins, Means, Okay, Good, After, Kept, Comes}
 use Rattle.go_ast.proofs.Base.{false_true, either_true, after_cond, kept_cond, token_here, first_is}
@@ -54,7 +55,7 @@ expr_first n h (integer p text) t us ws d = ap begins_expr (first_is kinds.Integ
 expr_first n h (rune p value) t us ws d = ap begins_expr (first_is kinds.Rune t d.0 us ws d.1).2
 expr_first n h (string p value) t us ws d = ap begins_expr (first_is kinds.String t d.0 us ws d.1).2
 expr_first n h (parenthesized p e) t us ws d = ap begins_expr (first_is opening t d.0 us d.2 d.4).2
-expr_first n h (literal p a q es) t us ws d = type_begins_expr t.kind (type_first a t us d.2 d.6)
+expr_first n h (composite_lit p a q es) t us ws d = type_begins_expr t.kind (type_first a t us d.2 d.6)
 expr_first n h (conversion p a e) t us ws d = type_begins_expr t.kind (type_first a t us d.2 d.7)
 expr_first n h (selector p e f) t us ws d = expr_first 0 h e t us d.2 d.6
 expr_first n h (index p e i) t us ws d = expr_first 0 h e t us d.2 d.7
@@ -68,7 +69,7 @@ expr_never n h (integer p text) ws d = no_token kinds.Integer d.0 ws d.1
 expr_never n h (rune p value) ws d = no_token kinds.Rune d.0 ws d.1
 expr_never n h (string p value) ws d = no_token kinds.String d.0 ws d.1
 expr_never n h (parenthesized p e) ws d = no_token opening d.0 d.2 d.4
-expr_never n h (literal p a q es) ws d = type_never a d.2 d.6
+expr_never n h (composite_lit p a q es) ws d = type_never a d.2 d.6
 expr_never n h (conversion p a e) ws d = type_never a d.2 d.7
 expr_never n h (selector p e f) ws d = expr_never 0 h e d.2 d.6
 expr_never n h (index p e i) ws d = expr_never 0 h e d.2 d.7
@@ -127,11 +128,11 @@ module _ (B : ℕ) where
           t,
           token_here kinds.Rune t us (are_same kinds.Rune t.kind y.0),
           refl,
-          refl,
+          rune_means t.text,
         ) (omega (arith, y.1.0)) y.1.1
         | inr a3 ↦ elim (after_cond B (same kinds.String t.kind) _ _ us f a3.1) [
           | inl y ↦ operand_back n h l next (string t.place (string_value t.text)) (t ∷ us) us f
-              (t, token_here kinds.String t us (are_same kinds.String t.kind y.0), refl, refl) (omega (arith, y.1.0)) y.1.1
+              (t, token_here kinds.String t us (are_same kinds.String t.kind y.0), refl, string_means t.text) (omega (arith, y.1.0)) y.1.1
           | inr a4 ↦ elim (after_cond B (same opening t.kind) _ _ us f a4.1) [
             | inl y ↦ behind_opening_back n h l next t us f (are_same opening t.kind y.0) y.1.1
             | inr a5 ↦ elim (after_cond B (same opening_bracket t.kind) _ _ us f a5.1) [
@@ -213,7 +214,7 @@ module _ (B : ℕ) where
   operand_forth n h l x next t us vs f (rune p value) d le m =
       let e = first_is kinds.Rune t d.0 us vs d.1 in
       let place : p ≡ t.place = d.2 ∙ ap (λ (y : Lexeme). y.place) (sym e.0) in
-      let here : value ≡ rune_value t.text = d.3 ∙ ap (λ (y : Lexeme). rune_value y.text) (sym e.0) in
+      let here : value ≡ rune_value t.text = rune_computed d.0.text value d.3 ∙ ap (λ (y : Lexeme). rune_value y.text) (sym e.0) in
       expr_by n h l x next t us f kinds.Rune e.2 (
         omega arith,
         led B (behind_operand n h l next) (rune t.place (rune_value t.text)) (rune p value) us vs f
@@ -222,7 +223,7 @@ module _ (B : ℕ) where
   operand_forth n h l x next t us vs f (string p value) d le m =
       let e = first_is kinds.String t d.0 us vs d.1 in
       let place : p ≡ t.place = d.2 ∙ ap (λ (y : Lexeme). y.place) (sym e.0) in
-      let here : value ≡ string_value t.text = d.3 ∙ ap (λ (y : Lexeme). string_value y.text) (sym e.0) in
+      let here : value ≡ string_value t.text = string_computed d.0.text value d.3 ∙ ap (λ (y : Lexeme). string_value y.text) (sym e.0) in
       expr_by n h l x next t us f kinds.String e.2 (
         omega arith,
         led B (behind_operand n h l next) (string t.place (string_value t.text))
@@ -241,7 +242,7 @@ module _ (B : ℕ) where
           (d.1, vs, d.7, omega arith, led B (behind_operand n h l next) (parenthesized t.place a) (parenthesized p a) vs vs f (cc (place)) refl m),
         ),
       )
-  operand_forth n h l x next t us vs f (literal p a q es) d le m =
+  operand_forth n h l x next t us vs f (composite_lit p a q es) d le m =
       type_operand_forth n h l x next t us d.2 f a d.5 d.6 (omega arith) (literal_forth B l (behind_operand n h l next) (t ∷ us) vs f p a q es d le m)
   operand_forth n h l x next t us vs f (conversion p a e) d le m =
       type_operand_forth n h l x next t us d.2 f a d.6 d.7 (omega arith) (conversion_forth B l (behind_operand n h l next) (t ∷ us) vs f p a e d le m)

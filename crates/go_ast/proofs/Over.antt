@@ -5,7 +5,7 @@ use Rattle.go_scan.specs.declared.token.TokenKind.{TokenKind}
 use Rattle.go_scan.specs.declared.token.TokenKind.TheVariants as kinds
 use Rattle.go_scan.specs.declared.keyword.Keyword.TheVariants as keywords
 use Rattle.go_scan.specs.declared.punctuation.Punctuation.TheVariants as marks
-use Rattle.go_ast.specs.Trees.{Name, Expr, name, integer, rune, string, parenthesized, literal, conversion, selector, index, call, unary, binary, Exprs, Simple, call_statement, increment, decrement, assignment, operator_assignment, definition, Stmt, Else, no_else, else_block, else_if, conditional, File, pack, pack_stmts}
+use Rattle.go_ast.specs.Trees.{Name, Expr, name, integer, rune, string, parenthesized, composite_lit, conversion, selector, index, call, unary, binary, Exprs, Simple, call_statement, increment, decrement, assignment, operator_assignment, short_var_decl, Stmt, Else, no_else, else_block, else_if, conditional, File, pack, pack_stmts}
 use Rattle.go_ast.specs.Grammar.{Lexeme, Token, assign, comma, period, semicolon, define, opening_brace, opening_bracket, opening, closing_brace, AreItems, AreMoreNames, AreMoreExprs, AreStmts, AreClauses, IsElse, IsCase, is_call, is_last}
 use Rattle.go_ast.specs.Machine.{ListKind, Item, separator, closer, Clause, pack_clauses, Position, State, ended, token, package_name, import_path, optional, type, optional_type, expr, optional_expr, suffixes, operators, more_names, more_exprs, list_start, list_end, lefts, else_part, clause_start, clause_end, import_end, decl_end, keyword, final, final_if}
 use Rattle.go_ast.proofs.Means.{Itself, IsTypeName, Suffixed, Joined, IsItem, Continues, Means, Okay}
@@ -31,8 +31,8 @@ not_suffixed h a (index p e i) ws (inl s) = s
 not_suffixed h a (index p e i) ws (inr d) = absurd (nothing_more opening_bracket d.0 d.2 d.3 (not_suffixed h a e d.2 d.6).1 d.7)
 not_suffixed h a (call p e es) ws (inl i) = i
 not_suffixed h a (call p e es) ws (inr d) = absurd (nothing_more opening d.0 d.2 d.3 (not_suffixed h a e d.2 d.6).1 d.7)
-not_suffixed h a (literal p b q es) ws (inl i) = i
-not_suffixed h a (literal p b q es) ws (inr d) = absurd (named_never a d.5 opening_brace d.0 d.2 d.3 d.7 d.10)
+not_suffixed h a (composite_lit p b q es) ws (inl i) = i
+not_suffixed h a (composite_lit p b q es) ws (inr d) = absurd (named_never a d.5 opening_brace d.0 d.2 d.3 d.7 d.10)
 not_suffixed h a (name p text) ws d = d
 not_suffixed h a (integer p text) ws d = d
 not_suffixed h a (rune p value) ws d = d
@@ -52,7 +52,7 @@ not_joined n h a (integer p text) ws d = d
 not_joined n h a (rune p value) ws d = d
 not_joined n h a (string p value) ws d = d
 not_joined n h a (parenthesized p e) ws d = d
-not_joined n h a (literal p b q es) ws d = d
+not_joined n h a (composite_lit p b q es) ws d = d
 not_joined n h a (conversion p b e) ws d = d
 not_joined n h a (selector p e f) ws d = d
 not_joined n h a (index p e i) ws d = d
@@ -75,7 +75,7 @@ only_call h front (increment e) ws d = absurd (no_token (kinds.Punctuation marks
 only_call h front (decrement e) ws d = absurd (no_token (kinds.Punctuation marks.Decrement) d.0 ws d.2)
 only_call h front (assignment ls rs) ws d = absurd (nothing_more assign d.1 d.2 d.3 (no_more_exprs h d.0 d.2 d.4).1 d.6)
 only_call h front (operator_assignment op l r) ws d = absurd (none_left d.0 d.1 (sym d.3))
-only_call h front (definition ns rs) ws d = absurd (nothing_more define d.1 d.2 d.3 (no_more_exprs h d.0 d.2 d.4).1 d.6)
+only_call h front (short_var_decl ns rs) ws d = absurd (nothing_more define d.1 d.2 d.3 (no_more_exprs h d.0 d.2 d.4).1 d.6)
 
 items_never : (k : ListKind) (is : List (Item k)) (c : Lexeme) (vs ws : List Lexeme) → AreItems (IsItem k) (separator k) is [] vs → Token (closer k) c vs ws → ⊥
 items_never k [] c vs ws are close = nothing_more (closer k) c vs ws are close

@@ -9,7 +9,7 @@ use Rattle.go_ast.specs.declared.expression.TypeExpr.{TypeExpr}
 use Rattle.go_ast.specs.declared.expression.TypeKind.{TypeKind, Named, Qualified, Array, Struct, Struct', Row_of-Field, end_of-Field, more_of-Field, items-the_row-Field, items_hidden-the_row-Field-2}
 use Rattle.go_ast.specs.declared.expression.Field.{Field}
 use Rattle.go_ast.specs.declared.expression.Expr.{Expr}
-use Rattle.go_ast.specs.declared.expression.ExprKind.{ExprKind, Name, Integer, Rune, String, Parenthesized, Literal, Conversion, Selector, Index, Call, Call', Unary, Binary, Row_of-Expr, end_of-Expr, more_of-Expr, items-the_row-Expr, items_hidden-the_row-Expr-1}
+use Rattle.go_ast.specs.declared.expression.ExprKind.{ExprKind, Name, Integer, Rune, String, Parenthesized, CompositeLit, Conversion, Selector, Index, Call, Call', Unary, Binary, Row_of-Expr, end_of-Expr, more_of-Expr, items-the_row-Expr, items_hidden-the_row-Expr-1}
 use Rattle.go_ast.specs.declared.expression.Element.{Element}
 use Rattle.go_ast.specs.declared.expression.ElementValue.{ElementValue, Expression, Value, Value', Row_of-Element, end_of-Element, more_of-Element, items-the_row-Element, items_hidden-the_row-Element-0}
 use Rattle.go_ast.specs.Views.{unary_of, binary_of, type_at, expr_at, fields_of, exprs_of, elements_of, element_value_of, type_of, expr_of, value_of, element_of, field_of, exprs_in}
@@ -87,13 +87,13 @@ unfolding expr_of
 parenthesized_seen p inner e i = ap (λ x. trees.parenthesized p (expr_of x)) i
 
 pub literal_seen : (p : Place) (of : Box TypeExpr Global) (q : Place) (es : Vec Element Global) (a : TypeExpr) → of.value ≡ a →
-    expr_of (record { place = p; kind = Literal of q es }) ≡ trees.literal p (type_of a) q (trees.pack_elements (map element_of es.items))
+    expr_of (record { place = p; kind = CompositeLit of q es }) ≡ trees.composite_lit p (type_of a) q (trees.pack_elements (map element_of es.items))
 unfolding expr_of type_of
 literal_seen p of q es a i =
     let row = element_row (Value q es) in
-    ap (trees.literal p (type_of of.value) q) (element_items row.0 row.1
+    ap (trees.composite_lit p (type_of of.value) q) (element_items row.0 row.1
     ∙ ap (λ xs. trees.pack_elements (map element_of xs)) (items_hidden-the_row-Element-0 es))
-    ∙ ap (λ x. trees.literal p (type_of x) q (trees.pack_elements (map element_of es.items))) i
+    ∙ ap (λ x. trees.composite_lit p (type_of x) q (trees.pack_elements (map element_of es.items))) i
 
 pub conversion_seen : (p : Place) (to : Box TypeExpr Global) (inner : Box Expr Global) (a : TypeExpr) (e : Expr) → to.value ≡ a → inner.value ≡ e →
     expr_of (record { place = p; kind = Conversion to inner }) ≡ trees.conversion p (type_of a) (expr_of e)

@@ -1,7 +1,7 @@
 -- A simple statement is an expression and what continues it, both ways.
 use Rattle.std.proofs.Common.{◌≡◌, ◌≤◌, Bool, List, [], ◌∷◌, ◌++◌, Option, Some, None, refl, sym, ap, ◌∙◌, subst, arith, append_assoc}
 use Rattle.go_scan.specs.declared.token.TokenKind.TheVariants as kinds
-use Rattle.go_ast.specs.Trees.{Name, Expr, name, Exprs, no_exprs, some_exprs, Simple, call_statement, increment, decrement, assignment, operator_assignment, definition, pack}
+use Rattle.go_ast.specs.Trees.{Name, Expr, name, Exprs, no_exprs, some_exprs, Simple, call_statement, increment, decrement, assignment, operator_assignment, short_var_decl, pack}
 use Rattle.go_ast.specs.Heights.{height, exprs_height, simple_height}
 use Rattle.go_ast.specs.Grammar.{Lexeme, Token, name_of, IsExpr, AreMoreNames, AreNames, AreMoreExprs, AreExprs, IsSimple}
 use Rattle.go_ast.specs.Machine.{name_if, push_name, names_if}
@@ -86,7 +86,7 @@ simple_back h e (assignment ls rs) us vs ws d c = (c.1, c.2, c.3, subst (λ x. A
 simple_back h e (operator_assignment op l r) us vs ws d c =
     let same : e ≡ l = let q : e ∷ [] ≡ l ∷ [] = c.2 in cc (q) in
     (c.0, vs, c.1, subst (λ x. IsExpr 5 h x us vs) same d, c.3, c.4, c.5)
-simple_back h e (definition ns rs) us vs ws d c = (c.1, c.2, c.3, names_back h e c.0 ns us vs c.2 d c.4 c.5, c.6, c.7)
+simple_back h e (short_var_decl ns rs) us vs ws d c = (c.1, c.2, c.3, names_back h e c.0 ns us vs c.2 d c.4 c.5, c.6, c.7)
 
 -- the other way round
 abbrev pub Begun : Bool → Simple → List Lexeme → List Lexeme → Type 0
@@ -105,8 +105,8 @@ simple_forth h (assignment (some_exprs e es) rs) us ws d = (
   omega arith,
 )
 simple_forth h (operator_assignment op l r) us ws d = (l, d.1, d.3, (d.0, d.2, refl, d.4, d.5, d.6), omega arith)
-simple_forth h (definition [] rs) us ws d = absurd d.3
-simple_forth h (definition (n ∷ ns) rs) us ws d = (
+simple_forth h (short_var_decl [] rs) us ws d = absurd d.3
+simple_forth h (short_var_decl (n ∷ ns) rs) us ws d = (
   name_expr n,
   d.3.1,
   name_is_expr h n d.3.0 us d.3.1 d.3.2 d.3.3,

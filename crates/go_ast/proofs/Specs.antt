@@ -12,6 +12,7 @@ use Rattle.go_ast.specs.Trees.{Name, TypeExpr, Exprs, no_exprs, some_exprs, Cons
 use Rattle.go_ast.specs.Heights.{type_height, exprs_height, type_height_if, const_height, var_height, type_spec_height, parameter_height}
 use Rattle.go_ast.specs.Grammar.{Lexeme, Token, name_of, assign, closing, closing_brace, comma, period, semicolon, AreNames, IsType, IsType?, AreExprs, AreValues, IsConstSpec, IsVarSpec, IsTypeSpec, IsParameter, IsImportSpec}
 use Rattle.go_ast.specs.Machine.{State, token, type, names, begins_type, value_list, const_rest, var_rest, type_rest, import_of, import_spec}
+use Rattle.go_ast.proofs.Valued.{string_means, string_computed}
 use Rattle.go_ast.proofs.Same.{are_same}
 use Rattle.go_ast.proofs.Means.{begins, Closes, NoComma, Means, Okay, Good}
 use Rattle.go_ast.proofs.Base.{false_true, either_true, apart}
@@ -333,9 +334,9 @@ module _ (B : ℕ) where
       (i : ImportSpec) × (ws : List Lexeme) × IsImportSpec i us ws × (0 + 0 ≤ B + 1) × Means B (next i) ws f
   import_spec_back next us f (inl m) =
       let p = m.4 in
-      (import_of (Some (name_of m.0)) m.0.place p.0, p.1, (m.0, p.0, m.1, inr (refl, m.2, refl), p.2, refl, p.3, refl), omega arith, p.4)
+      (import_of (Some (name_of m.0)) m.0.place p.0, p.1, (m.0, p.0, m.1, inr (refl, m.2, refl), p.2, string_means p.0.text, p.3, refl), omega arith, p.4)
   import_spec_back next us f (inr p) =
-      (import_of None p.0.place p.0, p.1, (p.0, p.0, us, inl (refl, refl, refl), p.2, refl, p.3, refl), omega arith, p.4)
+      (import_of None p.0.place p.0, p.1, (p.0, p.0, us, inl (refl, refl, refl), p.2, string_means p.0.text, p.3, refl), omega arith, p.4)
 
   spec_same : (i : ImportSpec) (p : Place) (n : Option Name) (path : List ℕ) (q : Place) → i.place ≡ p → i.name ≡ n → i.path ≡ path → i.path_place ≡ q →
       i ≡ record { place = p; name = n; path = path; path_place = q }
@@ -358,7 +359,7 @@ module _ (B : ℕ) where
 
   pub import_spec_forth : (next : ImportSpec → State) (i : ImportSpec) (us ws : List Lexeme) (f : File) → IsImportSpec i us ws → Means B (next i) ws f →
       Means B (import_spec next) us f
-  import_spec_forth next i us ws f d m = import_cases next i d.0 d.1 us d.2 ws f d.3 d.4 d.5 d.6 d.7 m
+  import_spec_forth next i us ws f d m = import_cases next i d.0 d.1 us d.2 ws f d.3 d.4 (string_computed d.1.text i.path d.5) d.6 d.7 m
 
   pub import_spec_good : (next : ImportSpec → State) → ((i : ImportSpec) → Good B (next i)) → Okay B (import_spec next)
   import_spec_good next good = (

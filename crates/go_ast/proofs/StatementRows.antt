@@ -40,14 +40,14 @@ block_seen b = ap (λ x. trees.block_statement (trees.block b.place x b.closing)
 pub if_seen : (i : If) → stmt_of (stmts.If i) ≡ trees.if_statement (if_of i)
 unfolding stmt_of else_of
 if_seen i =
-    ap (λ x. trees.if_statement (trees.conditional i.place (if_boxed simple_of i.start) (expr_of i.condition.value) (trees.block i.body.place x i.body.closing)
+    ap (λ x. trees.if_statement (trees.conditional i.place (if_boxed simple_of i.init) (expr_of i.condition.value) (trees.block i.body.place x i.body.closing)
     (else_of i.otherwise))) (stmts_seen i.body)
 
-pub for_seen : (f : For) → stmt_of (stmts.For f) ≡ trees.for_statement f.place (if_boxed simple_of f.start) (if_boxed expr_of f.condition)
-    (if_boxed simple_of f.step) (block_of f.body)
+pub for_seen : (f : For) → stmt_of (stmts.For f) ≡ trees.for_statement f.place (if_boxed simple_of f.init) (if_boxed expr_of f.condition)
+    (if_boxed simple_of f.post) (block_of f.body)
 unfolding stmt_of
 for_seen f =
-    ap (λ x. trees.for_statement f.place (if_boxed simple_of f.start) (if_boxed expr_of f.condition) (if_boxed simple_of f.step)
+    ap (λ x. trees.for_statement f.place (if_boxed simple_of f.init) (if_boxed expr_of f.condition) (if_boxed simple_of f.post)
     (trees.block f.body.place x f.body.closing)) (stmts_seen f.body)
 
 pub range_seen : (r : Range) → stmt_of (stmts.Range r) ≡ trees.range_statement r.place r.name (expr_of r.operand.value) (block_of r.body)
@@ -65,7 +65,7 @@ else_block_seen b = ap (λ x. trees.else_block (trees.block b.place x b.closing)
 pub else_if_seen : (box : Box If Global) (i : If) → box.value ≡ i → else_of (elses.If box) ≡ trees.else_if (if_of i)
 unfolding else_of
 else_if_seen box i e =
-    ap (λ x. trees.else_if (trees.conditional box.value.place (if_boxed simple_of box.value.start) (expr_of box.value.condition.value)
+    ap (λ x. trees.else_if (trees.conditional box.value.place (if_boxed simple_of box.value.init) (expr_of box.value.condition.value)
     (trees.block box.value.body.place x box.value.body.closing) (else_of box.value.otherwise))) (stmts_seen box.value.body)
     ∙ ap (λ (x : If). trees.else_if (if_of x)) e
 

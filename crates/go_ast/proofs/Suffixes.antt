@@ -6,7 +6,7 @@ use Rattle.go_scan.specs.declared.token.TokenKind.TheVariants as kinds
 use Rattle.go_ast.specs.Kinds.{same}
 use Rattle.go_ast.specs.Operators.{binary_of, tighter}
 use Rattle.go_ast.specs.Expected.{a_selected_name, an_index, an_index_end}
-use Rattle.go_ast.specs.Trees.{BinaryOperator, TypeExpr, named, qualified, Expr, name, literal, selector, index, call, Exprs, Elements, File, place_of, pack, pack_elements}
+use Rattle.go_ast.specs.Trees.{BinaryOperator, TypeExpr, named, qualified, Expr, name, composite_lit, selector, index, call, Exprs, Elements, File, place_of, pack, pack_elements}
 use Rattle.go_ast.specs.Heights.{height, type_height, exprs_height, elements_height}
 use Rattle.go_ast.specs.Grammar.{Lexeme, Token, name_of, opening, closing, opening_bracket, closing_bracket, opening_brace, closing_brace, period, IsExpr, AreArguments, AreElements, type_place}
 use Rattle.go_ast.specs.Machine.{State, token, suffixes, expr, list_start, arguments, elements, Move, Take, cond, literal_type, is_some, on_brace, on_suffix, tails, behind_operand, step}
@@ -30,13 +30,13 @@ pub data Step (h : Bool) (a b : Expr) (us ws : List Lexeme) : Type 0 where
       b ≡ call (place_of a) a es → Step h a b us ws
   completes : (o c : Lexeme) (s : TypeExpr) (es : Elements) (xs ys : List Lexeme) → h ≡ false → literal_type a ≡ Some s →
       Token opening_brace o us xs → AreElements es xs ys →
-      Token closing_brace c ys ws → b ≡ literal (type_place s) s o.place es → Step h a b us ws
+      Token closing_brace c ys ws → b ≡ composite_lit (type_place s) s o.place es → Step h a b us ws
 
 pub suffixed_itself : (h : Bool) (a e : Expr) (us ws : List Lexeme) → Itself a e us ws → Suffixed h a e us ws
 suffixed_itself h a (selector p e f) us ws i = inl i
 suffixed_itself h a (index p e x) us ws i = inl i
 suffixed_itself h a (call p e es) us ws i = inl i
-suffixed_itself h a (literal p b q es) us ws i = inl i
+suffixed_itself h a (composite_lit p b q es) us ws i = inl i
 suffixed_itself h a _ us ws i = i
 
 -- the first suffix, and the others
@@ -72,13 +72,13 @@ first_step h a (call p e es) us ws s = elim s [
     | inr q ↦ inr (q.0, q.1, q.2, inr (r.0, r.1, r.2, r.3, r.4, r.5, q.3, r.7, r.8, r.9))
   ]
 ]
-first_step h a (literal p b q es) us ws s = elim s [
+first_step h a (composite_lit p b q es) us ws s = elim s [
   | inl i ↦ inl i
   | inr r ↦ elim r.7 [
     | inl i ↦ (let place : p ≡ type_place b = r.9 in
         let brace : q ≡ r.0.place = r.11 in
         inr (
-          literal p b q es,
+          composite_lit p b q es,
           ws,
           completes r.0 r.1 b es r.3 r.4 r.6 (sym (ap literal_type i.0) ∙ r.8) (subst (λ y. Token opening_brace r.0 y r.3) (sym i.1) r.10) r.12 r.13
               (cc (place, brace)),
@@ -137,8 +137,8 @@ then_suffixes h a b (call p e es) us vs ws k s = elim s [
   | inl i ↦ moved (λ x xs. Suffixed h a x us xs) b (call p e es) vs ws i (step_suffixed h a b us vs k)
   | inr r ↦ inr (r.0, r.1, r.2, r.3, r.4, r.5, then_suffixes h a b e us vs r.2 k r.6, r.7, r.8, r.9)
 ]
-then_suffixes h a b (literal p c q es) us vs ws k s = elim s [
-  | inl i ↦ moved (λ x xs. Suffixed h a x us xs) b (literal p c q es) vs ws i (step_suffixed h a b us vs k)
+then_suffixes h a b (composite_lit p c q es) us vs ws k s = elim s [
+  | inl i ↦ moved (λ x xs. Suffixed h a x us xs) b (composite_lit p c q es) vs ws i (step_suffixed h a b us vs k)
   | inr r ↦ inr (r.0, r.1, r.2, r.3, r.4, r.5, r.6, type_name_behind h a b r.5 c us vs r.2 k r.7 r.8, r.8, r.9, r.10, r.11, r.12, r.13)
 ]
 then_suffixes h a b e us vs ws k s = moved (λ x xs. Suffixed h a x us xs) b e vs ws s (step_suffixed h a b us vs k)
@@ -163,7 +163,7 @@ module _ (B : ℕ) where
   brace_back false l a next t us f other None e back after = back after
   brace_back false l a next t us f other (Some s) e back after = elim (after_cond B (same opening_brace t.kind) _ _ us f after) [
     | inl g ↦ (let m = g.1.1 in
-        more_suffixes false l a (literal (type_place s) s t.place (pack_elements m.0)) next (t ∷ us) m.3 f
+        more_suffixes false l a (composite_lit (type_place s) s t.place (pack_elements m.0)) next (t ∷ us) m.3 f
         (completes t m.1 s (pack_elements m.0) us m.2 refl e (token_here opening_brace t us (are_same opening_brace t.kind g.0))
         (elements_from (l + 2) m.0 us m.2 m.4) m.6 refl) m.7)
     | inr g ↦ back g.1
@@ -213,7 +213,7 @@ module _ (B : ℕ) where
   pass_brace false l behind t other us f None e after = after
   pass_brace false l behind t other us f (Some s) e after =
       subst (λ c. After B (cond c (Take (l + 1) (list_start (elements (l + 2)) []
-      (λ es _. behind (literal (type_place s) s t.place (pack_elements es))))) other) us f) (sym e) after
+      (λ es _. behind (composite_lit (type_place s) s t.place (pack_elements es))))) other) us f) (sym e) after
 
   pass : (h : Bool) (l : ℕ) (e : Expr) (behind : Expr → State) (t : Lexeme) (other : Move) (us : List Lexeme) (f : File) → is_tail h t.kind ≡ false →
       After B other us f → After B (on_suffix h l e behind t other) us f
@@ -275,9 +275,9 @@ module _ (B : ℕ) where
   step_forth h l a b next t us vs f other (completes o c s es xs ys header type_is p d q e) fits m =
       let first = first_is opening_brace t o us xs p in
       let tall : height b ≡ max (type_height s) (elements_height es + 1) + 1 = ap height e in
-      let packed : b ≡ literal (type_place s) s t.place (pack_elements (unpack_elements es)) =
-      e ∙ ap (λ x. literal (type_place s) s x es) (ap (λ (x : Lexeme). x.place) (sym first.0))
-      ∙ ap (literal (type_place s) s t.place) (sym (packed_elements es)) in
+      let packed : b ≡ composite_lit (type_place s) s t.place (pack_elements (unpack_elements es)) =
+      e ∙ ap (λ x. composite_lit (type_place s) s x es) (ap (λ (x : Lexeme). x.place) (sym first.0))
+      ∙ ap (composite_lit (type_place s) s t.place) (sym (packed_elements es)) in
       at_kind h l a (λ x. suffixes h l x next) t other us f opening_brace first.2
       (subst (λ x. After B (on_brace h l (λ x. suffixes h l x next) t other x) us f) (sym type_is)
       (subst (λ x. After B (on_brace x l (λ x. suffixes h l x next) t other (Some s)) us f) (sym header)

@@ -1,11 +1,10 @@
 -- The machine and the grammar agree: for lists of tokens that are files, for all others, and for the token at which they
 -- stop being one.
 use Rattle.std.proofs.Common.{◌≡◌, ◌≢◌, ℕ, ◌≤◌, max, ◌⊎◌, inl, inr, Bool, true, false, List, [], ◌∷◌, refl, sym, ap, ◌∙◌, arith}
-use Rattle.std.specs.Prelude.{nat_eq, if◌then◌else◌}
+use Rattle.std.specs.Prelude.{nat_eq}
 use Rattle.std.proofs.lemmas.Bool.Decides.{nat_tests}
 use Rattle.go_ast.specs.Trees.{File}
 use Rattle.go_ast.specs.Grammar.{Lexeme, Derives}
-use Rattle.go_ast.specs.Expected.{is_left_out}
 use Rattle.go_ast.specs.Machine.{start, Outcome, Done, Refused, run}
 use Rattle.go_ast.specs.Stops.{IsFault, StopsAt}
 use Rattle.go_ast.proofs.StatementTokens.{statement_known}
@@ -13,6 +12,7 @@ use Rattle.go_ast.proofs.All.{all}
 use Rattle.go_ast.proofs.Final as final
 use Rattle.go_ast.proofs.Final.{Theory, larger}
 use Rattle.go_ast.proofs.Exact.{not_both, only_stop}
+use Rattle.go_ast.proofs.LeftOutFault.{told}
 
 pub theory : (B : ℕ) → Theory B
 theory B = all B (statement_known B)
@@ -32,7 +32,7 @@ one_file m n ts f g d e =
 
 -- where a list is refused it stops being a file, and the other way round
 pub refused_stops : (B : ℕ) (ts : List Lexeme) (n : ℕ) (bad : List Lexeme) → 1 ≤ B → run B start ts ≡ Refused n bad → StopsAt B ts n bad
-refused_stops B ts n bad one e = final.stops_at theory B ts n bad one e
+refused_stops B ts n bad one e = final.stops_at theory (told theory) B ts n bad one e
 
 pub stops_refused : (B : ℕ) (ts : List Lexeme) (n : ℕ) (bad : List Lexeme) → 1 ≤ B → StopsAt B ts n bad → run B start ts ≡ Refused n bad
 stops_refused B ts n bad one s = by_outcome (run B start ts) refl
@@ -52,13 +52,10 @@ file_or_stop B ts one = by_outcome (run B start ts) refl
     by_outcome (Refused n bad) e = inr (n, bad, refused_stops B ts n bad one e)
 
 -- the numbers that there are
-fault_numbers : (c : Bool) (n : ℕ) → n ≡ (if c then 2 else 3) → (n ≡ 2) ⊎ ((n ≡ 3) ⊎ (n ≡ 4))
-fault_numbers true n e = inl e
-fault_numbers false n e = inr (inl e)
-
 fault_of : (good bad : List Lexeme) (n : ℕ) → IsFault good bad n → (n ≡ 2) ⊎ ((n ≡ 3) ⊎ (n ≡ 4))
 fault_of good [] n e = inr (inl e)
-fault_of good (t ∷ ts) n f = fault_numbers (is_left_out f.0 t.kind) n f.2
+fault_of good (t ∷ ts) n (inl f) = inl f.0
+fault_of good (t ∷ ts) n (inr f) = inr (inl f.0)
 
 pub numbers : (B : ℕ) (ts : List Lexeme) (n : ℕ) (bad : List Lexeme) → StopsAt B ts n bad → (n ≡ 2) ⊎ ((n ≡ 3) ⊎ (n ≡ 4))
 numbers B ts n bad s = by_test (nat_eq n 4) refl

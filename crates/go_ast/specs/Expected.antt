@@ -1,9 +1,11 @@
--- What may be expected where a list of tokens stops being a file, and which tokens there are of Go, but left out.
+-- A device of the machine, and nothing that a reader has to trust: `LeftOut` says what is left out, and the lemmas show that
+-- this table answers it. It tells the faults 2 and 3 apart by what may be expected where a list of tokens stops being a file.
 use Rattle.std.specs.Prelude.{ℕ, Bool, true, false, ◌||◌, if◌then◌else◌}
 use Rattle.go_scan.specs.declared.token.TokenKind.{TokenKind}
 use Rattle.go_scan.specs.declared.token.TokenKind.TheVariants as kinds
 use Rattle.go_scan.specs.declared.keyword.Keyword.TheVariants as keywords
 use Rattle.go_scan.specs.declared.punctuation.Punctuation.TheVariants as marks
+pub use Rattle.go_ast.specs.LeftOut.{is_never_read, begins_left_out}
 
 pub data Expected : Type 0 where
   -- an operand, and one directly behind a `=`
@@ -36,27 +38,6 @@ pub data Expected : Type 0 where
   an_import_path : Expected
   -- anything else
   another : Expected
-
--- tokens that belong to what is left out, wherever they stand
-abbrev pub is_never_read : TokenKind → Bool
-is_never_read (kinds.Keyword keywords.Chan) = true
-is_never_read (kinds.Keyword keywords.Defer) = true
-is_never_read (kinds.Keyword keywords.Go) = true
-is_never_read (kinds.Keyword keywords.Goto) = true
-is_never_read (kinds.Keyword keywords.Interface) = true
-is_never_read (kinds.Keyword keywords.Map) = true
-is_never_read (kinds.Keyword keywords.Select) = true
-is_never_read (kinds.Punctuation marks.Arrow) = true
-is_never_read (kinds.Punctuation marks.Ellipsis) = true
-is_never_read (kinds.Punctuation marks.Tilde) = true
-is_never_read _ = false
-
--- function literals and types, and pointers
-abbrev pub begins_left_out : TokenKind → Bool
-begins_left_out (kinds.Keyword keywords.Func) = true
-begins_left_out (kinds.Punctuation marks.Star) = true
-begins_left_out (kinds.Punctuation marks.Ampersand) = true
-begins_left_out _ = false
 
 -- function types, pointers and types in parentheses
 abbrev pub begins_left_out_type : TokenKind → Bool

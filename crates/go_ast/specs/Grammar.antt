@@ -6,9 +6,10 @@ use Rattle.go_scan.specs.declared.token.TokenKind.{TokenKind}
 use Rattle.go_scan.specs.declared.token.TokenKind.TheVariants as kinds
 use Rattle.go_scan.specs.declared.keyword.Keyword.TheVariants as keywords
 use Rattle.go_scan.specs.declared.punctuation.Punctuation.TheVariants as marks
-use Rattle.go_ast.specs.Trees.{Name, TypeExpr, named, qualified, array, struct, Fields, no_fields, field, Expr, name, integer, rune, string, parenthesized, literal, conversion, selector, index, call, unary, binary, Exprs, no_exprs, some_exprs, Elements, no_elements, element, Element, expression_element, value_element, Simple, call_statement, increment, decrement, assignment, operator_assignment, definition, ConstSpec, VarSpec, TypeSpec, Decl, constants, variables, types, Stmt, empty, declaration, simple, return, break, continue, fallthrough, block_statement, if_statement, for_statement, range_statement, switch_statement, Block, block, If, conditional, Else, no_else, else_block, else_if, Stmts, no_stmts, some_stmts, Clauses, no_clauses, clause, Parameter, Function, TopLevel, declared, function, ImportSpec, File, place_of}
+use Rattle.go_scan.specs.Runes.{RuneValue}
+use Rattle.go_scan.specs.Strings.{StringValue}
+use Rattle.go_ast.specs.Trees.{Name, TypeExpr, named, qualified, array, struct, Fields, no_fields, field, Expr, name, integer, rune, string, parenthesized, composite_lit, conversion, selector, index, call, unary, binary, Exprs, no_exprs, some_exprs, Elements, no_elements, element, Element, expression_element, value_element, Simple, call_statement, increment, decrement, assignment, operator_assignment, short_var_decl, ConstSpec, VarSpec, TypeSpec, Decl, constants, variables, types, Stmt, empty, declaration, simple, return, break, continue, fallthrough, block_statement, if_statement, for_statement, range_statement, switch_statement, Block, block, If, conditional, Else, no_else, else_block, else_if, Stmts, no_stmts, some_stmts, Clauses, no_clauses, clause, Parameter, Function, TopLevel, declared, function, ImportSpec, File, place_of}
 use Rattle.go_ast.specs.Heights.{file_height}
-use Rattle.go_ast.specs.Literals.{string_value, rune_value}
 use Rattle.go_ast.specs.Operators.{unary_of, binary_of, assignment_of, tighter}
 
 -- a token as the grammar sees it: its kind, its bytes and its place
@@ -147,11 +148,11 @@ abbrev mutual
   pub IsExpr : ℕ → Bool → Expr → List Lexeme → List Lexeme → Type 0
   IsExpr n h (name p text) us ws = (t : Lexeme) × Token kinds.Name t us ws × (p ≡ t.place) × (text ≡ t.text)
   IsExpr n h (integer p text) us ws = (t : Lexeme) × Token kinds.Integer t us ws × (p ≡ t.place) × (text ≡ t.text)
-  IsExpr n h (rune p value) us ws = (t : Lexeme) × Token kinds.Rune t us ws × (p ≡ t.place) × (value ≡ rune_value t.text)
-  IsExpr n h (string p value) us ws = (t : Lexeme) × Token kinds.String t us ws × (p ≡ t.place) × (value ≡ string_value t.text)
+  IsExpr n h (rune p value) us ws = (t : Lexeme) × Token kinds.Rune t us ws × (p ≡ t.place) × RuneValue t.text value
+  IsExpr n h (string p value) us ws = (t : Lexeme) × Token kinds.String t us ws × (p ≡ t.place) × StringValue t.text value
   IsExpr n h (parenthesized p e) us ws =
       (o c : Lexeme) × (vs xs : List Lexeme) × Token opening o us vs × (p ≡ o.place) × IsExpr 5 false e vs xs × Token closing c xs ws
-  IsExpr n h (literal p a q es) us ws =
+  IsExpr n h (composite_lit p a q es) us ws =
       (o c : Lexeme) × (vs xs ys : List Lexeme) × (h ≡ true → is_named a ≡ false) × IsType a us vs × (p ≡ type_place a)
       × Token opening_brace o vs xs × (q ≡ o.place) × AreElements es xs ys × Token closing_brace c ys ws
   IsExpr n h (conversion p a e) us ws =
@@ -211,12 +212,12 @@ IsSimple h (decrement e) us ws = (t : Lexeme) × (vs : List Lexeme) × IsExpr 5 
 IsSimple h (assignment ls rs) us ws = (t : Lexeme) × (vs xs : List Lexeme) × AreExprs h ls us vs × Token assign t vs xs × AreExprs h rs xs ws
 IsSimple h (operator_assignment op l r) us ws =
     (t : Lexeme) × (vs xs : List Lexeme) × IsExpr 5 h l us vs × (vs ≡ t ∷ xs) × (assignment_of t.kind ≡ Some op) × IsExpr 5 h r xs ws
-IsSimple h (definition ns rs) us ws = (t : Lexeme) × (vs xs : List Lexeme) × AreNames ns us vs × Token define t vs xs × AreExprs h rs xs ws
+IsSimple h (short_var_decl ns rs) us ws = (t : Lexeme) × (vs xs : List Lexeme) × AreNames ns us vs × Token define t vs xs × AreExprs h rs xs ws
 
--- a definition, which may not stand behind a turn of a `for`
-abbrev pub is_definition : Simple → Bool
-is_definition (definition ns rs) = true
-is_definition _ = false
+-- a short variable declaration, which may not stand behind a turn of a `for`
+abbrev pub is_short_var_decl : Simple → Bool
+is_short_var_decl (short_var_decl ns rs) = true
+is_short_var_decl _ = false
 
 -- the place of a simple statement's first token
 abbrev pub simple_place : Simple → Place
@@ -226,8 +227,8 @@ simple_place (decrement e) = place_of e
 simple_place (assignment no_exprs rs) = nowhere
 simple_place (assignment (some_exprs l ls) rs) = place_of l
 simple_place (operator_assignment op l r) = place_of l
-simple_place (definition [] rs) = nowhere
-simple_place (definition (n ∷ ns) rs) = n.place
+simple_place (short_var_decl [] rs) = nowhere
+simple_place (short_var_decl (n ∷ ns) rs) = n.place
 
 -- a value that may be missing
 abbrev pub IsType? : Option TypeExpr → List Lexeme → List Lexeme → Type 0
@@ -295,7 +296,7 @@ abbrev pub IsForHead : Option Simple → Option Expr → Option Simple → List 
 IsForHead i c n us ws =
     ((i ≡ None) × (n ≡ None) × IsExpr? c us ws)
     ⊎ ((t r : Lexeme) × (vs xs ys zs : List Lexeme) × IsSimple? i us vs × Token semicolon t vs xs × IsExpr? c xs ys × Token semicolon r ys zs
-    × IsSimple? n zs ws × ((s : Simple) → n ≡ Some s → is_definition s ≡ false))
+    × IsSimple? n zs ws × ((s : Simple) → n ≡ Some s → is_short_var_decl s ≡ false))
 
 --   [ Name ":=" ]
 abbrev pub IsRangeName : Option Name → List Lexeme → List Lexeme → Type 0
@@ -391,7 +392,7 @@ abbrev pub IsImportSpec : ImportSpec → List Lexeme → List Lexeme → Type 0
 IsImportSpec i us ws =
     (n t : Lexeme) × (vs : List Lexeme)
     × (((i.name ≡ None) × (us ≡ vs) × (i.place ≡ t.place)) ⊎ ((i.name ≡ Some (name_of n)) × Token kinds.Name n us vs × (i.place ≡ n.place)))
-    × Token kinds.String t vs ws × (i.path ≡ string_value t.text) × (i.path ≢ codes "C") × (i.path_place ≡ t.place)
+    × Token kinds.String t vs ws × StringValue t.text i.path × (i.path ≢ codes "C") × (i.path_place ≡ t.place)
 
 --   { Import ";" }, Import = "import" Group(ImportSpec)
 abbrev pub AreImports : List (List ImportSpec) → List Lexeme → List Lexeme → Type 0

@@ -1,6 +1,6 @@
 -- How many levels of nodes a tree has: statements, blocks, expressions, types and the braces of a literal.
 use Rattle.std.specs.Prelude.{ℕ, ◌+◌, max, List, [], ◌∷◌, Option, Some, None}
-use Rattle.go_ast.specs.Trees.{TypeExpr, named, qualified, array, struct, Fields, no_fields, field, Expr, name, integer, rune, string, parenthesized, literal, conversion, selector, index, call, unary, binary, Exprs, no_exprs, some_exprs, Elements, no_elements, element, Element, expression_element, value_element, Simple, call_statement, increment, decrement, assignment, operator_assignment, definition, ConstSpec, VarSpec, TypeSpec, Decl, constants, variables, types, Stmt, empty, declaration, simple, return, break, continue, fallthrough, block_statement, if_statement, for_statement, range_statement, switch_statement, Block, block, If, conditional, Else, no_else, else_block, else_if, Stmts, no_stmts, some_stmts, Clauses, no_clauses, clause, Parameter, Function, TopLevel, declared, function, File}
+use Rattle.go_ast.specs.Trees.{TypeExpr, named, qualified, array, struct, Fields, no_fields, field, Expr, name, integer, rune, string, parenthesized, composite_lit, conversion, selector, index, call, unary, binary, Exprs, no_exprs, some_exprs, Elements, no_elements, element, Element, expression_element, value_element, Simple, call_statement, increment, decrement, assignment, operator_assignment, short_var_decl, ConstSpec, VarSpec, TypeSpec, Decl, constants, variables, types, Stmt, empty, declaration, simple, return, break, continue, fallthrough, block_statement, if_statement, for_statement, range_statement, switch_statement, Block, block, If, conditional, Else, no_else, else_block, else_if, Stmts, no_stmts, some_stmts, Clauses, no_clauses, clause, Parameter, Function, TopLevel, declared, function, File}
 
 abbrev mutual
   pub type_height : TypeExpr → ℕ
@@ -19,7 +19,7 @@ abbrev mutual
   height (rune p value) = 1
   height (string p value) = 1
   height (parenthesized p e) = height e + 1
-  height (literal p a q es) = max (type_height a) (elements_height es + 1) + 1
+  height (composite_lit p a q es) = max (type_height a) (elements_height es + 1) + 1
   height (conversion p a e) = max (type_height a) (height e) + 1
   height (selector p e n) = height e + 1
   height (index p e i) = max (height e) (height i) + 1
@@ -45,8 +45,8 @@ simple_height (increment e) = height e
 simple_height (decrement e) = height e
 simple_height (assignment ls rs) = max (exprs_height ls) (exprs_height rs)
 simple_height (operator_assignment op l r) = max (height l) (height r)
--- the names of a definition are no nodes, but stand where an expression does
-simple_height (definition ns rs) = exprs_height rs
+-- the names of a short variable declaration are no nodes, but stand where an expression does
+simple_height (short_var_decl ns rs) = exprs_height rs
 
 -- what may be missing
 abbrev pub height_if : Option Expr → ℕ

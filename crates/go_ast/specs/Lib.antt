@@ -2,9 +2,11 @@ pub mod Expected
 pub mod Grammar
 pub mod Heights
 pub mod Kinds
+pub mod LeftOut
 pub mod Literals
 pub mod Machine
 pub mod Operators
+pub mod Parse
 pub mod Spellings
 pub mod Stops
 pub mod Tokens

@@ -1,4 +1,4 @@
--- What literals mean.
+-- What the machine computes of literals.
 use Rattle.std.specs.Prelude.{ℕ, List}
 use Rattle.go_scan.specs.Fronts.{string_value_of, rune_value_of}
 

@@ -1,5 +1,6 @@
--- The grammar as a machine that takes one token after another. It is no second grammar: what it takes the grammar
--- derives, and the other way round, as the lemmas show. The contracts of the parser's functions speak of it.
+-- A device of the proofs, and nothing that a reader has to trust: the grammar as a machine that takes one token after
+-- another. What it takes the grammar derives, and the other way round, as the lemmas show. The contracts of the parser's
+-- inner functions speak of it, and that of `parse` doesn't.
 use Rattle.std.specs.Prelude.{ℕ, zero, suc, ◌+◌, nat_le, nat_eq, Bool, true, false, ◌&&◌, ◌||◌, not, List, [], ◌∷◌, ◌++◌, Option, Some, None, codes}
 use Rattle.std.specs.Str.{bytes_eq}
 use Rattle.go_text.specs.declared.place.Place.{Place}
@@ -12,7 +13,7 @@ use Rattle.go_ast.specs.Kinds.{same}
 use Rattle.go_ast.specs.Literals.{string_value, rune_value}
 use Rattle.go_ast.specs.Operators.{unary_of, binary_of, assignment_of, tighter}
 use Rattle.go_ast.specs.Expected.{Expected, an_operand, a_value, a_type, a_declared_type, a_parameter_type, a_length, an_index, an_index_end, a_selected_name, an_element_end, a_field_end, a_result_end, a_statement, behind_a_name, behind_a_jump, a_function_name, a_function_opening, an_import, an_import_path, another, is_left_out_at, fault_at}
-use Rattle.go_ast.specs.Trees.{Name, UnaryOperator, BinaryOperator, TypeExpr, named, qualified, array, struct, Expr, name, integer, rune, string, parenthesized, literal, conversion, selector, index, call, unary, binary, Exprs, no_exprs, Element, expression_element, value_element, Simple, call_statement, increment, decrement, assignment, operator_assignment, definition, ConstSpec, VarSpec, TypeSpec, Decl, constants, variables, types, Stmt, empty, declaration, simple, return, break, continue, fallthrough, block_statement, if_statement, for_statement, range_statement, switch_statement, Block, block, If, conditional, Else, no_else, else_block, else_if, Clauses, no_clauses, clause, Parameter, Function, TopLevel, declared, function, ImportSpec, File, place_of, pack, pack_elements, pack_fields, pack_stmts}
+use Rattle.go_ast.specs.Trees.{Name, UnaryOperator, BinaryOperator, TypeExpr, named, qualified, array, struct, Expr, name, integer, rune, string, parenthesized, composite_lit, conversion, selector, index, call, unary, binary, Exprs, no_exprs, Element, expression_element, value_element, Simple, call_statement, increment, decrement, assignment, operator_assignment, short_var_decl, ConstSpec, VarSpec, TypeSpec, Decl, constants, variables, types, Stmt, empty, declaration, simple, return, break, continue, fallthrough, block_statement, if_statement, for_statement, range_statement, switch_statement, Block, block, If, conditional, Else, no_else, else_block, else_if, Clauses, no_clauses, clause, Parameter, Function, TopLevel, declared, function, ImportSpec, File, place_of, pack, pack_elements, pack_fields, pack_stmts}
 use Rattle.go_ast.specs.Heights.{height}
 use Rattle.go_ast.specs.Grammar.{Lexeme, name_of, assign, opening, closing, opening_bracket, closing_bracket, opening_brace, closing_brace, comma, period, semicolon, colon, define, is_call, simple_place, type_place, concat}
 
@@ -109,7 +110,7 @@ pub data State : Type 0 where
   -- what is behind these left sides: of a statement, of an expression alone, and of `name := range`
   lefts : (m : Position) (h : Bool) (l : ℕ) (front : List Expr) (next : Simple → State) (alone : Expr → State) (range : Name → Expr → State) → State
   -- what is behind an `if`'s first block, in front of the rest
-  else_part : (l : ℕ) (p : Place) (start : Option Simple) (condition : Expr) (body : Block) (next : If → State) → State
+  else_part : (l : ℕ) (p : Place) (init : Option Simple) (condition : Expr) (body : Block) (next : If → State) → State
   -- a statement of a clause behind these, or the clause's end, and what is behind a statement; the clauses in front of it
   clause_start : (l : ℕ) (done : List Clause) (p : Place) (values : Option Exprs) (front : List Stmt) (next : Clauses → Lexeme → State) → State
   clause_end : (l : ℕ) (x : Expected) (done : List Clause) (p : Place) (values : Option Exprs) (front : List Stmt) (next : Clauses → Lexeme → State) → State
@@ -177,7 +178,7 @@ behind_opening n h l next t =
 -- behind an array or struct type that begins an operand: its elements, or what is converted to it
 abbrev pub behind_literal_type : ℕ → (Expr → State) → TypeExpr → State
 behind_literal_type l next a =
-    optional opening_brace (l + 1) (λ o. list_start (elements (l + 2)) [] (λ es _. next (literal (type_place a) a o.place (pack_elements es))))
+    optional opening_brace (l + 1) (λ o. list_start (elements (l + 2)) [] (λ es _. next (composite_lit (type_place a) a o.place (pack_elements es))))
     (token opening (l + 1) another (λ _. expr 5 false (l + 1) an_operand (λ e.
     optional comma 0 (λ _. token closing 0 another (λ _. next (conversion (type_place a) a e)))
     (token closing 0 another (λ _. next (conversion (type_place a) a e))))))
@@ -215,7 +216,7 @@ literal_type _ = None
 abbrev pub on_brace : Bool → ℕ → (Expr → State) → Lexeme → Move → Option TypeExpr → Move
 on_brace false l behind t other (Some a) =
     cond (same opening_brace t.kind) (Take (l + 1) (list_start (elements (l + 2)) []
-    (λ es _. behind (literal (type_place a) a t.place (pack_elements es))))) other
+    (λ es _. behind (composite_lit (type_place a) a t.place (pack_elements es))))) other
 on_brace h l behind t other a = other
 
 abbrev pub on_suffix : Bool → ℕ → Expr → (Expr → State) → Lexeme → Move → Move
@@ -313,14 +314,14 @@ abbrev pub is_for : Position → Bool
 is_for in_for = true
 is_for _ = false
 
-abbrev pub definition_values : Bool → ℕ → List Name → (Simple → State) → State
-definition_values h l ns next = expr 5 h l an_operand (λ e. more_exprs h l (e ∷ []) (λ es. next (definition ns (pack es))))
+abbrev pub short_var_decl_values : Bool → ℕ → List Name → (Simple → State) → State
+short_var_decl_values h l ns next = expr 5 h l an_operand (λ e. more_exprs h l (e ∷ []) (λ es. next (short_var_decl ns (pack es))))
 
 -- behind `:=`
 abbrev pub behind_define : Position → Bool → ℕ → List Name → (Simple → State) → (Name → Expr → State) → State
 behind_define in_for h l (n ∷ []) next range =
-    optional (keyword keywords.Range) 0 (λ _. expr 5 h l an_operand (λ e. range n e)) (definition_values h l (n ∷ []) next)
-behind_define m h l ns next range = definition_values h l ns next
+    optional (keyword keywords.Range) 0 (λ _. expr 5 h l an_operand (λ e. range n e)) (short_var_decl_values h l (n ∷ []) next)
+behind_define m h l ns next range = short_var_decl_values h l ns next
 
 abbrev pub on_define : Position → Bool → ℕ → (Simple → State) → (Name → Expr → State) → Lexeme → Move → Option (List Name) → Move
 on_define m h l next range t other None = other

@@ -17,7 +17,7 @@ lexeme text t = record { kind = t.kind; text = bytes_of text t; place = t.place 
 abbrev pub lexemes : List ℕ → List Token → List Lexeme
 lexemes text ts = map (lexeme text) ts
 
--- a token lies in a text, and a name and an integer literal are UTF-8: what a reader knows of its tokens
+-- a token lies in a text, and a name and an integer literal are UTF-8: what a parser knows of its tokens
 pub record LiesIn (text : List ℕ) (t : Token) : Type 0 where
   pub order : t.start ≤ t.end
   pub within : t.end ≤ length text

@@ -58,7 +58,7 @@ mutual
     string : Place → List ℕ → Expr
     parenthesized : Place → Expr → Expr
     -- an array or a struct of a type: the type, the place of the opening brace, and the elements
-    literal : Place → TypeExpr → Place → Elements → Expr
+    composite_lit : Place → TypeExpr → Place → Elements → Expr
     conversion : Place → TypeExpr → Expr → Expr
     selector : Place → Expr → Name → Expr
     index : Place → Expr → Expr → Expr
@@ -87,7 +87,7 @@ pub data Simple : Type 0 where
   decrement : Expr → Simple
   assignment : Exprs → Exprs → Simple
   operator_assignment : BinaryOperator → Expr → Expr → Simple
-  definition : List Name → Exprs → Simple
+  short_var_decl : List Name → Exprs → Simple
 
 pub record ConstSpec : Type 0 where
   pub names : List Name
@@ -182,7 +182,7 @@ place_of (integer p text) = p
 place_of (rune p value) = p
 place_of (string p value) = p
 place_of (parenthesized p e) = p
-place_of (literal p type q es) = p
+place_of (composite_lit p type q es) = p
 place_of (conversion p type e) = p
 place_of (selector p e n) = p
 place_of (index p e i) = p

@@ -11,7 +11,7 @@ use Rattle.go_ast.specs.declared.expression.TypeExpr.{TypeExpr}
 use Rattle.go_ast.specs.declared.expression.TypeKind.{TypeKind, Named, Qualified, Array', Struct', Row_of-Field, end_of-Field, more_of-Field}
 use Rattle.go_ast.specs.declared.expression.Field.{Field}
 use Rattle.go_ast.specs.declared.expression.Expr.{Expr}
-use Rattle.go_ast.specs.declared.expression.ExprKind.{ExprKind, Name, Integer, Rune, String, Parenthesized', Literal', Conversion', Selector', Index', Call', Unary', Binary', Row_of-Expr, end_of-Expr, more_of-Expr}
+use Rattle.go_ast.specs.declared.expression.ExprKind.{ExprKind, Name, Integer, Rune, String, Parenthesized', CompositeLit', Conversion', Selector', Index', Call', Unary', Binary', Row_of-Expr, end_of-Expr, more_of-Expr}
 use Rattle.go_ast.specs.declared.expression.Element.{Element}
 use Rattle.go_ast.specs.declared.expression.ElementValue.{ElementValue, Expression', Value', Row_of-Element, end_of-Element, more_of-Element}
 use Rattle.go_ast.specs.declared.declaration.ConstSpec.{ConstSpec}
@@ -80,7 +80,7 @@ abbrev mutual
   expr_at (Rune value) p = trees.rune p value
   expr_at (String value) p = trees.string p value.items
   expr_at (Parenthesized' x q e) p = trees.parenthesized p (expr_at e q)
-  expr_at (Literal' x q a brace n row) p = trees.literal p (type_at a q) brace (elements_of row)
+  expr_at (CompositeLit' x q a brace n row) p = trees.composite_lit p (type_at a q) brace (elements_of row)
   expr_at (Conversion' x q a y r e) p = trees.conversion p (type_at a q) (expr_at e r)
   expr_at (Selector' x q e n) p = trees.selector p (expr_at e q) n
   expr_at (Index' x q e y r i) p = trees.index p (expr_at e q) (expr_at i r)
@@ -153,7 +153,7 @@ simple_of (simples.Increment e) = trees.increment (expr_of e)
 simple_of (simples.Decrement e) = trees.decrement (expr_of e)
 simple_of (simples.Assignment ls rs) = trees.assignment (exprs_in ls.items) (exprs_in rs.items)
 simple_of (simples.OperatorAssignment op l r) = trees.operator_assignment (binary_of op) (expr_of l) (expr_of r)
-simple_of (simples.Definition ns rs) = trees.definition ns.items (exprs_in rs.items)
+simple_of (simples.ShortVarDecl ns rs) = trees.short_var_decl ns.items (exprs_in rs.items)
 
 abbrev mutual
   pub stmt_at : Stmt → trees.Stmt
@@ -200,7 +200,7 @@ abbrev pub block_of : Block → trees.Block
 block_of b = trees.block b.place (trees.pack_stmts (map stmt_of b.statements.items)) b.closing
 
 abbrev pub if_of : If → trees.If
-if_of i = trees.conditional i.place (if_boxed simple_of i.start) (expr_of i.condition.value) (block_of i.body) (else_of i.otherwise)
+if_of i = trees.conditional i.place (if_boxed simple_of i.init) (expr_of i.condition.value) (block_of i.body) (else_of i.otherwise)
 
 -- files
 

@@ -96,7 +96,7 @@ pub enum ExprKind {
     /// An expression in parentheses.
     Parenthesized(Box<Expr>),
     /// An array or a struct of a type: the type, the place of the opening brace, and the elements.
-    Literal(Box<TypeExpr>, Place, Vec<Element>),
+    CompositeLit(Box<TypeExpr>, Place, Vec<Element>),
     /// A conversion of a value to a type.
     Conversion(Box<TypeExpr>, Box<Expr>),
     /// What a name selects from an operand.

@@ -1,6 +1,7 @@
 //! What holds of the tokens of each source file: go.dev/ref/spec#Source_file_organization.
 ghost use Rattle.std.specs.Prelude.{◌≡◌, ◌⊎◌, ◌≤◌, ◌↔◌, ℕ, List};
 ghost use Rattle.go_ast.specs.Grammar.{Lexeme, Derives};
+ghost use Rattle.go_ast.specs.Parse.{Parse, IsParse};
 ghost use Rattle.go_ast.specs.Machine.{start, Done, Refused, run};
 ghost use Rattle.go_ast.specs.Stops.{StopsAt};
 ghost use Rattle.go_ast.specs.Trees.{File};
@@ -42,4 +43,14 @@ pub fn law_file_computed()
 pub fn law_stop_computed()
     ensures { (levels : ℕ) (ts : List Lexeme) (number : ℕ) (bad : List Lexeme) → 1 ≤ levels →
         (StopsAt levels ts number bad ↔ (run levels start ts ≡ Refused number bad)) }
+{}
+
+/// A text has at most one parse: one file, or one fault at one place.
+pub fn law_one_parse()
+    ensures { (text : List ℕ) (a b : Parse) → IsParse text a → IsParse text b → a ≡ b }
+{}
+
+/// A text has a parse.
+pub fn law_some_parse()
+    ensures { (text : List ℕ) → (parse : Parse) × IsParse text parse }
 {}

@@ -6,7 +6,6 @@ pub mod expression;
 pub mod file;
 pub mod law;
 pub mod name;
+pub mod parsed;
 pub mod spelling;
 pub mod statement;
-#[cfg(test)]
-mod tests;

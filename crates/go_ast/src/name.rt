@@ -1,9 +1,8 @@
 //! Names.
-ghost use Rattle.std.specs.Prelude.{◌≡◌, IfOk};
+ghost use Rattle.std.specs.Prelude.{◌≡◌};
 
 use crate::spelling::Spelling;
 use go_text::place::Place;
-use std::alloc::AllocError;
 use std::marker::Model;
 
 /// A name where it is written.
@@ -41,16 +40,5 @@ impl Name {
         ensures { result ≡ self.now.place }
     {
         self.place
-    }
-
-    /// Another equal name. An `Err` only where memory ran out.
-    pub fn copy(&self) -> Result<Name, AllocError>
-        ensures { IfOk result (λ copy. copy ≡ self.now) }
-    {
-        let text = self.text.copy()?;
-        Ok(Name {
-            text,
-            place: self.place,
-        })
     }
 }

@@ -49,15 +49,4 @@ impl Spelling {
             Kept::Long(long) => long.as_str(),
         }
     }
-
-    /// Another equal spelling. An `Err` only where memory ran out.
-    pub fn copy(&self) -> Result<Spelling, AllocError>
-        ensures { IfOk result (λ copy. copy ≡ self.now) }
-    {
-        let kept = match &self.kept {
-            Kept::Short(short) => Kept::Short(*short),
-            Kept::Long(long) => Kept::Long(long.clone()?),
-        };
-        Ok(Spelling { kept })
-    }
 }

@@ -19,7 +19,7 @@ pub enum Simple {
     /// What the left side names is joined with the right side by an operator.
     OperatorAssignment(BinaryOperator, Expr, Expr),
     /// Variables are declared by their values.
-    Definition(Vec<Name>, Vec<Expr>),
+    ShortVarDecl(Vec<Name>, Vec<Expr>),
 }
 
 /// A statement. Those that no keyword begins have the place of their first token.
@@ -72,7 +72,7 @@ pub struct If {
     /// The place of its keyword.
     pub place: Place,
     /// The statement before the condition, if there is one.
-    pub start: Option<Box<Simple>>,
+    pub init: Option<Box<Simple>>,
     /// The condition.
     pub condition: Box<Expr>,
     /// What is done where it holds.
@@ -100,11 +100,11 @@ pub struct For {
     /// The place of its keyword.
     pub place: Place,
     /// The statement before the first turn, if there is one.
-    pub start: Option<Box<Simple>>,
+    pub init: Option<Box<Simple>>,
     /// The condition of each turn, if there is one.
     pub condition: Option<Box<Expr>>,
     /// The statement behind each turn, if there is one.
-    pub step: Option<Box<Simple>>,
+    pub post: Option<Box<Simple>>,
     /// What is done in each turn.
     pub body: Block,
 }

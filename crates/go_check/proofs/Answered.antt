@@ -18,8 +18,8 @@ one_answer path files (Faulty f) (Faulty g) a b =
 by_faults : (path : List ℕ) (files : List NamedFile) (faults : List Fault) → package_faults files ≡ faults → (a : Answer) × IsAnswer path files a
 by_faults path files [] e =
     let k = files_fine [] files (no_first (files_faults [] files) (main_faults files) (no_last (forms_faults files) _ e)) in (
-      Good (record { path = path; «package» = package_name files; functions = k.0 }),
-      record { faultless = e; known = ap (option_map (λ functions. record { path = path; «package» = package_name files; functions = functions })) k.1 },
+      Good (record { path = path; «package» = package_name files; variables = []; functions = k.0 }),
+      record { faultless = e; known = ap (option_map (λ functions. record { path = path; «package» = package_name files; variables = []; functions = functions })) k.1 },
     )
 by_faults path files (f ∷ others) e = (Faulty f, (others, e))
 

@@ -7,9 +7,9 @@ use Rattle.go_ast.specs.Trees.{Expr, place_of}
 use Rattle.go_ast.specs.declared.expression.Expr.{Expr as Expression}
 use Rattle.go_ast.specs.Views.{expr_of, exprs_in}
 use Rattle.go_check.specs.declared.error.CheckError.{CheckError}
-use Rattle.go_check.specs.declared.typed.Const.{Const}
-use Rattle.go_check.specs.Typed.{Constant}
-use Rattle.go_check.specs.Views.{constant_of}
+use Rattle.go_export.specs.declared.typed.Const.{Const}
+use Rattle.go_export.specs.Typed.{Constant}
+use Rattle.go_export.specs.Views.{constant_of}
 use Rattle.go_check.specs.Rules.{value}
 use Rattle.go_check.specs.Verdicts.{Scope, fine, asked, broken, verdict, values, with_first, faults, argument_faults}
 use Rattle.go_check.specs.Seen.{Fails, joined}

@@ -7,9 +7,9 @@ use Rattle.go_ast.specs.Trees.{Stmt, empty, pack_stmts}
 use Rattle.go_ast.specs.declared.statement.Stmt.{Stmt as Statement}
 use Rattle.go_ast.specs.Views.{stmt_of}
 use Rattle.go_check.specs.declared.error.CheckError.{CheckError}
-use Rattle.go_check.specs.declared.typed.TypedStmt.{TypedStmt}
-use Rattle.go_check.specs.Typed as typed
-use Rattle.go_check.specs.Views.{statement_of}
+use Rattle.go_export.specs.declared.typed.TypedStmt.{TypedStmt}
+use Rattle.go_export.specs.Typed as typed
+use Rattle.go_export.specs.Views.{statement_of}
 use Rattle.go_check.specs.Verdicts.{Scope, fine, with_first, statement_verdict, statement_faults, with_full, full, body_known, body_faults}
 use Rattle.go_check.specs.Seen.{Fails, joined, is_empty_statement}
 use Rattle.go_check.proofs.Nodes.{sooner}

@@ -10,7 +10,7 @@ use Rattle.go_text.specs.declared.fault.FaultKind.TheVariants.{LeftOut, Redeclar
 use Rattle.go_text.specs.Faults.{Fault}
 use Rattle.go_ast.specs.Trees.{Expr, Exprs, integer, string, call, no_exprs, some_exprs, place_of, call_statement, Stmt, simple, TopLevel, function, ImportSpec}
 use Rattle.go_ast.specs.Trees as trees
-use Rattle.go_check.specs.Typed as typed
+use Rattle.go_export.specs.Typed as typed
 use Rattle.go_check.specs.Rules.{Known, println, printed, is_decimal, literal, integer_constant, value, called, stated, fits_default, is_library, brought, declared}
 use Rattle.go_check.specs.Verdicts.{Scope, Verdict, ruled, fine, asked, both, verdict, values, broken, fault_at, faults, argument_faults, statement_faults, body_of, body_faults}
 use Rattle.go_check.specs.Forms.{first_unknown}

@@ -7,8 +7,8 @@ use Rattle.std.proofs.lemmas.Grind.{flat_map-append}
 use Rattle.go_text.specs.Faults.{Fault}
 use Rattle.go_check.specs.declared.error.CheckError.{CheckError}
 use Rattle.go_check.specs.declared.file.NamedFile.{NamedFile}
-use Rattle.go_check.specs.declared.typed.TypedFunction.{TypedFunction}
-use Rattle.go_check.specs.Views.{function_of}
+use Rattle.go_export.specs.declared.typed.TypedFunction.{TypedFunction}
+use Rattle.go_export.specs.Views.{function_of}
 use Rattle.go_check.specs.Verdicts.{with_first, all_known}
 use Rattle.go_check.specs.Packages.{file_faults, files_faults, file_known, file_names}
 use Rattle.go_check.specs.Seen.{Fails, joined, named_of}

@@ -5,8 +5,7 @@ use Rattle.std.specs.List.{flat_map}
 use Rattle.go_text.specs.declared.place.Place.{Place}
 use Rattle.go_text.specs.declared.fault.FaultKind.{FaultKind}
 use Rattle.go_ast.specs.Trees.{Expr, Exprs, name, integer, string, selector, call, no_exprs, some_exprs, place_of, call_statement, Stmt, Simple, simple, TopLevel, declared, function}
-use Rattle.go_check.specs.Typed as typed
-use Rattle.go_check.specs.Typed.{IsTypedExpr, IsTypedStmt, IsWellTyped}
+use Rattle.go_export.specs.Typed as typed
 use Rattle.go_check.specs.Rules.{untyped, literal, integer_constant, named, selected, value, called, stated}
 use Rattle.go_check.specs.Verdicts.{Scope, ruled, fine, asked, both, with_first, all_known, verdict, values, broken, faults, argument_faults, simple_verdict, simple_faults, statement_verdict, statement_faults, body_of, body_known, body_faults}
 use Rattle.go_check.specs.Packages.{NamedFile, declaration_known, declaration_faults, declarations_faults, file_faults, files_faults, file_known, file_names, declared_name, scope_of}

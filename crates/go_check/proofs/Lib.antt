@@ -2,12 +2,16 @@ pub mod Answered
 pub mod Arguments
 pub mod Bodies
 pub mod Brought
+pub mod Computed
 pub mod Files
 pub mod Fineness
 pub mod Forms
 pub mod Lists
 pub mod Nodes
 pub mod Numerals
+pub mod Programs
 pub mod Sound
 pub mod Standing
 pub mod Trees
+pub mod WellTyped
+pub mod Written

@@ -6,12 +6,12 @@ use Rattle.go_text.specs.declared.fault.FaultKind.{FaultKind}
 use Rattle.go_text.specs.declared.fault.FaultKind.TheVariants.{Range}
 use Rattle.go_text.specs.Faults.{Fault}
 use Rattle.go_ast.specs.Trees.{Expr, Exprs, call, place_of}
-use Rattle.go_ast.specs.declared.expression.ExprKind.{ExprKind, Name, Integer, Rune, String, Parenthesized', Literal', Conversion', Selector', Index', Call', Unary', Binary'}
+use Rattle.go_ast.specs.declared.expression.ExprKind.{ExprKind, Name, Integer, Rune, String, Parenthesized', CompositeLit', Conversion', Selector', Index', Call', Unary', Binary'}
 use Rattle.go_ast.specs.declared.expression.Expr.{Expr as Expression}
 use Rattle.go_ast.specs.Views.{expr_at, expr_of}
 use Rattle.go_check.specs.declared.error.CheckError.{CheckError}
 use Rattle.go_check.specs.declared.error.CheckError.TheVariants as errors
-use Rattle.go_check.specs.Typed as typed
+use Rattle.go_export.specs.Typed as typed
 use Rattle.go_check.specs.Rules.{Known, println, printed, called, fits_default, defaulted}
 use Rattle.go_check.specs.Verdicts.{Scope, Verdict, ruled, fine, asked, both, broken, fault_at, verdict, values, faults, argument_faults}
 use Rattle.go_check.specs.Seen.{Answers, Fails}
@@ -58,7 +58,7 @@ place_seen (Integer text) p = refl
 place_seen (Rune value) p = refl
 place_seen (String value) p = refl
 place_seen (Parenthesized' x q e) p = refl
-place_seen (Literal' x q a brace n row) p = refl
+place_seen (CompositeLit' x q a brace n row) p = refl
 place_seen (Conversion' x q a y r e) p = refl
 place_seen (Selector' x q operand field) p = refl
 place_seen (Index' x q e y r i) p = refl

@@ -1,8 +1,8 @@
 -- The trees of source files.
 use Rattle.std.proofs.Common.{◌≡◌, ℕ, ◌+◌, ◌<◌, List, [], ◌∷◌, ◌++◌, map, length, take, get_or, refl, sym, ap, ◌∙◌, subst}
 use Rattle.std.proofs.lemmas.List.{take_more, map-append}
-use Rattle.go_parse.specs.Parse.{Derived, Parsed}
-use Rattle.go_parse.proofs.Once.{one_parse}
+use Rattle.go_ast.specs.Parse.{Derived, Parsed}
+use Rattle.go_ast.proofs.Once.{one_parse}
 use Rattle.go_check.specs.declared.file.NamedFile.{NamedFile as NamedView}
 use Rattle.go_check.specs.Packages.{NamedFile, Answer, IsAnswer}
 use Rattle.go_check.specs.Sources.{source_of, IsTreeOf, AreTreesOf, IsAnswerOf}

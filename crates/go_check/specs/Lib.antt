@@ -1,12 +1,8 @@
 pub mod Forms
 pub mod Meaning
 pub mod Packages
-pub mod Programs
 pub mod Rules
 pub mod Seen
-pub mod Sound
 pub mod Sources
-pub mod Typed
 pub mod Verdicts
-pub mod Views
 pub mod Written

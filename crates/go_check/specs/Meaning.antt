@@ -1,12 +1,15 @@
--- What a checked package means, over its typed tree.
-use Rattle.std.specs.Prelude.{◌≡◌, ℕ, zero, suc, Bool, true, false, List, [], ◌∷◌, ◌++◌, map, Option, Some, None, ⊤, codes, nat_eq, IsSome, if◌then◌else◌}
+-- What checked packages mean, over their typed trees: packages in an order in which each stands behind those that it imports.
+use Rattle.std.specs.Prelude.{◌≡◌, ℕ, zero, suc, ◌-◌, pos, Bool, true, false, List, [], ◌∷◌, ◌++◌, length, map, slice_get, Option, Some, None, ⊤, codes, nat_eq, IsSome, ◌&&◌, if◌then◌else◌}
 use Rattle.std.specs.Fmt.{signed_decimal}
-use Rattle.std.specs.List.{filter, find, join_by, starts_with}
+use Rattle.std.specs.List.{filter, find, flat_map, join_by, starts_with}
+use Rattle.std.specs.Option.{option_map}
 use Rattle.std.specs.Str.{bytes_eq}
 use Rattle.go_code.specs.declared.ending.Ending.{Ending}
 use Rattle.go_code.specs.declared.ending.Ending.TheVariants.{Ended, Cut, Panicked}
 use Rattle.go_code.specs.declared.ending.PanicKind.TheVariants.{Depth}
-use Rattle.go_check.specs.Typed.{Constant, integer, text, truth, Expr, constant, Stmt, print, Function, Typed, fits}
+use Rattle.go_export.specs.Types.{Type', int, string, bool}
+use Rattle.go_export.specs.Typed.{Constant, integer, text, truth, Expr, constant, Exprs, no_exprs, some_exprs, Stmt, print, Stmts, no_stmts, some_stmts, Symbol, Function, Typed}
+use Rattle.go_export.specs.WellTyped.{fits}
 
 -- ---- values and outcomes
 
@@ -14,9 +17,22 @@ use Rattle.go_check.specs.Typed.{Constant, integer, text, truth, Expr, constant,
 pub data Value : Type 0 where
   basic : Constant → Value
 
--- the ticks that are left, and the output so far
+-- https://go.dev/ref/spec#The_zero_value
+-- the zero value of a type
+abbrev pub zero_of : Type' → Value
+zero_of int = basic (integer (pos 0))
+zero_of string = basic (text [])
+zero_of bool = basic (truth false)
+
+-- a package variable, and the value that it holds
+pub record Stored : Type 0 where
+  pub symbol : Symbol
+  pub value : Value
+
+-- what outlives calls: the ticks that are left, the package variables, and the output so far
 pub record World : Type 0 where
   pub ticks : ℕ
+  pub variables : List Stored
   pub output : List ℕ
 
 -- what something comes to: it gives an answer, or the whole program ends there, or a rule of the language is broken, of which nothing is said
@@ -25,11 +41,12 @@ pub data Outcome (A : Type 0) : Type 0 where
   Ends : (ending : Ending) (output : List ℕ) → Outcome A
   Stuck : Outcome A
 
--- how a statement leaves off: for the next one, for the end or the next turn of a loop, or for the caller with the function's results
+-- How a statement leaves off: for the next one, for the end or the next turn of a loop, each with the values of the local variables by
+-- their numbers, or for the caller with the function's results.
 pub data Flow : Type 0 where
-  Normal : Flow
-  Breaks : Flow
-  Continues : Flow
+  Normal : (locals : List Value) → Flow
+  Breaks : (locals : List Value) → Flow
+  Continues : (locals : List Value) → Flow
   Returns : (results : List Value) → Flow
 
 -- one thing and then, where that gives an answer, another
@@ -39,29 +56,35 @@ and_then (Ends ending output) next = Ends ending output
 and_then Stuck next = Stuck
 
 -- goes on behind a statement that leaves off for the next one
-abbrev pub if_normal : (World → Outcome Flow) → Flow → World → Outcome Flow
-if_normal next Normal w = next w
-if_normal next Breaks w = Gives Breaks w
-if_normal next Continues w = Gives Continues w
+abbrev pub if_normal : (List Value → World → Outcome Flow) → Flow → World → Outcome Flow
+if_normal next (Normal locals) w = next locals w
+if_normal next (Breaks locals) w = Gives (Breaks locals) w
+if_normal next (Continues locals) w = Gives (Continues locals) w
 if_normal next (Returns results) w = Gives (Returns results) w
 
 -- takes a tick; none left: the program is cut
 abbrev pub with_tick : {A : Type 0} → World → (World → Outcome A) → Outcome A
-with_tick {A} w next = elim w.ticks [ zero ↦ Ends Cut w.output | suc left ↦ next (record { ticks = left; output = w.output }) ]
+with_tick {A} w next = elim w.ticks [ zero ↦ Ends Cut w.output | suc left ↦ next (record { ticks = left; variables = w.variables; output = w.output }) ]
 
--- what a call of a function comes to, by its name and its arguments
+-- the world with more output
+abbrev pub writes : World → List ℕ → World
+writes w more = record { ticks = w.ticks; variables = w.variables; output = w.output ++ more }
+
+-- what a call of a function comes to, by its package's path and its name, and its arguments
 abbrev pub Calls : Type 0
-Calls = List ℕ → List Value → World → Outcome (List Value)
+Calls = Symbol → List Value → World → Outcome (List Value)
 
 -- ---- expressions
 
-abbrev pub eval : Calls → Expr → World → Outcome Value
-eval call (constant of c) w = if fits of c then Gives (basic c) w else Stuck
+abbrev mutual
+  pub eval : Calls → Expr → List Value → World → Outcome Value
+  eval call (constant of c) locals w = if fits of c then Gives (basic c) w else Stuck
 
--- operands, from left to right
-abbrev pub eval_all : Calls → List Expr → World → Outcome (List Value)
-eval_all call [] w = Gives [] w
-eval_all call (e ∷ es) w = and_then (eval call e w) (λ v w1. and_then (eval_all call es w1) (λ vs w2. Gives (v ∷ vs) w2))
+  -- https://go.dev/ref/spec#Order_of_evaluation: from left to right
+  pub eval_all : Calls → Exprs → List Value → World → Outcome (List Value)
+  eval_all call no_exprs locals w = Gives [] w
+  eval_all call (some_exprs e es) locals w =
+      and_then (eval call e locals w) (λ v w1. and_then (eval_all call es locals w1) (λ vs w2. Gives (v ∷ vs) w2))
 
 -- ---- statements
 
@@ -79,73 +102,129 @@ value_text (basic (truth b)) = truth_text b
 abbrev pub line_text : List Value → List ℕ
 line_text values = join_by value_text (codes " ") values ++ codes "\n"
 
-abbrev pub exec : Calls → Stmt → World → Outcome Flow
-exec call (print operands) w =
-    and_then (eval_all call operands w) (λ values w1. Gives Normal (record { ticks = w1.ticks; output = w1.output ++ line_text values }))
+abbrev mutual
+  pub exec : Calls → Stmt → List Value → World → Outcome Flow
+  exec call (print operands) locals w = and_then (eval_all call operands locals w) (λ values w1. Gives (Normal locals) (writes w1 (line_text values)))
 
-abbrev pub exec_all : Calls → List Stmt → World → Outcome Flow
-exec_all call [] w = Gives Normal w
-exec_all call (s ∷ ss) w = and_then (exec call s w) (if_normal (exec_all call ss))
+  pub exec_all : Calls → Stmts → List Value → World → Outcome Flow
+  exec_all call no_stmts locals w = Gives (Normal locals) w
+  exec_all call (some_stmts s ss) locals w = and_then (exec call s locals w) (if_normal (exec_all call ss))
 
 -- ---- calls
 
 -- what a function's body gives its caller; no break or continue leaves a body
 abbrev pub results_of : Flow → World → Outcome (List Value)
-results_of Normal w = Gives [] w
-results_of Breaks w = Stuck
-results_of Continues w = Stuck
+results_of (Normal locals) w = Gives [] w
+results_of (Breaks locals) w = Stuck
+results_of (Continues locals) w = Stuck
 results_of (Returns results) w = Gives results w
 
--- enters a function, which has no parameters: that takes a tick
+-- enters a function with an argument for each parameter: that takes a tick
 abbrev pub enter : Option Function → List Value → World → (Function → World → Outcome (List Value)) → Outcome (List Value)
 enter None arguments w run = Stuck
-enter (Some f) [] w run = with_tick w (run f)
-enter (Some f) (v ∷ vs) w run = Stuck
+enter (Some f) arguments w run = if nat_eq (length arguments) (length f.parameters) then with_tick w (run f) else Stuck
+
+-- the local variables of a function that is entered: the arguments, and the others at their zero values
+abbrev pub first_locals : Function → List Value → List Value
+first_locals f arguments = arguments ++ map zero_of f.locals
+
+abbrev pub symbol_of : Typed → List ℕ → Symbol
+symbol_of typed name = record { path = typed.path; name = name }
+
+abbrev pub same_symbol : Symbol → Symbol → Bool
+same_symbol s t = bytes_eq s.path t.path && bytes_eq s.name t.name
+
+-- a function with its package's path and its name
+pub record Declared : Type 0 where
+  pub symbol : Symbol
+  pub function : Function
+
+abbrev pub with_symbol : Typed → Function → Declared
+with_symbol typed f = record { symbol = symbol_of typed f.name; function = f }
+
+abbrev pub package_functions : Typed → List Declared
+package_functions typed = map (with_symbol typed) typed.functions
+
+-- the first function of a symbol
+abbrev pub function_at : List Typed → Symbol → Option Function
+function_at packages s = option_map (λ d. d.function) (find (λ d. same_symbol s d.symbol) (flat_map package_functions packages))
+
+-- what calls come to where so many more may be open
+abbrev pub call_at : List Typed → ℕ → Calls
+call_at packages zero s arguments w = enter (function_at packages s) arguments w (λ f w1. Ends (Panicked Depth) w1.output)
+call_at packages (suc left) s arguments w =
+    enter (function_at packages s) arguments w (λ f w1. and_then (exec_all (call_at packages left) f.body (first_locals f arguments) w1) results_of)
+
+-- ---- programs
+
+-- https://go.dev/ref/spec#Program_execution
+-- how many calls may be open
+unfoldable pub most_open : ℕ
+most_open = 1000
+
+abbrev pub last_package : List Typed → Option Typed
+last_package packages = slice_get packages (length packages - 1)
 
 -- the first function of a name
 abbrev pub function_named : List ℕ → List Function → Option Function
 function_named name functions = find (λ f. bytes_eq name f.name) functions
 
--- what calls come to where so many more may be open
-abbrev pub call_at : List Function → ℕ → Calls
-call_at functions zero name arguments w =
-    enter (function_named name functions) arguments w (λ f w1. Ends (Panicked Depth) w1.output)
-call_at functions (suc left) name arguments w =
-    enter (function_named name functions) arguments w (λ f w1. and_then (exec_all (call_at functions left) f.body w1) results_of)
+-- the package is named main and has a function main
+abbrev pub HasMain : Option Typed → Type 0
+HasMain None = ⊥
+HasMain (Some typed) = (typed.package ≡ codes "main") × IsSome (function_named (codes "main") typed.functions)
 
--- ---- programs
-
--- how many calls may be open
-unfoldable pub most_open : ℕ
-most_open = 1000
-
--- the package is a program: it is named main and has a function main
-abbrev pub IsProgram : Typed → Type 0
-IsProgram typed = (typed.package ≡ codes "main") × IsSome (function_named (codes "main") typed.functions)
+-- packages are a program by the last of them
+abbrev pub IsProgram : List Typed → Type 0
+IsProgram packages = HasMain (last_package packages)
 
 -- an init function of the source: its name here is `init.` and a number, which is no name in the source
 abbrev pub is_init : Function → Bool
 is_init f = starts_with nat_eq f.name (codes "init.")
 
--- the functions that a program calls, by name: its inits in declaration order, and then main
-abbrev pub start_names : Typed → List (List ℕ)
-start_names typed = map (λ f. f.name) (filter is_init typed.functions) ++ codes "main" ∷ []
+-- a step of a program's start: a call of a function, without arguments
+pub data Step : Type 0 where
+  calls : Symbol → Step
 
--- one call after another, without arguments
-abbrev pub call_all : Calls → List (List ℕ) → World → Outcome ⊤
-call_all call [] w = Gives tt w
-call_all call (name ∷ names) w = and_then (call name [] w) (λ results w1. call_all call names w1)
+-- https://go.dev/ref/spec#Package_initialization
+-- a package's inits, in declaration order
+abbrev pub package_steps : Typed → List Step
+package_steps typed = map (λ f. calls (symbol_of typed f.name)) (filter is_init typed.functions)
 
--- the program is over so where what it calls comes to this
+abbrev pub main_steps : Option Typed → List Step
+main_steps None = []
+main_steps (Some typed) = calls (symbol_of typed (codes "main")) ∷ []
+
+-- the start of a program: package by package, and at last the function main of the last
+abbrev pub start_steps : List Typed → List Step
+start_steps packages = flat_map package_steps packages ++ main_steps (last_package packages)
+
+abbrev pub step : Calls → Step → World → Outcome ⊤
+step call (calls s) w = and_then (call s [] w) (λ results w1. Gives tt w1)
+
+-- one step after another
+abbrev pub step_all : Calls → List Step → World → Outcome ⊤
+step_all call [] w = Gives tt w
+step_all call (s ∷ ss) w = and_then (step call s w) (λ done w1. step_all call ss w1)
+
+-- a package's variables, at their zero values
+abbrev pub first_variables : Typed → List Stored
+first_variables typed = map (λ v. record { symbol = symbol_of typed v.name; value = zero_of v.of }) typed.variables
+
+-- the world that a program starts in
+abbrev pub first_world : List Typed → ℕ → World
+first_world packages ticks = record { ticks = ticks; variables = flat_map first_variables packages; output = [] }
+
+-- the program is over so where its start comes to this
 abbrev pub IsOver : Outcome ⊤ → Ending → List ℕ → Type 0
 IsOver (Gives done w) ending output = (ending ≡ Ended) × (output ≡ w.output)
 IsOver (Ends e o) ending output = (ending ≡ e) × (output ≡ o)
 IsOver Stuck ending output = ⊥
 
 -- what a program comes to that is given so many ticks
-abbrev pub run : Typed → ℕ → Outcome ⊤
-run typed ticks = call_all (call_at typed.functions most_open) (start_names typed) (record { ticks = ticks; output = [] })
+abbrev pub run : List Typed → ℕ → Outcome ⊤
+run packages ticks = step_all (call_at packages most_open) (start_steps packages) (first_world packages ticks)
 
 -- a program that is given so many ticks ends so; it has ended when main returns
-abbrev pub SourceMeaning : Typed → ℕ → Ending → List ℕ → Type 0
-SourceMeaning typed ticks ending output = IsProgram typed × IsOver (run typed ticks) ending output
+abbrev pub SourceMeaning : List Typed → ℕ → Ending → List ℕ → Type 0
+SourceMeaning packages ticks ending output = IsProgram packages × IsOver (run packages ticks) ending output

@@ -8,7 +8,7 @@ use Rattle.go_text.specs.declared.place.Place.{Place}
 use Rattle.go_text.specs.Faults.{Fault}
 use Rattle.go_ast.specs.Trees.{File, ImportSpec, TopLevel, function}
 use Rattle.go_ast.specs.Trees as trees
-use Rattle.go_check.specs.Typed.{Typed, Function}
+use Rattle.go_export.specs.Typed.{Typed, Function, Stmt, pack_stmts}
 use Rattle.go_check.specs.Rules.{is_library, brought, declared}
 use Rattle.go_check.specs.Forms.{place_of_declaration, first_unknown}
 use Rattle.go_check.specs.Verdicts.{Scope, ruled, broken, fault_at, all_known, body_of, body_known, body_faults, statement_refers}
@@ -49,8 +49,12 @@ abbrev pub declaration_faults : List (List ℕ) → Scope → TopLevel → List 
 declaration_faults before s (function f) = broken s f.name.place (ruled (declared before f.name.text)) ++ body_faults s (body_of f.body)
 declaration_faults before s (trees.declared d) = fault_at s (place_of_declaration d) LeftOut ∷ []
 
+-- a function without parameters, by its name and its body's statements
+abbrev pub plain_function : List ℕ → List Stmt → Function
+plain_function name body = record { name = name; parameters = []; locals = []; body = pack_stmts body }
+
 abbrev pub declaration_known : Scope → TopLevel → Option Function
-declaration_known s (function f) = option_map (λ body. record { name = f.name.text; body = body }) (body_known s (body_of f.body))
+declaration_known s (function f) = option_map (plain_function f.name.text) (body_known s (body_of f.body))
 declaration_known s (trees.declared d) = None
 
 -- the faults of declarations, each behind the names of those before it
@@ -96,6 +100,7 @@ abbrev pub package_name : List NamedFile → List ℕ
 package_name [] = []
 package_name (first ∷ rest) = first.tree.package.text
 
+-- https://go.dev/ref/spec#Program_execution
 -- a package named main has a function main
 abbrev pub main_faults : List NamedFile → List Fault
 main_faults [] = []
@@ -114,7 +119,7 @@ FaultOf files fault = (others : List Fault) × (package_faults files ≡ fault �
 
 -- what the package is, where each function is fine
 abbrev pub package_known : List ℕ → List NamedFile → Option Typed
-package_known path files = option_map (λ functions. record { path = path; «package» = package_name files; functions = functions }) (all_known (flat_map file_known files))
+package_known path files = option_map (λ functions. record { path = path; «package» = package_name files; variables = []; functions = functions }) (all_known (flat_map file_known files))
 
 -- a package at a path that has no fault, and what it is
 pub record IsChecked (path : List ℕ) (files : List NamedFile) (typed : Typed) : Type 0 where

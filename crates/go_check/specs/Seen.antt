@@ -7,14 +7,14 @@ use Rattle.go_check.specs.declared.error.CheckError.{CheckError}
 use Rattle.go_check.specs.declared.error.CheckError.TheVariants as errors
 use Rattle.go_check.specs.declared.known.Known.{Known}
 use Rattle.go_check.specs.declared.known.Known.TheVariants.{Library, Println, Untyped, Printed}
-use Rattle.go_check.specs.declared.typed.TypedFunction.{TypedFunction}
+use Rattle.go_export.specs.declared.typed.TypedFunction.{TypedFunction}
 use Rattle.go_ast.specs.Trees.{Stmt, empty}
 use Rattle.go_ast.specs.Views.{file_of}
 use Rattle.go_check.specs.declared.file.NamedFile.{NamedFile}
 use Rattle.go_check.specs.Packages as packages
 use Rattle.go_check.specs.Rules as rules
 use Rattle.go_check.specs.Verdicts.{Scope, Verdict, fine, broken}
-use Rattle.go_check.specs.Views.{constant_of, expression_of}
+use Rattle.go_export.specs.Views.{constant_of, expression_of}
 
 abbrev pub known_of : Known → rules.Known
 known_of Library = rules.library

@@ -1,6 +1,6 @@
 -- What is answered of source files.
 use Rattle.std.specs.Prelude.{◌≡◌, ℕ, List, [], ◌∷◌}
-use Rattle.go_parse.specs.Parse.{Parsed, Derived, IsParse}
+use Rattle.go_ast.specs.Parse.{Parsed, Derived, IsParse}
 use Rattle.go_check.specs.Packages.{NamedFile, Answer, IsAnswer}
 
 -- a source file, by its name and its text

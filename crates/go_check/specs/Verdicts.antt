@@ -7,7 +7,7 @@ use Rattle.go_text.specs.declared.fault.FaultKind.{FaultKind}
 use Rattle.go_text.specs.declared.fault.FaultKind.TheVariants.{LeftOut}
 use Rattle.go_text.specs.Faults.{Fault}
 use Rattle.go_ast.specs.Trees.{Expr, Exprs, name, integer, string, selector, call, no_exprs, some_exprs, place_of, Simple, call_statement, Stmt, Stmts, no_stmts, some_stmts, empty, declaration, simple, return, break, continue, fallthrough, block_statement, if_statement, for_statement, range_statement, switch_statement, Block, block, If, conditional}
-use Rattle.go_check.specs.Typed as typed
+use Rattle.go_export.specs.Typed as typed
 use Rattle.go_check.specs.Rules.{Known, untyped, literal, integer_constant, named, selected, value, called, stated}
 
 -- Of a node: it is fine, and this is known of it; it breaks a rule; or it isn't asked, since a part of it isn't fine.

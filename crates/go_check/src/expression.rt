@@ -2,8 +2,8 @@
 ghost use Rattle.std.specs.Prelude.{◌≡◌, ◌++◌, [], Some, map};
 ghost use Rattle.go_ast.specs.Trees.{place_of};
 ghost use Rattle.go_ast.specs.Views.{expr_of, exprs_in};
-ghost use Rattle.go_check.specs.Views.{constant_of};
-ghost use Rattle.go_check.specs.Typed.{text};
+ghost use Rattle.go_export.specs.Views.{constant_of};
+ghost use Rattle.go_export.specs.Typed.{text};
 ghost use Rattle.go_check.specs.Rules.{untyped, println, named, selected, value, called};
 ghost use Rattle.go_check.specs.Verdicts.{ruled, fine, asked, broken, verdict, values, faults, argument_faults};
 ghost use Rattle.go_check.specs.Seen.{known_of, ruling_of, Answers, AnswersAt};
@@ -11,13 +11,14 @@ ghost use Rattle.go_check.specs.Seen.{known_of, ruling_of, Answers, AnswersAt};
 use crate::error::CheckError;
 use crate::known::{Known, all_defaulted, all_fit, literal};
 use crate::scope::Scope;
-use crate::typed::Const;
 use go_ast::expression::{Expr, ExprKind};
+use go_export::typed::Const;
 use go_text::fault::FaultKind;
 use go_text::place::Place;
 use std::alloc::Global;
 
 /// What a name finds: the library, where it is the library's and the file imports it.
+/// [Qualified identifiers](https://go.dev/ref/spec#Qualified_identifiers)
 fn named(scope: &Scope, name: &str) -> Result<Known, FaultKind>
     ensures { ruling_of result ≡ named scope.now.library name.now }
 {
@@ -31,6 +32,7 @@ fn named(scope: &Scope, name: &str) -> Result<Known, FaultKind>
 }
 
 /// What a name selects from an operand: the function Println from the library.
+/// [Selectors](https://go.dev/ref/spec#Selectors)
 fn selected(field: &str, operand: &Known) -> Result<Known, FaultKind>
     ensures { ruling_of result ≡ selected field.now (known_of operand.now) }
 {
@@ -55,6 +57,7 @@ fn answer(
 }
 
 /// What is known of a call of Println at a place with some arguments, or its fault.
+/// [Representability](https://go.dev/ref/spec#Representability)
 fn print_call(
     alloc: Global,
     scope: &Scope,
@@ -70,6 +73,7 @@ fn print_call(
 }
 
 /// What is known of a call at a place by what its callee and its arguments are, or its fault.
+/// [Calls](https://go.dev/ref/spec#Calls)
 fn called(
     alloc: Global,
     scope: &Scope,
@@ -85,7 +89,7 @@ fn called(
     }
 }
 
-/// The constant of a string literal.
+/// The constant of a string literal. [String literals](https://go.dev/ref/spec#String_literals)
 fn text_constant(alloc: Global, bytes: &[u8]) -> Result<Known, CheckError>
     ensures { Answers known_of result [] (Some (untyped (text bytes.now))) }
 {
@@ -94,6 +98,7 @@ fn text_constant(alloc: Global, bytes: &[u8]) -> Result<Known, CheckError>
 }
 
 /// The constant that is known at a place where a value is due, or the fault there.
+/// [Operands](https://go.dev/ref/spec#Operands)
 fn value_due(scope: &Scope, place: Place, known: Known) -> Result<Const, CheckError>
     ensures { AnswersAt constant_of result scope.now place (ruled (value (known_of known))) }
 {

@@ -2,10 +2,10 @@
 ghost use Rattle.std.specs.Prelude.{◌≡◌, IfOk, map};
 ghost use Rattle.std.specs.List.{list_all};
 ghost use Rattle.std.specs.Char.{is_ascii_digit};
-ghost use Rattle.go_check.specs.Views.{constant_of, expression_of};
+ghost use Rattle.go_export.specs.Views.{constant_of, expression_of};
 ghost use Rattle.go_check.specs.Rules.{is_decimal, literal, fits_default, defaulted};
 
-use crate::typed::{Const, GoType, TypedExpr, TypedExprKind};
+use go_export::typed::{Const, GoType, TypedExpr, TypedExprKind};
 use go_text::fault::FaultKind;
 use std::alloc::{AllocError, Global};
 
@@ -54,6 +54,7 @@ pub(crate) fn literal(text: &str) -> Result<i128, FaultKind>
 }
 
 /// Whether a constant lies in its default type.
+/// [Representability](https://go.dev/ref/spec#Representability)
 fn fits_default(constant: &Const) -> bool
     ensures { result ≡ fits_default (constant_of constant.now) }
 {
@@ -71,7 +72,7 @@ pub(crate) fn all_fit(constants: &[Const]) -> bool
     constants.iter().all(fits_default)
 }
 
-/// A constant as an expression of its default type.
+/// A constant as an expression of its default type. [Constants](https://go.dev/ref/spec#Constants)
 fn defaulted(constant: Const) -> TypedExpr
     ensures { expression_of result ≡ defaulted (constant_of constant) }
 {

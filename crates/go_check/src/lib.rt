@@ -1,4 +1,4 @@
-//! The checker of packages, their typed trees, and what these mean.
+//! The checker of packages, and what checked packages mean.
 #![tactic(auto)]
 
 pub mod answer;
@@ -12,6 +12,3 @@ pub mod package;
 mod reference;
 mod scope;
 mod statement;
-#[cfg(test)]
-mod tests;
-pub mod typed;

@@ -4,8 +4,8 @@ ghost use Rattle.std.specs.List.{list_any, flat_map};
 ghost use Rattle.std.specs.Str.{bytes_eq};
 ghost use Rattle.go_text.specs.Faults.{Fault as AFault};
 ghost use Rattle.go_ast.specs.Views.{import_of, top_of};
-ghost use Rattle.go_check.specs.Views.{function_of, typed_of};
-ghost use Rattle.go_check.specs.Typed.{IsWellTyped};
+ghost use Rattle.go_export.specs.Views.{function_of, typed_of};
+ghost use Rattle.go_export.specs.WellTyped.{IsWellTyped};
 ghost use Rattle.go_check.specs.Rules.{is_library, brought, declared};
 ghost use Rattle.go_check.specs.Verdicts.{ruled, broken, all_known};
 ghost use Rattle.go_check.specs.Packages.{scope_of, imports_faults, declared_name, declaration_faults, declaration_known, declarations_faults, file_faults, file_names, file_known, files_faults, forms_faults, package_name, main_faults, FaultOf, IsChecked, Good, Faulty};
@@ -18,14 +18,11 @@ use crate::form::{declared_at, first_unknown};
 use crate::reference::uses_library;
 use crate::scope::Scope;
 use crate::statement::check_body;
-use crate::typed::{Typed, TypedFunction};
 use go_ast::file::{ImportSpec, TopLevel};
-use go_parse::Parsed;
+use go_ast::parsed::Parsed;
+use go_export::typed::{Typed, TypedFunction};
 use go_text::fault::FaultKind;
 use std::alloc::{AllocError, Global};
-
-#[cfg(test)]
-mod tests;
 
 /// Whether an import is one of the library that gives it no other name.
 pub(crate) fn is_library(import: &ImportSpec) -> bool
@@ -48,6 +45,7 @@ fn has_library(imports: &[ImportSpec]) -> bool
 
 /// The first fault of an import, where those before it do or don't have the library, and the
 /// file does or doesn't refer to it.
+/// [Import declarations](https://go.dev/ref/spec#Import_declarations)
 fn check_import(
     scope: &Scope,
     before: bool,
@@ -93,6 +91,7 @@ fn is_declared(functions: &[TypedFunction], name: &str) -> bool
 }
 
 /// What a declaration is behind those of some functions, or the first fault in it.
+/// [Function declarations](https://go.dev/ref/spec#Function_declarations)
 fn check_declaration(
     alloc: Global,
     scope: &Scope,
@@ -116,7 +115,12 @@ fn check_declaration(
     }
     let body = check_body(alloc, scope, &function.body.statements)?;
     let name = String::from_str(alloc, function.name.text())?;
-    Ok(TypedFunction { name, body })
+    Ok(TypedFunction {
+        name,
+        parameters: Vec::new(alloc),
+        locals: Vec::new(alloc),
+        body,
+    })
 }
 
 /// Adds the functions that some declarations are to those before them. An `Err` has the first
@@ -180,6 +184,7 @@ fn check_files(alloc: Global, files: &[NamedFile]) -> Result<Vec<TypedFunction>,
 }
 
 /// The fault of a package named main that has no function main, by the functions that it has.
+/// [Program execution](https://go.dev/ref/spec#Program_execution)
 fn check_main(
     alloc: Global,
     files: &[NamedFile],
@@ -233,6 +238,7 @@ fn check_named(alloc: Global, path: &str, files: &[NamedFile]) -> Result<Typed, 
     Ok(Typed {
         path: String::from_str(alloc, path)?,
         package: package_name(alloc, files)?,
+        variables: Vec::new(alloc),
         functions,
     })
 }

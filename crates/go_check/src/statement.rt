@@ -2,7 +2,7 @@
 ghost use Rattle.std.specs.Prelude.{◌≡◌, map};
 ghost use Rattle.go_ast.specs.Trees.{pack_stmts};
 ghost use Rattle.go_ast.specs.Views.{stmt_of};
-ghost use Rattle.go_check.specs.Views.{statement_of};
+ghost use Rattle.go_export.specs.Views.{statement_of};
 ghost use Rattle.go_check.specs.Rules.{stated};
 ghost use Rattle.go_check.specs.Verdicts.{ruled, fine, broken, statement_verdict, statement_faults, full, body_known, body_faults};
 ghost use Rattle.go_check.specs.Seen.{known_of, Answers, AnswersAt};
@@ -12,13 +12,14 @@ use crate::expression::check_expression;
 use crate::form::{is_empty, place_of};
 use crate::known::Known;
 use crate::scope::Scope;
-use crate::typed::TypedStmt;
 use go_ast::statement::{Simple, Stmt};
+use go_export::typed::TypedStmt;
 use go_text::fault::FaultKind;
 use go_text::place::Place;
 use std::alloc::Global;
 
 /// The statement that an expression is which stands as one at a place, or its fault.
+/// [Expression statements](https://go.dev/ref/spec#Expression_statements)
 fn stated(scope: &Scope, place: Place, known: Known) -> Result<TypedStmt, CheckError>
     ensures { AnswersAt statement_of result scope.now place (ruled (stated (known_of known))) }
 {

@@ -1,5 +1,4 @@
 pub mod Finals
-pub mod Follows
 pub mod Functions
 pub mod Images
 pub mod Kinds
@@ -7,7 +6,4 @@ pub mod Lines
 pub mod Machine
 pub mod Packages
 pub mod Referred
-pub mod Stands
-pub mod Steps
 pub mod Symbols
-pub mod Weight

@@ -1,5 +1,5 @@
 //! Cells: what a variable, a frame and a stack hold.
-ghost use Rattle.std.specs.Prelude.{◌≡◌, IfOk};
+ghost use Rattle.std.specs.Prelude.{◌≡◌, ◌++◌, IfOk, OnOk};
 
 use std::alloc::{AllocError, Global};
 use std::marker::Model;
@@ -67,4 +67,14 @@ impl Cell {
             Cell::Text(text) => Ok(Cell::Text(text.copy()?)),
         }
     }
+}
+
+/// Copies of cells come behind others. An `Err` only where memory ran out.
+pub fn push_copies(cells: &mut Vec<Cell>, others: &[Cell]) -> Result<(), AllocError>
+    ensures { OnOk result (cells.new.items ≡ cells.old.items ++ others.now) }
+{
+    for cell in others {
+        cells.push(cell.copy()?)?;
+    }
+    Ok(())
 }

@@ -1,19 +1,16 @@
 //! Images: programs whose functions are known by number.
 ghost use Rattle.std.specs.Prelude.{◌≡◌};
 
-pub mod function;
-pub mod setup;
-
 use crate::cell::Cell;
-use crate::image::function::Function;
-use crate::image::setup::Setup;
+use crate::function::Function;
+use crate::setup::Setup;
 use std::marker::Model;
 
 /// A step of a program's start.
 #[derive(Drop)]
 pub enum Start {
     /// A setup, which takes no tick and is no open call.
-    Setup(Setup),
+    Setup(Setup<usize>),
     /// The function of this number is called.
     Function(usize),
 }
@@ -23,7 +20,7 @@ pub enum Start {
 #[derive(Drop)]
 pub struct Image {
     globals: Vec<Cell>,
-    functions: Vec<Function>,
+    functions: Vec<Function<usize>>,
     starts: Vec<Start>,
 }
 
@@ -37,7 +34,7 @@ impl Model for Image {
 
 impl Image {
     /// The image of zero cells, functions and start steps. It need not make sense.
-    pub fn new(globals: Vec<Cell>, functions: Vec<Function>, starts: Vec<Start>) -> Image
+    pub fn new(globals: Vec<Cell>, functions: Vec<Function<usize>>, starts: Vec<Start>) -> Image
         ensures { result ≡ record { globals = globals.items; functions = functions.items; starts = starts.items } }
     {
         Image {
@@ -55,7 +52,7 @@ impl Image {
     }
 
     /// The functions, by number.
-    pub fn functions(&self) -> &[Function]
+    pub fn functions(&self) -> &[Function<usize>]
         ensures { result.now ≡ self.now.functions }
     {
         self.functions.as_slice()

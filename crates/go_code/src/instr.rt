@@ -53,17 +53,38 @@ impl Symbol {
     }
 }
 
-/// One instruction. `R` is what it refers to functions by: a `Symbol` in an object, and in an
-/// image the function's number. What is about the frame alone, about globals, the operators and
-/// the jumps are to join as enums of their own, each with one definition and one function.
+/// What is about the newest frame alone: its cells and its stack.
 #[derive(Drop)]
-pub enum Instr<R> {
+pub enum FrameInstr {
     /// The cell goes on top of the stack.
     Push(Cell),
+}
+
+/// What takes cells from the stack for the program as a whole.
+#[derive(Drop)]
+pub enum OutputInstr {
     /// So many cells leave the stack, and are printed as a line.
     Print(usize),
+}
+
+/// What opens a frame or leaves it. `R` is what it refers to functions by.
+#[derive(Drop)]
+pub enum CallInstr<R> {
     /// A function is called; its parameters leave the stack.
     Call(R),
     /// The function or the setup is over; so many cells go to the caller's stack.
     Return(usize),
+}
+
+/// One instruction, by what it is about. `R` is what it refers to functions by: a `Symbol` in an
+/// object, and in an image the function's number. Each group has one definition, and one
+/// function in the machine.
+#[derive(Drop)]
+pub enum Instr<R> {
+    /// About the newest frame alone.
+    Frame(FrameInstr),
+    /// About the output.
+    Output(OutputInstr),
+    /// A call, or the way back from it.
+    Calls(CallInstr<R>),
 }

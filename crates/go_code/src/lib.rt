@@ -8,6 +8,8 @@
 //!   called as by an instruction, from an empty stack, so it has no parameters. A start step's
 //!   own `Return` ends the step, and its cells go nowhere. When each has returned, the program
 //!   has ended.
+//! - The cells of the package variables are the image's globals at the start; no instruction is
+//!   about them yet.
 //! - A frame has cells, the parameters first and 0 in the others as it opens, and a stack.
 //! - A call takes a tick, and without one the program is cut. Then it panics if it makes more
 //!   than 1,000 open calls. A panic and a cut keep what was printed.
@@ -17,15 +19,16 @@
 //!   instruction that makes no sense is `BadCode` also where no tick is left or too many calls
 //!   are open. What is never reached may make no sense.
 //!
-//! Each image that is given some ticks comes to an end, and to one alone ([`law`]). How the
-//! machine follows each instruction is in `specs/Follows.antt`, as lemmas for crates above.
+//! Each image that is given some ticks comes to an end, and to one alone ([`law`]): behind a
+//! step there are fewer ticks, or as many and less code is left. How the machine follows each
+//! instruction is in `proofs/Follows.antt`, as lemmas for crates above.
 #![tactic(auto)]
 
 pub mod cell;
 pub mod ending;
+pub mod function;
 pub mod image;
 pub mod instr;
 pub mod law;
 pub mod object;
-#[cfg(test)]
-mod tests;
+pub mod setup;

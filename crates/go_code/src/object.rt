@@ -2,12 +2,12 @@
 ghost use Rattle.std.specs.Prelude.{◌≡◌, string_bytes};
 
 pub mod function;
-pub mod setup;
 pub mod variable;
 
+use crate::instr::Symbol;
 use crate::object::function::PackageFunction;
-use crate::object::setup::PackageSetup;
 use crate::object::variable::PackageVariable;
+use crate::setup::Setup;
 use std::marker::Model;
 
 /// What a package is compiled to: its path, its name, its variables and its functions in
@@ -18,7 +18,7 @@ pub struct Object {
     name: String,
     variables: Vec<PackageVariable>,
     functions: Vec<PackageFunction>,
-    setups: Vec<PackageSetup>,
+    setups: Vec<Setup<Symbol>>,
 }
 
 impl Model for Object {
@@ -43,7 +43,7 @@ impl Object {
         name: String,
         variables: Vec<PackageVariable>,
         functions: Vec<PackageFunction>,
-        setups: Vec<PackageSetup>,
+        setups: Vec<Setup<Symbol>>,
     ) -> Object
         ensures { result ≡ record { path = string_bytes path; name = string_bytes name; variables = variables.items; functions = functions.items; setups = setups.items } }
     {
@@ -85,7 +85,7 @@ impl Object {
     }
 
     /// The setups, in the order in which they run.
-    pub fn setups(&self) -> &[PackageSetup]
+    pub fn setups(&self) -> &[Setup<Symbol>]
         ensures { result.now ≡ self.now.setups }
     {
         self.setups.as_slice()

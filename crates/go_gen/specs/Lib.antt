@@ -1,4 +1,1 @@
-pub mod Equality
-pub mod Linking
-pub mod Runs
 pub mod Translation

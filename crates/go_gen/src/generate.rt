@@ -1,14 +1,19 @@
 //! The object of a checked package.
 ghost use Rattle.std.specs.Prelude.{◌≡◌, ◌++◌, map, OnOk, IfOk};
-ghost use Rattle.go_check.specs.Views.{constant_of, expression_of, statement_of, function_of, typed_of};
-ghost use Rattle.go_gen.specs.Translation.{cell_of, expression_code, operands_code, statement_code, statements_code, body_code, translated, object_of};
+ghost use Rattle.go_export.specs.Typed.{pack_exprs, pack_stmts};
+ghost use Rattle.go_export.specs.Views.{type_of, variable_of, constant_of, expression_of, statement_of, function_of, typed_of};
+ghost use Rattle.go_gen.specs.Translation.{zero_cell, translated_variable, cell_of, operands_count, expression_code, operands_code, statement_code, statements_code, body_code, translated, object_of};
 
 use crate::code::Code;
-use go_check::typed::{Const, Typed, TypedExpr, TypedExprKind, TypedFunction, TypedStmt};
 use go_code::cell::{Cell, Text};
-use go_code::instr::{Instr, Symbol};
+use go_code::function::Function;
+use go_code::instr::{CallInstr, FrameInstr, Instr, OutputInstr};
 use go_code::object::Object;
 use go_code::object::function::PackageFunction;
+use go_code::object::variable::PackageVariable;
+use go_export::typed::{
+    Const, GoType, Typed, TypedExpr, TypedExprKind, TypedFunction, TypedStmt, TypedVariable,
+};
 use std::alloc::{AllocError, Global};
 
 /// The cell of a constant.
@@ -27,12 +32,12 @@ fn emit_expression(alloc: Global, code: &mut Code, expression: &TypedExpr) -> Re
     ensures { OnOk result (code.new ≡ expression_code (expression_of expression.now) ++ code.old) }
 {
     let TypedExprKind::Constant(constant) = &expression.kind;
-    code.put(Instr::Push(constant_cell(alloc, constant)?))
+    code.put(Instr::Frame(FrameInstr::Push(constant_cell(alloc, constant)?)))
 }
 
 /// Puts the code of operands before a code.
 fn emit_operands(alloc: Global, code: &mut Code, operands: &[TypedExpr]) -> Result<(), AllocError>
-    ensures { OnOk result (code.new ≡ operands_code (map expression_of operands.now) ++ code.old) }
+    ensures { OnOk result (code.new ≡ operands_code (pack_exprs (map expression_of operands.now)) ++ code.old) }
 {
     for i in (0..operands.len()).rev() {
         emit_expression(alloc, code, &operands[i])?;
@@ -40,12 +45,19 @@ fn emit_operands(alloc: Global, code: &mut Code, operands: &[TypedExpr]) -> Resu
     Ok(())
 }
 
+/// How many operands there are.
+fn operands_count(operands: &[TypedExpr]) -> usize
+    ensures { result ≡ operands_count (pack_exprs (map expression_of operands.now)) }
+{
+    operands.len()
+}
+
 /// Puts a statement's code before a code.
 fn emit_statement(alloc: Global, code: &mut Code, statement: &TypedStmt) -> Result<(), AllocError>
     ensures { OnOk result (code.new ≡ statement_code (statement_of statement.now) ++ code.old) }
 {
     let TypedStmt::Print(operands) = statement;
-    code.put(Instr::Print(operands.len()))?;
+    code.put(Instr::Output(OutputInstr::Print(operands_count(operands))))?;
     emit_operands(alloc, code, operands)
 }
 
@@ -55,7 +67,7 @@ fn emit_statements(
     code: &mut Code,
     statements: &[TypedStmt],
 ) -> Result<(), AllocError>
-    ensures { OnOk result (code.new ≡ statements_code (map statement_of statements.now) ++ code.old) }
+    ensures { OnOk result (code.new ≡ statements_code (pack_stmts (map statement_of statements.now)) ++ code.old) }
 {
     for i in (0..statements.len()).rev() {
         emit_statement(alloc, code, &statements[i])?;
@@ -68,10 +80,11 @@ fn generate_function(alloc: Global, function: &TypedFunction) -> Result<PackageF
     ensures { IfOk result (λ generated. generated ≡ translated (function_of function.now)) }
 {
     let mut code = Code::new(alloc);
-    code.put(Instr::Return(0))?;
+    code.put(Instr::Calls(CallInstr::Return(0)))?;
     emit_statements(alloc, &mut code, &function.body)?;
     let name = function.name.clone()?;
-    Ok(PackageFunction::new(name, 0, 0, code.into_vec()))
+    let function = Function::new(0, 0, code.into_vec());
+    Ok(PackageFunction::new(name, function))
 }
 
 /// The functions of an object, in their order.
@@ -88,6 +101,41 @@ fn generate_functions(
     Ok(generated)
 }
 
+/// The cell of a type's zero value.
+fn zero_cell(alloc: Global, of: GoType) -> Result<Cell, AllocError>
+    ensures { IfOk result (λ cell. cell ≡ zero_cell (type_of of)) }
+{
+    match of {
+        GoType::Int => Ok(Cell::Int(0)),
+        GoType::String => Ok(Cell::Text(Text::new(alloc, &[])?)),
+        GoType::Bool => Ok(Cell::Bool(false)),
+    }
+}
+
+/// The variable of an object.
+fn generate_variable(alloc: Global, variable: &TypedVariable) -> Result<PackageVariable, AllocError>
+    ensures { IfOk result (λ generated. generated ≡ translated_variable (variable_of variable.now)) }
+{
+    let mut zero = Vec::new(alloc);
+    zero.push(zero_cell(alloc, variable.of)?)?;
+    let name = variable.name.clone()?;
+    Ok(PackageVariable::new(name, zero))
+}
+
+/// The variables of an object, in their order.
+fn generate_variables(
+    alloc: Global,
+    variables: &[TypedVariable],
+) -> Result<Vec<PackageVariable>, AllocError>
+    ensures { IfOk result (λ generated. generated.items ≡ map translated_variable (map variable_of variables.now)) }
+{
+    let mut generated = Vec::with_capacity(alloc, variables.len())?;
+    for variable in variables {
+        generated.push(generate_variable(alloc, variable)?)?;
+    }
+    Ok(generated)
+}
+
 /// The object of a checked package: its code does what the package means. An `Err` only where
 /// memory ran out.
 pub fn generate(alloc: Global, typed: &Typed) -> Result<Object, AllocError>
@@ -96,7 +144,7 @@ pub fn generate(alloc: Global, typed: &Typed) -> Result<Object, AllocError>
     let path = typed.path.clone()?;
     let name = typed.package.clone()?;
     let functions = generate_functions(alloc, &typed.functions)?;
-    let variables = Vec::new(alloc);
+    let variables = generate_variables(alloc, &typed.variables)?;
     let setups = Vec::new(alloc);
     Ok(Object::new(path, name, variables, functions, setups))
 }

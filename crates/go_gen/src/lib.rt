@@ -4,5 +4,3 @@
 mod code;
 pub mod generate;
 pub mod law;
-#[cfg(test)]
-mod tests;

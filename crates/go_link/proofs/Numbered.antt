@@ -1,4 +1,4 @@
--- The first place of each name, as names are added.
+-- The first index of each name, as names are added.
 use Rattle.std.proofs.Common.{◌≡◌, ℕ, ◌+◌, ◌≤◌, Bool, true, false, ◌&&◌, ◌||◌, not, cond, nat_lt, List, [], ◌∷◌, ◌++◌, length, Option, Some, None, refl, sym, ap, ◌∙◌, subst, arith, zero-add}
 use Rattle.std.specs.BTreeMap as tree
 use Rattle.std.specs.Cmp.Lexicographic.{slice_cmp}
@@ -51,7 +51,7 @@ cmp_same m n =
     ∙ ap (λ b. b && is_eq (slice_cmp nat_cmp m.1.now n.1.now)) (is_eq-slice_cmp m.0.now n.0.now)
     ∙ ap (λ b. bytes_eq m.0.now n.0.now && b) (is_eq-slice_cmp m.1.now n.1.now)
 
--- ---- places
+-- ---- indexes
 
 or_else : Option ℕ → Option ℕ → Option ℕ
 or_else None d = d
@@ -84,29 +84,29 @@ unfolding or_else
 from_push p i [] y = let e : i ≡ i + 0 = omega arith in ap (λ k. cond (p y) (Some k) None) e
 from_push p i (x ∷ xs) y = from_if p i x xs y (p x) (from_push p (i + 1) xs y)
 
-place_push : {X : Type 0} (p : X → Bool) (xs : List X) (y : X) → position p (xs ++ y ∷ []) ≡ or_else (position p xs) (cond (p y) (Some (length xs)) None)
-place_push p xs y =
+index_push : {X : Type 0} (p : X → Bool) (xs : List X) (y : X) → position p (xs ++ y ∷ []) ≡ or_else (position p xs) (cond (p y) (Some (length xs)) None)
+index_push p xs y =
     position_from-zero p (xs ++ y ∷ [])
     ∙ from_push p 0 xs y
     ∙ ap (λ k. or_else (position_from p 0 xs) (cond (p y) (Some k) None)) (zero-add (length xs))
     ∙ ap (λ o. or_else o (cond (p y) (Some (length xs)) None)) (sym (position_from-zero p xs))
 
--- a name that is there already has its place
+-- a name that is there already has its index
 kept_if : (xs : List Symbol) (s t : Symbol) (b : Bool) → same_symbol s t ≡ b → is_some (position (same_symbol t) xs) ≡ true → or_else (position (same_symbol s) xs) (cond b (Some (length xs)) None) ≡ position (same_symbol s) xs
 kept_if xs s t true e there = or_some (position (same_symbol s) xs) (Some (length xs)) (subst (λ u. is_some (position (same_symbol u) xs) ≡ true) (sym (same_eq s t e)) there)
 kept_if xs s t false e there = or_none (position (same_symbol s) xs)
 
 kept : (xs : List Symbol) (s t : Symbol) → is_some (position (same_symbol t) xs) ≡ true → position (same_symbol s) (xs ++ t ∷ []) ≡ position (same_symbol s) xs
-kept xs s t there = place_push (same_symbol s) xs t ∙ kept_if xs s t (same_symbol s t) refl there
+kept xs s t there = index_push (same_symbol s) xs t ∙ kept_if xs s t (same_symbol s t) refl there
 
--- a new name has the place behind the others
+-- a new name has the index behind the others
 added_if : (xs : List Symbol) (s t : Symbol) (b : Bool) → same_symbol s t ≡ b → is_some (position (same_symbol t) xs) ≡ false → or_else (position (same_symbol s) xs) (cond b (Some (length xs)) None) ≡ cond b (Some (length xs)) (position (same_symbol s) xs)
 added_if xs s t true e there = or_missing (position (same_symbol s) xs) (Some (length xs)) (subst (λ u. is_some (position (same_symbol u) xs) ≡ false) (sym (same_eq s t e)) there)
 added_if xs s t false e there = or_none (position (same_symbol s) xs)
 
 added : (xs : List Symbol) (s t : Symbol) → is_some (position (same_symbol t) xs) ≡ false → position (same_symbol s) (xs ++ t ∷ []) ≡ cond (same_symbol t s) (Some (length xs)) (position (same_symbol s) xs)
 added xs s t there =
-    place_push (same_symbol s) xs t
+    index_push (same_symbol s) xs t
     ∙ added_if xs s t (same_symbol s t) refl there
     ∙ ap (λ b. cond b (Some (length xs)) (position (same_symbol s) xs)) (same_back s t)
 
@@ -137,7 +137,7 @@ from_any p i (x ∷ xs) = from_any_if p i xs (p x) (from_any p (i + 1) xs)
 pub less_any : {X : Type 0} (p : X → Bool) (xs : List X) → is_some (position p xs) ≡ list_any p xs
 less_any p xs = ap is_some (position_from-zero p xs) ∙ from_any p 0 xs
 
--- a name that has no place has the number behind all
+-- a name that has no index has the number behind all
 none_if : (b : Bool) (k n : ℕ) → nat_lt k n ≡ b → k ≤ n → cond b (Some k) None ≡ None → n ≡ k
 none_if true k n e le h = cc
 none_if false k n e le h = let ge : n ≤ k = ltb-false k n e in omega arith
@@ -145,7 +145,7 @@ none_if false k n e le h = let ge : n ≤ k = ltb-false k n e in omega arith
 pub none_behind : (names : List Symbol) (s : Symbol) (n : ℕ) → n ≡ length names → position (same_symbol s) names ≡ None → n ≡ number_of names s
 none_behind names s n is h = is ∙ none_if (nat_lt (number_of names s) (length names)) (number_of names s) (length names) refl (prefix_len-le-length (λ t. not (same_symbol s t)) names) h
 
--- a name is missing that has no place
+-- a name is missing that has no index
 missing_if : (b c : Bool) → b ≡ not c → c ≡ not b
 missing_if true true e = cc
 missing_if true false e = refl

@@ -7,16 +7,18 @@ use Rattle.go_code.specs.declared.cell.Cell.{Cell}
 use Rattle.go_code.specs.declared.image.Start.{Start}
 use Rattle.go_code.specs.declared.image.Start.TheVariants.{Setup as Set_up, Function as Run}
 use Rattle.go_code.specs.declared.instr.Instr.{Instr}
-use Rattle.go_code.specs.declared.instr.Instr.TheVariants.{Push, Print, Call, Return}
-use Rattle.go_code.specs.Functions.{Function}
+use Rattle.go_code.specs.declared.instr.Instr.TheVariants.{Frame as In_frame, Output as To_output, Calls as By_call}
+use Rattle.go_code.specs.declared.instr.CallInstr.{CallInstr}
+use Rattle.go_code.specs.declared.instr.CallInstr.TheVariants.{Call, Return}
+use Rattle.go_code.specs.Functions.{Function, Setup}
 use Rattle.go_code.specs.Images.{Image}
-use Rattle.go_code.specs.Packages.{Object, PackageFunction, PackageSetup}
-use Rattle.go_code.specs.Referred.{refer}
+use Rattle.go_code.specs.Packages.{Object, PackageFunction}
+use Rattle.go_code.specs.Referred.{refer, refer_function, refer_setup}
 use Rattle.go_code.specs.Symbols.{Symbol}
 use Rattle.go_link.specs.declared.link.LinkError.{LinkError}
 use Rattle.go_link.specs.declared.link.LinkError.TheVariants.{Memory, NoMain, NameMissing}
 
--- the objects at these places
+-- the objects at these indexes
 abbrev pub in_order : List Object → List ℕ → List Object
 in_order objects order = filter_map (slice_get objects) order
 
@@ -32,20 +34,24 @@ symbol_of o name = record { path = o.path; name = name }
 abbrev pub names : List Object → List Symbol
 names packages = flat_map (λ o. map (λ f. symbol_of o f.name) o.functions) packages
 
--- the number of the function that a symbol names: its place among all
+-- the number of the function that a symbol names: its index among all
 abbrev pub number_of : List Symbol → Symbol → ℕ
 number_of names s = position_or_len (same_symbol s) names
 
+-- the call goes to none of the functions
+abbrev pub misses : List Symbol → CallInstr Symbol → Bool
+misses names (Call s) = not (list_any (same_symbol s) names)
+misses names (Return count) = false
+
 -- the instruction refers to none of the functions
 abbrev pub is_missing : List Symbol → Instr Symbol → Bool
-is_missing names (Push cell) = false
-is_missing names (Print count) = false
-is_missing names (Call s) = not (list_any (same_symbol s) names)
-is_missing names (Return count) = false
+is_missing names (In_frame i) = false
+is_missing names (To_output i) = false
+is_missing names (By_call i) = misses names i
 
 -- all code of a package
 abbrev pub code_of : Object → List (Instr Symbol)
-code_of o = flat_map (λ f. f.code) o.functions ++ flat_map (λ s. s.code) o.setups
+code_of o = flat_map (λ f. f.function.code) o.functions ++ flat_map (λ s. s.code) o.setups
 
 -- some instruction of the packages refers to no function
 abbrev pub name_missing : List Object → Bool
@@ -79,14 +85,12 @@ IsRefusal NameMissing wrong = wrong ≡ Some NameMissing
 
 -- ---- the image
 
-abbrev pub linked_code : List Symbol → List (Instr Symbol) → List (Instr ℕ)
-linked_code names code = map (refer (number_of names)) code
+-- the function with numbers in place of symbols
+abbrev pub linked_function : List Symbol → PackageFunction → Function ℕ
+linked_function names f = refer_function (number_of names) f.function
 
-abbrev pub linked_function : List Symbol → PackageFunction → Function
-linked_function names f = record { parameters = f.parameters; cells = f.cells; code = linked_code names f.code }
-
-abbrev pub linked_setup : List Symbol → PackageSetup → Start
-linked_setup names s = Set_up (record { cells = s.cells; code = linked_code names s.code })
+abbrev pub linked_setup : List Symbol → Setup Symbol → Start
+linked_setup names s = Set_up (refer_setup (number_of names) s)
 
 -- a function that is called as its package is initialized: the name is `init.` and a number
 abbrev pub is_init : PackageFunction → Bool

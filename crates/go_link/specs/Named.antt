@@ -20,6 +20,6 @@ symbol_at n = record { path = n.0.now; name = n.1.now }
 abbrev pub name_cmp : Name → Name → Ordering
 name_cmp x y = ordering_then (slice_cmp nat_cmp x.0.now y.0.now) (slice_cmp nat_cmp x.1.now y.1.now)
 
--- the map has the first place of each name
+-- the map has the first index of each name
 abbrev pub Numbers : tree.BTreeMap Name ℕ → List Symbol → Type 0
 Numbers m names = (n : Name) → tree.get name_cmp m n ≡ position (same_symbol (symbol_at n)) names

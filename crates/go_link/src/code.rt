@@ -2,28 +2,55 @@
 ghost use Rattle.std.specs.Prelude.{◌≡◌, ◌++◌, OnOk, IfOk, map};
 ghost use Rattle.std.specs.Arc.{arc_value};
 ghost use Rattle.std.specs.List.{flat_map};
-ghost use Rattle.go_code.specs.Referred.{refer};
-ghost use Rattle.go_link.specs.Links.{number_of, linked_code, linked_function, zeros_of};
+ghost use Rattle.go_code.specs.Referred.{refer, refer_call, refer_function};
+ghost use Rattle.go_link.specs.Links.{number_of, linked_function, zeros_of};
 
 use crate::names::Names;
-use go_code::cell::Cell;
-use go_code::image::function::Function;
-use go_code::instr::{Instr, Symbol};
+use go_code::cell::{Cell, push_copies};
+use go_code::function::Function;
+use go_code::instr::{CallInstr, FrameInstr, Instr, OutputInstr, Symbol};
 use go_code::object::Object;
 use go_code::object::function::PackageFunction;
 use go_code::object::variable::PackageVariable;
 use std::alloc::{AllocError, Global};
 use std::sync::Arc;
 
+/// Another instruction of equal contents.
+fn copy_frame(instr: &FrameInstr) -> Result<FrameInstr, AllocError>
+    ensures { IfOk result (λ copy. copy ≡ instr.now) }
+{
+    match instr {
+        FrameInstr::Push(cell) => Ok(FrameInstr::Push(cell.copy()?)),
+    }
+}
+
+/// Another instruction of equal contents.
+fn copy_output(instr: &OutputInstr) -> OutputInstr
+    ensures { result ≡ instr.now }
+{
+    match instr {
+        OutputInstr::Print(count) => OutputInstr::Print(*count),
+    }
+}
+
+/// The call with the number of the function in place of its symbol.
+fn link_call<'a>(names: &Names<'a>, instr: &'a CallInstr<Symbol>) -> CallInstr<usize>
+    ensures { result ≡ refer_call (number_of names.now) instr.now }
+{
+    match instr {
+        CallInstr::Call(symbol) => CallInstr::Call(names.number_of(symbol.path(), symbol.name())),
+        CallInstr::Return(count) => CallInstr::Return(*count),
+    }
+}
+
 /// The instruction with the number of the function in place of its symbol.
 fn link_instr<'a>(names: &Names<'a>, instr: &'a Instr<Symbol>) -> Result<Instr<usize>, AllocError>
     ensures { IfOk result (λ linked. linked ≡ refer (number_of names.now) instr.now) }
 {
     match instr {
-        Instr::Push(cell) => Ok(Instr::Push(cell.copy()?)),
-        Instr::Print(count) => Ok(Instr::Print(*count)),
-        Instr::Call(symbol) => Ok(Instr::Call(names.place(symbol.path(), symbol.name()))),
-        Instr::Return(count) => Ok(Instr::Return(*count)),
+        Instr::Frame(instr) => Ok(Instr::Frame(copy_frame(instr)?)),
+        Instr::Output(instr) => Ok(Instr::Output(copy_output(instr))),
+        Instr::Calls(instr) => Ok(Instr::Calls(link_call(names, instr))),
     }
 }
 
@@ -33,7 +60,7 @@ pub(crate) fn link_code<'a>(
     names: &Names<'a>,
     code: &'a [Instr<Symbol>],
 ) -> Result<Vec<Instr<usize>>, AllocError>
-    ensures { IfOk result (λ linked. linked.items ≡ linked_code names.now code.now) }
+    ensures { IfOk result (λ linked. linked.items ≡ map (refer (number_of names.now)) code.now) }
 {
     let mut linked = Vec::new(alloc);
     for instr in code {
@@ -42,12 +69,13 @@ pub(crate) fn link_code<'a>(
     Ok(linked)
 }
 
+/// The function with numbers of functions in place of symbols.
 fn link_function<'a>(
     alloc: Global,
     names: &Names<'a>,
-    function: &'a PackageFunction,
-) -> Result<Function, AllocError>
-    ensures { IfOk result (λ linked. linked ≡ linked_function names.now function.now) }
+    function: &'a Function<Symbol>,
+) -> Result<Function<usize>, AllocError>
+    ensures { IfOk result (λ linked. linked ≡ refer_function (number_of names.now) function.now) }
 {
     let code = link_code(alloc, names, function.code())?;
     Ok(Function::new(function.parameters(), function.cells(), code))
@@ -56,14 +84,14 @@ fn link_function<'a>(
 /// A package's functions come behind the linked ones.
 fn push_functions<'a>(
     alloc: Global,
-    linked: &mut Vec<Function>,
+    linked: &mut Vec<Function<usize>>,
     names: &Names<'a>,
     functions: &'a [PackageFunction],
 ) -> Result<(), AllocError>
     ensures { OnOk result (linked.new.items ≡ linked.old.items ++ map (linked_function names.now) functions.now) }
 {
     for function in functions {
-        linked.push(link_function(alloc, names, function)?)?;
+        linked.push(link_function(alloc, names, function.function())?)?;
     }
     Ok(())
 }
@@ -73,7 +101,7 @@ pub(crate) fn link_functions<'a>(
     alloc: Global,
     names: &Names<'a>,
     packages: &'a [Arc<Object>],
-) -> Result<Vec<Function>, AllocError>
+) -> Result<Vec<Function<usize>>, AllocError>
     ensures { IfOk result (λ linked. linked.items ≡ flat_map (λ o. map (linked_function names.now) o.functions) (map arc_value packages.now)) }
 {
     let mut linked = Vec::new(alloc);
@@ -81,16 +109,6 @@ pub(crate) fn link_functions<'a>(
         push_functions(alloc, &mut linked, names, object.functions())?;
     }
     Ok(linked)
-}
-
-/// Cells come behind others.
-fn push_copies(cells: &mut Vec<Cell>, others: &[Cell]) -> Result<(), AllocError>
-    ensures { OnOk result (cells.new.items ≡ cells.old.items ++ others.now) }
-{
-    for cell in others {
-        cells.push(cell.copy()?)?;
-    }
-    Ok(())
 }
 
 /// The zero cells of a package's variables come behind others.

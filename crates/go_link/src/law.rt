@@ -2,7 +2,8 @@
 ghost use Rattle.std.specs.Prelude.{◌≡◌, ℕ, List, Some, None, codes, slice_get};
 ghost use Rattle.go_code.specs.Packages.{Object, PackageFunction};
 ghost use Rattle.go_code.specs.Symbols.{Symbol};
-ghost use Rattle.go_code.specs.declared.instr.Instr.TheVariants.{Call};
+ghost use Rattle.go_code.specs.declared.instr.CallInstr.TheVariants.{Call};
+ghost use Rattle.go_code.specs.declared.instr.Instr.TheVariants.{Calls};
 ghost use Rattle.go_link.specs.Found.{Found, IsDeclared};
 ghost use Rattle.go_link.specs.Links.{code_of, last_package, link_refusal, symbol_of};
 
@@ -13,7 +14,7 @@ pub fn law_functions_are_found()
 
 /// A call in linked packages goes to a function with the path and the name that the call names.
 pub fn law_calls_are_found()
-    ensures { (packages : List Object) (i j : ℕ) (o : Object) (s : Symbol) → link_refusal packages ≡ None → slice_get packages i ≡ Some o → slice_get (code_of o) j ≡ Some (Call s) → Found packages s }
+    ensures { (packages : List Object) (i j : ℕ) (o : Object) (s : Symbol) → link_refusal packages ≡ None → slice_get packages i ≡ Some o → slice_get (code_of o) j ≡ Some (Calls (Call s)) → Found packages s }
 {}
 
 /// The last of linked packages has a function main, which is in the image.

@@ -6,5 +6,3 @@ pub mod law;
 pub mod link;
 mod names;
 mod starts;
-#[cfg(test)]
-mod tests;

@@ -36,26 +36,26 @@ impl From<AllocError> for LinkError {
     }
 }
 
-/// Another owner of the object at a place.
-fn object_at(objects: &[Arc<Object>], place: usize) -> Result<Arc<Object>, AllocError>
-    requires { place < length objects.now }
-    ensures { IfOk result (λ object. slice_get (map arc_value objects.now) place ≡ Some (arc_value object)) }
+/// Another owner of the object at an index.
+fn object_at(objects: &[Arc<Object>], index: usize) -> Result<Arc<Object>, AllocError>
+    requires { index < length objects.now }
+    ensures { IfOk result (λ object. slice_get (map arc_value objects.now) index ≡ Some (arc_value object)) }
 {
-    objects[place].clone()
+    objects[index].clone()
 }
 
-/// The objects at these places, which share the contents. An `Err` only where memory ran out.
+/// The objects at these indexes, which share the contents. An `Err` only where memory ran out.
 fn packages_in_order(
     alloc: Global,
     objects: &[Arc<Object>],
     order: &[usize],
 ) -> Result<Vec<Arc<Object>>, AllocError>
-    requires { All (λ place. place < length objects.now) order.now }
+    requires { All (λ index. index < length objects.now) order.now }
     ensures { IfOk result (λ packages. map arc_value packages.items ≡ in_order (map arc_value objects.now) order.now) }
 {
     let mut packages = Vec::new(alloc);
-    for place in order {
-        packages.push(object_at(objects, *place)?)?;
+    for index in order {
+        packages.push(object_at(objects, *index)?)?;
     }
     Ok(packages)
 }
@@ -92,14 +92,14 @@ fn link_packages(alloc: Global, packages: &[Arc<Object>]) -> Result<Image, LinkE
 }
 
 /// The image of a program's objects, in the order in which their packages are initialized, by
-/// their places. The image has the variables and the functions package by package, and the start
+/// their indexes. The image has the variables and the functions package by package, and the start
 /// steps: each package's setups and inits, package by package, and then the last one's main.
 ///
 /// An `Err` is the first that holds of `NoMain` and `NameMissing`, or says that memory ran out.
 /// A symbol means the first function of its path and name; where the paths of packages and the
 /// names of a package's functions differ there is one at most.
 pub fn link(alloc: Global, objects: &[Arc<Object>], order: &[usize]) -> Result<Image, LinkError>
-    requires places { All (λ place. place < length objects.now) order.now }
+    requires indexes { All (λ index. index < length objects.now) order.now }
     ensures linked { IfOk result (λ image. Links (map arc_value objects.now) order.now image) }
     ensures refused { IfErr result (λ e. IsRefusal e (link_refusal (in_order (map arc_value objects.now) order.now))) }
 {

@@ -3,13 +3,13 @@ ghost use Rattle.std.specs.Prelude.{◌≡◌, ◌++◌, ◌∷◌, [], List, le
 ghost use Rattle.std.specs.List.{flat_map, list_any, position};
 ghost use Rattle.std.specs.Arc.{arc_value};
 ghost use Rattle.go_code.specs.Symbols.{Symbol as ASymbol};
-ghost use Rattle.go_link.specs.Links.{same_symbol, symbol_of, names, number_of, is_missing, code_of, name_missing};
+ghost use Rattle.go_link.specs.Links.{same_symbol, symbol_of, names, number_of, is_missing, misses, code_of, name_missing};
 ghost use Rattle.go_link.specs.Named.{Numbers, symbol_at};
 
-use go_code::instr::{Instr, Symbol};
+use go_code::instr::{CallInstr, Instr, Symbol};
 use go_code::object::Object;
 use go_code::object::function::PackageFunction;
-use go_code::object::setup::PackageSetup;
+use go_code::setup::Setup;
 use std::alloc::{AllocError, Global};
 use std::collections::BTreeMap;
 use std::marker::Model;
@@ -19,7 +19,7 @@ use std::sync::Arc;
 type Name<'a> = (&'a str, &'a str);
 
 /// The functions of packages in the image's order, and the number of each by its name: its
-/// place, or that of the first with the same path and name.
+/// index, or that of the first with the same path and name.
 #[derive(Drop)]
 pub(crate) struct Names<'a> {
     all: Vec<Name<'a>>,
@@ -48,7 +48,7 @@ impl<'a> Names<'a> {
 
     /// The number of the function of a path and a name, or how many functions there are if it is
     /// none of them.
-    pub(crate) fn place(&self, path: &'a str, name: &'a str) -> usize
+    pub(crate) fn number_of(&self, path: &'a str, name: &'a str) -> usize
         ensures { result ≡ number_of self.now (record { path = path.now; name = name.now }) }
     {
         match self.number(path, name) {
@@ -72,7 +72,7 @@ fn add_name<'a>(
     Ok(())
 }
 
-/// The first place of each name.
+/// The first index of each name.
 fn numbers_of<'a>(
     alloc: Global,
     names: &[Name<'a>],
@@ -112,13 +112,23 @@ pub(crate) fn collect_names<'a>(
     Ok(Names { all, numbers })
 }
 
+/// Whether a call goes to none of the functions.
+fn call_misses<'a>(names: &Names<'a>, instr: &'a CallInstr<Symbol>) -> bool
+    ensures { result ≡ misses names.now instr.now }
+{
+    match instr {
+        CallInstr::Call(symbol) => names.number(symbol.path(), symbol.name()).is_none(),
+        CallInstr::Return(_) => false,
+    }
+}
+
 /// Whether an instruction refers to none of the functions.
 fn is_missing<'a>(names: &Names<'a>, instr: &'a Instr<Symbol>) -> bool
     ensures { result ≡ is_missing names.now instr.now }
 {
     match instr {
-        Instr::Call(symbol) => names.number(symbol.path(), symbol.name()).is_none(),
-        Instr::Push(_) | Instr::Print(_) | Instr::Return(_) => false,
+        Instr::Frame(_) | Instr::Output(_) => false,
+        Instr::Calls(instr) => call_misses(names, instr),
     }
 }
 
@@ -135,17 +145,17 @@ fn code_misses<'a>(names: &Names<'a>, code: &'a [Instr<Symbol>]) -> bool
 }
 
 fn functions_miss<'a>(names: &Names<'a>, functions: &'a [PackageFunction]) -> bool
-    ensures { result ≡ list_any (is_missing names.now) (flat_map (λ f. f.code) functions.now) }
+    ensures { result ≡ list_any (is_missing names.now) (flat_map (λ f. f.function.code) functions.now) }
 {
     for function in functions {
-        if code_misses(names, function.code()) {
+        if code_misses(names, function.function().code()) {
             return true;
         }
     }
     false
 }
 
-fn setups_miss<'a>(names: &Names<'a>, setups: &'a [PackageSetup]) -> bool
+fn setups_miss<'a>(names: &Names<'a>, setups: &'a [Setup<Symbol>]) -> bool
     ensures { result ≡ list_any (is_missing names.now) (flat_map (λ s. s.code) setups.now) }
 {
     for setup in setups {

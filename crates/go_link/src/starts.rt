@@ -8,10 +8,10 @@ ghost use Rattle.go_link.specs.Links.{has_main, has_main_in, is_init, last_packa
 use crate::code::link_code;
 use crate::names::Names;
 use go_code::image::Start;
-use go_code::image::setup::Setup;
+use go_code::instr::Symbol;
 use go_code::object::Object;
 use go_code::object::function::PackageFunction;
-use go_code::object::setup::PackageSetup;
+use go_code::setup::Setup;
 use std::alloc::{AllocError, Global};
 use std::sync::Arc;
 
@@ -30,7 +30,7 @@ fn push_setups<'a>(
     alloc: Global,
     starts: &mut Vec<Start>,
     names: &Names<'a>,
-    setups: &'a [PackageSetup],
+    setups: &'a [Setup<Symbol>],
 ) -> Result<(), AllocError>
     ensures { OnOk result (starts.new.items ≡ starts.old.items ++ map (linked_setup names.now) setups.now) }
 {
@@ -52,7 +52,7 @@ fn push_inits<'a>(
     let functions = object.functions();
     for function in functions {
         if is_init(function) {
-            let number = names.place(object.path(), function.name());
+            let number = names.number_of(object.path(), function.name());
             starts.push(Start::Function(number))?;
         }
     }
@@ -81,7 +81,7 @@ fn push_main<'a>(
     ensures { OnOk result (starts.new.items ≡ starts.old.items ++ main_start names.now (last_package (map arc_value packages.now))) }
 {
     if let Some(object) = packages.last() {
-        let number = names.place(object.path(), MAIN);
+        let number = names.number_of(object.path(), MAIN);
         starts.push(Start::Function(number))?;
     }
     Ok(())

@@ -6,9 +6,9 @@ use Rattle.go_ast.specs.Expected.{another}
 use Rattle.go_ast.specs.Trees.{Name, ImportSpec, TopLevel, File}
 use Rattle.go_ast.specs.Grammar.{Lexeme, semicolon, concat}
 use Rattle.go_ast.specs.Machine.{State, token, imports_at, import_end, decls_at, decl_end, ended, Done, Refused, run}
-use Rattle.go_pexpr.specs.declared.reader.Reader.{Reader}
-use Rattle.go_pexpr.specs.declared.reader.Refusal.{Refusal}
-use Rattle.go_pexpr.specs.declared.reader.Refusal.TheVariants.{Memory, Wrong}
+use Rattle.go_pexpr.specs.declared.parser.Parser.{Parser}
+use Rattle.go_pexpr.specs.declared.parser.Refusal.{Refusal}
+use Rattle.go_pexpr.specs.declared.parser.Refusal.TheVariants.{Memory, Wrong}
 use Rattle.go_pexpr.specs.Reads.{Reads, Failing, Says, first_kind, fault_of, left}
 use Rattle.go_pexpr.proofs.Steps.{refuses}
 use Rattle.go_pexpr.proofs.Reading.{then_fails}
@@ -57,16 +57,16 @@ not_ended f o [] e some = absurd (never (sym (ap is_some e) ∙ some))
     never h = cc (h)
 not_ended f o (t ∷ ts) e some = refuses (ended f) another t ts refl
 
-pub refused_end : (before : State) (old new : Reader) (r : Refusal) (f : File) (o : Option TokenKind) →
+pub refused_end : (before : State) (old new : Parser) (r : Refusal) (f : File) (o : Option TokenKind) →
     run 250 before (left old) ≡ run 250 (ended f) (left new) → o ≡ first_kind (left new) → is_some o ≡ true → Says (fault_of another (left new)) r → Failing r before old new
 refused_end before old new Memory f o went e some says = absurd says
 refused_end before old new (Wrong x) f o went e some says = went ∙ not_ended f o (left new) e some ∙ ap (λ n. Refused n (left new)) (sym says)
 
 -- a call that failed, where the function came
-failed : {A : Type 0} {before : State} {after : A → State} {old new : Reader} (r : Result A Refusal) → Reads before after old r new → IfErr r (λ e. Failing e before old new)
+failed : {A : Type 0} {before : State} {after : A → State} {old new : Parser} (r : Result A Refusal) → Reads before after old r new → IfErr r (λ e. Failing e before old new)
 failed (Ok a) d = tt
 failed (Err e) d = d.by
 
-pub then_stops : {A B : Type 0} (before : State) {mid : State} {after_call : B → State} (old : Reader) {at new : Reader} (r : Result A Refusal) {e : Refusal} →
+pub then_stops : {A B : Type 0} (before : State) {mid : State} {after_call : B → State} (old : Parser) {at new : Parser} (r : Result A Refusal) {e : Refusal} →
     run 250 before (left old) ≡ run 250 mid (left at) → Reads {A = B} mid after_call at (Err e) new → IsErrAnd r (λ y. y ≡ e) → IfErr r (λ y. Failing y before old new)
 then_stops before old r went d h = failed {after = λ _. before} r (then_fails went d h)

@@ -12,12 +12,12 @@ use Rattle.go_ast.specs.Machine.{start, Done, Refused, run}
 use Rattle.go_ast.specs.Stops.{StopsAt}
 use Rattle.go_ast.specs.Tokens.{lexemes}
 use Rattle.go_ast.proofs.Theorem.{taken_derived, refused_stops}
-use Rattle.go_pexpr.specs.declared.reader.Reader.{Reader}
-use Rattle.go_pexpr.specs.declared.reader.Fault.{Fault}
-use Rattle.go_pexpr.specs.declared.reader.Refusal.{Refusal}
-use Rattle.go_pexpr.specs.declared.reader.Refusal.TheVariants.{Wrong}
+use Rattle.go_pexpr.specs.declared.parser.Parser.{Parser}
+use Rattle.go_pexpr.specs.declared.parser.Fault.{Fault}
+use Rattle.go_pexpr.specs.declared.parser.Refusal.{Refusal}
+use Rattle.go_pexpr.specs.declared.parser.Refusal.TheVariants.{Wrong}
 use Rattle.go_pexpr.specs.Reads.{Failing, left, number}
-use Rattle.go_parse.specs.Parse.{Derived, Stopped, IsParse, scan_kind, place_before}
+use Rattle.go_ast.specs.Parse.{Derived, Stopped, IsParse, scan_kind, place_before}
 
 -- the tokens that are read are those of the text
 pub same_tokens : {text seen : List ℕ} {ts us : List Token} → seen ≡ text → us ≡ ts → lexemes text ts ≡ lexemes seen us
@@ -40,6 +40,6 @@ unfolding IsParse
 stops_being text ts n bad kind place lexes e same there =
     inr (ts, bad, lexes, subst (λ m. StopsAt 250 (lexemes text ts) m bad) (sym same) (refused_stops 250 (lexemes text ts) n bad (omega arith) e), there)
 
--- a reader that failed by what its tokens are
-pub refused_by : {e : Refusal} {fault : Fault} (old new : Reader) → e ≡ Wrong fault → Failing e start old new → run 250 start (left old) ≡ Refused (number fault) (left new)
+-- a parser that failed by what its tokens are
+pub refused_by : {e : Refusal} {fault : Fault} (old new : Parser) → e ≡ Wrong fault → Failing e start old new → run 250 start (left old) ≡ Refused (number fault) (left new)
 refused_by old new is failing = subst (λ z. Failing z start old new) is failing

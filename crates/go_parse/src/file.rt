@@ -12,71 +12,79 @@ use crate::import::{imports_behind, package_name};
 use crate::marks::{CONST, FUNC, IMPORT, PACKAGE, SEMICOLON, TYPE, VAR};
 use go_ast::file::{File, ImportSpec, TopLevel};
 use go_pexpr::expected::Expected;
-use go_pexpr::reader::{Reader, Refusal};
+use go_pexpr::parser::{Parser, Refusal};
 use go_pstmt::declaration::{constants, types, variables};
 
 /// Reads a file's imports.
-fn imports(reader: &mut Reader<'_>) -> Result<Vec<ImportSpec>, Refusal>
-    ensures reads { (p : trees.Name) → Reads (imports_at p []) (λ is. decls_at p (map import_of is.items) []) reader.old result reader.new }
-    ensures no_longer { OnOk result (size reader.new ≤ size reader.old) }
+///
+/// `{ ImportDecl ";" } .`
+fn imports(parser: &mut Parser<'_>) -> Result<Vec<ImportSpec>, Refusal>
+    ensures reads { (p : trees.Name) → Reads (imports_at p []) (λ is. decls_at p (map import_of is.items) []) parser.old result parser.new }
+    ensures no_longer { OnOk result (size parser.new ≤ size parser.old) }
 {
-    let mut imports = Vec::new(reader.alloc);
-    'imports: while let Some(_) = reader.accept(IMPORT, 0)? {
-        let mut more = imports_behind(reader)?;
-        reader.expect(SEMICOLON, 0, Expected::Another)?;
+    let mut imports = Vec::new(parser.alloc);
+    'imports: while let Some(_) = parser.accept(IMPORT, 0)? {
+        let mut more = imports_behind(parser)?;
+        parser.expect(SEMICOLON, 0, Expected::Another)?;
         imports.append(&mut more)?;
     }
     Ok(imports)
 }
 
 /// Reads a declaration of a file, if one begins here.
-fn declaration(reader: &mut Reader<'_>) -> Result<Option<TopLevel>, Refusal>
-    ensures reads { (some : trees.TopLevel → State) (none : State) → Reads (declaration_at some none) (either (λ d. some (top_of d)) none) reader.old result reader.new }
-    ensures no_longer { OnOk result (size reader.new ≤ size reader.old) }
+///
+/// `TopLevelDecl = Declaration | FunctionDecl .`
+fn declaration(parser: &mut Parser<'_>) -> Result<Option<TopLevel>, Refusal>
+    ensures reads { (some : trees.TopLevel → State) (none : State) → Reads (declaration_at some none) (either (λ d. some (top_of d)) none) parser.old result parser.new }
+    ensures no_longer { OnOk result (size parser.new ≤ size parser.old) }
 {
-    if let Some(token) = reader.accept(CONST, 0)? {
-        let constants = constants(reader, 1, token.place)?;
+    if let Some(token) = parser.accept(CONST, 0)? {
+        let constants = constants(parser, 1, token.place)?;
         return Ok(Some(TopLevel::Declared(constants)));
     }
-    if let Some(token) = reader.accept(VAR, 0)? {
-        let variables = variables(reader, 1, token.place)?;
+    if let Some(token) = parser.accept(VAR, 0)? {
+        let variables = variables(parser, 1, token.place)?;
         return Ok(Some(TopLevel::Declared(variables)));
     }
-    if let Some(token) = reader.accept(TYPE, 0)? {
-        let types = types(reader, 1, token.place)?;
+    if let Some(token) = parser.accept(TYPE, 0)? {
+        let types = types(parser, 1, token.place)?;
         return Ok(Some(TopLevel::Declared(types)));
     }
-    if let Some(token) = reader.accept(FUNC, 1)? {
-        let function = function(reader, token.place)?;
+    if let Some(token) = parser.accept(FUNC, 1)? {
+        let function = function(parser, token.place)?;
         return Ok(Some(TopLevel::Function(function)));
     }
     Ok(None)
 }
 
 /// Reads a file's declarations.
-fn declarations(reader: &mut Reader<'_>) -> Result<Vec<TopLevel>, Refusal>
-    ensures reads { (p : trees.Name) (is : List trees.ImportSpec) → Reads (decls_at p is []) (λ ds. ended (machine.file_of p is (map top_of ds.items))) reader.old result reader.new }
+///
+/// `{ TopLevelDecl ";" } .`
+fn declarations(parser: &mut Parser<'_>) -> Result<Vec<TopLevel>, Refusal>
+    ensures reads { (p : trees.Name) (is : List trees.ImportSpec) → Reads (decls_at p is []) (λ ds. ended (machine.file_of p is (map top_of ds.items))) parser.old result parser.new }
 {
-    let mut declarations = Vec::new(reader.alloc);
-    'declarations: while let Some(declaration) = declaration(reader)? {
+    let mut declarations = Vec::new(parser.alloc);
+    'declarations: while let Some(declaration) = declaration(parser)? {
         declarations.push(declaration)?;
-        reader.expect(SEMICOLON, 0, Expected::Another)?;
+        parser.expect(SEMICOLON, 0, Expected::Another)?;
     }
     Ok(declarations)
 }
 
 /// Reads a whole file, to the end of the tokens.
-pub fn file(reader: &mut Reader<'_>) -> Result<File, Refusal>
-    ensures ok { IfOk result (λ f. run 250 start (left reader.old) ≡ Done (file_of f)) }
-    ensures err { IfErr result (λ e. Failing e start reader.old reader.new) }
+///
+/// `SourceFile = PackageClause ";" { ImportDecl ";" } { TopLevelDecl ";" } .` `PackageClause = "package" PackageName .`
+pub fn file(parser: &mut Parser<'_>) -> Result<File, Refusal>
+    ensures ok { IfOk result (λ f. run 250 start (left parser.old) ≡ Done (file_of f)) }
+    ensures err { IfErr result (λ e. Failing e start parser.old parser.new) }
 {
-    reader.expect(PACKAGE, 0, Expected::Another)?;
-    let package = package_name(reader)?;
-    reader.expect(SEMICOLON, 0, Expected::Another)?;
-    let imports = imports(reader)?;
-    let declarations = declarations(reader)?;
-    if reader.kind().is_some() {
-        return Err(reader.wrong(Expected::Another));
+    parser.expect(PACKAGE, 0, Expected::Another)?;
+    let package = package_name(parser)?;
+    parser.expect(SEMICOLON, 0, Expected::Another)?;
+    let imports = imports(parser)?;
+    let declarations = declarations(parser)?;
+    if parser.kind().is_some() {
+        return Err(parser.wrong(Expected::Another));
     }
     Ok(File {
         package,

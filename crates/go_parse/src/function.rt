@@ -1,72 +1,107 @@
 //! Reads functions.
-ghost use Rattle.std.specs.Prelude.{◌≡◌, ◌<◌, ◌≤◌, List, [], ◌∷◌, map, Some, None, OnOk};
+ghost use Rattle.std.specs.Prelude.{◌≡◌, ◌<◌, ◌≤◌, List, [], ◌∷◌, map, Some, None, OnOk, refl};
+ghost use Rattle.go_ast.specs.Expected.{another, a_result_end};
 ghost use Rattle.go_ast.specs.Trees as trees;
-ghost use Rattle.go_ast.specs.Machine.{State, list_start, parameters, results, results_at, behind_func};
+ghost use Rattle.go_ast.specs.Machine.{State, parameters, results, results_at, behind_func};
 ghost use Rattle.go_ast.specs.Grammar.{Lexeme};
 ghost use Rattle.go_ast.specs.Views.{type_of, parameter_of, function_of};
 ghost use Rattle.go_parse.specs.Files.{parameter_item};
 ghost use Rattle.go_pexpr.specs.Reads.{Reads, size};
 
-use crate::marks::{CLOSING, COMMA, OPENING};
+use crate::marks::{COMMA, OPENING};
 use go_ast::expression::TypeExpr;
 use go_ast::file::{Function, Parameter};
 use go_pexpr::expected::Expected;
-use go_pexpr::reader::{Reader, Refusal};
+use go_pexpr::parser::{Parser, Refusal};
+use go_pstmt::list::{Items, list};
 use go_pstmt::statement::block;
+use go_scan::token::TokenKind;
 use go_text::place::Place;
 
 /// Reads parameters of one type.
-fn parameter(reader: &mut Reader<'_>) -> Result<Parameter, Refusal>
-    ensures reads { (next : trees.Parameter → State) → Reads (parameter_item next) (λ p. next (parameter_of p)) reader.old result reader.new }
-    ensures shorter { OnOk result (size reader.new < size reader.old) }
+///
+/// `ParameterDecl = IdentifierList Type .`
+fn parameter(parser: &mut Parser<'_>) -> Result<Parameter, Refusal>
+    ensures reads { (next : trees.Parameter → State) → Reads (parameter_item next) (λ p. next (parameter_of p)) parser.old result parser.new }
+    ensures shorter { OnOk result (size parser.new < size parser.old) }
 {
-    let names = reader.names(1)?;
-    let type_expr = reader.type_from(1, Expected::ParameterType)?;
+    let names = parser.names(1)?;
+    let type_expr = parser.type_from(1, Expected::ParameterType)?;
     Ok(Parameter { names, type_expr })
 }
 
-/// Reads parameters, behind the opening parenthesis.
-fn parameters(reader: &mut Reader<'_>) -> Result<Vec<Parameter>, Refusal>
-    ensures reads { (next : List trees.Parameter → State) → Reads (list_start parameters [] (λ ps _. next ps)) (λ ps. next (map parameter_of ps.items)) reader.old result reader.new }
-    ensures shorter { OnOk result (size reader.new < size reader.old) }
-{
-    let mut parameters = Vec::new(reader.alloc);
-    'parameters: while !reader.is_next(CLOSING) {
-        parameters.push(parameter(reader)?)?;
-        if !reader.is_next(CLOSING) {
-            reader.expect(COMMA, 0, Expected::Another)?;
-        }
+/// The parameters of a function.
+#[derive(Clone, Copy)]
+struct Parameters;
+
+impl Items for Parameters {
+    type Node = Parameter;
+
+    ghost kind = { λ _. parameters };
+
+    ghost seen = { λ _. parameter_of };
+
+    ghost due = { λ _. another };
+
+    ghost can_read = { λ _. Unit {0} };
+
+    ghost closes = { λ _. refl };
+
+    fn separator(&self) -> TokenKind {
+        COMMA
     }
-    reader.expect(CLOSING, 0, Expected::Another)?;
-    Ok(parameters)
+
+    fn behind(&self) -> Expected {
+        Expected::Another
+    }
+
+    fn item(&self, parser: &mut Parser<'_>) -> Result<Parameter, Refusal> {
+        parameter(parser)
+    }
 }
 
-/// Reads the types of results, behind the opening parenthesis.
-fn result_group(reader: &mut Reader<'_>) -> Result<Vec<TypeExpr>, Refusal>
-    ensures reads { (next : List trees.TypeExpr → State) → Reads (list_start results [] (λ rs _. next rs)) (λ rs. next (map type_of rs.items)) reader.old result reader.new }
-    ensures shorter { OnOk result (size reader.new < size reader.old) }
-{
-    let mut results = Vec::new(reader.alloc);
-    'results: while !reader.is_next(CLOSING) {
-        results.push(reader.type_from(1, Expected::Type)?)?;
-        if !reader.is_next(CLOSING) {
-            reader.expect(COMMA, 0, Expected::ResultEnd)?;
-        }
+/// The types of results in parentheses.
+#[derive(Clone, Copy)]
+struct ResultTypes;
+
+impl Items for ResultTypes {
+    type Node = TypeExpr;
+
+    ghost kind = { λ _. results };
+
+    ghost seen = { λ _. type_of };
+
+    ghost due = { λ _. a_result_end };
+
+    ghost can_read = { λ _. Unit {0} };
+
+    ghost closes = { λ _. refl };
+
+    fn separator(&self) -> TokenKind {
+        COMMA
     }
-    reader.expect(CLOSING, 0, Expected::Another)?;
-    Ok(results)
+
+    fn behind(&self) -> Expected {
+        Expected::ResultEnd
+    }
+
+    fn item(&self, parser: &mut Parser<'_>) -> Result<TypeExpr, Refusal> {
+        parser.type_from(1, Expected::Type)
+    }
 }
 
 /// Reads the types of a function's results.
-fn results(reader: &mut Reader<'_>) -> Result<Vec<TypeExpr>, Refusal>
-    ensures reads { (next : List trees.TypeExpr → State) → Reads (results_at next) (λ rs. next (map type_of rs.items)) reader.old result reader.new }
-    ensures no_longer { OnOk result (size reader.new ≤ size reader.old) }
+///
+/// `Result = Type | "(" [ Type { "," Type } [ "," ] ] ")" .`
+fn results(parser: &mut Parser<'_>) -> Result<Vec<TypeExpr>, Refusal>
+    ensures reads { (next : List trees.TypeExpr → State) → Reads (results_at next) (λ rs. next (map type_of rs.items)) parser.old result parser.new }
+    ensures no_longer { OnOk result (size parser.new ≤ size parser.old) }
 {
-    if let Some(_) = reader.accept(OPENING, 0)? {
-        return result_group(reader);
+    if let Some(_) = parser.accept(OPENING, 0)? {
+        return list(parser, &ResultTypes);
     }
-    let mut results = Vec::new(reader.alloc);
-    let Some(type_expr) = reader.type_if(1, Expected::Type)? else {
+    let mut results = Vec::new(parser.alloc);
+    let Some(type_expr) = parser.type_if(1, Expected::Type)? else {
         return Ok(results);
     };
     results.push(type_expr)?;
@@ -74,15 +109,17 @@ fn results(reader: &mut Reader<'_>) -> Result<Vec<TypeExpr>, Refusal>
 }
 
 /// Reads a function behind its keyword, which stands at this place.
-pub(crate) fn function(reader: &mut Reader<'_>, place: Place) -> Result<Function, Refusal>
-    ensures reads { (next : trees.Function → State) (t : Lexeme) → t.place ≡ place → Reads (behind_func next t) (λ f. next (function_of f)) reader.old result reader.new }
-    ensures shorter { OnOk result (size reader.new < size reader.old) }
+///
+/// `FunctionDecl = "func" FunctionName Parameters [ Result ] Block .`
+pub(crate) fn function(parser: &mut Parser<'_>, place: Place) -> Result<Function, Refusal>
+    ensures reads { (next : trees.Function → State) (t : Lexeme) → t.place ≡ place → Reads (behind_func next t) (λ f. next (function_of f)) parser.old result parser.new }
+    ensures shorter { OnOk result (size parser.new < size parser.old) }
 {
-    let name = reader.name(0, Expected::FunctionName)?;
-    reader.expect(OPENING, 0, Expected::FunctionOpening)?;
-    let parameters = parameters(reader)?;
-    let results = results(reader)?;
-    let body = block(reader, 1)?;
+    let name = parser.name(0, Expected::FunctionName)?;
+    parser.expect(OPENING, 0, Expected::FunctionOpening)?;
+    let parameters = list(parser, &Parameters)?;
+    let results = results(parser)?;
+    let body = block(parser, 1)?;
     Ok(Function {
         place,
         name,

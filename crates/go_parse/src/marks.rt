@@ -7,8 +7,6 @@ pub(crate) const STRING: TokenKind = TokenKind::String;
 
 pub(crate) const OPENING: TokenKind = TokenKind::Punctuation(Punctuation::OpenParenthesis);
 
-pub(crate) const CLOSING: TokenKind = TokenKind::Punctuation(Punctuation::CloseParenthesis);
-
 pub(crate) const COMMA: TokenKind = TokenKind::Punctuation(Punctuation::Comma);
 
 pub(crate) const SEMICOLON: TokenKind = TokenKind::Punctuation(Punctuation::Semicolon);

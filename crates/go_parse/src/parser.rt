@@ -6,12 +6,13 @@ ghost use Rattle.go_text.specs.Faults.{fault_number};
 ghost use Rattle.go_ast.specs.Tokens.{lexemes};
 ghost use Rattle.go_ast.specs.Views.{file_of};
 ghost use Rattle.go_pexpr.specs.Reads.{number};
-ghost use Rattle.go_parse.specs.Parse.{Derived, Stopped, IsParse, scan_kind, place_before};
+ghost use Rattle.go_ast.specs.Parse.{Derived, Stopped, IsParse, scan_kind, place_before};
 ghost use Rattle.go_parse.specs.declared.parser.ParseError.TheVariants.{Memory};
 
 use crate::file::file;
 use go_ast::file::File;
-use go_pexpr::reader::{Fault, Reader, Refusal};
+use go_ast::parsed::Parsed;
+use go_pexpr::parser::{Fault, Parser, Refusal};
 use go_scan::fault::{ScanError, ScanFault};
 use go_scan::scanner::scan;
 use go_scan::token::Token;
@@ -19,6 +20,7 @@ use go_text::fault::FaultKind;
 use go_text::place::{Place, place_at};
 use go_text::source::Source;
 use std::alloc::{AllocFailed, Global};
+use std::sync::Arc;
 use thiserror::Error;
 
 /// Why a source is no file.
@@ -86,17 +88,29 @@ pub fn parse(alloc: Global, source: &Source) -> Result<File, ParseError>
         }
     };
     let text = source.text().as_str().as_bytes();
-    let mut reader = Reader {
+    let mut parser = Parser {
         alloc,
         text,
         tokens: &tokens,
     };
-    match file(&mut reader) {
+    match file(&mut parser) {
         Ok(file) => Ok(file),
         Err(Refusal::Memory) => Err(ParseError::Memory),
         Err(Refusal::Wrong(fault)) => {
-            let place = place_before(text, reader.tokens);
+            let place = place_before(text, parser.tokens);
             Err(ParseError::Fault(token_kind(fault), place))
         }
     }
+}
+
+/// A source with the file that its text is. An `Err` has the fault by which the text is no file, and its place, or says
+/// that memory ran out.
+pub fn parse_source(alloc: Global, source: Source) -> Result<Parsed, ParseError>
+    ensures name { IfOk result (λ parsed. parsed.name ≡ source.name) }
+    ensures text { IfOk result (λ parsed. parsed.text ≡ source.text) }
+    ensures err { (kind : AKind) (place : APlace) → result ≡ Err (ParseError.Fault kind place) → IsParse source.text (Stopped kind place) }
+{
+    let file = parse(alloc, &source)?;
+    let file = Arc::new(alloc, file)?;
+    Ok(Parsed::of(source, file))
 }

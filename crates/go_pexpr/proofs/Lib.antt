@@ -1,6 +1,5 @@
 pub mod Begins
 pub mod Built
-pub mod Codes
 pub mod ElementTurns
 pub mod ListTurns
 pub mod OperatorTurns

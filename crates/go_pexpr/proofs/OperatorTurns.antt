@@ -9,9 +9,14 @@ use Rattle.go_ast.specs.Heights.{height}
 use Rattle.go_ast.specs.Grammar.{Lexeme}
 use Rattle.go_ast.specs.Machine.{State, Move, Take, Fail, token, expr, operators, on_operator, step, cond, run}
 use Rattle.go_pexpr.specs.Reads.{First}
-use Rattle.go_pexpr.specs.Next.{some_if, of_levels, operator_of, operator_at}
+use Rattle.go_pexpr.specs.Next.{some_if, of_levels, operator_at}
 use Rattle.go_pexpr.proofs.Steps.{Kind, same_step, same_end, chosen}
 use Rattle.go_pexpr.proofs.Turns.{splits, kind_at}
+
+-- the operator between two operands
+abbrev operator_of : List Lexeme → Option BinaryOperator
+operator_of [] = None
+operator_of (t ∷ ts) = binary_of t.kind
 
 -- operators of so many levels may follow, from one level on
 abbrev pub followed : (m c : ℕ) (h : Bool) (l : ℕ) (next : Expr → State) → Expr → State

@@ -1,39 +1,39 @@
 -- How what a function read follows from what its callees read.
 use Rattle.std.proofs.Common.{◌≡◌, ℕ, Option, Some, None, Result, Ok, Err, IfOk, IfErr, sym, ap, ◌∙◌, subst}
 use Rattle.std.specs.Prelude.{IsErrAnd}
-use Rattle.go_pexpr.specs.declared.reader.Reader.{Reader}
-use Rattle.go_pexpr.specs.declared.reader.Refusal.{Refusal}
-use Rattle.go_pexpr.specs.declared.reader.Refusal.TheVariants.{Memory, Wrong}
+use Rattle.go_pexpr.specs.declared.parser.Parser.{Parser}
+use Rattle.go_pexpr.specs.declared.parser.Refusal.{Refusal}
+use Rattle.go_pexpr.specs.declared.parser.Refusal.TheVariants.{Memory, Wrong}
 use Rattle.go_ast.specs.Machine.{State, Refused, run}
 use Rattle.go_pexpr.specs.Reads.{Reads, Failing, Says, left, either}
 
-pub fails_after : (e : Refusal) (before mid : State) (old at new : Reader) → run 250 before (left old) ≡ run 250 mid (left at) → Failing e mid at new → Failing e before old new
+pub fails_after : (e : Refusal) (before mid : State) (old at new : Parser) → run 250 before (left old) ≡ run 250 mid (left at) → Failing e mid at new → Failing e before old new
 fails_after (Wrong f) before mid old at new went d = went ∙ d
 fails_after Memory before mid old at new went d = tt
 
-pub failing : {A : Type 0} {before : State} {after : A → State} {old new : Reader} (r : Result A Refusal) (e : Refusal) → IsErrAnd r (λ y. y ≡ e) → Failing e before old new → Reads before after old r new
+pub failing : {A : Type 0} {before : State} {after : A → State} {old new : Parser} (r : Result A Refusal) (e : Refusal) → IsErrAnd r (λ y. y ≡ e) → Failing e before old new → Reads before after old r new
 failing (Ok a) e h f = absurd h
 failing {before = before} {old = old} {new = new} (Err y) e h f = record { by = subst (λ z. Failing z before old new) (sym h) f }
 
 -- a call that reads on from where the function came
-pub then_reads : {A : Type 0} {before mid : State} {after : A → State} {old at new : Reader} (r : Result A Refusal) →
+pub then_reads : {A : Type 0} {before mid : State} {after : A → State} {old at new : Parser} (r : Result A Refusal) →
     run 250 before (left old) ≡ run 250 mid (left at) → Reads mid after at r new → Reads before after old r new
 then_reads (Ok a) went d = record { by = went ∙ d.by }
 then_reads {before = before} {mid = mid} {old = old} {at = at} {new = new} (Err e) went d = record { by = fails_after e before mid old at new went d.by }
 
 -- a call that failed
-pub then_fails : {A B : Type 0} {before mid : State} {after : A → State} {after_call : B → State} {old at new : Reader} {r : Result A Refusal} {e : Refusal} →
+pub then_fails : {A B : Type 0} {before mid : State} {after : A → State} {after_call : B → State} {old at new : Parser} {r : Result A Refusal} {e : Refusal} →
     run 250 before (left old) ≡ run 250 mid (left at) → Reads {A = B} mid after_call at (Err e) new → IsErrAnd r (λ y. y ≡ e) → Reads before after old r new
 then_fails {before = before} {mid = mid} {old = old} {at = at} {new = new} {r = r} {e = e} went d h = failing r e h (fails_after e before mid old at new went d.by)
 
 -- what was made, where only memory may fail
-pub then_makes : {A : Type 0} {before : State} {after : A → State} {old new : Reader} (r : Result A Refusal) (s : State) →
+pub then_makes : {A : Type 0} {before : State} {after : A → State} {old new : Parser} (r : Result A Refusal) (s : State) →
     run 250 before (left old) ≡ run 250 s (left new) → IfOk r (λ a. after a ≡ s) → IfErr r (λ e. e ≡ Memory) → Reads before after old r new
 then_makes {new = new} (Ok a) s went made out = record { by = went ∙ ap (λ x. run 250 x (left new)) (sym made) }
 then_makes {before = before} {old = old} {new = new} (Err e) s went made out = record { by = subst (λ z. Failing z before old new) (sym out) tt }
 
 -- the next token is refused
-pub then_refuses : {A : Type 0} {before : State} {after : A → State} {old new : Reader} (e : Refusal) (n : ℕ) →
+pub then_refuses : {A : Type 0} {before : State} {after : A → State} {old new : Parser} (e : Refusal) (n : ℕ) →
     run 250 before (left old) ≡ Refused n (left new) → Says n e → Reads before after old (Err e) new
 then_refuses Memory n went says = absurd says
 then_refuses {new = new} (Wrong f) n went says = record { by = went ∙ ap (λ m. Refused m (left new)) (sym says) }

@@ -10,7 +10,7 @@ use Rattle.go_ast.specs.Heights.{height}
 use Rattle.go_ast.specs.Grammar.{Lexeme, opening, opening_bracket, opening_brace, period}
 use Rattle.go_ast.specs.Machine.{State, Move, Take, token, suffixes, literal_type, is_some, on_brace, step, run}
 use Rattle.go_ast.proofs.Same.{not_same}
-use Rattle.go_pexpr.specs.declared.operators.Suffix.TheVariants.{Selector, Index, Call, Literal}
+use Rattle.go_pexpr.specs.declared.operators.Suffix.TheVariants.{Selector, Index, Call, CompositeLit}
 use Rattle.go_pexpr.specs.Next.{suffix_of, suffix_at}
 use Rattle.go_pexpr.specs.Turns.{behind_selector, behind_index, behind_call, behind_brace}
 use Rattle.go_pexpr.proofs.Steps.{same_step, same_end, same_at, cond_false, passed}
@@ -37,7 +37,7 @@ call_kind false false (kinds.Punctuation marks.OpenBrace) e = cc (e)
 call_kind true a (kinds.Punctuation marks.OpenBrace) e = cc (e)
 call_kind h a _ e = cc (e)
 
-literal_kind : (h a : Bool) (k : TokenKind) → suffix_of h a k ≡ Some Literal → (k ≡ opening_brace) × (h ≡ false) × (a ≡ true)
+literal_kind : (h a : Bool) (k : TokenKind) → suffix_of h a k ≡ Some CompositeLit → (k ≡ opening_brace) × (h ≡ false) × (a ≡ true)
 literal_kind false true (kinds.Punctuation marks.OpenBrace) e = (refl, refl, refl)
 literal_kind false false (kinds.Punctuation marks.OpenBrace) e = cc (e)
 literal_kind true a (kinds.Punctuation marks.OpenBrace) e = cc (e)
@@ -47,7 +47,7 @@ pub some_of : {A : Type 0} (o : Option A) → is_some o ≡ true → (a : A) × 
 some_of None e = cc (e)
 some_of (Some a) e = (a, refl)
 
-pub literal_named : (h : Bool) (e : Expr) (ts : List Lexeme) → suffix_at h (is_some (literal_type e)) ts ≡ Some Literal → (a : TypeExpr) × (literal_type e ≡ Some a)
+pub literal_named : (h : Bool) (e : Expr) (ts : List Lexeme) → suffix_at h (is_some (literal_type e)) ts ≡ Some CompositeLit → (a : TypeExpr) × (literal_type e ≡ Some a)
 literal_named h e [] q = cc (q)
 literal_named h e (t ∷ ts) q = some_of (literal_type e) (literal_kind h (is_some (literal_type e)) t.kind q).2
 
@@ -59,7 +59,7 @@ brace_ends true l behind t other None q = refl
 brace_ends true l behind t other (Some a) q = refl
 brace_ends false l behind t other None q = refl
 brace_ends false l behind t other (Some a) q =
-    passed opening_brace t (Take (l + 1) (behind_brace l a behind t)) other (λ k. some_none (suffix_of false true t.kind) Literal (ap (suffix_of false true) k) q)
+    passed opening_brace t (Take (l + 1) (behind_brace l a behind t)) other (λ k. some_none (suffix_of false true t.kind) CompositeLit (ap (suffix_of false true) k) q)
 
 module _ (h : Bool) (l : ℕ) (e : Expr) (next : Expr → State) where
   pub as_selector : (a : Bool) (ts : List Lexeme) → suffix_at h a ts ≡ Some Selector → run 250 (suffixes h l e next) ts ≡ run 250 (token period (l + height e) another (behind_selector e (λ x. suffixes h l x next))) ts
@@ -74,7 +74,7 @@ module _ (h : Bool) (l : ℕ) (e : Expr) (next : Expr → State) where
   as_call a [] q = cc (q)
   as_call a (t ∷ ts) q = same_at (suffixes h l e next) (token opening (l + height e) another (behind_call l e (λ x. suffixes h l x next))) opening (t ∷ ts) (call_kind h a t.kind q) (λ text p. refl)
 
-  pub as_literal : (a : TypeExpr) (ts : List Lexeme) → suffix_at h (is_some (literal_type e)) ts ≡ Some Literal → literal_type e ≡ Some a → run 250 (suffixes h l e next) ts ≡ run 250 (token opening_brace (l + 1) another (behind_brace l a (λ x. suffixes h l x next))) ts
+  pub as_literal : (a : TypeExpr) (ts : List Lexeme) → suffix_at h (is_some (literal_type e)) ts ≡ Some CompositeLit → literal_type e ≡ Some a → run 250 (suffixes h l e next) ts ≡ run 250 (token opening_brace (l + 1) another (behind_brace l a (λ x. suffixes h l x next))) ts
   as_literal a [] q la = cc (q)
   as_literal a (t ∷ ts) q la =
       let is = literal_kind h (is_some (literal_type e)) t.kind q in

@@ -7,7 +7,7 @@ use Rattle.go_ast.specs.Trees as trees
 use Rattle.go_ast.specs.Expected.{an_operand, a_type, a_field_end, another, an_element_end}
 use Rattle.go_ast.specs.Grammar.{Lexeme, type_place, comma, opening, closing, closing_bracket, opening_brace}
 use Rattle.go_ast.specs.Machine.{State, token, optional, type, expr, list_start, list_end, fields, arguments, elements, behind_literal_type, run}
-use Rattle.go_pexpr.specs.Turns.{behind_last, value_at, element_at}
+use Rattle.go_pexpr.specs.Turns.{behind_conversion, behind_last, value_at, element_at}
 use Rattle.go_pexpr.specs.Reads.{First, either}
 use Rattle.go_pexpr.proofs.OperatorTurns.{followed}
 use Rattle.go_pexpr.proofs.Steps.{Kind, optional_some, optional_none}
@@ -63,22 +63,25 @@ behind_sign h l op next t = expr 0 h (l + 1) an_operand (λ e. next (trees.unary
 -- behind a type
 
 abbrev pub typed_elements : ℕ → (trees.Expr → State) → trees.TypeExpr → Place → List (Option trees.Name × trees.Element) → State
-typed_elements l next a q es = next (trees.literal (type_place a) a q (trees.pack_elements es))
+typed_elements l next a q es = next (trees.composite_lit (type_place a) a q (trees.pack_elements es))
 
 abbrev pub typed_brace : ℕ → (trees.Expr → State) → trees.TypeExpr → Lexeme → State
 typed_brace l next a o = list_start (elements (l + 2)) [] (λ es _. typed_elements l next a o.place es)
 
-abbrev pub typed_close : (trees.Expr → State) → trees.TypeExpr → trees.Expr → Lexeme → State
-typed_close next a e t = next (trees.conversion (type_place a) a e)
-
 abbrev pub typed_value : (trees.Expr → State) → trees.TypeExpr → trees.Expr → State
-typed_value next a e = optional comma 0 (λ _. token closing 0 another (typed_close next a e)) (token closing 0 another (typed_close next a e))
+typed_value next a e = next (trees.conversion (type_place a) a e)
 
 abbrev pub typed_open : ℕ → (trees.Expr → State) → trees.TypeExpr → Lexeme → State
-typed_open l next a t = expr 5 false (l + 1) an_operand (typed_value next a)
+typed_open l next a = behind_conversion l (typed_value next a)
 
-abbrev pub typed_end : (trees.Expr → State) → trees.TypeExpr → trees.Expr → State
-typed_end next a e = token closing 0 another (typed_close next a e)
+abbrev pub converted_close : (trees.Expr → State) → trees.Expr → Lexeme → State
+converted_close next e t = next e
+
+abbrev pub converted_end : (trees.Expr → State) → trees.Expr → State
+converted_end next e = token closing 0 another (converted_close next e)
+
+abbrev pub converted_value : (trees.Expr → State) → trees.Expr → State
+converted_value next e = optional comma 0 (λ _. converted_end next e) (converted_end next e)
 
 -- behind a type stands a brace or else a parenthesis
 pub typed_by_brace : (l : ℕ) (next : trees.Expr → State) (a : trees.TypeExpr) (ts : List Lexeme) → First (Kind opening_brace) ts → run 250 (behind_literal_type l next a) ts ≡ run 250 (token opening_brace (l + 1) another (typed_brace l next a)) ts

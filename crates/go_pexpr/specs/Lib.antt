@@ -1,4 +1,3 @@
-pub mod Kinds
 pub mod Next
 pub mod Reads
 pub mod Tall

@@ -12,7 +12,7 @@ use Rattle.go_ast.specs.Machine.{begins_type, begins_expr}
 use Rattle.go_pexpr.specs.declared.operators.Beginning.{Beginning}
 use Rattle.go_pexpr.specs.declared.operators.Beginning.TheVariants as begins
 use Rattle.go_pexpr.specs.declared.operators.Suffix.{Suffix}
-use Rattle.go_pexpr.specs.declared.operators.Suffix.TheVariants.{Selector, Index, Call, Literal}
+use Rattle.go_pexpr.specs.declared.operators.Suffix.TheVariants.{Selector, Index, Call, CompositeLit}
 
 -- the operator in front of an operand
 abbrev pub sign_at : List Lexeme → Option UnaryOperator
@@ -23,16 +23,11 @@ abbrev pub some_if : {A : Type 0} → Bool → A → Option A
 some_if true a = Some a
 some_if false a = None
 
--- the operator between two operands
-abbrev pub operator_of : List Lexeme → Option BinaryOperator
-operator_of [] = None
-operator_of (t ∷ ts) = binary_of t.kind
-
+-- the operator between two operands, of a level from one on and below another
 abbrev pub of_levels : ℕ → ℕ → Option BinaryOperator → Option BinaryOperator
 of_levels m n None = None
 of_levels m n (Some op) = some_if (nat_le m (tighter op) && nat_lt (tighter op) n) op
 
--- the same, of a level from one on and below another
 abbrev pub operator_at : ℕ → ℕ → List Lexeme → Option BinaryOperator
 operator_at m n [] = None
 operator_at m n (t ∷ ts) = of_levels m n (binary_of t.kind)
@@ -42,7 +37,7 @@ abbrev pub suffix_of : Bool → Bool → TokenKind → Option Suffix
 suffix_of h a (kinds.Punctuation marks.Period) = Some Selector
 suffix_of h a (kinds.Punctuation marks.OpenBracket) = Some Index
 suffix_of h a (kinds.Punctuation marks.OpenParenthesis) = Some Call
-suffix_of h a (kinds.Punctuation marks.OpenBrace) = some_if (not h && a) Literal
+suffix_of h a (kinds.Punctuation marks.OpenBrace) = some_if (not h && a) CompositeLit
 suffix_of h a _ = None
 
 abbrev pub suffix_at : Bool → Bool → List Lexeme → Option Suffix

@@ -9,11 +9,11 @@ use Rattle.go_ast.specs.Machine.{State, Refused, run}
 use Rattle.go_ast.specs.Tokens.{lexemes}
 use Rattle.go_pexpr.specs.declared.expected.Expected.{Expected}
 use Rattle.go_pexpr.specs.declared.expected.Expected.TheVariants as code
-use Rattle.go_pexpr.specs.declared.reader.Reader.{Reader}
-use Rattle.go_pexpr.specs.declared.reader.Fault.{Fault}
-use Rattle.go_pexpr.specs.declared.reader.Fault.TheVariants.{LeftOut, Parse, Deep}
-use Rattle.go_pexpr.specs.declared.reader.Refusal.{Refusal}
-use Rattle.go_pexpr.specs.declared.reader.Refusal.TheVariants.{Memory, Wrong}
+use Rattle.go_pexpr.specs.declared.parser.Parser.{Parser}
+use Rattle.go_pexpr.specs.declared.parser.Fault.{Fault}
+use Rattle.go_pexpr.specs.declared.parser.Fault.TheVariants.{LeftOut, Parse, Deep}
+use Rattle.go_pexpr.specs.declared.parser.Refusal.{Refusal}
+use Rattle.go_pexpr.specs.declared.parser.Refusal.TheVariants.{Memory, Wrong}
 
 abbrev pub expected_of : Expected → expected.Expected
 expected_of code.Operand = expected.an_operand
@@ -47,11 +47,11 @@ number Deep = 4
 abbrev pub lexeme_of : Name → Lexeme
 lexeme_of n = record { kind = kinds.Name; text = n.text; place = n.place }
 
--- the tokens that a reader has left, with their bytes, and how many they are
-abbrev pub left : Reader → List Lexeme
+-- the tokens that a parser has left, with their bytes, and how many they are
+abbrev pub left : Parser → List Lexeme
 left r = lexemes r.text.now r.tokens.now
 
-abbrev pub size : Reader → ℕ
+abbrev pub size : Parser → ℕ
 size r = length r.tokens.now
 
 -- there is a first token, and it is such
@@ -79,14 +79,14 @@ abbrev pub either : {A : Type 0} → (A → State) → State → Option A → St
 either some none None = none
 either some none (Some a) = some a
 
-abbrev pub Failing : Refusal → State → Reader → Reader → Type 0
+abbrev pub Failing : Refusal → State → Parser → Parser → Type 0
 Failing (Wrong f) before old new = run 250 before (left old) ≡ Refused (number f) (left new)
 Failing Memory before old new = Unit {0}
 
-abbrev pub Reading : {A : Type 0} → State → (A → State) → Reader → Result A Refusal → Reader → Type 0
+abbrev pub Reading : {A : Type 0} → State → (A → State) → Parser → Result A Refusal → Parser → Type 0
 Reading before after old (Ok a) new = run 250 before (left old) ≡ run 250 (after a) (left new)
 Reading before after old (Err e) new = Failing e before old new
 
 -- From one state and the tokens of old it came to another state and the tokens of new, or failed.
-pub record Reads {A : Type 0} (before : State) (after : A → State) (old : Reader) (result : Result A Refusal) (new : Reader) : Type 0 where
+pub record Reads {A : Type 0} (before : State) (after : A → State) (old : Parser) (result : Result A Refusal) (new : Parser) : Type 0 where
   pub by : Reading before after old result new

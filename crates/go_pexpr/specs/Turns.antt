@@ -1,14 +1,19 @@
 -- What is due at some turns of an expression.
 use Rattle.std.specs.Prelude.{ℕ, ◌+◌, Option, None, List, [], ◌∷◌, ◌++◌, false}
 use Rattle.go_scan.specs.declared.token.TokenKind.TheVariants as kinds
-use Rattle.go_ast.specs.Trees.{Name, TypeExpr, Expr, Element, parenthesized, selector, index, call, literal, expression_element, value_element, place_of, pack, pack_elements}
+use Rattle.go_ast.specs.Trees.{Name, TypeExpr, Expr, Element, parenthesized, selector, index, call, composite_lit, expression_element, value_element, place_of, pack, pack_elements}
 use Rattle.go_ast.specs.Expected.{an_operand, an_element_end, a_selected_name, an_index, an_index_end, another}
-use Rattle.go_ast.specs.Grammar.{Lexeme, name_of, type_place, closing, closing_bracket, opening_brace}
+use Rattle.go_ast.specs.Grammar.{Lexeme, name_of, type_place, comma, closing, closing_bracket, opening_brace}
 use Rattle.go_ast.specs.Machine.{State, token, optional, expr, list_start, list_end, arguments, elements, behind_element, name_if}
 
 -- behind an opening parenthesis
 abbrev pub behind_paren : ℕ → (Expr → State) → Lexeme → State
 behind_paren l next t = expr 5 false (l + 1) an_operand (λ e. token closing 0 another (λ _. next (parenthesized t.place e)))
+
+-- behind the opening parenthesis of a conversion
+abbrev pub behind_conversion : ℕ → (Expr → State) → Lexeme → State
+behind_conversion l next t =
+    expr 5 false (l + 1) an_operand (λ e. optional comma 0 (λ _. token closing 0 another (λ _. next e)) (token closing 0 another (λ _. next e)))
 
 -- behind the brace of a value without a type
 abbrev pub behind_value : ℕ → (Element → State) → Lexeme → State
@@ -47,4 +52,4 @@ abbrev pub behind_call : ℕ → Expr → (Expr → State) → Lexeme → State
 behind_call l e next t = list_start (arguments (l + 1)) [] (λ es _. next (call (place_of e) e (pack es)))
 
 abbrev pub behind_brace : ℕ → TypeExpr → (Expr → State) → Lexeme → State
-behind_brace l a next t = list_start (elements (l + 2)) [] (λ es _. next (literal (type_place a) a t.place (pack_elements es)))
+behind_brace l a next t = list_start (elements (l + 2)) [] (λ es _. next (composite_lit (type_place a) a t.place (pack_elements es)))

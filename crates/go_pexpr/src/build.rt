@@ -7,7 +7,7 @@ ghost use Rattle.go_ast.specs.Machine.{literal_type, name_if};
 ghost use Rattle.go_pexpr.specs.Turns.{key_in};
 ghost use Rattle.go_pexpr.specs.Tall.{tall, type_tall, exprs_tall, value_tall, element_tall, elements_tall, fields_tall};
 
-use crate::reader::Refusal;
+use crate::parser::Refusal;
 use go_ast::expression::{
     BinaryOperator, Element, ElementValue, Expr, ExprKind, Field, TypeExpr, TypeKind, UnaryOperator,
 };
@@ -215,14 +215,14 @@ pub(crate) fn parenthesized(alloc: Global, place: Place, inner: Tall) -> Result<
 }
 
 /// An array or a struct of a type.
-pub(crate) fn literal(
+pub(crate) fn composite_lit(
     alloc: Global,
     a: TallType,
     brace: Place,
     elements: Elements,
 ) -> Result<Tall, Refusal>
     requires { (a.height < 1000) × (elements.height < 1000) }
-    ensures expr { IfOk result (λ t. expr_of t.expr ≡ trees.literal (type_place (type_of a.type_expr)) (type_of a.type_expr) brace (trees.pack_elements (map element_of elements.items.items))) }
+    ensures expr { IfOk result (λ t. expr_of t.expr ≡ trees.composite_lit (type_place (type_of a.type_expr)) (type_of a.type_expr) brace (trees.pack_elements (map element_of elements.items.items))) }
     ensures height { IfOk result (λ t. t.height ≡ max a.height (elements.height + 1) + 1) }
     ensures err { IfErr result (λ e. e ≡ Refusal.Memory) }
 {
@@ -232,7 +232,7 @@ pub(crate) fn literal(
     Ok(Tall {
         expr: Expr {
             place,
-            kind: ExprKind::Literal(of, brace, elements.items),
+            kind: ExprKind::CompositeLit(of, brace, elements.items),
         },
         height,
     })

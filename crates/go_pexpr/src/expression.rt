@@ -6,13 +6,15 @@ ghost use Rattle.go_ast.specs.Views.{type_of, expr_of};
 ghost use Rattle.go_pexpr.specs.Reads.{Reads, left, size, expected_of, either};
 
 use crate::expected::Expected;
-use crate::reader::{Reader, Refusal};
+use crate::parser::{Parser, Refusal};
 use go_ast::expression::{Expr, TypeExpr};
 use go_scan::punctuation::Punctuation;
 use go_scan::token::TokenKind;
 
-impl<'a> Reader<'a> {
+impl<'a> Parser<'a> {
     /// Reads a type.
+    ///
+    /// `Type = TypeName | ArrayType | StructType .`
     pub fn type_from(&mut self, level: u32, expected: Expected) -> Result<TypeExpr, Refusal>
         requires { level ≤ 252 }
         ensures reads { (next : trees.TypeExpr → State) → Reads (type level (expected_of expected) next) (λ a. next (type_of a)) self.old result self.new }
@@ -23,6 +25,8 @@ impl<'a> Reader<'a> {
     }
 
     /// Reads an expression.
+    ///
+    /// `Expression = UnaryExpr | Expression binary_op Expression .`
     pub fn expr_from(
         &mut self,
         header: bool,
@@ -38,6 +42,8 @@ impl<'a> Reader<'a> {
     }
 
     /// Reads expressions with commas between them.
+    ///
+    /// `ExpressionList = Expression { "," Expression } .`
     pub fn exprs(
         &mut self,
         header: bool,
@@ -54,6 +60,8 @@ impl<'a> Reader<'a> {
     }
 
     /// Reads a type, if one begins here.
+    ///
+    /// `[ Type ] .`
     pub fn type_if(&mut self, level: u32, expected: Expected) -> Result<Option<TypeExpr>, Refusal>
         requires { level ≤ 252 }
         ensures reads { (some : trees.TypeExpr → State) (none : State) → Reads (optional_type level (expected_of expected) some none) (either (λ a. some (type_of a)) none) self.old result self.new }
@@ -71,6 +79,8 @@ impl<'a> Reader<'a> {
     }
 
     /// Reads an expression, if one begins here.
+    ///
+    /// `[ Expression ] .`
     pub fn expr_if(
         &mut self,
         header: bool,
@@ -93,6 +103,8 @@ impl<'a> Reader<'a> {
     }
 
     /// Reads the expressions behind these, with commas in front of them.
+    ///
+    /// `{ "," Expression } .`
     pub fn more_exprs(
         &mut self,
         header: bool,

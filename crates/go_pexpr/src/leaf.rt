@@ -12,13 +12,15 @@ ghost use Rattle.go_pexpr.specs.Reads.{Reads, left, size};
 use crate::build::{Tall, TallType, integer, name, named, qualified, rune, string};
 use crate::expected::Expected;
 use crate::literal::{rune_value, string_value};
-use crate::reader::{Reader, Refusal};
+use crate::parser::{Parser, Refusal};
 use crate::taking::spelling;
 use go_scan::punctuation::Punctuation;
 use go_scan::token::TokenKind;
 
-impl<'a> Reader<'a> {
+impl<'a> Parser<'a> {
     /// Reads a type that is a name, or a name of a package's.
+    ///
+    /// `TypeName = identifier | PackageName "." identifier .`
     pub(crate) fn named_type(&mut self, level: u32) -> Result<TallType, Refusal>
         ensures reads { (next : trees.TypeExpr → State) → Reads (token kinds.Name level another (behind_name next)) (λ a. next (type_of a.type_expr)) self.old result self.new }
         ensures height { IfOk result (λ a. a.height ≡ 1) }
@@ -37,6 +39,8 @@ impl<'a> Reader<'a> {
     }
 
     /// Reads a name that stands as an operand.
+    ///
+    /// `OperandName = identifier .`
     pub(crate) fn name_operand(&mut self, level: u32) -> Result<Tall, Refusal>
         ensures reads { (next : trees.Expr → State) → Reads (token kinds.Name level another (λ t. next (trees.name t.place t.text))) (λ e. next (expr_of e.expr)) self.old result self.new }
         ensures height { IfOk result (λ e. e.height ≡ 1) }
@@ -49,6 +53,8 @@ impl<'a> Reader<'a> {
     }
 
     /// Reads an integer literal.
+    ///
+    /// `BasicLit = int_lit .`
     pub(crate) fn integer_operand(&mut self, level: u32) -> Result<Tall, Refusal>
         ensures reads { (next : trees.Expr → State) → Reads (token kinds.Integer level another (λ t. next (trees.integer t.place t.text))) (λ e. next (expr_of e.expr)) self.old result self.new }
         ensures height { IfOk result (λ e. e.height ≡ 1) }
@@ -61,6 +67,8 @@ impl<'a> Reader<'a> {
     }
 
     /// Reads a rune literal.
+    ///
+    /// `BasicLit = rune_lit .`
     pub(crate) fn rune_operand(&mut self, level: u32) -> Result<Tall, Refusal>
         ensures reads { (next : trees.Expr → State) → Reads (token kinds.Rune level another (λ t. next (trees.rune t.place (rune_value t.text)))) (λ e. next (expr_of e.expr)) self.old result self.new }
         ensures height { IfOk result (λ e. e.height ≡ 1) }
@@ -73,6 +81,8 @@ impl<'a> Reader<'a> {
     }
 
     /// Reads a string literal.
+    ///
+    /// `BasicLit = string_lit .`
     pub(crate) fn string_operand(&mut self, level: u32) -> Result<Tall, Refusal>
         ensures reads { (next : trees.Expr → State) → Reads (token kinds.String level another (λ t. next (trees.string t.place (string_value t.text)))) (λ e. next (expr_of e.expr)) self.old result self.new }
         ensures height { IfOk result (λ e. e.height ≡ 1) }

@@ -8,8 +8,6 @@ mod kind;
 mod leaf;
 pub mod literal;
 mod operators;
-pub mod reader;
+pub mod parser;
 pub mod taking;
-#[cfg(test)]
-mod tests;
 mod tree;

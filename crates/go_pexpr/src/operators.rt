@@ -6,7 +6,7 @@ ghost use Rattle.go_ast.specs.Views.{unary_of, binary_of, expr_of, if_some};
 ghost use Rattle.go_pexpr.specs.Reads.{left};
 ghost use Rattle.go_pexpr.specs.Next.{sign_at, operator_at, suffix_at, beginning_of, beginning_at, type_begins, expr_begins};
 
-use crate::reader::Reader;
+use crate::parser::Parser;
 use go_ast::expression::{BinaryOperator, Expr, ExprKind, UnaryOperator};
 use go_scan::keyword::Keyword;
 use go_scan::punctuation::Punctuation;
@@ -18,7 +18,7 @@ pub(crate) enum Suffix {
     Selector,
     Index,
     Call,
-    Literal,
+    CompositeLit,
 }
 
 /// How an operand may begin.
@@ -163,7 +163,7 @@ pub(crate) fn is_type(expr: &Expr) -> bool
         | ExprKind::Rune(_)
         | ExprKind::String(_)
         | ExprKind::Parenthesized(_)
-        | ExprKind::Literal(_, _, _)
+        | ExprKind::CompositeLit(_, _, _)
         | ExprKind::Conversion(_, _)
         | ExprKind::Index(_, _)
         | ExprKind::Call(_, _)
@@ -172,7 +172,7 @@ pub(crate) fn is_type(expr: &Expr) -> bool
     }
 }
 
-impl<'a> Reader<'a> {
+impl<'a> Parser<'a> {
     /// How an operand begins with the next token.
     pub(crate) fn beginning(&self) -> Beginning
         ensures { result ≡ beginning_at (left self.now) }
@@ -238,7 +238,9 @@ impl<'a> Reader<'a> {
                 TokenKind::Punctuation(Punctuation::Period) => Some(Suffix::Selector),
                 TokenKind::Punctuation(Punctuation::OpenBracket) => Some(Suffix::Index),
                 TokenKind::Punctuation(Punctuation::OpenParenthesis) => Some(Suffix::Call),
-                TokenKind::Punctuation(Punctuation::OpenBrace) if literal => Some(Suffix::Literal),
+                TokenKind::Punctuation(Punctuation::OpenBrace) if literal => Some(
+                    Suffix::CompositeLit,
+                ),
                 _ => None,
             },
             [] => None,

@@ -14,7 +14,7 @@ ghost use Rattle.go_pexpr.specs.Reads.{Reads, Says, First, first_kind, fault_of,
 use crate::expected::Expected;
 use crate::kind::is_kind;
 use crate::literal::text_from;
-use crate::reader::{Fault, LEVELS, Reader, Refusal};
+use crate::parser::{Fault, LEVELS, Parser, Refusal};
 use go_ast::name::Name;
 use go_ast::spelling::Spelling;
 use go_scan::keyword::Keyword;
@@ -111,7 +111,7 @@ pub fn spelling(text: &[u8], token: Token) -> &[u8]
     &text[token.start..token.end]
 }
 
-impl<'a> Reader<'a> {
+impl<'a> Parser<'a> {
     /// The kind of the next token.
     pub fn kind(&self) -> Option<TokenKind>
         ensures { result ≡ first_kind (left self.now) }
@@ -254,6 +254,8 @@ impl<'a> Reader<'a> {
     }
 
     /// Takes names with commas between them.
+    ///
+    /// `IdentifierList = identifier { "," identifier } .`
     pub fn names(&mut self, need: u32) -> Result<Vec<Name>, Refusal>
         ensures reads { (next : List trees.Name → State) → Reads (names need next) (λ ns. next ns.items) self.old result self.new }
         ensures fits { OnOk result (need ≤ 250) }

@@ -9,24 +9,26 @@ ghost use Rattle.go_ast.specs.Machine.{State, Item, token, type, expr, suffixes,
 ghost use Rattle.go_ast.specs.Views.{type_of, expr_of, exprs_in, value_of, element_of, field_of};
 ghost use Rattle.go_pexpr.specs.Next.{sign_at};
 ghost use Rattle.go_pexpr.specs.Reads.{Reads, First, left, size, expected_of};
-ghost use Rattle.go_pexpr.specs.Turns.{behind_paren, behind_selector, behind_index, behind_call, behind_brace, behind_last, element_at, value_at};
+ghost use Rattle.go_pexpr.specs.Turns.{behind_conversion, behind_paren, behind_selector, behind_index, behind_call, behind_brace, behind_last, element_at, value_at};
 
 use crate::build::{
     Arguments, Elements, Fields, Tall, TallElement, TallType, TallValue, array, binary,
-    braced_value, call, conversion, element, expression_value, index, key_in, literal, named_by,
-    parenthesized, selector, structure, unary,
+    braced_value, call, composite_lit, conversion, element, expression_value, index, key_in,
+    named_by, parenthesized, selector, structure, unary,
 };
 use crate::expected::Expected;
 use crate::operators::{Beginning, Suffix, tighter};
-use crate::reader::{Reader, Refusal};
+use crate::parser::{Parser, Refusal};
 use go_ast::expression::{Element, ElementValue, Expr, ExprKind, Field, TypeExpr, TypeKind};
 use go_ast::name::Name;
 use go_scan::keyword::Keyword;
 use go_scan::punctuation::Punctuation;
 use go_scan::token::TokenKind;
 
-impl<'a> Reader<'a> {
+impl<'a> Parser<'a> {
     /// Reads a type.
+    ///
+    /// `Type = TypeName | ArrayType | StructType .`
     #[cycle(tree)]
     pub(crate) fn type_at(&mut self, level: u32, expected: Expected) -> Result<TallType, Refusal>
         requires { level ≤ 253 }
@@ -43,6 +45,8 @@ impl<'a> Reader<'a> {
     }
 
     /// Reads the type of arrays.
+    ///
+    /// `ArrayType = "[" Expression "]" Type .`
     #[cycle(tree)]
     fn array_type(&mut self, level: u32) -> Result<TallType, Refusal>
         requires { level ≤ 253 }
@@ -60,6 +64,8 @@ impl<'a> Reader<'a> {
     }
 
     /// Reads the type of structs.
+    ///
+    /// `StructType = "struct" "{" { FieldDecl ";" } "}" .`
     #[cycle(tree)]
     fn struct_type(&mut self, level: u32) -> Result<TallType, Refusal>
         requires { level ≤ 253 }
@@ -79,6 +85,8 @@ impl<'a> Reader<'a> {
     }
 
     /// Reads the fields of a struct and the brace that closes them.
+    ///
+    /// `FieldDecl = IdentifierList Type .`
     #[cycle(tree)]
     fn fields(&mut self, level: u32) -> Result<Fields, Refusal>
         requires { level ≤ 251 }
@@ -105,6 +113,8 @@ impl<'a> Reader<'a> {
     }
 
     /// Reads an expression of operators of so many levels.
+    ///
+    /// `Expression = UnaryExpr | Expression binary_op Expression .`
     #[cycle(tree)]
     pub(crate) fn binary(
         &mut self,
@@ -131,6 +141,8 @@ impl<'a> Reader<'a> {
     }
 
     /// Reads an expression without operators between operands.
+    ///
+    /// `UnaryExpr = PrimaryExpr | unary_op UnaryExpr .`
     #[cycle(tree)]
     fn unary(&mut self, header: bool, level: u32, expected: Expected) -> Result<Tall, Refusal>
         requires { level ≤ 252 }
@@ -148,6 +160,8 @@ impl<'a> Reader<'a> {
     }
 
     /// Reads an operand.
+    ///
+    /// `Operand = BasicLit | CompositeLit | OperandName | "(" Expression ")" .`
     #[cycle(tree)]
     fn operand(&mut self, level: u32, expected: Expected) -> Result<Tall, Refusal>
         requires level { level ≤ 252 }
@@ -175,6 +189,8 @@ impl<'a> Reader<'a> {
     }
 
     /// Reads an expression in parentheses.
+    ///
+    /// `"(" Expression ")" .`
     #[cycle(tree)]
     fn parenthesized(&mut self, level: u32) -> Result<Tall, Refusal>
         requires { level ≤ 252 }
@@ -191,6 +207,8 @@ impl<'a> Reader<'a> {
     }
 
     /// Reads what is behind an array or struct type that begins an operand.
+    ///
+    /// `CompositeLit = LiteralType LiteralValue .` `Conversion = Type "(" Expression [ "," ] ")" .`
     #[cycle(tree)]
     fn typed(&mut self, a: TallType, level: u32) -> Result<Tall, Refusal>
         requires { level + 1 + a.height ≤ 251 }
@@ -202,8 +220,22 @@ impl<'a> Reader<'a> {
         if self.is_next(brace) {
             let token = self.expect(brace, level + 1, Expected::Another)?;
             let elements = self.elements(level + 2)?;
-            return literal(self.alloc, a, token.place, elements);
+            return composite_lit(self.alloc, a, token.place, elements);
         }
+        let value = self.converted(level)?;
+        conversion(self.alloc, a, value)
+    }
+
+    /// Reads what is converted to a type, with its parentheses.
+    ///
+    /// `"(" Expression [ "," ] ")" .`
+    #[cycle(tree)]
+    fn converted(&mut self, level: u32) -> Result<Tall, Refusal>
+        requires { level ≤ 252 }
+        ensures reads { (next : trees.Expr → State) → Reads (token opening (level + 1) another (behind_conversion level next)) (λ e. next (expr_of e.expr)) self.old result self.new }
+        ensures fits { IfOk result (λ e. level + 1 + e.height ≤ 251) }
+        ensures shorter { OnOk result (size self.new < size self.old) }
+    {
         let open = TokenKind::Punctuation(Punctuation::OpenParenthesis);
         let comma = TokenKind::Punctuation(Punctuation::Comma);
         let close = TokenKind::Punctuation(Punctuation::CloseParenthesis);
@@ -211,10 +243,12 @@ impl<'a> Reader<'a> {
         let value = self.binary(5, false, level + 1, Expected::Operand)?;
         self.accept(comma, 0)?;
         self.expect(close, 0, Expected::Another)?;
-        conversion(self.alloc, a, value)
+        Ok(value)
     }
 
     /// Reads the suffixes of an operand.
+    ///
+    /// `PrimaryExpr = Operand | Conversion | PrimaryExpr ( Selector | Index | Arguments ) .`
     #[cycle(tree)]
     fn suffixes(&mut self, operand: Tall, header: bool, level: u32) -> Result<Tall, Refusal>
         requires { level + operand.height ≤ 251 }
@@ -228,13 +262,15 @@ impl<'a> Reader<'a> {
                 Suffix::Selector => self.selected(front, level)?,
                 Suffix::Index => self.indexed(front, level)?,
                 Suffix::Call => self.called(front, level)?,
-                Suffix::Literal => self.named_literal(front, level)?,
+                Suffix::CompositeLit => self.named_literal(front, level)?,
             };
         }
         Ok(front)
     }
 
     /// Reads a period and the name behind it.
+    ///
+    /// `Selector = "." identifier .`
     fn selected(&mut self, operand: Tall, level: u32) -> Result<Tall, Refusal>
         requires { level + operand.height ≤ 251 }
         ensures reads { (next : trees.Expr → State) → Reads (token period (level + operand.height) another (behind_selector (expr_of operand.expr) next)) (λ e. next (expr_of e.expr)) self.old result self.new }
@@ -248,6 +284,8 @@ impl<'a> Reader<'a> {
     }
 
     /// Reads an index.
+    ///
+    /// `Index = "[" Expression "]" .`
     #[cycle(tree)]
     fn indexed(&mut self, operand: Tall, level: u32) -> Result<Tall, Refusal>
         requires { level + operand.height ≤ 251 }
@@ -264,6 +302,8 @@ impl<'a> Reader<'a> {
     }
 
     /// Reads the arguments of a call.
+    ///
+    /// `PrimaryExpr Arguments .`
     #[cycle(tree)]
     fn called(&mut self, operand: Tall, level: u32) -> Result<Tall, Refusal>
         requires { level + operand.height ≤ 251 }
@@ -278,6 +318,8 @@ impl<'a> Reader<'a> {
     }
 
     /// Reads the arguments of a call and the parenthesis that closes them.
+    ///
+    /// `Arguments = "(" [ ExpressionList [ "," ] ] ")" .`
     #[cycle(tree)]
     fn arguments(&mut self, level: u32) -> Result<Arguments, Refusal>
         requires { level ≤ 251 }
@@ -302,6 +344,8 @@ impl<'a> Reader<'a> {
     }
 
     /// Reads the elements of a literal of the type that an operand names.
+    ///
+    /// `CompositeLit = TypeName LiteralValue .`
     #[cycle(tree)]
     fn named_literal(&mut self, operand: Tall, level: u32) -> Result<Tall, Refusal>
         requires { level + operand.height ≤ 251 }
@@ -313,12 +357,14 @@ impl<'a> Reader<'a> {
         let token = self.expect(open, level + 1, Expected::Another)?;
         let elements = self.elements(level + 2)?;
         match named_by(operand.expr) {
-            Some(a) => literal(self.alloc, a, token.place, elements),
+            Some(a) => composite_lit(self.alloc, a, token.place, elements),
             None => Err(self.wrong(Expected::Another)),
         }
     }
 
     /// Reads the elements of a literal and the brace that closes them.
+    ///
+    /// `LiteralValue = "{" [ KeyedElement { "," KeyedElement } [ "," ] ] "}" .`
     #[cycle(tree)]
     fn elements(&mut self, level: u32) -> Result<Elements, Refusal>
         requires { level ≤ 252 }
@@ -344,6 +390,8 @@ impl<'a> Reader<'a> {
 
     /// Reads an element of a literal: a value, or a key, a colon and a value. Behind a key that is no name, the colon is
     /// left where it is, since it is refused there.
+    ///
+    /// `KeyedElement = [ identifier ":" ] Element .`
     #[cycle(tree)]
     fn element(&mut self, level: u32) -> Result<TallElement, Refusal>
         requires { level ≤ 252 }
@@ -367,6 +415,8 @@ impl<'a> Reader<'a> {
     }
 
     /// Reads the value of an element: an expression, or elements without the type of their literal.
+    ///
+    /// `Element = Expression | LiteralValue .`
     #[cycle(tree)]
     fn value(&mut self, level: u32) -> Result<TallValue, Refusal>
         requires { level ≤ 252 }

@@ -12,7 +12,7 @@ use Rattle.go_ast.specs.Trees as trees
 use Rattle.go_ast.specs.Expected.{Expected, another, an_operand, a_value}
 use Rattle.go_ast.specs.Grammar.{Lexeme, comma, assign, define, opening_brace, is_call}
 use Rattle.go_ast.specs.Machine as machine
-use Rattle.go_ast.specs.Machine.{State, token, expr, more_exprs, lefts, Move, Take, Fail, cond, step, final, final_if, Refused, run, keyword, names_if, may_define, is_header, on_define, behind_define, definition_values, on_assignment, on_lefts, on_left, behind_left}
+use Rattle.go_ast.specs.Machine.{State, token, expr, more_exprs, lefts, Move, Take, Fail, cond, step, final, final_if, Refused, run, keyword, names_if, may_define, is_header, on_define, behind_define, short_var_decl_values, on_assignment, on_lefts, on_left, behind_left}
 use Rattle.go_ast.specs.Views.{expr_of, exprs_in, if_some}
 use Rattle.go_ast.specs.Expected as expected
 use Rattle.go_ast.proofs.Rows.{placed}
@@ -93,7 +93,7 @@ module _ (m : machine.Position) (h : Bool) (l : ℕ) (next : trees.Simple → St
   not_defined t other None never = refl
   not_defined t other (Some ns) never = not_both (same define t.kind) (may_define m) _ _ (λ a b. none_some (sym (never a b)))
 
-  -- one left side, behind which neither another nor `=` nor a definition comes
+  -- one left side, behind which neither another nor `=` nor a short variable declaration comes
   pub lefts_one : (e : trees.Expr) (ts : List Lexeme) → (First (Kind comma) ts → ⊥) → (First (Kind assign) ts → ⊥) → (First (Kind define) ts → may_define m ≡ true → names_if (e ∷ []) ≡ None) →
       Does (lefts m h l (e ∷ []) next alone range) (on_one m h l e next alone) (at_one e next) ts
   lefts_one e [] c a d = refl
@@ -118,7 +118,7 @@ module _ (l : ℕ) (next : trees.Simple → State) (range : trees.Name → trees
       ∙ optional_some (keyword keywords.Range) 0 another _ _ ts first
 
   pub define_values : (p : Position) (ns : List trees.Name) → ((p ≡ position.For) × (length ns ≡ 1) × First (Kind (keyword keywords.Range)) ts → ⊥) →
-      run 250 (behind_define (position_of p) (is_bare p) l ns next range) ts ≡ run 250 (definition_values (is_bare p) l ns next) ts
+      run 250 (behind_define (position_of p) (is_bare p) l ns next range) ts ≡ run 250 (short_var_decl_values (is_bare p) l ns next) ts
   define_values position.For [] never = refl
   define_values position.For (n ∷ []) never = optional_none (keyword keywords.Range) 0 _ _ ts (λ f. never (refl, refl, f))
   define_values position.For (n ∷ k ∷ ns) never = refl

@@ -3,6 +3,7 @@ pub mod Choices
 pub mod Clauses
 pub mod Items
 pub mod Lefts
+pub mod ListReads
 pub mod Lists
 pub mod Reading
 pub mod Steps

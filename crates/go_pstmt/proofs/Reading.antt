@@ -2,44 +2,44 @@
 use Rattle.std.proofs.Common.{◌≡◌, Result, Ok, Err, IfOk, IfErr, Option, Some, None, sym, ap, ◌∙◌, subst}
 use Rattle.std.specs.Prelude.{IsErrAnd}
 use Rattle.go_ast.specs.Machine.{State, run}
-use Rattle.go_pexpr.specs.declared.reader.Reader.{Reader}
-use Rattle.go_pexpr.specs.declared.reader.Refusal.{Refusal}
-use Rattle.go_pexpr.specs.declared.reader.Refusal.TheVariants.{Memory}
+use Rattle.go_pexpr.specs.declared.parser.Parser.{Parser}
+use Rattle.go_pexpr.specs.declared.parser.Refusal.{Refusal}
+use Rattle.go_pexpr.specs.declared.parser.Refusal.TheVariants.{Memory}
 use Rattle.go_pexpr.specs.Reads.{Reads, Failing, left, either}
 use Rattle.go_pexpr.proofs.Reading as calls
 use Rattle.go_pexpr.proofs.Reading.{failing}
 
 -- a call that reads on from where the function came, and one that reads all
-pub then_reads : {A : Type 0} {before mid : State} {after : A → State} {old at new : Reader} {r : Result A Refusal} →
+pub then_reads : {A : Type 0} {before mid : State} {after : A → State} {old at new : Parser} {r : Result A Refusal} →
     run 250 before (left old) ≡ run 250 mid (left at) → Reads mid after at r new → Reads before after old r new
 then_reads {r = r} went d = calls.then_reads r went d
 
 -- a call that failed at the function's beginning
-pub fails : {A B : Type 0} {before : State} {after : A → State} {after_call : B → State} {old new : Reader} {r : Result A Refusal} {e : Refusal} →
+pub fails : {A B : Type 0} {before : State} {after : A → State} {after_call : B → State} {old new : Parser} {r : Result A Refusal} {e : Refusal} →
     Reads {A = B} before after_call old (Err e) new → IsErrAnd r (λ y. y ≡ e) → Reads before after old r new
 fails {r = r} {e = e} d h = failing r e h d.by
 
 -- what was made, where only memory may fail
-pub then_makes : {A : Type 0} {before : State} {after : A → State} {old new : Reader} {r : Result A Refusal} (s : State) →
+pub then_makes : {A : Type 0} {before : State} {after : A → State} {old new : Parser} {r : Result A Refusal} (s : State) →
     run 250 before (left old) ≡ run 250 s (left new) → IfOk r (λ a. after a ≡ s) → IfErr r (λ e. e ≡ Memory) → Reads before after old r new
 then_makes {r = r} s went made out = calls.then_makes r s went made out
 
 -- memory ran out
-pub no_memory : {A : Type 0} {before : State} {after : A → State} {old new : Reader} {r : Result A Refusal} {e : Refusal} → e ≡ Memory → IsErrAnd r (λ y. y ≡ e) → Reads before after old r new
+pub no_memory : {A : Type 0} {before : State} {after : A → State} {old new : Parser} {r : Result A Refusal} {e : Refusal} → e ≡ Memory → IsErrAnd r (λ y. y ≡ e) → Reads before after old r new
 no_memory {before = before} {old = old} {new = new} {r = r} {e = e} m h = failing r e h (subst (λ z. Failing z before old new) (sym m) tt)
 
 -- what was read leads to what is due behind it
-pub went : {A : Type 0} {before : State} {after : A → State} {old new : Reader} {a : A} → Reads before after old (Ok a) new → run 250 before (left old) ≡ run 250 (after a) (left new)
+pub went : {A : Type 0} {before : State} {after : A → State} {old new : Parser} {a : A} → Reads before after old (Ok a) new → run 250 before (left old) ≡ run 250 (after a) (left new)
 went d = d.by
 
 -- what there may be was there, or was missing
-pub took : {A : Type 0} {before none : State} {some : A → State} {old new : Reader} {o : Option A} {a : A} → Reads before (either some none) old (Ok o) new → o ≡ Some a → run 250 before (left old) ≡ run 250 (some a) (left new)
+pub took : {A : Type 0} {before none : State} {some : A → State} {old new : Parser} {o : Option A} {a : A} → Reads before (either some none) old (Ok o) new → o ≡ Some a → run 250 before (left old) ≡ run 250 (some a) (left new)
 took {none = none} {some = some} {new = new} d is = d.by ∙ ap (λ x. run 250 (either some none x) (left new)) is
 
-pub missed : {A : Type 0} {before none : State} {some : A → State} {old new : Reader} {o : Option A} → Reads before (either some none) old (Ok o) new → o ≡ None → run 250 before (left old) ≡ run 250 none (left new)
+pub missed : {A : Type 0} {before none : State} {some : A → State} {old new : Parser} {o : Option A} → Reads before (either some none) old (Ok o) new → o ≡ None → run 250 before (left old) ≡ run 250 none (left new)
 missed {none = none} {some = some} {new = new} d is = d.by ∙ ap (λ x. run 250 (either some none x) (left new)) is
 
 -- what was made is seen as what the state has
-pub then_sees : {A B : Type 0} {before : State} {after : A → State} {old new : Reader} {a : A} (next : B → State) (x y : B) →
+pub then_sees : {A B : Type 0} {before : State} {after : A → State} {old new : Parser} {a : A} (next : B → State) (x y : B) →
     run 250 before (left old) ≡ run 250 (next x) (left new) → y ≡ x → next y ≡ after a → Reads before after old (Ok a) new
 then_sees {new = new} next x y there e last = record { by = there ∙ ap (λ z. run 250 (next z) (left new)) (sym e) ∙ ap (λ z. run 250 z (left new)) last }

@@ -2,9 +2,9 @@
 use Rattle.std.proofs.Common.{◌≡◌, ℕ, true, false, List, [], ◌∷◌, None, refl, sym, ap, ◌∙◌}
 use Rattle.go_scan.specs.declared.token.TokenKind.{TokenKind}
 use Rattle.go_ast.specs.Kinds.{same}
-use Rattle.go_ast.specs.Expected.{Expected, another}
+use Rattle.go_ast.specs.Expected.{Expected}
 use Rattle.go_ast.specs.Grammar.{Lexeme}
-use Rattle.go_ast.specs.Machine.{State, token, optional, list_start, list_end, ListKind, Item, separator, closer, on_item, Move, Take, Fail, cond, step, final, by_move, at_end, run}
+use Rattle.go_ast.specs.Machine.{State, token, optional, Move, Take, Fail, cond, step, final, by_move, at_end, run}
 use Rattle.go_ast.proofs.Same.{is_same, not_same}
 use Rattle.go_pexpr.specs.Reads.{First}
 
@@ -50,23 +50,3 @@ is_there kind need x some none ts h = same_first (Kind kind) _ _ ts h (λ t e. t
 
 pub is_missing : (kind : TokenKind) (need : ℕ) (some : Lexeme → State) (none : State) (ts : List Lexeme) → (First (Kind kind) ts → ⊥) → run 250 (optional kind need some none) ts ≡ run 250 none ts
 is_missing kind need some none ts never = same_other (Kind kind) _ _ ts never (λ t e. passed_by kind t _ _ e) refl
-
--- lists
-module _ (k : ListKind) (front : List (Item k)) (next : List (Item k) → Lexeme → State) (ts : List Lexeme) where
-  -- an item begins
-  pub item_begins : (s : State) → (First (Kind (closer k)) ts → ⊥) → ((t : Lexeme) → on_item k front next t ≡ step s t) → None ≡ final s → run 250 (list_start k front next) ts ≡ run 250 s ts
-  item_begins s never on end = same_other (Kind (closer k)) _ _ ts never (λ t e. passed_by (closer k) t _ _ e ∙ on t) end
-
-  -- the list ends
-  pub list_closes : First (Kind (closer k)) ts → run 250 (list_start k front next) ts ≡ run 250 (token (closer k) 0 another (next front)) ts
-  list_closes h = same_first (Kind (closer k)) _ _ ts h (λ t e. taken_by (closer k) t _ _ e ∙ sym (taken_by (closer k) t _ _ e))
-
-  -- behind an item the list ends, or else a separator is due
-  pub separator_due : (x : Expected) → (First (Kind (closer k)) ts → ⊥) → run 250 (list_end k x front next) ts ≡ run 250 (token (separator k) 0 x (λ _. list_start k front next)) ts
-  separator_due x never = same_other (Kind (closer k)) _ _ ts never (λ t e. ap (cond (same (separator k) t.kind) (Take 0 (list_start k front next))) (passed_by (closer k) t _ _ e)) refl
-
-  pub ends_closed : (x : Expected) → same (separator k) (closer k) ≡ false → First (Kind (closer k)) ts → run 250 (list_end k x front next) ts ≡ run 250 (list_start k front next) ts
-  ends_closed x other h = same_first (Kind (closer k)) _ _ ts h (λ t e.
-      ap (λ y. cond (same (separator k) y) (Take 0 (list_start k front next)) (cond (same (closer k) t.kind) (Take 0 (next front t)) (Fail x))) e
-      ∙ ap (λ y. cond y (Take 0 (list_start k front next)) (cond (same (closer k) t.kind) (Take 0 (next front t)) (Fail x))) other
-      ∙ taken_by (closer k) t _ _ e ∙ sym (taken_by (closer k) t _ _ e))

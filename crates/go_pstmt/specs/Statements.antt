@@ -50,7 +50,7 @@ abbrev pub Does : State → (Lexeme → Move) → Option trees.File → List Lex
 Does s on end [] = final s ≡ end
 Does s on end (t ∷ ts) = step s t ≡ on t
 
--- behind one left side, where neither another nor `=` nor a definition follows
+-- behind one left side, where neither another nor `=` nor a short variable declaration follows
 abbrev pub on_alone : machine.Position → trees.Expr → (trees.Simple → State) → (trees.Expr → State) → Lexeme → Move
 on_alone m e next alone t =
     cond (is_header m && same opening_brace t.kind) (step (alone e) t) (cond (is_call e) (step (next (trees.call_statement e)) t) (Fail (behind_left m e)))

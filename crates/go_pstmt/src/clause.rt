@@ -11,7 +11,7 @@ ghost use Rattle.go_pexpr.specs.Reads.{Reads, First, left, size, expected_of};
 use crate::marks::{CASE, COLON, DEFAULT};
 use go_ast::statement::{Clause, Stmt};
 use go_pexpr::expected::Expected;
-use go_pexpr::reader::{Reader, Refusal};
+use go_pexpr::parser::{Parser, Refusal};
 
 /// What is expected behind a statement, but a semicolon or the list's end.
 pub(crate) fn expected_behind(stmt: &Stmt) -> Expected
@@ -25,27 +25,29 @@ pub(crate) fn expected_behind(stmt: &Stmt) -> Expected
 }
 
 /// Reads what begins a clause, up to its colon.
-pub(crate) fn clause_from(reader: &mut Reader<'_>, level: u32) -> Result<Clause, Refusal>
+///
+/// `ExprSwitchCase ":" .` `ExprSwitchCase = "case" ExpressionList | "default" .`
+pub(crate) fn clause_from(parser: &mut Parser<'_>, level: u32) -> Result<Clause, Refusal>
     requires level { level ≤ 251 }
-    requires some { First (λ t. t.kind ≡ closing_brace) (left reader.old) → ⊥ }
-    ensures reads { (done : List machine.Clause) (next : trees.Clauses → Lexeme → State) → Reads (clauses_behind level done next) (λ c. clause_start level done c.place (clause_of c).1.0 [] next) reader.old result reader.new }
-    ensures shorter { OnOk result (size reader.new < size reader.old) }
+    requires some { First (λ t. t.kind ≡ closing_brace) (left parser.old) → ⊥ }
+    ensures reads { (done : List machine.Clause) (next : trees.Clauses → Lexeme → State) → Reads (clauses_behind level done next) (λ c. clause_start level done c.place (clause_of c).1.0 [] next) parser.old result parser.new }
+    ensures shorter { OnOk result (size parser.new < size parser.old) }
 {
-    if reader.is_next(DEFAULT) {
-        let token = reader.expect(DEFAULT, 0, Expected::Another)?;
-        reader.expect(COLON, 0, Expected::Another)?;
+    if parser.is_next(DEFAULT) {
+        let token = parser.expect(DEFAULT, 0, Expected::Another)?;
+        parser.expect(COLON, 0, Expected::Another)?;
         return Ok(Clause {
             place: token.place,
             values: None,
-            statements: Vec::new(reader.alloc),
+            statements: Vec::new(parser.alloc),
         });
     }
-    let token = reader.expect(CASE, level + 1, Expected::Another)?;
-    let values = reader.exprs(false, level + 1, Expected::Operand)?;
-    reader.expect(COLON, 0, Expected::Another)?;
+    let token = parser.expect(CASE, level + 1, Expected::Another)?;
+    let values = parser.exprs(false, level + 1, Expected::Operand)?;
+    parser.expect(COLON, 0, Expected::Another)?;
     Ok(Clause {
         place: token.place,
         values: Some(values),
-        statements: Vec::new(reader.alloc),
+        statements: Vec::new(parser.alloc),
     })
 }

@@ -1,32 +1,36 @@
 //! Reads declarations of constants, variables and types.
-ghost use Rattle.std.specs.Prelude.{◌<◌, ◌≤◌, List, [], Some, None, map, OnOk};
+ghost use Rattle.std.specs.Prelude.{◌<◌, ◌≤◌, Some, None, OnOk, refl};
 ghost use Rattle.go_ast.specs.Trees as trees;
 ghost use Rattle.go_scan.specs.declared.token.TokenKind.TheVariants as kinds;
 ghost use Rattle.go_ast.specs.Expected.{another};
 ghost use Rattle.go_ast.specs.Grammar.{assign};
-ghost use Rattle.go_ast.specs.Machine.{State, token, optional, names, list_start, group, value_list, const_rest, var_rest, type_rest, const_specs, var_specs, type_specs};
+ghost use Rattle.go_ast.specs.Machine.{State, token, optional, names, group, value_list, const_rest, var_rest, type_rest, const_specs, var_specs, type_specs};
 ghost use Rattle.go_ast.specs.Views.{const_of, var_of, type_spec_of, decl_of};
 ghost use Rattle.go_pexpr.specs.Reads.{Reads, size};
 
-use crate::marks::{ASSIGN, CLOSING, OPENING, SEMICOLON};
+use crate::list::{Items, list};
+use crate::marks::{ASSIGN, OPENING, SEMICOLON};
 use go_ast::declaration::{ConstSpec, Decl, TypeSpec, VarSpec};
 use go_ast::name::Name;
 use go_pexpr::expected::Expected;
-use go_pexpr::reader::{Reader, Refusal};
+use go_pexpr::parser::{Parser, Refusal};
+use go_scan::token::TokenKind;
 use go_text::place::Place;
 
 /// Reads what is behind the names of constants, where no type is written.
+///
+/// `[ "=" ExpressionList ] .`
 fn untyped_const(
-    reader: &mut Reader<'_>,
+    parser: &mut Parser<'_>,
     level: u32,
     names: Vec<Name>,
 ) -> Result<ConstSpec, Refusal>
     requires { level ≤ 252 }
-    ensures reads { (next : trees.ConstSpec → State) → Reads (optional assign level (λ _. value_list level (λ es. next (record { names = names.items; type = None; values = es }))) (next (record { names = names.items; type = None; values = trees.no_exprs }))) (λ s. next (const_of s)) reader.old result reader.new }
-    ensures no_longer { OnOk result (size reader.new ≤ size reader.old) }
+    ensures reads { (next : trees.ConstSpec → State) → Reads (optional assign level (λ _. value_list level (λ es. next (record { names = names.items; type = None; values = es }))) (next (record { names = names.items; type = None; values = trees.no_exprs }))) (λ s. next (const_of s)) parser.old result parser.new }
+    ensures no_longer { OnOk result (size parser.new ≤ size parser.old) }
 {
-    if let Some(_) = reader.accept(ASSIGN, level)? {
-        let values = reader.exprs(false, level, Expected::Value)?;
+    if let Some(_) = parser.accept(ASSIGN, level)? {
+        let values = parser.exprs(false, level, Expected::Value)?;
         return Ok(ConstSpec {
             names,
             type_expr: None,
@@ -36,22 +40,24 @@ fn untyped_const(
     Ok(ConstSpec {
         names,
         type_expr: None,
-        values: Vec::new(reader.alloc),
+        values: Vec::new(parser.alloc),
     })
 }
 
 /// Reads constants of one type.
-fn const_spec(reader: &mut Reader<'_>, level: u32) -> Result<ConstSpec, Refusal>
+///
+/// `ConstSpec = IdentifierList [ [ Type ] "=" ExpressionList ] .`
+fn const_spec(parser: &mut Parser<'_>, level: u32) -> Result<ConstSpec, Refusal>
     requires { level ≤ 252 }
-    ensures reads { (next : trees.ConstSpec → State) → Reads (names 0 (const_rest level next)) (λ s. next (const_of s)) reader.old result reader.new }
-    ensures shorter { OnOk result (size reader.new < size reader.old) }
+    ensures reads { (next : trees.ConstSpec → State) → Reads (names 0 (const_rest level next)) (λ s. next (const_of s)) parser.old result parser.new }
+    ensures shorter { OnOk result (size parser.new < size parser.old) }
 {
-    let names = reader.names(0)?;
-    let Some(type_expr) = reader.type_if(level, Expected::Type)? else {
-        return untyped_const(reader, level, names);
+    let names = parser.names(0)?;
+    let Some(type_expr) = parser.type_if(level, Expected::Type)? else {
+        return untyped_const(parser, level, names);
     };
-    reader.expect(ASSIGN, 0, Expected::Another)?;
-    let values = reader.exprs(false, level, Expected::Value)?;
+    parser.expect(ASSIGN, 0, Expected::Another)?;
+    let values = parser.exprs(false, level, Expected::Value)?;
     Ok(ConstSpec {
         names,
         type_expr: Some(type_expr),
@@ -59,46 +65,65 @@ fn const_spec(reader: &mut Reader<'_>, level: u32) -> Result<ConstSpec, Refusal>
     })
 }
 
-/// Reads constants in parentheses, behind the opening one.
-fn const_group(reader: &mut Reader<'_>, level: u32) -> Result<Vec<ConstSpec>, Refusal>
-    requires { level ≤ 252 }
-    ensures reads { (next : List trees.ConstSpec → State) → Reads (list_start (const_specs level) [] (λ ss _. next ss)) (λ ss. next (map const_of ss.items)) reader.old result reader.new }
-    ensures shorter { OnOk result (size reader.new < size reader.old) }
-{
-    let mut specs = Vec::new(reader.alloc);
-    'specs: while !reader.is_next(CLOSING) {
-        specs.push(const_spec(reader, level)?)?;
-        if !reader.is_next(CLOSING) {
-            reader.expect(SEMICOLON, 0, Expected::Another)?;
-        }
+/// Constants of a group, at a level.
+#[derive(Clone, Copy)]
+struct ConstSpecs {
+    level: u32,
+}
+
+impl Items for ConstSpecs {
+    type Node = ConstSpec;
+
+    ghost kind = { λ s. const_specs s.level };
+
+    ghost seen = { λ s. const_of };
+
+    ghost due = { λ _. another };
+
+    ghost can_read = { λ s. s.level ≤ 252 };
+
+    ghost closes = { λ _. refl };
+
+    fn separator(&self) -> TokenKind {
+        SEMICOLON
     }
-    reader.expect(CLOSING, 0, Expected::Another)?;
-    Ok(specs)
+
+    fn behind(&self) -> Expected {
+        Expected::Another
+    }
+
+    fn item(&self, parser: &mut Parser<'_>) -> Result<ConstSpec, Refusal> {
+        const_spec(parser, self.level)
+    }
 }
 
 /// Reads constants behind their keyword, which stands at this place.
-pub fn constants(reader: &mut Reader<'_>, level: u32, place: Place) -> Result<Decl, Refusal>
+///
+/// `ConstDecl = "const" ( ConstSpec | "(" { ConstSpec ";" } ")" ) .`
+pub fn constants(parser: &mut Parser<'_>, level: u32, place: Place) -> Result<Decl, Refusal>
     requires { level ≤ 252 }
-    ensures reads { (next : trees.Decl → State) → Reads (group (const_specs level) (λ ss. next (trees.constants place ss)) (λ one. names 0 (const_rest level one))) (λ d. next (decl_of d)) reader.old result reader.new }
-    ensures shorter { OnOk result (size reader.new < size reader.old) }
+    ensures reads { (next : trees.Decl → State) → Reads (group (const_specs level) (λ ss. next (trees.constants place ss)) (λ one. names 0 (const_rest level one))) (λ d. next (decl_of d)) parser.old result parser.new }
+    ensures shorter { OnOk result (size parser.new < size parser.old) }
 {
-    if let Some(_) = reader.accept(OPENING, 0)? {
-        let specs = const_group(reader, level)?;
+    if let Some(_) = parser.accept(OPENING, 0)? {
+        let specs = list(parser, &ConstSpecs { level })?;
         return Ok(Decl::Constants(place, specs));
     }
-    let mut specs = Vec::new(reader.alloc);
-    specs.push(const_spec(reader, level)?)?;
+    let mut specs = Vec::new(parser.alloc);
+    specs.push(const_spec(parser, level)?)?;
     Ok(Decl::Constants(place, specs))
 }
 
 /// Reads what is behind the names of variables, where no type is written.
-fn untyped_var(reader: &mut Reader<'_>, level: u32, names: Vec<Name>) -> Result<VarSpec, Refusal>
+///
+/// `"=" ExpressionList .`
+fn untyped_var(parser: &mut Parser<'_>, level: u32, names: Vec<Name>) -> Result<VarSpec, Refusal>
     requires { level ≤ 252 }
-    ensures reads { (next : trees.VarSpec → State) → Reads (token assign 0 another (λ _. value_list level (λ es. next (record { names = names.items; type = None; values = es })))) (λ s. next (var_of s)) reader.old result reader.new }
-    ensures shorter { OnOk result (size reader.new < size reader.old) }
+    ensures reads { (next : trees.VarSpec → State) → Reads (token assign 0 another (λ _. value_list level (λ es. next (record { names = names.items; type = None; values = es })))) (λ s. next (var_of s)) parser.old result parser.new }
+    ensures shorter { OnOk result (size parser.new < size parser.old) }
 {
-    reader.expect(ASSIGN, 0, Expected::Another)?;
-    let values = reader.exprs(false, level, Expected::Value)?;
+    parser.expect(ASSIGN, 0, Expected::Another)?;
+    let values = parser.exprs(false, level, Expected::Value)?;
     Ok(VarSpec {
         names,
         type_expr: None,
@@ -107,17 +132,19 @@ fn untyped_var(reader: &mut Reader<'_>, level: u32, names: Vec<Name>) -> Result<
 }
 
 /// Reads variables of one type.
-fn var_spec(reader: &mut Reader<'_>, level: u32) -> Result<VarSpec, Refusal>
+///
+/// `VarSpec = IdentifierList ( Type [ "=" ExpressionList ] | "=" ExpressionList ) .`
+fn var_spec(parser: &mut Parser<'_>, level: u32) -> Result<VarSpec, Refusal>
     requires { level ≤ 252 }
-    ensures reads { (next : trees.VarSpec → State) → Reads (names level (var_rest level next)) (λ s. next (var_of s)) reader.old result reader.new }
-    ensures shorter { OnOk result (size reader.new < size reader.old) }
+    ensures reads { (next : trees.VarSpec → State) → Reads (names level (var_rest level next)) (λ s. next (var_of s)) parser.old result parser.new }
+    ensures shorter { OnOk result (size parser.new < size parser.old) }
 {
-    let names = reader.names(level)?;
-    let Some(type_expr) = reader.type_if(level, Expected::Type)? else {
-        return untyped_var(reader, level, names);
+    let names = parser.names(level)?;
+    let Some(type_expr) = parser.type_if(level, Expected::Type)? else {
+        return untyped_var(parser, level, names);
     };
-    if let Some(_) = reader.accept(ASSIGN, 0)? {
-        let values = reader.exprs(false, level, Expected::Value)?;
+    if let Some(_) = parser.accept(ASSIGN, 0)? {
+        let values = parser.exprs(false, level, Expected::Value)?;
         return Ok(VarSpec {
             names,
             type_expr: Some(type_expr),
@@ -127,81 +154,117 @@ fn var_spec(reader: &mut Reader<'_>, level: u32) -> Result<VarSpec, Refusal>
     Ok(VarSpec {
         names,
         type_expr: Some(type_expr),
-        values: Vec::new(reader.alloc),
+        values: Vec::new(parser.alloc),
     })
 }
 
-/// Reads variables in parentheses, behind the opening one.
-fn var_group(reader: &mut Reader<'_>, level: u32) -> Result<Vec<VarSpec>, Refusal>
-    requires { level ≤ 252 }
-    ensures reads { (next : List trees.VarSpec → State) → Reads (list_start (var_specs level) [] (λ ss _. next ss)) (λ ss. next (map var_of ss.items)) reader.old result reader.new }
-    ensures shorter { OnOk result (size reader.new < size reader.old) }
-{
-    let mut specs = Vec::new(reader.alloc);
-    'specs: while !reader.is_next(CLOSING) {
-        specs.push(var_spec(reader, level)?)?;
-        if !reader.is_next(CLOSING) {
-            reader.expect(SEMICOLON, 0, Expected::Another)?;
-        }
+/// Variables of a group, at a level.
+#[derive(Clone, Copy)]
+struct VarSpecs {
+    level: u32,
+}
+
+impl Items for VarSpecs {
+    type Node = VarSpec;
+
+    ghost kind = { λ s. var_specs s.level };
+
+    ghost seen = { λ s. var_of };
+
+    ghost due = { λ _. another };
+
+    ghost can_read = { λ s. s.level ≤ 252 };
+
+    ghost closes = { λ _. refl };
+
+    fn separator(&self) -> TokenKind {
+        SEMICOLON
     }
-    reader.expect(CLOSING, 0, Expected::Another)?;
-    Ok(specs)
+
+    fn behind(&self) -> Expected {
+        Expected::Another
+    }
+
+    fn item(&self, parser: &mut Parser<'_>) -> Result<VarSpec, Refusal> {
+        var_spec(parser, self.level)
+    }
 }
 
 /// Reads variables behind their keyword, which stands at this place.
-pub fn variables(reader: &mut Reader<'_>, level: u32, place: Place) -> Result<Decl, Refusal>
+///
+/// `VarDecl = "var" ( VarSpec | "(" { VarSpec ";" } ")" ) .`
+pub fn variables(parser: &mut Parser<'_>, level: u32, place: Place) -> Result<Decl, Refusal>
     requires { level ≤ 252 }
-    ensures reads { (next : trees.Decl → State) → Reads (group (var_specs level) (λ ss. next (trees.variables place ss)) (λ one. names level (var_rest level one))) (λ d. next (decl_of d)) reader.old result reader.new }
-    ensures shorter { OnOk result (size reader.new < size reader.old) }
+    ensures reads { (next : trees.Decl → State) → Reads (group (var_specs level) (λ ss. next (trees.variables place ss)) (λ one. names level (var_rest level one))) (λ d. next (decl_of d)) parser.old result parser.new }
+    ensures shorter { OnOk result (size parser.new < size parser.old) }
 {
-    if let Some(_) = reader.accept(OPENING, 0)? {
-        let specs = var_group(reader, level)?;
+    if let Some(_) = parser.accept(OPENING, 0)? {
+        let specs = list(parser, &VarSpecs { level })?;
         return Ok(Decl::Variables(place, specs));
     }
-    let mut specs = Vec::new(reader.alloc);
-    specs.push(var_spec(reader, level)?)?;
+    let mut specs = Vec::new(parser.alloc);
+    specs.push(var_spec(parser, level)?)?;
     Ok(Decl::Variables(place, specs))
 }
 
 /// Reads a type and its name.
-fn type_spec(reader: &mut Reader<'_>, level: u32) -> Result<TypeSpec, Refusal>
+///
+/// `TypeDef = identifier Type .`
+fn type_spec(parser: &mut Parser<'_>, level: u32) -> Result<TypeSpec, Refusal>
     requires { level ≤ 252 }
-    ensures reads { (next : trees.TypeSpec → State) → Reads (token kinds.Name level another (type_rest level next)) (λ s. next (type_spec_of s)) reader.old result reader.new }
-    ensures shorter { OnOk result (size reader.new < size reader.old) }
+    ensures reads { (next : trees.TypeSpec → State) → Reads (token kinds.Name level another (type_rest level next)) (λ s. next (type_spec_of s)) parser.old result parser.new }
+    ensures shorter { OnOk result (size parser.new < size parser.old) }
 {
-    let name = reader.name(level, Expected::Another)?;
-    let type_expr = reader.type_from(level, Expected::DeclaredType)?;
+    let name = parser.name(level, Expected::Another)?;
+    let type_expr = parser.type_from(level, Expected::DeclaredType)?;
     Ok(TypeSpec { name, type_expr })
 }
 
-/// Reads types in parentheses, behind the opening one.
-fn type_group(reader: &mut Reader<'_>, level: u32) -> Result<Vec<TypeSpec>, Refusal>
-    requires { level ≤ 252 }
-    ensures reads { (next : List trees.TypeSpec → State) → Reads (list_start (type_specs level) [] (λ ss _. next ss)) (λ ss. next (map type_spec_of ss.items)) reader.old result reader.new }
-    ensures shorter { OnOk result (size reader.new < size reader.old) }
-{
-    let mut specs = Vec::new(reader.alloc);
-    'specs: while !reader.is_next(CLOSING) {
-        specs.push(type_spec(reader, level)?)?;
-        if !reader.is_next(CLOSING) {
-            reader.expect(SEMICOLON, 0, Expected::Another)?;
-        }
+/// Types of a group, at a level.
+#[derive(Clone, Copy)]
+struct TypeSpecs {
+    level: u32,
+}
+
+impl Items for TypeSpecs {
+    type Node = TypeSpec;
+
+    ghost kind = { λ s. type_specs s.level };
+
+    ghost seen = { λ s. type_spec_of };
+
+    ghost due = { λ _. another };
+
+    ghost can_read = { λ s. s.level ≤ 252 };
+
+    ghost closes = { λ _. refl };
+
+    fn separator(&self) -> TokenKind {
+        SEMICOLON
     }
-    reader.expect(CLOSING, 0, Expected::Another)?;
-    Ok(specs)
+
+    fn behind(&self) -> Expected {
+        Expected::Another
+    }
+
+    fn item(&self, parser: &mut Parser<'_>) -> Result<TypeSpec, Refusal> {
+        type_spec(parser, self.level)
+    }
 }
 
 /// Reads types behind their keyword, which stands at this place.
-pub fn types(reader: &mut Reader<'_>, level: u32, place: Place) -> Result<Decl, Refusal>
+///
+/// `TypeDecl = "type" ( TypeDef | "(" { TypeDef ";" } ")" ) .`
+pub fn types(parser: &mut Parser<'_>, level: u32, place: Place) -> Result<Decl, Refusal>
     requires { level ≤ 252 }
-    ensures reads { (next : trees.Decl → State) → Reads (group (type_specs level) (λ ss. next (trees.types place ss)) (λ one. token kinds.Name level another (type_rest level one))) (λ d. next (decl_of d)) reader.old result reader.new }
-    ensures shorter { OnOk result (size reader.new < size reader.old) }
+    ensures reads { (next : trees.Decl → State) → Reads (group (type_specs level) (λ ss. next (trees.types place ss)) (λ one. token kinds.Name level another (type_rest level one))) (λ d. next (decl_of d)) parser.old result parser.new }
+    ensures shorter { OnOk result (size parser.new < size parser.old) }
 {
-    if let Some(_) = reader.accept(OPENING, 0)? {
-        let specs = type_group(reader, level)?;
+    if let Some(_) = parser.accept(OPENING, 0)? {
+        let specs = list(parser, &TypeSpecs { level })?;
         return Ok(Decl::Types(place, specs));
     }
-    let mut specs = Vec::new(reader.alloc);
-    specs.push(type_spec(reader, level)?)?;
+    let mut specs = Vec::new(parser.alloc);
+    specs.push(type_spec(parser, level)?)?;
     Ok(Decl::Types(place, specs))
 }

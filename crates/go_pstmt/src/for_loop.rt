@@ -14,7 +14,7 @@ use go_ast::expression::Expr;
 use go_ast::name::Name;
 use go_ast::statement::Simple;
 use go_pexpr::expected::Expected;
-use go_pexpr::reader::{Reader, Refusal};
+use go_pexpr::parser::{Parser, Refusal};
 
 /// The head of a `for`.
 #[derive(Drop)]
@@ -27,64 +27,70 @@ pub(crate) enum Turns {
 }
 
 /// Reads what is behind the second semicolon of a `for`.
+///
+/// `[ PostStmt ] .`
 fn turns_behind(
-    reader: &mut Reader<'_>,
+    parser: &mut Parser<'_>,
     level: u32,
-    start: Option<Box<Simple>>,
+    init: Option<Box<Simple>>,
     condition: Option<Box<Expr>>,
 ) -> Result<Turns, Refusal>
     requires { level ≤ 251 }
-    ensures reads { (p : Place) (next : trees.Stmt → State) → Reads (for_turns level p next (if_boxed simple_of start) (if_boxed expr_of condition)) (by_turns level p next) reader.old result reader.new }
-    ensures no_longer { OnOk result (size reader.new ≤ size reader.old) }
+    ensures reads { (p : Place) (next : trees.Stmt → State) → Reads (for_turns level p next (if_boxed simple_of init) (if_boxed expr_of condition)) (by_turns level p next) parser.old result parser.new }
+    ensures no_longer { OnOk result (size parser.new ≤ size parser.old) }
 {
-    if reader.is_next(OPENING_BRACE) {
-        return Ok(Turns::Steps(start, condition, None));
+    if parser.is_next(OPENING_BRACE) {
+        return Ok(Turns::Steps(init, condition, None));
     }
-    let step = simple(reader, Position::Turns, level + 1)?;
-    let step = Box::new(reader.alloc, step)?;
-    Ok(Turns::Steps(start, condition, Some(step)))
+    let post = simple(parser, Position::Turns, level + 1)?;
+    let post = Box::new(parser.alloc, post)?;
+    Ok(Turns::Steps(init, condition, Some(post)))
 }
 
 /// Reads what is behind the first semicolon of a `for`.
+///
+/// `[ Condition ] ";" [ PostStmt ] .`
 fn condition_behind(
-    reader: &mut Reader<'_>,
+    parser: &mut Parser<'_>,
     level: u32,
-    start: Option<Box<Simple>>,
+    init: Option<Box<Simple>>,
 ) -> Result<Turns, Refusal>
     requires { level ≤ 251 }
-    ensures reads { (p : Place) (next : trees.Stmt → State) → Reads (for_condition level p next (if_boxed simple_of start)) (by_turns level p next) reader.old result reader.new }
-    ensures no_longer { OnOk result (size reader.new ≤ size reader.old) }
+    ensures reads { (p : Place) (next : trees.Stmt → State) → Reads (for_condition level p next (if_boxed simple_of init)) (by_turns level p next) parser.old result parser.new }
+    ensures no_longer { OnOk result (size parser.new ≤ size parser.old) }
 {
-    if let Some(_) = reader.accept(SEMICOLON, 0)? {
-        return turns_behind(reader, level, start, None);
+    if let Some(_) = parser.accept(SEMICOLON, 0)? {
+        return turns_behind(parser, level, init, None);
     }
-    let condition = reader.expr_from(true, level + 1, Expected::Operand)?;
-    let condition = Box::new(reader.alloc, condition)?;
-    reader.expect(SEMICOLON, 0, Expected::Another)?;
-    turns_behind(reader, level, start, Some(condition))
+    let condition = parser.expr_from(true, level + 1, Expected::Operand)?;
+    let condition = Box::new(parser.alloc, condition)?;
+    parser.expect(SEMICOLON, 0, Expected::Another)?;
+    turns_behind(parser, level, init, Some(condition))
 }
 
 /// Reads what is between a `for` and its block.
-pub(crate) fn turns_from(reader: &mut Reader<'_>, level: u32) -> Result<Turns, Refusal>
+///
+/// `[ Condition | ForClause | RangeClause ] .` `ForClause = [ InitStmt ] ";" [ Condition ] ";" [ PostStmt ] .`
+pub(crate) fn turns_from(parser: &mut Parser<'_>, level: u32) -> Result<Turns, Refusal>
     requires { level ≤ 251 }
-    ensures reads { (t : Lexeme) (next : trees.Stmt → State) → Reads (behind_for level next t) (by_turns level t.place next) reader.old result reader.new }
-    ensures no_longer { OnOk result (size reader.new ≤ size reader.old) }
+    ensures reads { (t : Lexeme) (next : trees.Stmt → State) → Reads (behind_for level next t) (by_turns level t.place next) parser.old result parser.new }
+    ensures no_longer { OnOk result (size parser.new ≤ size parser.old) }
 {
-    if reader.is_next(OPENING_BRACE) {
+    if parser.is_next(OPENING_BRACE) {
         return Ok(Turns::Steps(None, None, None));
     }
-    if let Some(_) = reader.accept(SEMICOLON, 0)? {
-        return condition_behind(reader, level, None);
+    if let Some(_) = parser.accept(SEMICOLON, 0)? {
+        return condition_behind(parser, level, None);
     }
-    if let Some(_) = reader.accept(RANGE, 0)? {
-        let operand = reader.expr_from(true, level + 1, Expected::Operand)?;
-        let operand = Box::new(reader.alloc, operand)?;
+    if let Some(_) = parser.accept(RANGE, 0)? {
+        let operand = parser.expr_from(true, level + 1, Expected::Operand)?;
+        let operand = Box::new(parser.alloc, operand)?;
         return Ok(Turns::Range(None, operand));
     }
-    match header_from(reader, Position::For, level + 1)? {
-        Header::Simple(start) => {
-            reader.expect(SEMICOLON, 0, Expected::Another)?;
-            condition_behind(reader, level, Some(start))
+    match header_from(parser, Position::For, level + 1)? {
+        Header::Simple(init) => {
+            parser.expect(SEMICOLON, 0, Expected::Another)?;
+            condition_behind(parser, level, Some(init))
         }
         Header::Alone(condition) => Ok(Turns::Steps(None, Some(condition), None)),
         Header::Range(name, operand) => Ok(Turns::Range(Some(name), operand)),

@@ -12,13 +12,13 @@ use crate::simple::{Header, Position, header_from};
 use go_ast::expression::Expr;
 use go_ast::statement::Simple;
 use go_pexpr::expected::Expected;
-use go_pexpr::reader::{Reader, Refusal};
+use go_pexpr::parser::{Parser, Refusal};
 
 /// The head of an `if`.
 #[derive(Drop)]
 pub(crate) struct Condition {
     /// The statement before the condition, if there is one.
-    pub start: Option<Box<Simple>>,
+    pub init: Option<Box<Simple>>,
     /// The condition.
     pub condition: Box<Expr>,
 }
@@ -27,97 +27,101 @@ pub(crate) struct Condition {
 #[derive(Drop)]
 pub(crate) struct Compared {
     /// The statement before the value, if there is one.
-    pub start: Option<Box<Simple>>,
+    pub init: Option<Box<Simple>>,
     /// The value that is compared, if there is one.
     pub value: Option<Box<Expr>>,
 }
 
 /// Reads the condition of an `if`, behind the statement before it.
 fn condition_behind(
-    reader: &mut Reader<'_>,
+    parser: &mut Parser<'_>,
     level: u32,
-    start: Option<Box<Simple>>,
+    init: Option<Box<Simple>>,
 ) -> Result<Condition, Refusal>
     requires { level ≤ 251 }
-    ensures reads { (p : Place) (next : trees.If → State) → Reads (if_condition level p next (if_boxed simple_of start)) (λ h. block_at (level + 1) (λ b. else_part level p (if_boxed simple_of h.start) (expr_of h.condition.value) b next)) reader.old result reader.new }
-    ensures shorter { OnOk result (size reader.new < size reader.old) }
+    ensures reads { (p : Place) (next : trees.If → State) → Reads (if_condition level p next (if_boxed simple_of init)) (λ h. block_at (level + 1) (λ b. else_part level p (if_boxed simple_of h.init) (expr_of h.condition.value) b next)) parser.old result parser.new }
+    ensures shorter { OnOk result (size parser.new < size parser.old) }
 {
-    let condition = reader.expr_from(true, level + 1, Expected::Operand)?;
-    let condition = Box::new(reader.alloc, condition)?;
-    Ok(Condition { start, condition })
+    let condition = parser.expr_from(true, level + 1, Expected::Operand)?;
+    let condition = Box::new(parser.alloc, condition)?;
+    Ok(Condition { init, condition })
 }
 
 /// Reads what is between an `if` and its block.
-pub(crate) fn condition_from(reader: &mut Reader<'_>, level: u32) -> Result<Condition, Refusal>
+///
+/// `[ [ SimpleStmt ] ";" ] Expression .`
+pub(crate) fn condition_from(parser: &mut Parser<'_>, level: u32) -> Result<Condition, Refusal>
     requires { level ≤ 251 }
-    ensures reads { (t : Lexeme) (next : trees.If → State) → Reads (behind_if level next t) (λ h. block_at (level + 1) (λ b. else_part level t.place (if_boxed simple_of h.start) (expr_of h.condition.value) b next)) reader.old result reader.new }
-    ensures shorter { OnOk result (size reader.new < size reader.old) }
+    ensures reads { (t : Lexeme) (next : trees.If → State) → Reads (behind_if level next t) (λ h. block_at (level + 1) (λ b. else_part level t.place (if_boxed simple_of h.init) (expr_of h.condition.value) b next)) parser.old result parser.new }
+    ensures shorter { OnOk result (size parser.new < size parser.old) }
 {
-    if let Some(_) = reader.accept(SEMICOLON, 0)? {
-        return condition_behind(reader, level, None);
+    if let Some(_) = parser.accept(SEMICOLON, 0)? {
+        return condition_behind(parser, level, None);
     }
-    match header_from(reader, Position::Header, level + 1)? {
-        Header::Simple(start) => {
-            reader.expect(SEMICOLON, 0, Expected::Another)?;
-            condition_behind(reader, level, Some(start))
+    match header_from(parser, Position::Header, level + 1)? {
+        Header::Simple(init) => {
+            parser.expect(SEMICOLON, 0, Expected::Another)?;
+            condition_behind(parser, level, Some(init))
         }
         Header::Alone(condition) => Ok(Condition {
-            start: None,
+            init: None,
             condition,
         }),
-        Header::Range(_name, _operand) => condition_behind(reader, level, None),
+        Header::Range(_name, _operand) => condition_behind(parser, level, None),
     }
 }
 
 /// Reads the value that a `switch` compares, behind the statement before it, and the opening brace.
 fn compared_behind(
-    reader: &mut Reader<'_>,
+    parser: &mut Parser<'_>,
     level: u32,
-    start: Option<Box<Simple>>,
+    init: Option<Box<Simple>>,
 ) -> Result<Compared, Refusal>
     requires { level ≤ 251 }
-    ensures reads { (p : Place) (next : trees.Stmt → State) → Reads (switch_tag level p next (if_boxed simple_of start)) (λ h. switch_body level p next (if_boxed simple_of h.start) (if_boxed expr_of h.value)) reader.old result reader.new }
-    ensures shorter { OnOk result (size reader.new < size reader.old) }
+    ensures reads { (p : Place) (next : trees.Stmt → State) → Reads (switch_tag level p next (if_boxed simple_of init)) (λ h. switch_body level p next (if_boxed simple_of h.init) (if_boxed expr_of h.value)) parser.old result parser.new }
+    ensures shorter { OnOk result (size parser.new < size parser.old) }
 {
-    if let Some(_) = reader.accept(OPENING_BRACE, 0)? {
-        return Ok(Compared { start, value: None });
+    if let Some(_) = parser.accept(OPENING_BRACE, 0)? {
+        return Ok(Compared { init, value: None });
     }
-    let value = reader.expr_from(true, level + 1, Expected::Operand)?;
-    let value = Box::new(reader.alloc, value)?;
-    reader.expect(OPENING_BRACE, 0, Expected::Another)?;
+    let value = parser.expr_from(true, level + 1, Expected::Operand)?;
+    let value = Box::new(parser.alloc, value)?;
+    parser.expect(OPENING_BRACE, 0, Expected::Another)?;
     Ok(Compared {
-        start,
+        init,
         value: Some(value),
     })
 }
 
 /// Reads what is between a `switch` and its clauses.
-pub(crate) fn compared_from(reader: &mut Reader<'_>, level: u32) -> Result<Compared, Refusal>
+///
+/// `[ [ SimpleStmt ] ";" ] [ Expression ] "{" .`
+pub(crate) fn compared_from(parser: &mut Parser<'_>, level: u32) -> Result<Compared, Refusal>
     requires { level ≤ 251 }
-    ensures reads { (t : Lexeme) (next : trees.Stmt → State) → Reads (behind_switch level next t) (λ h. switch_body level t.place next (if_boxed simple_of h.start) (if_boxed expr_of h.value)) reader.old result reader.new }
-    ensures shorter { OnOk result (size reader.new < size reader.old) }
+    ensures reads { (t : Lexeme) (next : trees.Stmt → State) → Reads (behind_switch level next t) (λ h. switch_body level t.place next (if_boxed simple_of h.init) (if_boxed expr_of h.value)) parser.old result parser.new }
+    ensures shorter { OnOk result (size parser.new < size parser.old) }
 {
-    if let Some(_) = reader.accept(OPENING_BRACE, 0)? {
+    if let Some(_) = parser.accept(OPENING_BRACE, 0)? {
         return Ok(Compared {
-            start: None,
+            init: None,
             value: None,
         });
     }
-    if let Some(_) = reader.accept(SEMICOLON, 0)? {
-        return compared_behind(reader, level, None);
+    if let Some(_) = parser.accept(SEMICOLON, 0)? {
+        return compared_behind(parser, level, None);
     }
-    match header_from(reader, Position::Header, level + 1)? {
-        Header::Simple(start) => {
-            reader.expect(SEMICOLON, 0, Expected::Another)?;
-            compared_behind(reader, level, Some(start))
+    match header_from(parser, Position::Header, level + 1)? {
+        Header::Simple(init) => {
+            parser.expect(SEMICOLON, 0, Expected::Another)?;
+            compared_behind(parser, level, Some(init))
         }
         Header::Alone(value) => {
-            reader.expect(OPENING_BRACE, 0, Expected::Another)?;
+            parser.expect(OPENING_BRACE, 0, Expected::Another)?;
             Ok(Compared {
-                start: None,
+                init: None,
                 value: Some(value),
             })
         }
-        Header::Range(_name, _operand) => compared_behind(reader, level, None),
+        Header::Range(_name, _operand) => compared_behind(parser, level, None),
     }
 }

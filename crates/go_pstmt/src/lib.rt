@@ -6,6 +6,7 @@ pub mod declaration;
 mod for_loop;
 mod header;
 mod jump;
+pub mod list;
 mod made;
 mod marks;
 mod simple;

@@ -12,7 +12,7 @@ ghost use Rattle.go_pstmt.specs.Turns.{for_of};
 use crate::for_loop::Turns;
 use crate::marks::{CASE, CLOSING_BRACE, DEFAULT};
 use go_ast::statement::{Block, For, Range, Stmt};
-use go_pexpr::reader::Reader;
+use go_pexpr::parser::Parser;
 use go_text::place::Place;
 
 /// A `for` of its head and its block.
@@ -20,11 +20,11 @@ pub(crate) fn for_of(place: Place, turns: Turns, body: Block) -> Stmt
     ensures { stmt_of result ≡ for_of place turns (block_of body) }
 {
     match turns {
-        Turns::Steps(start, condition, step) => Stmt::For(For {
+        Turns::Steps(init, condition, post) => Stmt::For(For {
             place,
-            start,
+            init,
             condition,
-            step,
+            post,
             body,
         }),
         Turns::Range(name, operand) => Stmt::Range(Range {
@@ -37,8 +37,8 @@ pub(crate) fn for_of(place: Place, turns: Turns, body: Block) -> Stmt
 }
 
 /// Whether a clause ends here.
-pub(crate) fn ends_clause(reader: &Reader<'_>) -> bool
-    ensures { IsTrue result ↔ First (λ t. EndsClause t.kind) (left reader.now) }
+pub(crate) fn ends_clause(parser: &Parser<'_>) -> bool
+    ensures { IsTrue result ↔ First (λ t. EndsClause t.kind) (left parser.now) }
 {
-    reader.is_next(CASE) || reader.is_next(DEFAULT) || reader.is_next(CLOSING_BRACE)
+    parser.is_next(CASE) || parser.is_next(DEFAULT) || parser.is_next(CLOSING_BRACE)
 }

@@ -19,7 +19,7 @@ use go_ast::name::Name;
 use go_ast::spelling::Spelling;
 use go_ast::statement::Simple;
 use go_pexpr::expected::Expected;
-use go_pexpr::reader::{Reader, Refusal};
+use go_pexpr::parser::{Parser, Refusal};
 use go_scan::punctuation::Punctuation;
 use go_scan::token::TokenKind;
 use go_text::place::Place;
@@ -107,7 +107,7 @@ fn is_call(operand: &Expr) -> bool
         ExprKind::Integer(_) => false,
         ExprKind::Rune(_) => false,
         ExprKind::String(_) => false,
-        ExprKind::Literal(_, _, _) => false,
+        ExprKind::CompositeLit(_, _, _) => false,
         ExprKind::Conversion(_, _) => false,
         ExprKind::Selector(_, _) => false,
         ExprKind::Index(_, _) => false,
@@ -126,7 +126,7 @@ fn text_of(operand: &Expr) -> Option<&str>
         ExprKind::Rune(_) => None,
         ExprKind::String(_) => None,
         ExprKind::Parenthesized(_) => None,
-        ExprKind::Literal(_, _, _) => None,
+        ExprKind::CompositeLit(_, _, _) => None,
         ExprKind::Conversion(_, _) => None,
         ExprKind::Selector(_, _) => None,
         ExprKind::Index(_, _) => None,
@@ -165,19 +165,21 @@ fn names_of(alloc: Global, sides: &[Expr]) -> Result<Option<Vec<Name>>, AllocErr
 }
 
 /// Reads expressions with commas between them, which may be left sides.
-fn left_sides(reader: &mut Reader<'_>, position: Position, level: u32) -> Result<Vec<Expr>, Refusal>
+///
+/// `ExpressionList = Expression { "," Expression } .`
+fn left_sides(parser: &mut Parser<'_>, position: Position, level: u32) -> Result<Vec<Expr>, Refusal>
     requires { level ≤ 252 }
-    ensures reads { (next : trees.Simple → State) (alone : trees.Expr → State) (range : trees.Name → trees.Expr → State) → Reads (expr 5 (is_bare position) level (beginning position) (λ e. machine.lefts (position_of position) (is_bare position) level (e ∷ []) next alone range)) (λ es. machine.lefts (position_of position) (is_bare position) level (map expr_of es.items) next alone range) reader.old result reader.new }
+    ensures reads { (next : trees.Simple → State) (alone : trees.Expr → State) (range : trees.Name → trees.Expr → State) → Reads (expr 5 (is_bare position) level (beginning position) (λ e. machine.lefts (position_of position) (is_bare position) level (e ∷ []) next alone range)) (λ es. machine.lefts (position_of position) (is_bare position) level (map expr_of es.items) next alone range) parser.old result parser.new }
     ensures some { IfOk result (λ es. 1 ≤ length es.items) }
-    ensures last { OnOk result (First (λ t. t.kind ≡ comma) (left reader.new) → ⊥) }
-    ensures shorter { OnOk result (size reader.new < size reader.old) }
+    ensures last { OnOk result (First (λ t. t.kind ≡ comma) (left parser.new) → ⊥) }
+    ensures shorter { OnOk result (size parser.new < size parser.old) }
 {
     let bare = is_bare(position);
-    let mut sides = Vec::with_capacity(reader.alloc, 1)?;
-    sides.push(reader.expr_from(bare, level, beginning(position))?)?;
-    'sides: while reader.is_next(COMMA) {
-        reader.expect(COMMA, 0, Expected::Another)?;
-        sides.push(reader.expr_from(bare, level, Expected::Operand)?)?;
+    let mut sides = Vec::with_capacity(parser.alloc, 1)?;
+    sides.push(parser.expr_from(bare, level, beginning(position))?)?;
+    'sides: while parser.is_next(COMMA) {
+        parser.expect(COMMA, 0, Expected::Another)?;
+        sides.push(parser.expr_from(bare, level, Expected::Operand)?)?;
     }
     Ok(sides)
 }
@@ -203,27 +205,29 @@ fn stated(alloc: Global, simple: Simple) -> Result<Header, Refusal>
 }
 
 /// Reads an assignment from its `=` on.
+///
+/// `Assignment = ExpressionList "=" ExpressionList .`
 fn assignment(
-    reader: &mut Reader<'_>,
+    parser: &mut Parser<'_>,
     bare: bool,
     level: u32,
     sides: Vec<Expr>,
 ) -> Result<Header, Refusal>
     requires { level ≤ 252 }
-    ensures reads { (next : trees.Simple → State) (alone : trees.Expr → State) (range : trees.Name → trees.Expr → State) → Reads (token assign 0 another (λ _. expr 5 bare level a_value (λ e. more_exprs bare level (e ∷ []) (λ es. next (trees.assignment (exprs_in sides.items) (trees.pack es)))))) (by_header next alone range) reader.old result reader.new }
-    ensures shorter { OnOk result (size reader.new < size reader.old) }
+    ensures reads { (next : trees.Simple → State) (alone : trees.Expr → State) (range : trees.Name → trees.Expr → State) → Reads (token assign 0 another (λ _. expr 5 bare level a_value (λ e. more_exprs bare level (e ∷ []) (λ es. next (trees.assignment (exprs_in sides.items) (trees.pack es)))))) (by_header next alone range) parser.old result parser.new }
+    ensures shorter { OnOk result (size parser.new < size parser.old) }
 {
-    reader.expect(ASSIGN, 0, Expected::Another)?;
-    let values = reader.exprs(bare, level, Expected::Value)?;
-    stated(reader.alloc, Simple::Assignment(sides, values))
+    parser.expect(ASSIGN, 0, Expected::Another)?;
+    let values = parser.exprs(bare, level, Expected::Value)?;
+    stated(parser.alloc, Simple::Assignment(sides, values))
 }
 
 /// Whether a `range` stands next, behind `:=` and a name in a `for`.
-fn is_range(reader: &Reader<'_>, position: Position, names: &[Name]) -> bool
-    ensures { IsTrue result ↔ ((position ≡ Position.For) × (length names.now ≡ 1) × First (λ t. t.kind ≡ keyword keywords.Range) (left reader.now)) }
+fn is_range(parser: &Parser<'_>, position: Position, names: &[Name]) -> bool
+    ensures { IsTrue result ↔ ((position ≡ Position.For) × (length names.now ≡ 1) × First (λ t. t.kind ≡ keyword keywords.Range) (left parser.now)) }
 {
     match position {
-        Position::For => names.len() == 1 && reader.is_next(RANGE),
+        Position::For => names.len() == 1 && parser.is_next(RANGE),
         _ => false,
     }
 }
@@ -240,164 +244,176 @@ fn sole_name(mut names: Vec<Name>) -> Name
 }
 
 /// Reads a `range` behind `:=` and a name.
-fn range(reader: &mut Reader<'_>, level: u32, names: Vec<Name>) -> Result<Header, Refusal>
+///
+/// `RangeClause = [ identifier ":=" ] "range" Expression .`
+fn range(parser: &mut Parser<'_>, level: u32, names: Vec<Name>) -> Result<Header, Refusal>
     requires level { level ≤ 252 }
     requires one { length names.items ≡ 1 }
-    ensures reads { (n : trees.Name) (next : trees.Simple → State) (alone : trees.Expr → State) (range : trees.Name → trees.Expr → State) → names.items ≡ n ∷ [] → Reads (token (keyword keywords.Range) 0 another (λ _. expr 5 true level an_operand (λ e. range n e))) (by_header next alone range) reader.old result reader.new }
-    ensures shorter { OnOk result (size reader.new < size reader.old) }
+    ensures reads { (n : trees.Name) (next : trees.Simple → State) (alone : trees.Expr → State) (range : trees.Name → trees.Expr → State) → names.items ≡ n ∷ [] → Reads (token (keyword keywords.Range) 0 another (λ _. expr 5 true level an_operand (λ e. range n e))) (by_header next alone range) parser.old result parser.new }
+    ensures shorter { OnOk result (size parser.new < size parser.old) }
 {
-    reader.expect(RANGE, 0, Expected::Another)?;
-    let operand = reader.expr_from(true, level, Expected::Operand)?;
-    let operand = Box::new(reader.alloc, operand)?;
+    parser.expect(RANGE, 0, Expected::Another)?;
+    let operand = parser.expr_from(true, level, Expected::Operand)?;
+    let operand = Box::new(parser.alloc, operand)?;
     Ok(Header::Range(sole_name(names), operand))
 }
 
-/// Reads a definition from its `:=` on.
-fn definition(
-    reader: &mut Reader<'_>,
+/// Reads a short variable declaration from its `:=` on.
+///
+/// `ShortVarDecl = IdentifierList ":=" ExpressionList .`
+fn short_var_decl(
+    parser: &mut Parser<'_>,
     position: Position,
     level: u32,
     names: Vec<Name>,
 ) -> Result<Header, Refusal>
     requires { level ≤ 252 }
-    ensures reads { (next : trees.Simple → State) (alone : trees.Expr → State) (range : trees.Name → trees.Expr → State) → Reads (token define 0 another (λ _. behind_define (position_of position) (is_bare position) level names.items next range)) (by_header next alone range) reader.old result reader.new }
-    ensures shorter { OnOk result (size reader.new < size reader.old) }
+    ensures reads { (next : trees.Simple → State) (alone : trees.Expr → State) (range : trees.Name → trees.Expr → State) → Reads (token define 0 another (λ _. behind_define (position_of position) (is_bare position) level names.items next range)) (by_header next alone range) parser.old result parser.new }
+    ensures shorter { OnOk result (size parser.new < size parser.old) }
 {
-    reader.expect(DEFINE, 0, Expected::Another)?;
-    if is_range(reader, position, &names) {
-        return range(reader, level, names);
+    parser.expect(DEFINE, 0, Expected::Another)?;
+    if is_range(parser, position, &names) {
+        return range(parser, level, names);
     }
-    let values = reader.exprs(is_bare(position), level, Expected::Operand)?;
-    stated(reader.alloc, Simple::Definition(names, values))
+    let values = parser.exprs(is_bare(position), level, Expected::Operand)?;
+    stated(parser.alloc, Simple::ShortVarDecl(names, values))
 }
 
 /// The names that are defined, if `:=` stands next, and may.
 fn defined(
-    reader: &Reader<'_>,
+    parser: &Parser<'_>,
     position: Position,
     sides: &[Expr],
 ) -> Result<Option<Vec<Name>>, Refusal>
-    ensures some { IfOk result (λ o. (ns : Vec trees.Name Global) → o ≡ Some ns → First (λ t. t.kind ≡ define) (left reader.now) × (may_define (position_of position) ≡ true) × (names_if (map expr_of sides.now) ≡ Some ns.items)) }
-    ensures none { IfOk result (λ o. o ≡ None → First (λ t. t.kind ≡ define) (left reader.now) → may_define (position_of position) ≡ true → names_if (map expr_of sides.now) ≡ None) }
+    ensures some { IfOk result (λ o. (ns : Vec trees.Name Global) → o ≡ Some ns → First (λ t. t.kind ≡ define) (left parser.now) × (may_define (position_of position) ≡ true) × (names_if (map expr_of sides.now) ≡ Some ns.items)) }
+    ensures none { IfOk result (λ o. o ≡ None → First (λ t. t.kind ≡ define) (left parser.now) → may_define (position_of position) ≡ true → names_if (map expr_of sides.now) ≡ None) }
     ensures err { IfErr result (λ e. e ≡ Refusal.Memory) }
 {
     if !may_define(position) {
         return Ok(None);
     }
-    if !reader.is_next(DEFINE) {
+    if !parser.is_next(DEFINE) {
         return Ok(None);
     }
-    let names = names_of(reader.alloc, sides)?;
+    let names = names_of(parser.alloc, sides)?;
     Ok(names)
 }
 
-/// Reads what is behind one left side, where neither another nor `=` nor a definition follows.
+/// Reads what is behind one left side, where neither another nor `=` nor a short variable declaration follows.
+///
+/// `IncDecStmt = Expression ( "++" | "--" ) .` `Assignment = Expression assign_op Expression .`
 fn behind_one(
-    reader: &mut Reader<'_>,
+    parser: &mut Parser<'_>,
     position: Position,
     level: u32,
     sides: Vec<Expr>,
 ) -> Result<Header, Refusal>
     requires level { level ≤ 252 }
     requires one { length sides.items ≡ 1 }
-    ensures reads { (side : Expr) (before : State) (next : trees.Simple → State) (alone : trees.Expr → State) (range : trees.Name → trees.Expr → State) → sides.items ≡ side ∷ [] → Does before (on_one (position_of position) (is_bare position) level (expr_of side) next alone) (at_one (expr_of side) next) (left reader.old) → Reads before (by_header next alone range) reader.old result reader.new }
-    ensures no_longer { OnOk result (size reader.new ≤ size reader.old) }
+    ensures reads { (side : Expr) (before : State) (next : trees.Simple → State) (alone : trees.Expr → State) (range : trees.Name → trees.Expr → State) → sides.items ≡ side ∷ [] → Does before (on_one (position_of position) (is_bare position) level (expr_of side) next alone) (at_one (expr_of side) next) (left parser.old) → Reads before (by_header next alone range) parser.old result parser.new }
+    ensures no_longer { OnOk result (size parser.new ≤ size parser.old) }
 {
-    if reader.is_next(INCREMENT) {
-        reader.expect(INCREMENT, 0, Expected::Another)?;
-        return stated(reader.alloc, Simple::Increment(sole(sides)));
+    if parser.is_next(INCREMENT) {
+        parser.expect(INCREMENT, 0, Expected::Another)?;
+        return stated(parser.alloc, Simple::Increment(sole(sides)));
     }
-    if reader.is_next(DECREMENT) {
-        reader.expect(DECREMENT, 0, Expected::Another)?;
-        return stated(reader.alloc, Simple::Decrement(sole(sides)));
+    if parser.is_next(DECREMENT) {
+        parser.expect(DECREMENT, 0, Expected::Another)?;
+        return stated(parser.alloc, Simple::Decrement(sole(sides)));
     }
-    if let Some(operator) = assigned(reader.kind()) {
-        reader.bump(0)?;
-        let value = reader.expr_from(is_bare(position), level, Expected::Operand)?;
+    if let Some(operator) = assigned(parser.kind()) {
+        parser.bump(0)?;
+        let value = parser.expr_from(is_bare(position), level, Expected::Operand)?;
         return stated(
-            reader.alloc,
+            parser.alloc,
             Simple::OperatorAssignment(operator, sole(sides), value),
         );
     }
-    alone(reader, position, sole(sides))
+    alone(parser, position, sole(sides))
 }
 
 /// What an expression is behind which nothing follows that belongs to it.
-fn alone(reader: &mut Reader<'_>, position: Position, side: Expr) -> Result<Header, Refusal>
-    ensures reads { (before : State) (next : trees.Simple → State) (alone : trees.Expr → State) (range : trees.Name → trees.Expr → State) → Does before (on_alone (position_of position) (expr_of side) next alone) (at_one (expr_of side) next) (left reader.old) → Reads before (by_header next alone range) reader.old result reader.new }
-    ensures no_longer { OnOk result (size reader.new ≤ size reader.old) }
+///
+/// `ExpressionStmt = Expression .`
+fn alone(parser: &mut Parser<'_>, position: Position, side: Expr) -> Result<Header, Refusal>
+    ensures reads { (before : State) (next : trees.Simple → State) (alone : trees.Expr → State) (range : trees.Name → trees.Expr → State) → Does before (on_alone (position_of position) (expr_of side) next alone) (at_one (expr_of side) next) (left parser.old) → Reads before (by_header next alone range) parser.old result parser.new }
+    ensures no_longer { OnOk result (size parser.new ≤ size parser.old) }
 {
-    if opens_block(reader, position) {
-        let side = Box::new(reader.alloc, side)?;
+    if opens_block(parser, position) {
+        let side = Box::new(parser.alloc, side)?;
         return Ok(Header::Alone(side));
     }
     if is_call(&side) {
-        return stated(reader.alloc, Simple::Call(side));
+        return stated(parser.alloc, Simple::Call(side));
     }
-    Err(reader.wrong(behind_operand(position, &side)))
+    Err(parser.wrong(behind_operand(position, &side)))
 }
 
 /// Whether a block may stand next, and does.
-fn opens_block(reader: &Reader<'_>, position: Position) -> bool
-    ensures { IsTrue result ↔ ((is_header (position_of position) ≡ true) × First (λ t. t.kind ≡ opening_brace) (left reader.now)) }
+fn opens_block(parser: &Parser<'_>, position: Position) -> bool
+    ensures { IsTrue result ↔ ((is_header (position_of position) ≡ true) × First (λ t. t.kind ≡ opening_brace) (left parser.now)) }
 {
     match position {
-        Position::Header => reader.is_next(OPENING_BRACE),
-        Position::For => reader.is_next(OPENING_BRACE),
+        Position::Header => parser.is_next(OPENING_BRACE),
+        Position::For => parser.is_next(OPENING_BRACE),
         _ => false,
     }
 }
 
 /// Reads what is behind left sides, where no other follows.
 fn behind_sides(
-    reader: &mut Reader<'_>,
+    parser: &mut Parser<'_>,
     position: Position,
     level: u32,
     sides: Vec<Expr>,
 ) -> Result<Header, Refusal>
     requires level { level ≤ 252 }
     requires some { 1 ≤ length sides.items }
-    requires last { First (λ t. t.kind ≡ comma) (left reader.old) → ⊥ }
-    ensures reads { (next : trees.Simple → State) (alone : trees.Expr → State) (range : trees.Name → trees.Expr → State) → Reads (machine.lefts (position_of position) (is_bare position) level (map expr_of sides.items) next alone range) (by_header next alone range) reader.old result reader.new }
-    ensures no_longer { OnOk result (size reader.new ≤ size reader.old) }
+    requires last { First (λ t. t.kind ≡ comma) (left parser.old) → ⊥ }
+    ensures reads { (next : trees.Simple → State) (alone : trees.Expr → State) (range : trees.Name → trees.Expr → State) → Reads (machine.lefts (position_of position) (is_bare position) level (map expr_of sides.items) next alone range) (by_header next alone range) parser.old result parser.new }
+    ensures no_longer { OnOk result (size parser.new ≤ size parser.old) }
 {
-    if reader.is_next(ASSIGN) {
-        return assignment(reader, is_bare(position), level, sides);
+    if parser.is_next(ASSIGN) {
+        return assignment(parser, is_bare(position), level, sides);
     }
-    if let Some(names) = defined(reader, position, &sides)? {
-        return definition(reader, position, level, names);
+    if let Some(names) = defined(parser, position, &sides)? {
+        return short_var_decl(parser, position, level, names);
     }
     if sides.len() != 1 {
-        return Err(reader.wrong(Expected::Another));
+        return Err(parser.wrong(Expected::Another));
     }
-    behind_one(reader, position, level, sides)
+    behind_one(parser, position, level, sides)
 }
 
 /// Reads what stands where a simple statement may.
+///
+/// `[ SimpleStmt | Expression | RangeClause ] .`
 pub(crate) fn header_from(
-    reader: &mut Reader<'_>,
+    parser: &mut Parser<'_>,
     position: Position,
     level: u32,
 ) -> Result<Header, Refusal>
     requires { level ≤ 252 }
-    ensures reads { (next : trees.Simple → State) (alone : trees.Expr → State) (range : trees.Name → trees.Expr → State) → Reads (expr 5 (is_bare position) level (beginning position) (λ e. machine.lefts (position_of position) (is_bare position) level (e ∷ []) next alone range)) (by_header next alone range) reader.old result reader.new }
-    ensures shorter { OnOk result (size reader.new < size reader.old) }
+    ensures reads { (next : trees.Simple → State) (alone : trees.Expr → State) (range : trees.Name → trees.Expr → State) → Reads (expr 5 (is_bare position) level (beginning position) (λ e. machine.lefts (position_of position) (is_bare position) level (e ∷ []) next alone range)) (by_header next alone range) parser.old result parser.new }
+    ensures shorter { OnOk result (size parser.new < size parser.old) }
 {
-    let sides = left_sides(reader, position, level)?;
-    behind_sides(reader, position, level, sides)
+    let sides = left_sides(parser, position, level)?;
+    behind_sides(parser, position, level, sides)
 }
 
 /// Reads a simple statement of a list, or behind the second semicolon of a `for`.
+///
+/// `SimpleStmt = ExpressionStmt | IncDecStmt | Assignment | ShortVarDecl .`
 pub(crate) fn simple(
-    reader: &mut Reader<'_>,
+    parser: &mut Parser<'_>,
     position: Position,
     level: u32,
 ) -> Result<Simple, Refusal>
     requires { level ≤ 252 }
-    ensures reads { (next : trees.Simple → State) → Reads (expr 5 (is_bare position) level (beginning position) (list_lefts (position_of position) (is_bare position) level next)) (λ s. next (simple_of s)) reader.old result reader.new }
-    ensures shorter { OnOk result (size reader.new < size reader.old) }
+    ensures reads { (next : trees.Simple → State) → Reads (expr 5 (is_bare position) level (beginning position) (list_lefts (position_of position) (is_bare position) level next)) (λ s. next (simple_of s)) parser.old result parser.new }
+    ensures shorter { OnOk result (size parser.new < size parser.old) }
 {
-    match header_from(reader, position, level)? {
+    match header_from(parser, position, level)? {
         Header::Simple(simple) => Ok(Box::into_inner(simple)),
         Header::Alone(call) => Ok(Simple::Call(Box::into_inner(call))),
         Header::Range(_name, call) => Ok(Simple::Call(Box::into_inner(call))),
@@ -418,7 +434,7 @@ fn first_place(sides: &[Expr]) -> Place
 
 /// The place of the first of some names.
 fn first_name_place(names: &[Name]) -> Place
-    ensures { (rs : trees.Exprs) → result ≡ simple_place (trees.definition names.now rs) }
+    ensures { (rs : trees.Exprs) → result ≡ simple_place (trees.short_var_decl names.now rs) }
 {
     match names {
         [name, ..] => name.place(),
@@ -436,6 +452,6 @@ pub(crate) fn place_of(simple: &Simple) -> Place
         Simple::Decrement(operand) => operand.place,
         Simple::OperatorAssignment(_, operand, _) => operand.place,
         Simple::Assignment(sides, _) => first_place(sides),
-        Simple::Definition(names, _) => first_name_place(names),
+        Simple::ShortVarDecl(names, _) => first_name_place(names),
     }
 }

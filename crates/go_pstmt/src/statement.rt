@@ -21,34 +21,36 @@ use crate::marks::{CLOSING_BRACE, ELSE, FOR, IF, OPENING_BRACE, SEMICOLON, SWITC
 use crate::simple::{Position, place_of, simple};
 use go_ast::statement::{Block, Clause, Else, If, Stmt};
 use go_pexpr::expected::Expected;
-use go_pexpr::reader::{Reader, Refusal};
+use go_pexpr::parser::{Parser, Refusal};
 
 /// Reads what is behind an item of a list of statements: a semicolon, which may be missing before
 /// a brace.
-fn item_end(reader: &mut Reader<'_>, expected: Expected) -> Result<(), Refusal>
-    ensures reads { (behind front : State) → Between behind (expected_of expected) front → Reads behind (λ _. front) reader.old result reader.new }
-    ensures no_longer { OnOk result (size reader.new ≤ size reader.old) }
+fn item_end(parser: &mut Parser<'_>, expected: Expected) -> Result<(), Refusal>
+    ensures reads { (behind front : State) → Between behind (expected_of expected) front → Reads behind (λ _. front) parser.old result parser.new }
+    ensures no_longer { OnOk result (size parser.new ≤ size parser.old) }
 {
-    if reader.is_next(CLOSING_BRACE) {
+    if parser.is_next(CLOSING_BRACE) {
         return Ok(());
     }
-    reader.expect(SEMICOLON, 0, expected)?;
+    parser.expect(SEMICOLON, 0, expected)?;
     Ok(())
 }
 
 /// Reads a block.
+///
+/// `Block = "{" StatementList "}" .`
 #[cycle(statement)]
-pub fn block(reader: &mut Reader<'_>, level: u32) -> Result<Block, Refusal>
+pub fn block(parser: &mut Parser<'_>, level: u32) -> Result<Block, Refusal>
     requires { level ≤ 252 }
-    ensures reads { (next : trees.Block → State) → Reads (block_at level next) (λ b. next (block_of b)) reader.old result reader.new }
-    ensures shorter { OnOk result (size reader.new < size reader.old) }
+    ensures reads { (next : trees.Block → State) → Reads (block_at level next) (λ b. next (block_of b)) parser.old result parser.new }
+    ensures shorter { OnOk result (size parser.new < size parser.old) }
 {
-    let opening = reader.expect(OPENING_BRACE, level, Expected::Another)?;
-    let mut statements = Vec::new(reader.alloc);
-    'statements: while !reader.is_next(CLOSING_BRACE) {
-        item(reader, level + 1, &mut statements)?;
+    let opening = parser.expect(OPENING_BRACE, level, Expected::Another)?;
+    let mut statements = Vec::new(parser.alloc);
+    'statements: while !parser.is_next(CLOSING_BRACE) {
+        item(parser, level + 1, &mut statements)?;
     }
-    let closing = reader.expect(CLOSING_BRACE, 0, Expected::Another)?;
+    let closing = parser.expect(CLOSING_BRACE, 0, Expected::Another)?;
     statements.shrink_to_fit();
     Ok(Block {
         place: opening.place,
@@ -58,69 +60,76 @@ pub fn block(reader: &mut Reader<'_>, level: u32) -> Result<Block, Refusal>
 }
 
 /// Reads an item of a list of statements, and the semicolon behind it.
+///
+/// `StatementList = { Statement ";" } .`
 #[cycle(statement)]
-fn item(reader: &mut Reader<'_>, level: u32, statements: &mut Vec<Stmt>) -> Result<(), Refusal>
+fn item(parser: &mut Parser<'_>, level: u32, statements: &mut Vec<Stmt>) -> Result<(), Refusal>
     requires { level ≤ 251 }
-    ensures reads { (before : State) (next : expected.Expected → List trees.Stmt → State) (front : List trees.Stmt → State) → Does before (on_item level (λ x s. next x (map stmt_of statements.old.items ++ s ∷ [])) (λ s. front (map stmt_of statements.old.items ++ s ∷ []))) None (left reader.old) → ((x : expected.Expected) (ss : List trees.Stmt) → Between (next x ss) x (front ss)) → Reads before (λ _. front (map stmt_of statements.new.items)) reader.old result reader.new }
-    ensures shorter { OnOk result (size reader.new < size reader.old) }
+    ensures reads { (before : State) (next : expected.Expected → List trees.Stmt → State) (front : List trees.Stmt → State) → Does before (on_item level (λ x s. next x (map stmt_of statements.old.items ++ s ∷ [])) (λ s. front (map stmt_of statements.old.items ++ s ∷ []))) None (left parser.old) → ((x : expected.Expected) (ss : List trees.Stmt) → Between (next x ss) x (front ss)) → Reads before (λ _. front (map stmt_of statements.new.items)) parser.old result parser.new }
+    ensures shorter { OnOk result (size parser.new < size parser.old) }
 {
-    if reader.is_next(SEMICOLON) {
-        let token = reader.expect(SEMICOLON, level, Expected::Another)?;
+    if parser.is_next(SEMICOLON) {
+        let token = parser.expect(SEMICOLON, level, Expected::Another)?;
         statements.push(Stmt::Empty(token.place))?;
         return Ok(());
     }
-    let statement = statement(reader, level)?;
+    let statement = statement(parser, level)?;
     let behind = expected_behind(&statement);
     statements.push(statement)?;
-    item_end(reader, behind)
+    item_end(parser, behind)
 }
 
 /// Reads a statement, which isn't empty.
+///
+/// `Statement = Declaration | SimpleStmt | ReturnStmt | BreakStmt | ContinueStmt
+/// | FallthroughStmt | Block | IfStmt | ForStmt | SwitchStmt .`
 #[cycle(statement)]
-fn statement(reader: &mut Reader<'_>, level: u32) -> Result<Stmt, Refusal>
+fn statement(parser: &mut Parser<'_>, level: u32) -> Result<Stmt, Refusal>
     requires { level ≤ 251 }
-    ensures reads { (next : trees.Stmt → State) → Reads (due_stmt level next) (λ s. next (stmt_of s)) reader.old result reader.new }
-    ensures shorter { OnOk result (size reader.new < size reader.old) }
+    ensures reads { (next : trees.Stmt → State) → Reads (due_stmt level next) (λ s. next (stmt_of s)) parser.old result parser.new }
+    ensures shorter { OnOk result (size parser.new < size parser.old) }
 {
-    if let Some(statement) = declared(reader, level)? {
+    if let Some(statement) = declared(parser, level)? {
         return Ok(statement);
     }
-    if let Some(statement) = jump(reader, level)? {
+    if let Some(statement) = jump(parser, level)? {
         return Ok(statement);
     }
-    if reader.is_next(OPENING_BRACE) {
-        let block = block(reader, level + 1)?;
+    if parser.is_next(OPENING_BRACE) {
+        let block = block(parser, level + 1)?;
         return Ok(Stmt::Block(block));
     }
-    if reader.is_next(IF) {
-        let conditional = conditional(reader, level)?;
+    if parser.is_next(IF) {
+        let conditional = conditional(parser, level)?;
         return Ok(Stmt::If(conditional));
     }
-    if reader.is_next(FOR) {
-        return for_loop(reader, level);
+    if parser.is_next(FOR) {
+        return for_loop(parser, level);
     }
-    if reader.is_next(SWITCH) {
-        return switch(reader, level);
+    if parser.is_next(SWITCH) {
+        return switch(parser, level);
     }
-    let simple = simple(reader, Position::List, level + 1)?;
+    let simple = simple(parser, Position::List, level + 1)?;
     let place = place_of(&simple);
     Ok(Stmt::Simple(place, simple))
 }
 
 /// Reads an `if`.
+///
+/// `IfStmt = "if" [ [ SimpleStmt ] ";" ] Expression Block [ "else" ( IfStmt | Block ) ] .`
 #[cycle(statement)]
-fn conditional(reader: &mut Reader<'_>, level: u32) -> Result<If, Refusal>
+fn conditional(parser: &mut Parser<'_>, level: u32) -> Result<If, Refusal>
     requires { level ≤ 251 }
-    ensures reads { (next : trees.If → State) → Reads (token (keyword keywords.If) (level + 1) expected.another (behind_if level next)) (λ i. next (if_of i)) reader.old result reader.new }
-    ensures shorter { OnOk result (size reader.new < size reader.old) }
+    ensures reads { (next : trees.If → State) → Reads (token (keyword keywords.If) (level + 1) expected.another (behind_if level next)) (λ i. next (if_of i)) parser.old result parser.new }
+    ensures shorter { OnOk result (size parser.new < size parser.old) }
 {
-    let word = reader.expect(IF, level + 1, Expected::Another)?;
-    let head = condition_from(reader, level)?;
-    let body = block(reader, level + 1)?;
-    let otherwise = otherwise(reader, level)?;
+    let word = parser.expect(IF, level + 1, Expected::Another)?;
+    let head = condition_from(parser, level)?;
+    let body = block(parser, level + 1)?;
+    let otherwise = otherwise(parser, level)?;
     Ok(If {
         place: word.place,
-        start: head.start,
+        init: head.init,
         condition: head.condition,
         body,
         otherwise,
@@ -128,78 +137,88 @@ fn conditional(reader: &mut Reader<'_>, level: u32) -> Result<If, Refusal>
 }
 
 /// Reads what is behind the block of an `if`.
+///
+/// `[ "else" ( IfStmt | Block ) ] .`
 #[cycle(statement)]
-fn otherwise(reader: &mut Reader<'_>, level: u32) -> Result<Else, Refusal>
+fn otherwise(parser: &mut Parser<'_>, level: u32) -> Result<Else, Refusal>
     requires { level ≤ 250 }
-    ensures reads { (p : Place) (i : Option trees.Simple) (c : trees.Expr) (b : trees.Block) (next : trees.If → State) → Reads (else_part level p i c b next) (λ e. next (trees.conditional p i c b (else_of e))) reader.old result reader.new }
-    ensures no_longer { OnOk result (size reader.new ≤ size reader.old) }
+    ensures reads { (p : Place) (i : Option trees.Simple) (c : trees.Expr) (b : trees.Block) (next : trees.If → State) → Reads (else_part level p i c b next) (λ e. next (trees.conditional p i c b (else_of e))) parser.old result parser.new }
+    ensures no_longer { OnOk result (size parser.new ≤ size parser.old) }
 {
-    if !reader.is_next(ELSE) {
+    if !parser.is_next(ELSE) {
         return Ok(Else::Nothing);
     }
-    reader.expect(ELSE, 0, Expected::Another)?;
-    if reader.is_next(IF) {
-        let other = conditional(reader, level + 1)?;
-        let other = Box::new(reader.alloc, other)?;
+    parser.expect(ELSE, 0, Expected::Another)?;
+    if parser.is_next(IF) {
+        let other = conditional(parser, level + 1)?;
+        let other = Box::new(parser.alloc, other)?;
         return Ok(Else::If(other));
     }
-    let block = block(reader, level + 1)?;
+    let block = block(parser, level + 1)?;
     Ok(Else::Block(block))
 }
 
 /// Reads a `for`.
+///
+/// `ForStmt = "for" [ Condition | ForClause | RangeClause ] Block .`
 #[cycle(statement)]
-fn for_loop(reader: &mut Reader<'_>, level: u32) -> Result<Stmt, Refusal>
+fn for_loop(parser: &mut Parser<'_>, level: u32) -> Result<Stmt, Refusal>
     requires { level ≤ 251 }
-    ensures reads { (next : trees.Stmt → State) → Reads (token (keyword keywords.For) (level + 1) expected.another (behind_for level next)) (λ s. next (stmt_of s)) reader.old result reader.new }
-    ensures shorter { OnOk result (size reader.new < size reader.old) }
+    ensures reads { (next : trees.Stmt → State) → Reads (token (keyword keywords.For) (level + 1) expected.another (behind_for level next)) (λ s. next (stmt_of s)) parser.old result parser.new }
+    ensures shorter { OnOk result (size parser.new < size parser.old) }
 {
-    let word = reader.expect(FOR, level + 1, Expected::Another)?;
-    let turns = turns_from(reader, level)?;
-    let body = block(reader, level + 1)?;
+    let word = parser.expect(FOR, level + 1, Expected::Another)?;
+    let turns = turns_from(parser, level)?;
+    let body = block(parser, level + 1)?;
     Ok(for_of(word.place, turns, body))
 }
 
 /// Reads a `switch`.
+///
+/// `ExprSwitchStmt = "switch" [ [ SimpleStmt ] ";" ] [ Expression ] "{" { ExprCaseClause } "}" .`
 #[cycle(statement)]
-fn switch(reader: &mut Reader<'_>, level: u32) -> Result<Stmt, Refusal>
+fn switch(parser: &mut Parser<'_>, level: u32) -> Result<Stmt, Refusal>
     requires { level ≤ 251 }
-    ensures reads { (next : trees.Stmt → State) → Reads (token (keyword keywords.Switch) level expected.another (behind_switch level next)) (λ s. next (stmt_of s)) reader.old result reader.new }
-    ensures shorter { OnOk result (size reader.new < size reader.old) }
+    ensures reads { (next : trees.Stmt → State) → Reads (token (keyword keywords.Switch) level expected.another (behind_switch level next)) (λ s. next (stmt_of s)) parser.old result parser.new }
+    ensures shorter { OnOk result (size parser.new < size parser.old) }
 {
-    let word = reader.expect(SWITCH, level, Expected::Another)?;
-    let head = compared_from(reader, level)?;
-    let clauses = clauses(reader, level)?;
-    Ok(Stmt::Switch(word.place, head.start, head.value, clauses))
+    let word = parser.expect(SWITCH, level, Expected::Another)?;
+    let head = compared_from(parser, level)?;
+    let clauses = clauses(parser, level)?;
+    Ok(Stmt::Switch(word.place, head.init, head.value, clauses))
 }
 
 /// Reads the clauses of a `switch` and the brace that closes them.
+///
+/// `{ ExprCaseClause } "}" .`
 #[cycle(statement)]
-fn clauses(reader: &mut Reader<'_>, level: u32) -> Result<Vec<Clause>, Refusal>
+fn clauses(parser: &mut Parser<'_>, level: u32) -> Result<Vec<Clause>, Refusal>
     requires { level ≤ 250 }
-    ensures reads { (next : trees.Clauses → State) → Reads (clauses_at level (λ cs _. next cs)) (λ cs. next (pack_clauses (map clause_of cs.items))) reader.old result reader.new }
-    ensures shorter { OnOk result (size reader.new < size reader.old) }
+    ensures reads { (next : trees.Clauses → State) → Reads (clauses_at level (λ cs _. next cs)) (λ cs. next (pack_clauses (map clause_of cs.items))) parser.old result parser.new }
+    ensures shorter { OnOk result (size parser.new < size parser.old) }
 {
-    let mut clauses = Vec::new(reader.alloc);
-    'clauses: while !reader.is_next(CLOSING_BRACE) {
-        let mut clause = clause_from(reader, level)?;
-        clause.statements = clause_statements(reader, level)?;
+    let mut clauses = Vec::new(parser.alloc);
+    'clauses: while !parser.is_next(CLOSING_BRACE) {
+        let mut clause = clause_from(parser, level)?;
+        clause.statements = clause_statements(parser, level)?;
         clauses.push(clause)?;
     }
-    reader.expect(CLOSING_BRACE, 0, Expected::Another)?;
+    parser.expect(CLOSING_BRACE, 0, Expected::Another)?;
     Ok(clauses)
 }
 
 /// Reads the statements of a clause.
+///
+/// `ExprCaseClause = ExprSwitchCase ":" StatementList .`
 #[cycle(statement)]
-fn clause_statements(reader: &mut Reader<'_>, level: u32) -> Result<Vec<Stmt>, Refusal>
+fn clause_statements(parser: &mut Parser<'_>, level: u32) -> Result<Vec<Stmt>, Refusal>
     requires { level ≤ 250 }
-    ensures reads { (done : List machine.Clause) (p : Place) (values : Option trees.Exprs) (next : trees.Clauses → Lexeme → State) → Reads (clause_start level done p values [] next) (λ ss. clauses_behind level (done ++ (p, (values, map stmt_of ss.items)) ∷ []) next) reader.old result reader.new }
-    ensures no_longer { OnOk result (size reader.new ≤ size reader.old) }
+    ensures reads { (done : List machine.Clause) (p : Place) (values : Option trees.Exprs) (next : trees.Clauses → Lexeme → State) → Reads (clause_start level done p values [] next) (λ ss. clauses_behind level (done ++ (p, (values, map stmt_of ss.items)) ∷ []) next) parser.old result parser.new }
+    ensures no_longer { OnOk result (size parser.new ≤ size parser.old) }
 {
-    let mut statements = Vec::new(reader.alloc);
-    'statements: while !ends_clause(reader) {
-        item(reader, level + 1, &mut statements)?;
+    let mut statements = Vec::new(parser.alloc);
+    'statements: while !ends_clause(parser) {
+        item(parser, level + 1, &mut statements)?;
     }
     statements.shrink_to_fit();
     Ok(statements)

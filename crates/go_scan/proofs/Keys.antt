@@ -1,7 +1,8 @@
 -- Keywords and punctuation from their spelling.
-use Rattle.std.proofs.Common.{◌≡◌, ℕ, ◌≤◌, Bool, true, false, cond, List, [], ◌∷◌, length, Option, Some, None, refl, sym, ap, ◌∙◌, subst, arith}
+use Rattle.std.proofs.Common.{◌≡◌, ℕ, ◌+◌, ◌≤◌, ◌<◌, Bool, true, false, cond, List, [], ◌∷◌, length, drop, get_or, Option, Some, None, refl, sym, ap, ◌∙◌, subst, arith}
 use Rattle.std.specs.List.{find}
 use Rattle.std.specs.Str.{bytes_eq}
+use Rattle.std.proofs.lemmas.List.{at_drop_more}
 use Rattle.std.proofs.lemmas.Slice.Eq.{bytes_eq-Decides}
 use Rattle.go_scan.specs.declared.punctuation.Punctuation.{Punctuation}
 use Rattle.go_scan.specs.declared.punctuation.Punctuation.TheVariants as marks
@@ -50,6 +51,11 @@ found_passes p (x ∷ xs) a e = by_test (p x) refl (found_passes p xs a) e
     by_test : (c : Bool) → p x ≡ c → (find p xs ≡ Some a → p a ≡ true) → cond c (Some x) (find p xs) ≡ Some a → p a ≡ true
     by_test true t next q = let same : x ≡ a = cc in subst (λ y. p y ≡ true) same t
     by_test false t next q = next q
+
+-- a search goes on behind what doesn't pass
+pub find_step : {A : Type 0} (p : A → Bool) (xs : List A) (i : ℕ) (default : A) (o : Option A) → i < length xs → p (get_or xs i default) ≡ false → find p (drop i xs) ≡ o → find p (drop (i + 1) xs) ≡ o
+find_step p xs i default o less e before =
+    sym (at_drop_more (find p) xs i default less ∙ ap (λ t. cond t (Some (get_or xs i default)) (find p (drop (i + 1) xs))) e) ∙ before
 
 pub keyword_found : (bytes : List ℕ) (k : Keyword) → keyword_in bytes ≡ Some k → bytes ≡ spelling k
 keyword_found bytes k e = sym ((bytes_eq-Decides (spelling k) bytes).0 (found_passes (λ j. bytes_eq (spelling j) bytes) all_keywords k e))

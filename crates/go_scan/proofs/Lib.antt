@@ -3,6 +3,7 @@ pub mod Digits
 pub mod EscapeFronts
 pub mod Fronts
 pub mod Keys
+pub mod KindsEqual
 pub mod LiteralFronts
 pub mod MarkFronts
 pub mod NumberFronts

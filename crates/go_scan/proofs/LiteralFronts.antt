@@ -1,11 +1,11 @@
 -- Rune and string literals at the front of a text.
-use Rattle.std.proofs.Common.{◌≡◌, ℕ, ◌+◌, ◌-◌, ◌<◌, ◌≤◌, inl, inr, zero, suc, Bool, true, false, cond, nat_eq, List, [], ◌∷◌, ◌++◌, length, get_or, take, drop, Option, Some, None, refl, sym, ap, ◌∙◌, subst, arith, append_assoc, append-nil, length-append, length-drop, eqb-true}
+use Rattle.std.proofs.Common.{◌≡◌, ◌↔◌, ℕ, ◌+◌, ◌-◌, ◌<◌, ◌≤◌, inl, inr, zero, suc, Bool, true, false, cond, nat_eq, List, [], ◌∷◌, ◌++◌, length, get_or, take, drop, Option, Some, None, refl, sym, ap, ◌∙◌, subst, arith, append_assoc, append-nil, length-append, length-drop, eqb-true}
 use Rattle.std.specs.List.{list_all, prefix_len, flat_map, AllByRecursion, filter}
 use Rattle.std.specs.Char.{encode_utf8}
 use Rattle.std.proofs.lemmas.Bool.Decides.{nat_tests}
 use Rattle.std.proofs.lemmas.Str.{char_from_byte, length-encode, len_utf8_bounds}
 use Rattle.std.proofs.lemmas.List.{drop-drop, take_rest}
-use Rattle.std.proofs.Math.Seq.{take-append_seam, drop-append_seam, take-add}
+use Rattle.std.proofs.Math.Seq.{take-append_seam, drop-append_seam, take-add, take-length}
 use Rattle.bstr.specs.Utf8.{decoded, Decoded}
 use Rattle.bstr.proofs.lemmas.EncodeLemmas.{decoded-encode}
 use Rattle.bstr.proofs.lemmas.SoundLemmas.{SpellsChar-decoded}
@@ -15,13 +15,13 @@ use Rattle.go_scan.specs.declared.token.TokenKind.{TokenKind}
 use Rattle.go_scan.specs.declared.token.TokenKind.TheVariants as kinds
 use Rattle.go_scan.specs.Escapes.{bytes_of}
 use Rattle.go_scan.specs.Lex.{Spells}
-use Rattle.go_scan.specs.Runes.{is_plain_rune, IsRunePart, RuneMeans, IsRune}
-use Rattle.go_scan.specs.Strings.{is_plain, Part, IsPart, is_in_raw, is_kept, StringMeans, IsString}
-use Rattle.go_scan.specs.Fronts.{strides, escape_at, escaped_rune, plain_rune, rune_part_at, closed_at, rune_at, escaped_part, part_at, size_of, part_size, values, string_at, raw_at, code_or_zero, rune_value_of, string_value_of}
+use Rattle.go_scan.specs.Runes.{is_plain_rune, IsRunePart, RuneMeans, IsRune, RuneValue}
+use Rattle.go_scan.specs.Strings.{is_plain, Part, IsPart, is_in_raw, is_kept, StringMeans, IsString, StringValue}
+use Rattle.go_scan.specs.Fronts.{strides, escape_at, escaped_rune, plain_rune, rune_part_at, closed_at, rune_at, escaped_part, part_at, size_of, part_size, values, string_at, raw_at, is_whole, is_rune, is_string, code_or_zero, rune_meaning, rune_value_of, string_meaning, string_value_of}
 use Rattle.go_scan.proofs.EscapeFronts.{escape_found, escape_read, single_quote, double_quote}
 use Rattle.go_scan.proofs.Runs.{run_all, run_stop, strides_on, strides_stop, Good, Fits}
 
--- the byte at a place, and the bytes up to it
+-- the byte at an index, and the bytes up to it
 take_next : (bs : List ℕ) (n b : ℕ) → get_or bs n 0 ≡ suc b → (take (n + 1) bs ≡ take n bs ++ suc b ∷ []) × (n < length bs)
 take_next [] n b e = cc
 take_next (x ∷ bs) zero b e = (ap (λ y. y ∷ []) e, omega arith)
@@ -266,23 +266,17 @@ string_good rest =
     (λ whole. (flat_map (λ (p : Part). p.value) w.0, inl (w.0, w.1, whole ∙ ap (λ ys. 34 ∷ ys ++ 34 ∷ []) w.2, refl)))
 
 -- the value of a rune literal is what is read
-pub rune_is : (bytes : List ℕ) (code : ℕ) → RuneMeans bytes code → rune_value_of bytes ≡ code
-rune_is bytes code (part, e, h) = ap (λ (ys : List ℕ). rune_value_of ys) e ∙ ap code_or_zero (rune_read part (39 ∷ []) code h)
+rune_is : (bytes : List ℕ) (code : ℕ) → RuneMeans bytes code → rune_meaning bytes ≡ code
+rune_is bytes code (part, e, h) = ap (λ (ys : List ℕ). rune_meaning ys) e ∙ ap code_or_zero (rune_read part (39 ∷ []) code h)
 
 -- and so is that of a string literal
-pub string_is : (bytes value : List ℕ) → StringMeans bytes value → string_value_of bytes ≡ value
-string_is bytes value (inl (parts, all, e, v)) = ap string_value_of e ∙ (parts_read parts [] all).value ∙ sym v
+string_is : (bytes value : List ℕ) → StringMeans bytes value → string_meaning bytes ≡ value
+string_is bytes value (inl (parts, all, e, v)) = ap string_meaning e ∙ (parts_read parts [] all).value ∙ sym v
 string_is bytes value (inr (inner, e, all, v)) =
-    ap string_value_of e
+    ap string_meaning e
     ∙ ap (λ k. filter is_kept (take k (inner ++ 96 ∷ []))) (run_stop is_in_raw inner 96 [] all refl)
     ∙ ap (filter is_kept) (take-append_seam inner (96 ∷ []))
     ∙ sym v
-
-pub rune_means : (bytes : List ℕ) → IsRune bytes → RuneMeans bytes (rune_value_of bytes)
-rune_means bytes (code, means) = subst (RuneMeans bytes) (sym (rune_is bytes code means)) means
-
-pub string_means : (bytes : List ℕ) → IsString bytes → StringMeans bytes (string_value_of bytes)
-string_means bytes (value, means) = subst (StringMeans bytes) (sym (string_is bytes value means)) means
 
 pub one_rune : (bytes : List ℕ) (a b : ℕ) → RuneMeans bytes a → RuneMeans bytes b → a ≡ b
 one_rune bytes a b p q = sym (rune_is bytes a p) ∙ rune_is bytes b q
@@ -290,11 +284,93 @@ one_rune bytes a b p q = sym (rune_is bytes a p) ∙ rune_is bytes b q
 pub one_string : (bytes a b : List ℕ) → StringMeans bytes a → StringMeans bytes b → a ≡ b
 one_string bytes a b p q = sym (string_is bytes a p) ∙ string_is bytes b q
 
-pub rune_value_is : (bytes : List ℕ) (code : ℕ) → IsRune bytes → code ≡ rune_value_of bytes → RuneMeans bytes code
-rune_value_is bytes code rune e = subst (RuneMeans bytes) (sym e) (rune_means bytes rune)
+-- a literal is found whole, and what is found whole is one
+whole_closed : (kind : TokenKind) (quote : ℕ) (inner : List ℕ) (n : ℕ) → n ≡ length inner → is_whole (length (inner ++ quote ∷ []) + 1) (closed_at kind quote (inner ++ quote ∷ []) n) ≡ true
+whole_closed kind quote inner n e =
+    let closes : nat_eq (get_or (inner ++ quote ∷ []) n 0) quote ≡ true = ap (λ k. nat_eq (get_or (inner ++ quote ∷ []) k 0) quote) e ∙ ap (λ x. nat_eq x quote) (at_seam inner [] quote) ∙ eqb-same quote in
+    let size : n + 2 ≡ length (inner ++ quote ∷ []) + 1 = omega (arith, e, length-append inner (quote ∷ [])) in
+    ap (λ c. is_whole (length (inner ++ quote ∷ []) + 1) (cond c (Some (Word kind, n + 2)) None)) closes ∙ ap (λ k. nat_eq k (length (inner ++ quote ∷ []) + 1)) size ∙ eqb-same (length (inner ++ quote ∷ []) + 1)
+  where
+    eqb-same : (q : ℕ) → nat_eq q q ≡ true
+    eqb-same q = grind (arith, nat_tests)
 
-pub string_value_is : (bytes value : List ℕ) → IsString bytes → value ≡ string_value_of bytes → StringMeans bytes value
-string_value_is bytes value string e = subst (StringMeans bytes) (sym e) (string_means bytes string)
+whole_spells : (kind : TokenKind) (quote : ℕ) (rest : List ℕ) (n : ℕ) → Good (quote ∷ rest) (closed_at kind quote rest n) → is_whole (length rest + 1) (closed_at kind quote rest n) ≡ true → Spells (Word kind) (quote ∷ rest)
+whole_spells kind quote rest n = by_test (nat_eq (get_or rest n 0) quote)
+  where
+    by_test : (c : Bool) → Good (quote ∷ rest) (cond c (Some (Word kind, n + 2)) None) → is_whole (length rest + 1) (cond c (Some (Word kind, n + 2)) None) ≡ true → Spells (Word kind) (quote ∷ rest)
+    by_test false g e = cc
+    by_test true g e =
+        let size : n + 2 ≡ length (quote ∷ rest) = omega (arith, eqb-true (n + 2) (length rest + 1) e) in
+        subst (Spells (Word kind)) (ap (λ k. take k (quote ∷ rest)) size ∙ take-length (quote ∷ rest)) g.0
+
+rune_tested : (bytes : List ℕ) → IsRune bytes → is_rune bytes ≡ true
+rune_tested bytes (code, (part, e, h)) =
+    ap is_rune e
+    ∙ ap (λ o. is_whole (length (part ++ 39 ∷ []) + 1) (elim o [ None ↦ None | Some p ↦ closed_at kinds.Rune 39 (part ++ 39 ∷ []) p.0 ])) (rune_read part (39 ∷ []) code h)
+    ∙ whole_closed kinds.Rune 39 part (length part) refl
+
+rune_untested : (bytes : List ℕ) → is_rune bytes ≡ true → IsRune bytes
+rune_untested [] e = cc
+rune_untested (b ∷ bs) e = by_test (nat_eq b 39) refl e
+  where
+    by_part : (o : Option (ℕ × ℕ)) → Good (39 ∷ bs) (elim o [ None ↦ None | Some p ↦ closed_at kinds.Rune 39 bs p.0 ]) → is_whole (length bs + 1) (elim o [ None ↦ None | Some p ↦ closed_at kinds.Rune 39 bs p.0 ]) ≡ true → IsRune (39 ∷ bs)
+    by_part None g w = cc
+    by_part (Some p) g w = whole_spells kinds.Rune 39 bs p.0 g w
+
+    by_test : (c : Bool) → nat_eq b 39 ≡ c → is_whole (length bs + 1) (cond c (rune_at bs) None) ≡ true → IsRune (b ∷ bs)
+    by_test false t w = cc
+    by_test true t w = subst (λ x. IsRune (x ∷ bs)) (sym (eqb-true b 39 t)) (by_part (rune_part_at bs) (rune_good bs) w)
+
+string_tested : (bytes : List ℕ) → IsString bytes → is_string bytes ≡ true
+string_tested bytes (value, inl (parts, all, e, v)) =
+    ap is_string e ∙ whole_closed kinds.String 34 (flat_map (λ (p : Part). p.bytes) parts) _ (parts_read parts [] all).size
+string_tested bytes (value, inr (inner, e, all, v)) =
+    ap is_string e ∙ whole_closed kinds.String 96 inner _ (run_stop is_in_raw inner 96 [] all refl)
+
+string_untested : (bytes : List ℕ) → is_string bytes ≡ true → IsString bytes
+string_untested [] e = cc
+string_untested (b ∷ bs) e = by_quote (nat_eq b 34) refl e
+  where
+    by_raw : (c : Bool) → nat_eq b 96 ≡ c → is_whole (length bs + 1) (cond c (raw_at bs) None) ≡ true → IsString (b ∷ bs)
+    by_raw false t w = cc
+    by_raw true t w = subst (λ x. IsString (x ∷ bs)) (sym (eqb-true b 96 t)) (whole_spells kinds.String 96 bs (prefix_len is_in_raw bs) (raw_good bs) w)
+
+    by_quote : (c : Bool) → nat_eq b 34 ≡ c → is_whole (length bs + 1) (cond c (string_at bs) (cond (nat_eq b 96) (raw_at bs) None)) ≡ true → IsString (b ∷ bs)
+    by_quote true t w = subst (λ x. IsString (x ∷ bs)) (sym (eqb-true b 34 t)) (whole_spells kinds.String 34 bs (strides part_size 0 bs) (string_good bs) w)
+    by_quote false t w = by_raw (nat_eq b 96) refl w
+
+-- each text has one value, and it is what is computed
+rune_has : (bytes : List ℕ) → RuneValue bytes (rune_value_of bytes)
+rune_has bytes = by_test (is_rune bytes) refl
+  where
+    by_test : (c : Bool) → is_rune bytes ≡ c → RuneValue bytes (cond c (rune_meaning bytes) 0)
+    by_test false e = inr ((λ r. let both : false ≡ true = sym e ∙ rune_tested bytes r in cc (both)), refl)
+    by_test true e = let r = rune_untested bytes e in inl (subst (RuneMeans bytes) (sym (rune_is bytes r.0 r.1)) r.1)
+
+string_has : (bytes : List ℕ) → StringValue bytes (string_value_of bytes)
+string_has bytes = by_test (is_string bytes) refl
+  where
+    by_test : (c : Bool) → is_string bytes ≡ c → StringValue bytes (cond c (string_meaning bytes) [])
+    by_test false e = inr ((λ r. let both : false ≡ true = sym e ∙ string_tested bytes r in cc (both)), refl)
+    by_test true e = let r = string_untested bytes e in inl (subst (StringMeans bytes) (sym (string_is bytes r.0 r.1)) r.1)
+
+one_rune_value : (bytes : List ℕ) (a b : ℕ) → RuneValue bytes a → RuneValue bytes b → a ≡ b
+one_rune_value bytes a b (inl p) (inl q) = one_rune bytes a b p q
+one_rune_value bytes a b (inl p) (inr q) = absurd (q.0 (a, p))
+one_rune_value bytes a b (inr p) (inl q) = absurd (p.0 (b, q))
+one_rune_value bytes a b (inr p) (inr q) = p.1 ∙ sym q.1
+
+one_string_value : (bytes a b : List ℕ) → StringValue bytes a → StringValue bytes b → a ≡ b
+one_string_value bytes a b (inl p) (inl q) = one_string bytes a b p q
+one_string_value bytes a b (inl p) (inr q) = absurd (q.0 (a, p))
+one_string_value bytes a b (inr p) (inl q) = absurd (p.0 (b, q))
+one_string_value bytes a b (inr p) (inr q) = p.1 ∙ sym q.1
+
+pub rune_valued : (bytes : List ℕ) (code : ℕ) → RuneValue bytes code ↔ (code ≡ rune_value_of bytes)
+rune_valued bytes code = ((λ v. one_rune_value bytes code (rune_value_of bytes) v (rune_has bytes)), (λ e. subst (RuneValue bytes) (sym e) (rune_has bytes)))
+
+pub string_valued : (bytes value : List ℕ) → StringValue bytes value ↔ (value ≡ string_value_of bytes)
+string_valued bytes value = ((λ v. one_string_value bytes value (string_value_of bytes) v (string_has bytes)), (λ e. subst (StringValue bytes) (sym e) (string_has bytes)))
 
 -- a step of a loop over the parts of a string
 pub values_step : (bytes : List ℕ) (at size : ℕ) (m : Meaning) (old new : List ℕ) → Some (size, bytes_of m) ≡ part_at (take (length bytes - at) (drop at bytes)) → at ≤ length bytes →

@@ -204,14 +204,34 @@ abbrev pub front : List ℕ → Option (Shape × ℕ)
 front [] = None
 front (b ∷ bs) = if is_blank b then Some (Blanks, prefix_len is_blank (b ∷ bs)) else no_blank_at b bs
 
--- the values of literals
+-- what is found takes so many bytes
+abbrev pub is_whole : ℕ → Option (Shape × ℕ) → Bool
+is_whole n None = false
+is_whole n (Some p) = nat_eq p.1 n
+
+-- all the bytes are a rune literal, or a string literal
+abbrev pub is_rune : List ℕ → Bool
+is_rune [] = false
+is_rune (b ∷ bs) = is_whole (length bs + 1) (if nat_eq b 39 then rune_at bs else None)
+
+abbrev pub is_string : List ℕ → Bool
+is_string [] = false
+is_string (b ∷ bs) = is_whole (length bs + 1) (if nat_eq b 34 then string_at bs else (if nat_eq b 96 then raw_at bs else None))
+
+-- the values of literals, and 0 and no bytes for what is none
 abbrev pub code_or_zero : Option (ℕ × ℕ) → ℕ
 code_or_zero None = 0
 code_or_zero (Some p) = p.1
 
+abbrev pub rune_meaning : List ℕ → ℕ
+rune_meaning bytes = code_or_zero (rune_part_at (drop 1 bytes))
+
 abbrev pub rune_value_of : List ℕ → ℕ
-rune_value_of bytes = code_or_zero (rune_part_at (drop 1 bytes))
+rune_value_of bytes = if is_rune bytes then rune_meaning bytes else 0
+
+abbrev pub string_meaning : List ℕ → List ℕ
+string_meaning [] = []
+string_meaning (b ∷ bs) = if nat_eq b 34 then values 0 bs else filter is_kept (take (prefix_len is_in_raw bs) bs)
 
 abbrev pub string_value_of : List ℕ → List ℕ
-string_value_of [] = []
-string_value_of (b ∷ bs) = if nat_eq b 34 then values 0 bs else filter is_kept (take (prefix_len is_in_raw bs) bs)
+string_value_of bytes = if is_string bytes then string_meaning bytes else []

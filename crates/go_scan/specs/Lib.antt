@@ -2,6 +2,7 @@ pub mod Comments
 pub mod Escapes
 pub mod Fronts
 pub mod Keywords
+pub mod Kinds
 pub mod Lex
 pub mod Numbers
 pub mod Punctuations

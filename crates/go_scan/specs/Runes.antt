@@ -20,3 +20,7 @@ RuneMeans bytes code = (part : List ℕ) × (bytes ≡ 39 ∷ part ++ 39 ∷ [])
 
 abbrev pub IsRune : List ℕ → Type 0
 IsRune bytes = (code : ℕ) × RuneMeans bytes code
+
+-- what a text means as a rune literal: 0, where it is none
+abbrev pub RuneValue : List ℕ → ℕ → Type 0
+RuneValue bytes code = RuneMeans bytes code ⊎ ((IsRune bytes → ⊥) × (code ≡ 0))

@@ -42,3 +42,7 @@ StringMeans bytes value = InterpretedMeans bytes value ⊎ RawMeans bytes value
 
 abbrev pub IsString : List ℕ → Type 0
 IsString bytes = (value : List ℕ) × StringMeans bytes value
+
+-- what a text means as a string literal: no bytes, where it is none
+abbrev pub StringValue : List ℕ → List ℕ → Type 0
+StringValue bytes value = StringMeans bytes value ⊎ ((IsString bytes → ⊥) × (value ≡ []))

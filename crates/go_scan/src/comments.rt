@@ -22,6 +22,8 @@ fn line_len(bytes: &[u8]) -> usize
 }
 
 /// The comment of two slashes and these bytes.
+///
+///     line comment = "//" { all characters but newline } .
 pub fn line_at(bytes: &[u8]) -> (Shape, usize)
     requires { length bytes.now + 3 < 2 ^ 64 }
     ensures { result ≡ (LineComment, prefix_len is_in_line bytes.now + 2) }
@@ -47,6 +49,8 @@ fn before_close(bytes: &[u8]) -> usize
 }
 
 /// The comment of a slash, a star and these bytes.
+///
+///     general comment = "/*" { characters up to the first "*/" } "*/" .
 pub fn block_at(bytes: &[u8]) -> (Shape, usize)
     requires { length bytes.now + 3 < 2 ^ 64 }
     ensures { result ≡ block_shape (before_close false bytes.now) bytes.now }
@@ -68,7 +72,9 @@ fn ends_word(bytes: &[u8]) -> bool
     }
 }
 
-/// Whether a comment is a build constraint.
+/// Whether a line comment is a build constraint.
+///
+///     constraint = "//go:build" [ ( " " | tab ) { all characters but newline } ] .
 pub fn is_constraint(comment: &[u8]) -> bool
     ensures { result ≡ is_constraint comment.now }
 {

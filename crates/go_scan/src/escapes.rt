@@ -4,7 +4,7 @@ ghost use Rattle.go_scan.specs.Escapes.{count, base, opening, means, letter_esca
 ghost use Rattle.go_scan.specs.Fronts.{digits_at, number_escape_at, other_escape_at, escape_at};
 
 /// What an escape means.
-#[derive(Clone, Copy, PartialEq, Eq, Debug)]
+#[derive(Clone, Copy)]
 pub enum Meaning {
     /// A byte, by its value.
     Byte(u8),
@@ -13,7 +13,7 @@ pub enum Meaning {
 }
 
 /// The forms of escapes by number.
-#[derive(Clone, Copy, PartialEq, Eq, Debug)]
+#[derive(Clone, Copy)]
 pub enum Form {
     /// Three octal digits.
     Octal,
@@ -100,6 +100,11 @@ fn digits_at(base: u32, count: usize, bytes: &[u8]) -> Option<u32>
     Some(number as u32)
 }
 
+///     octal_byte_value = `\` octal_digit octal_digit octal_digit .
+///     hex_byte_value   = `\` "x" hex_digit hex_digit .
+///     little_u_value   = `\` "u" hex_digit hex_digit hex_digit hex_digit .
+///     big_u_value      = `\` "U" hex_digit hex_digit hex_digit hex_digit
+///                            hex_digit hex_digit hex_digit hex_digit .
 fn number_escape_at(form: Form, bytes: &[u8]) -> Option<(usize, Meaning)>
     ensures { result ≡ number_escape_at form bytes.now }
 {
@@ -108,6 +113,7 @@ fn number_escape_at(form: Form, bytes: &[u8]) -> Option<(usize, Meaning)>
     Some((1 + form.opening_len() + form.count(), meaning))
 }
 
+///     escaped_char = `\` ( "a" | "b" | "f" | "n" | "r" | "t" | "v" | `\` | quote ) .
 fn letter_escape(quote: u8, byte: u8) -> Option<u8>
     ensures { result ≡ letter_escape quote byte }
 {
@@ -125,6 +131,8 @@ fn letter_escape(quote: u8, byte: u8) -> Option<u8>
 }
 
 /// The escape that stands behind a backslash, if any: its size, with the backslash, and meaning.
+///
+///     escaped_char | byte_value | little_u_value | big_u_value
 pub fn escape_at(quote: u8, bytes: &[u8]) -> Option<(usize, Meaning)>
     ensures { result ≡ escape_at quote bytes.now }
 {

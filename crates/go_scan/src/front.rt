@@ -72,6 +72,8 @@ fn slash_at(bytes: &[u8], rest: &[u8]) -> Option<(Shape, usize)>
 }
 
 /// The shape of the piece that the bytes begin with, and how many of them it takes.
+///
+///     piece = blanks | comment | identifier | keyword | operator | int_lit | rune_lit | string_lit .
 fn piece_at(bytes: &[u8]) -> Option<(Shape, usize)>
     requires { length bytes.now + 3 < 2 ^ 64 }
     ensures { result ≡ front bytes.now }

@@ -32,7 +32,69 @@ pub enum Keyword {
     Var,
 }
 
+/// All keywords.
+static KEYWORDS: [Keyword; 25] = [
+    Keyword::Break,
+    Keyword::Case,
+    Keyword::Chan,
+    Keyword::Const,
+    Keyword::Continue,
+    Keyword::Default,
+    Keyword::Defer,
+    Keyword::Else,
+    Keyword::Fallthrough,
+    Keyword::For,
+    Keyword::Func,
+    Keyword::Go,
+    Keyword::Goto,
+    Keyword::If,
+    Keyword::Import,
+    Keyword::Interface,
+    Keyword::Map,
+    Keyword::Package,
+    Keyword::Range,
+    Keyword::Return,
+    Keyword::Select,
+    Keyword::Struct,
+    Keyword::Switch,
+    Keyword::Type,
+    Keyword::Var,
+];
+
 impl Keyword {
+    /// How the keyword is spelled.
+    fn spelling(self) -> &'static str
+        ensures { result.now ≡ spelling self }
+    {
+        match self {
+            Keyword::Break => "break",
+            Keyword::Case => "case",
+            Keyword::Chan => "chan",
+            Keyword::Const => "const",
+            Keyword::Continue => "continue",
+            Keyword::Default => "default",
+            Keyword::Defer => "defer",
+            Keyword::Else => "else",
+            Keyword::Fallthrough => "fallthrough",
+            Keyword::For => "for",
+            Keyword::Func => "func",
+            Keyword::Go => "go",
+            Keyword::Goto => "goto",
+            Keyword::If => "if",
+            Keyword::Import => "import",
+            Keyword::Interface => "interface",
+            Keyword::Map => "map",
+            Keyword::Package => "package",
+            Keyword::Range => "range",
+            Keyword::Return => "return",
+            Keyword::Select => "select",
+            Keyword::Struct => "struct",
+            Keyword::Switch => "switch",
+            Keyword::Type => "type",
+            Keyword::Var => "var",
+        }
+    }
+
     /// Whether a line that ends behind the keyword ends a statement.
     pub fn ends_statement(self) -> bool
         ensures { result ≡ keyword_ends_statement self }
@@ -49,32 +111,10 @@ pub fn keyword_of(word: &[u8]) -> Option<Keyword>
     ensures some { IfSome result (λ k. word.now ≡ spelling k) }
     ensures none { result ≡ None → IsNoKeyword word.now }
 {
-    match word {
-        b"break" => Some(Keyword::Break),
-        b"case" => Some(Keyword::Case),
-        b"chan" => Some(Keyword::Chan),
-        b"const" => Some(Keyword::Const),
-        b"continue" => Some(Keyword::Continue),
-        b"default" => Some(Keyword::Default),
-        b"defer" => Some(Keyword::Defer),
-        b"else" => Some(Keyword::Else),
-        b"fallthrough" => Some(Keyword::Fallthrough),
-        b"for" => Some(Keyword::For),
-        b"func" => Some(Keyword::Func),
-        b"go" => Some(Keyword::Go),
-        b"goto" => Some(Keyword::Goto),
-        b"if" => Some(Keyword::If),
-        b"import" => Some(Keyword::Import),
-        b"interface" => Some(Keyword::Interface),
-        b"map" => Some(Keyword::Map),
-        b"package" => Some(Keyword::Package),
-        b"range" => Some(Keyword::Range),
-        b"return" => Some(Keyword::Return),
-        b"select" => Some(Keyword::Select),
-        b"struct" => Some(Keyword::Struct),
-        b"switch" => Some(Keyword::Switch),
-        b"type" => Some(Keyword::Type),
-        b"var" => Some(Keyword::Var),
-        _ => None,
+    for keyword in &KEYWORDS {
+        if keyword.spelling().as_bytes() == word {
+            return Some(*keyword);
+        }
     }
+    None
 }

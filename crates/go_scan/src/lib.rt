@@ -12,8 +12,6 @@ mod numbers;
 pub mod punctuation;
 pub mod scanner;
 pub mod shape;
-#[cfg(test)]
-mod tests;
 pub mod token;
 pub mod values;
 mod words;

@@ -27,6 +27,9 @@ fn is_plain_rune(c: char) -> bool
 }
 
 /// What may stand between single quotes: its size and code point.
+///
+///     unicode_value = unicode_char | little_u_value | big_u_value | escaped_char .
+///     byte_value    = octal_byte_value | hex_byte_value .
 pub fn rune_part_at(bytes: &[u8]) -> Option<(usize, u32)>
     ensures { result ≡ rune_part_at bytes.now }
 {
@@ -60,6 +63,8 @@ fn closed_at(kind: TokenKind, quote: u8, bytes: &[u8], size: usize) -> Option<(S
 }
 
 /// The rune literal of a single quote and these bytes.
+///
+///     rune_lit = "'" ( unicode_value | byte_value ) "'" .
 pub fn rune_at(bytes: &[u8]) -> Option<(Shape, usize)>
     requires { length bytes.now + 2 < 2 ^ 64 }
     ensures { result ≡ rune_at bytes.now }
@@ -118,6 +123,8 @@ fn parts_len(bytes: &[u8]) -> usize
 }
 
 /// The interpreted string literal of a double quote and these bytes.
+///
+///     interpreted_string_lit = `"` { unicode_value | byte_value } `"` .
 pub fn string_at(bytes: &[u8]) -> Option<(Shape, usize)>
     requires { length bytes.now + 2 < 2 ^ 64 }
     ensures { result ≡ string_at bytes.now }
@@ -140,6 +147,8 @@ pub fn raw_len(bytes: &[u8]) -> usize
 }
 
 /// The raw string literal of a back quote and these bytes.
+///
+///     raw_string_lit = "`" { unicode_char | newline } "`" .
 pub fn raw_at(bytes: &[u8]) -> Option<(Shape, usize)>
     requires { length bytes.now + 2 < 2 ^ 64 }
     ensures { result ≡ raw_at bytes.now }

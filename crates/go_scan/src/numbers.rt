@@ -51,6 +51,8 @@ fn is_either(lower: u8, upper: u8, byte: u8) -> bool
 
 /// Whether the bytes are digits with single underscores among them; `before` says that one may
 /// come first.
+///
+///     digits = digit { [ "_" ] digit } .
 fn are_spaced_digits(base: u32, before: bool, bytes: &[u8]) -> bool
     requires low { 2 ≤ base }
     requires high { base ≤ 16 }
@@ -69,6 +71,9 @@ fn are_spaced_digits(base: u32, before: bool, bytes: &[u8]) -> bool
     before
 }
 
+/// What stands behind a prefix.
+///
+///     [ "_" ] digits
 fn are_prefixed_digits(base: u32, bytes: &[u8]) -> bool
     requires low { 2 ≤ base }
     requires high { base ≤ 16 }
@@ -81,6 +86,10 @@ fn are_prefixed_digits(base: u32, bytes: &[u8]) -> bool
 }
 
 /// Whether the bytes may stand behind a leading 0.
+///
+///     binary_lit = "0" ( "b" | "B" ) [ "_" ] binary_digits .
+///     octal_lit  = "0" [ "o" | "O" ] [ "_" ] octal_digits .
+///     hex_lit    = "0" ( "x" | "X" ) [ "_" ] hex_digits .
 fn is_behind_zero(bytes: &[u8]) -> bool
     ensures { result ≡ is_behind_zero bytes.now }
 {
@@ -101,6 +110,9 @@ fn is_behind_zero(bytes: &[u8]) -> bool
 }
 
 /// Whether the bytes are an integer literal.
+///
+///     int_lit     = decimal_lit | binary_lit | octal_lit | hex_lit .
+///     decimal_lit = "0" | ( "1" … "9" ) [ [ "_" ] decimal_digits ] .
 fn is_integer(bytes: &[u8]) -> bool
     ensures { result ≡ is_integer bytes.now }
 {

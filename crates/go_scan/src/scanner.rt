@@ -74,7 +74,8 @@ fn push(tokens: &mut Vec<Token>, due: Option<Token>, token: Token) -> Result<(),
     Ok(())
 }
 
-/// The tokens of a source's text, with the semicolons that are inserted where lines end. An `Err`
+/// The tokens of a source's text, with the semicolons that are inserted where lines end (the Go
+/// specification, Tokens and Semicolons). An `Err`
 /// says where the text is refused and why, or that memory ran out.
 pub fn scan(alloc: Global, source: &Source) -> Result<Vec<Token>, ScanError>
     ensures ok { IfOk result (λ v. Lexes source.now.text v.items) }

@@ -2,7 +2,7 @@
 use crate::token::TokenKind;
 
 /// What a piece of a text is.
-#[derive(Clone, Copy, PartialEq, Eq, Debug)]
+#[derive(Clone, Copy)]
 pub enum Shape {
     /// Spaces, tabs, carriage returns and newlines.
     Blanks,

@@ -2,17 +2,47 @@
 ghost use Rattle.std.specs.Prelude.{◌≡◌, ◌++◌, IfOk, OnOk};
 ghost use Rattle.std.specs.List.{filter};
 ghost use Rattle.go_scan.specs.Escapes.{bytes_of};
-ghost use Rattle.go_scan.specs.Runes.{IsRune, RuneMeans};
-ghost use Rattle.go_scan.specs.Strings.{IsString, StringMeans, is_kept};
-ghost use Rattle.go_scan.specs.Fronts.{values, rune_value_of, string_value_of};
+ghost use Rattle.go_scan.specs.Strings.{is_kept, StringValue};
+ghost use Rattle.go_scan.specs.Runes.{RuneValue};
+ghost use Rattle.go_scan.specs.Fronts.{is_whole, is_rune, is_string, values, rune_meaning, rune_value_of, string_meaning, string_value_of};
 
 use crate::escapes::Meaning;
-use crate::literals::{part_at, raw_len, rune_part_at};
+use crate::literals::{part_at, raw_at, raw_len, rune_at, rune_part_at, string_at};
+use crate::shape::Shape;
 use std::alloc::{AllocError, Global};
 
-/// The code point that bytes mean if they are a rune literal, and 0 where they begin as none.
-pub fn rune_code(bytes: &[u8]) -> u32
-    ensures { result ≡ rune_value_of bytes.now }
+/// Whether a literal was found that takes so many bytes.
+fn is_whole(len: usize, found: Option<(Shape, usize)>) -> bool
+    ensures { result ≡ is_whole len found }
+{
+    match found {
+        Some((_, size)) => size == len,
+        None => false,
+    }
+}
+
+fn is_rune(bytes: &[u8]) -> bool
+    ensures { result ≡ is_rune bytes.now }
+{
+    match bytes {
+        [b'\'', rest @ ..] => is_whole(bytes.len(), rune_at(rest)),
+        _ => false,
+    }
+}
+
+fn is_string(bytes: &[u8]) -> bool
+    ensures { result ≡ is_string bytes.now }
+{
+    match bytes {
+        [b'"', rest @ ..] => is_whole(bytes.len(), string_at(rest)),
+        [b'`', rest @ ..] => is_whole(bytes.len(), raw_at(rest)),
+        _ => false,
+    }
+}
+
+/// What stands behind the first quote of a rune literal, as a code point.
+fn rune_meaning(bytes: &[u8]) -> u32
+    ensures { result ≡ rune_meaning bytes.now }
 {
     let [_, rest @ ..] = bytes else {
         return 0;
@@ -23,13 +53,18 @@ pub fn rune_code(bytes: &[u8]) -> u32
     }
 }
 
-/// The code point that a rune literal means.
-pub fn rune_value(bytes: &[u8]) -> u32
-    requires { IsRune bytes.now }
-    ensures { RuneMeans bytes.now result }
+/// The code point that bytes mean if they are a rune literal, and else 0.
+///
+///     rune_lit = "'" ( unicode_value | byte_value ) "'" .
+pub fn rune_code(bytes: &[u8]) -> u32
+    ensures value { result ≡ rune_value_of bytes.now }
+    ensures means { RuneValue bytes.now result }
 {
-    let code = rune_code(bytes);
-    code
+    if is_rune(bytes) {
+        rune_meaning(bytes)
+    } else {
+        0
+    }
 }
 
 /// Adds the bytes that an escape means.
@@ -79,10 +114,9 @@ fn raw_value(alloc: Global, bytes: &[u8]) -> Result<Vec<u8>, AllocError>
     Ok(value)
 }
 
-/// The bytes that bytes mean if they are a string literal, and where they are none what their parts
-/// mean. An `Err` only where memory ran out.
-pub fn string_bytes(alloc: Global, bytes: &[u8]) -> Result<Vec<u8>, AllocError>
-    ensures { IfOk result (λ v. v.items ≡ string_value_of bytes.now) }
+/// What stands behind the first quote of a string literal, as bytes.
+fn string_meaning(alloc: Global, bytes: &[u8]) -> Result<Vec<u8>, AllocError>
+    ensures { IfOk result (λ v. v.items ≡ string_meaning bytes.now) }
 {
     match bytes {
         [b'"', rest @ ..] => parts_value(alloc, rest),
@@ -91,11 +125,19 @@ pub fn string_bytes(alloc: Global, bytes: &[u8]) -> Result<Vec<u8>, AllocError>
     }
 }
 
-/// The bytes that a string literal means. An `Err` only where memory ran out.
-pub fn string_value(alloc: Global, bytes: &[u8]) -> Result<Vec<u8>, AllocError>
-    requires { IsString bytes.now }
-    ensures { IfOk result (λ v. StringMeans bytes.now v.items) }
+/// The bytes that bytes mean if they are a string literal, and else none. An `Err` only where memory
+/// ran out.
+///
+///     string_lit             = raw_string_lit | interpreted_string_lit .
+///     raw_string_lit         = "`" { unicode_char | newline } "`" .
+///     interpreted_string_lit = `"` { unicode_value | byte_value } `"` .
+pub fn string_bytes(alloc: Global, bytes: &[u8]) -> Result<Vec<u8>, AllocError>
+    ensures value { IfOk result (λ v. v.items ≡ string_value_of bytes.now) }
+    ensures means { IfOk result (λ v. StringValue bytes.now v.items) }
 {
-    let value = string_bytes(alloc, bytes)?;
-    Ok(value)
+    if is_string(bytes) {
+        string_meaning(alloc, bytes)
+    } else {
+        Ok(Vec::new(alloc))
+    }
 }

@@ -9,12 +9,16 @@ use crate::token::TokenKind;
 use bstr::decode_utf8;
 use ucd_category::{GeneralCategory, GeneralCategoryGroup};
 
+///     letter = unicode_letter | "_" .
 fn is_letter(c: char) -> bool
     ensures { result ≡ is_letter c }
 {
     c == '_' || GeneralCategoryGroup::Letter.contains(GeneralCategory::for_char(c))
 }
 
+/// What may stand behind the first letter of a name.
+///
+///     letter | unicode_digit
 fn is_inside(c: char) -> bool
     ensures { result ≡ is_inside c }
 {
@@ -99,7 +103,9 @@ fn word_kind(word: &[u8]) -> TokenKind
     }
 }
 
-/// The word that the bytes begin with, if any.
+/// The name or keyword that the bytes begin with, if any.
+///
+///     identifier = letter { letter | unicode_digit } .
 pub fn word_at(bytes: &[u8]) -> Option<(Shape, usize)>
     ensures { result ≡ word_at bytes.now }
 {

@@ -5,5 +5,3 @@ mod frames;
 mod line;
 mod machine;
 pub mod run;
-#[cfg(test)]
-mod tests;

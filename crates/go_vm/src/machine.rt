@@ -1,25 +1,30 @@
 //! The machine: what one instruction does, and how a start step begins.
 ghost use Rattle.std.specs.Prelude.{◌≡◌, ◌+◌, ◌-◌, ◌<◌, ◌≤◌, ◌^◌, ◌∷◌, ◌++◌, [], List, length, take, drop, pos, negsuc, IfOk, OnOk, MatchOption, IsTrue, slice_get, Some, None};
 ghost use Rattle.go_code.specs.declared.image.Start.{Start as AStart};
+ghost use Rattle.go_code.specs.declared.instr.CallInstr.TheVariants.{Call, Return};
+ghost use Rattle.go_code.specs.declared.instr.FrameInstr.TheVariants.{Push};
+ghost use Rattle.go_code.specs.declared.instr.OutputInstr.TheVariants.{Print};
 ghost use Rattle.go_code.specs.Lines.{cell_fits, line_text};
-ghost use Rattle.go_code.specs.Machine.{act, begin, call, give_back, print, push, split_top, step, with_stack, with_top};
+ghost use Rattle.go_code.specs.Machine.{act, begin, call, call_step, frame_step, goes_with, output_step, step};
 ghost use Rattle.go_vm.specs.Told.{state_of, between, told, told_begun};
 
 use crate::frames::Frames;
 use crate::line::push_line;
 use go_code::cell::Cell;
 use go_code::ending::{Ending, PanicKind};
-use go_code::image::function::Function;
+use go_code::function::Function;
 use go_code::image::{Image, Start};
-use go_code::instr::Instr;
+use go_code::instr::{CallInstr, FrameInstr, Instr, OutputInstr};
 use std::alloc::{AllocError, Global};
 
 /// How many calls may be open.
 pub(crate) const MOST_OPEN: usize = 1000;
 
-/// What outlives frames: the ticks left, and the output so far.
+/// What outlives frames: the cells of the package variables, the ticks left, and the output so
+/// far.
 #[derive(Drop)]
 pub(crate) struct World {
+    pub(crate) globals: Vec<Cell>,
     pub(crate) ticks: u64,
     pub(crate) output: Vec<u8>,
 }
@@ -66,7 +71,7 @@ fn cell_fits(cell: &Cell) -> bool
 
 /// A function of an image, by its number.
 #[inline(always)]
-fn find(image: &Image, number: usize) -> Option<&Function>
+fn find(image: &Image, number: usize) -> Option<&Function<usize>>
     ensures { MatchOption result (slice_get image.now.functions number ≡ None) (λ f. slice_get image.now.functions number ≡ Some f.now) }
 {
     image.functions().get(number)
@@ -74,7 +79,7 @@ fn find(image: &Image, number: usize) -> Option<&Function>
 
 #[inline(always)]
 fn push_cell(frames: &mut Frames<'_>, world: &World, cell: &Cell) -> Result<Flow, AllocError>
-    ensures { IfOk result (λ flow. (starts : List AStart) → push (state_of frames.old starts world.now) frames.old.newest frames.old.callers cell.now ≡ told flow (state_of frames.new starts world.now)) }
+    ensures { IfOk result (λ flow. (starts : List AStart) → goes_with (state_of frames.old starts world.now) frames.old.callers (frame_step (Push cell.now) frames.old.newest) ≡ told flow (state_of frames.new starts world.now)) }
 {
     if !cell_fits(cell) {
         return Ok(Flow::Leaves(Exit::BadCode));
@@ -84,7 +89,7 @@ fn push_cell(frames: &mut Frames<'_>, world: &World, cell: &Cell) -> Result<Flow
 }
 
 fn print_top(frames: &mut Frames<'_>, world: &mut World, count: usize) -> Result<Flow, AllocError>
-    ensures { IfOk result (λ flow. (starts : List AStart) → print (state_of frames.old starts world.old) frames.old.newest frames.old.callers count ≡ told flow (state_of frames.new starts world.new)) }
+    ensures { IfOk result (λ flow. (starts : List AStart) → output_step (Print count) (state_of frames.old starts world.old) frames.old.newest frames.old.callers ≡ told flow (state_of frames.new starts world.new)) }
 {
     let Some(row) = frames.top(count) else {
         return Ok(Flow::Leaves(Exit::BadCode));
@@ -102,7 +107,7 @@ fn call_function<'a>(
     image: &'a Image,
     number: usize,
 ) -> Result<Flow, AllocError>
-    ensures { IfOk result (λ flow. (starts : List AStart) → call (state_of frames.old starts world.old) (λ rest. with_stack frames.old.newest rest ∷ frames.old.callers) (frames.old.newest.depth + 1) frames.old.newest.stack (slice_get image.now.functions number) ≡ told flow (state_of frames.new starts world.new)) }
+    ensures { IfOk result (λ flow. (starts : List AStart) → call_step image.now (Call number) (state_of frames.old starts world.old) frames.old.newest frames.old.callers ≡ told flow (state_of frames.new starts world.new)) }
 {
     let Some(function) = find(image, number) else {
         return Ok(Flow::Leaves(Exit::BadCode));
@@ -122,8 +127,8 @@ fn call_function<'a>(
 }
 
 #[inline(always)]
-fn return_top(frames: &mut Frames<'_>, world: &World, count: usize) -> Flow
-    ensures { (starts : List AStart) → with_top (split_top count frames.old.newest.stack) (λ rest row. give_back (state_of frames.old starts world.now) frames.old.callers row) ≡ told result (state_of frames.new starts world.now) }
+fn return_top(frames: &mut Frames<'_>, world: &World, image: &Image, count: usize) -> Flow
+    ensures { (starts : List AStart) → call_step image.now (Return count) (state_of frames.old starts world.now) frames.old.newest frames.old.callers ≡ told result (state_of frames.new starts world.now) }
 {
     if count > frames.height() {
         return Flow::Leaves(Exit::BadCode);
@@ -132,6 +137,50 @@ fn return_top(frames: &mut Frames<'_>, world: &World, count: usize) -> Flow
         Flow::GoesOn
     } else {
         Flow::Leaves(Exit::Returned)
+    }
+}
+
+/// What an instruction about the newest frame alone does.
+#[inline(always)]
+fn obey_frame(
+    frames: &mut Frames<'_>,
+    world: &World,
+    instr: &FrameInstr,
+) -> Result<Flow, AllocError>
+    ensures { IfOk result (λ flow. (starts : List AStart) → goes_with (state_of frames.old starts world.now) frames.old.callers (frame_step instr.now frames.old.newest) ≡ told flow (state_of frames.new starts world.now)) }
+{
+    match instr {
+        FrameInstr::Push(cell) => push_cell(frames, world, cell),
+    }
+}
+
+/// What an instruction about the output does.
+#[inline(always)]
+fn obey_output(
+    frames: &mut Frames<'_>,
+    world: &mut World,
+    instr: &OutputInstr,
+) -> Result<Flow, AllocError>
+    ensures { IfOk result (λ flow. (starts : List AStart) → output_step instr.now (state_of frames.old starts world.old) frames.old.newest frames.old.callers ≡ told flow (state_of frames.new starts world.new)) }
+{
+    match instr {
+        OutputInstr::Print(count) => print_top(frames, world, *count),
+    }
+}
+
+/// What a call does, or the way back from it.
+#[inline(always)]
+fn obey_call<'a>(
+    frames: &mut Frames<'a>,
+    world: &mut World,
+    image: &'a Image,
+    instr: &CallInstr<usize>,
+) -> Result<Flow, AllocError>
+    ensures { IfOk result (λ flow. (starts : List AStart) → call_step image.now instr.now (state_of frames.old starts world.old) frames.old.newest frames.old.callers ≡ told flow (state_of frames.new starts world.new)) }
+{
+    match instr {
+        CallInstr::Call(number) => call_function(frames, world, image, *number),
+        CallInstr::Return(count) => Ok(return_top(frames, world, image, *count)),
     }
 }
 
@@ -146,10 +195,9 @@ fn perform<'a>(
     ensures { IfOk result (λ flow. (starts : List AStart) → act image.now (state_of frames.old starts world.old) frames.old.newest frames.old.callers (Some instr.now) ≡ told flow (state_of frames.new starts world.new)) }
 {
     match instr {
-        Instr::Push(cell) => push_cell(frames, world, cell),
-        Instr::Print(count) => print_top(frames, world, *count),
-        Instr::Call(number) => call_function(frames, world, image, *number),
-        Instr::Return(count) => Ok(return_top(frames, world, *count)),
+        Instr::Frame(instr) => obey_frame(frames, world, instr),
+        Instr::Output(instr) => obey_output(frames, world, instr),
+        Instr::Calls(instr) => obey_call(frames, world, image, instr),
     }
 }
 

@@ -7,6 +7,7 @@ ghost use Rattle.go_vm.specs.declared.run.RunError.TheVariants.{Memory};
 
 use crate::frames::Frames;
 use crate::machine::{Begun, Exit, Flow, World, begin, one_step};
+use go_code::cell::push_copies;
 use go_code::ending::Ending;
 use go_code::image::{Image, Start};
 use std::alloc::{AllocError, Global};
@@ -101,7 +102,10 @@ fn run_start(
 pub fn run(alloc: Global, image: &Image, ticks: u64) -> Result<Outcome, RunError>
     ensures { Answers image.now ticks result }
 {
+    let mut globals = Vec::new(alloc);
+    push_copies(&mut globals, image.globals())?;
     let mut world = World {
+        globals,
         ticks,
         output: Vec::new(alloc),
     };
@@ -119,6 +123,10 @@ pub fn run(alloc: Global, image: &Image, ticks: u64) -> Result<Outcome, RunError
 fn outcome_of(ending: Ending, world: World) -> Outcome
     ensures { result ≡ record { ending = ending; output = world.output.items } }
 {
-    let World { ticks: _, output } = world;
+    let World {
+        globals: _,
+        ticks: _,
+        output,
+    } = world;
     Outcome { ending, output }
 }

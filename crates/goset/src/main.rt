@@ -1,17 +1,11 @@
 //! `goset`: a replicated workspace with a shared build cache, driven by a script on standard input.
 #![tactic(auto)]
 
-#[cfg(test)]
-mod groupings;
-#[cfg(test)]
-mod layers;
-mod session;
-
 use go_text::edition::Edition;
-use session::ends::{FromReader, ToWriter};
-use session::script::run_script;
 use std::process::ExitCode;
 use ws_pool::Plain;
+use ws_script::ends::{FromReader, ToWriter};
+use ws_script::script::run_script;
 
 fn main(rt: HostRuntime) -> ExitCode {
     let mut reader = FromReader::new(rt.stdin());

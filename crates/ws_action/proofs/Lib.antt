@@ -1,1 +1,4 @@
-pub mod Naming
+mod Naming
+pub mod Members
+pub mod OneAction
+pub mod Order

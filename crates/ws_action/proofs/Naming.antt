@@ -7,7 +7,7 @@ use Rattle.std.proofs.lemmas.Slice.Eq.{bytes_eq-Decides}
 use Rattle.std.proofs.lemmas.List.{take_more, take_all}
 use Rattle.std.proofs.lemmas.List.Elements.{All-nil, All-cons, All-append}
 use Rattle.go_ast.specs.Trees.{Name}
-use Rattle.go_parse.specs.Parse.{Parsed, IsPackage, IsNamed, IsOther}
+use Rattle.go_ast.specs.Parse.{Parsed, IsPackage, IsNamed, IsOther}
 use Rattle.ws_action.specs.Actions.{HaveOneName}
 
 -- a package name that isn't these bytes

@@ -9,7 +9,7 @@ use Rattle.std.specs.Coded.{Coded, code_by, coded×, coded_ℕ, coded_list}
 use Rattle.std.specs.Cmp.Lexicographic.{slice_cmp}
 use Rattle.sha2.specs.Sha256.{sha256}
 use Rattle.go_ast.specs.Trees.{Name}
-use Rattle.go_parse.specs.Parse.{Parsed, IsPackage, IsNamed, IsOther}
+use Rattle.go_ast.specs.Parse.{Parsed, IsPackage, IsNamed, IsOther}
 use Rattle.ws_action.specs.declared.ActionError.{ActionError}
 use Rattle.ws_action.specs.declared.ActionError.TheVariants.{NoFile, Unordered, MixedNames}
 

@@ -7,20 +7,17 @@ ghost use Rattle.std.specs.List.{All, Contains, flat_map};
 ghost use Rattle.std.specs.Cmp.Lexicographic.{slice_cmp};
 ghost use Rattle.sha2.specs.Sha256.{sha256};
 ghost use Rattle.go_text.specs.Editions.{edition_number};
-ghost use Rattle.go_parse.specs.Parse.{IsNamed, IsOther};
+ghost use Rattle.go_ast.specs.Parse.{IsNamed, IsOther};
 ghost use Rattle.ws_action.specs.Clash.{NoClash, Includes, hashed_actions, AllSized};
 ghost use Rattle.ws_action.specs.Actions.{Action as AnAction, source_of, action_of, ascends, HaveOneName, HaveOtherName, MakeAction, AreRefused, be, field, file_text, action_text, action_id, IsSized, file_cmp, action_cmp};
 
-use go_parse::Parsed;
+use go_ast::parsed::Parsed;
 use go_text::edition::Edition;
 use sha2::{Digest, Sha256};
 use std::alloc::{AllocError, Global};
 use std::cmp::Ordering;
 use std::marker::Model;
 use thiserror::Error;
-
-#[cfg(test)]
-mod tests;
 
 /// Why files make no action.
 #[derive(Debug, Drop, Error)]

@@ -10,7 +10,7 @@ use Rattle.std.proofs.lemmas.Option.{get_or_from_slice_get}
 use Rattle.std.proofs.Math.ListN.{set}
 use Rattle.std.proofs.lemmas.Slice.Eq.{bytes_eq-Decides}
 use Rattle.ws_action.specs.Actions.{Action, action_id, action_cmp}
-use Rattle.ws_action.specs.Order.{action_cmp_total, action_cmp-IsAntisymmetric}
+use Rattle.ws_action.proofs.Order.{action_cmp_total, action_cmp-IsAntisymmetric}
 use Rattle.ws_board.specs.declared.work.Status.{Status}
 use Rattle.ws_board.specs.declared.work.Status.TheVariants.{Ready, Running, Done}
 use Rattle.ws_board.specs.declared.work.Event.{Event}

@@ -3,7 +3,7 @@ use Rattle.std.specs.Prelude.{◌≡◌, ℕ, Bool, true, false, ◌&&◌, not, 
 use Rattle.std.specs.List.{slice_get, list_any}
 use Rattle.std.specs.Str.{bytes_eq}
 use Rattle.std.specs.FinMap.{FinMap, get}
-use Rattle.ws_version.specs.Kept.{taken}
+use Rattle.ws_map.specs.Kept.{taken}
 use Rattle.ws_action.specs.Actions.{Action, action_id}
 use Rattle.ws_cache.specs.Held.{id_cmp}
 use Rattle.ws_cache.specs.Joined.{lesser}
@@ -99,13 +99,6 @@ after_back old hand job action = record { jobs = stood old.jobs job action Ready
 
 abbrev pub after_idle : State → ℕ → State
 after_idle old hand = record { jobs = old.jobs; cache = old.cache; history = old.history ++ Idle hand ∷ [] }
-
--- From old the event may come, and the board goes on to new. A finished task's entry has the task's id.
-abbrev pub BoardStep : State → Event → State → Type 0
-BoardStep old (Take hand job) new = (action : Action) × IsFree old.jobs job action × (new ≡ after_take old hand job action)
-BoardStep old (Finish hand job) new = (action : Action) × (entry : Action) × IsRunBy old.jobs hand job action × (action_id entry ≡ action_id action) × (new ≡ after_finish old hand job action entry)
-BoardStep old (Back hand job) new = (action : Action) × IsRunBy old.jobs hand job action × (new ≡ after_back old hand job action)
-BoardStep old (Idle hand) new = IsIdle old.jobs × (new ≡ after_idle old hand)
 
 abbrev pub is_finish : Event → Bool
 is_finish (Take hand job) = false

@@ -1,5 +1,5 @@
 //! What a board came to.
-ghost use Rattle.std.specs.Prelude.{◌≡◌, ℕ, List, option_copied, IfSome, IfNone};
+ghost use Rattle.std.specs.Prelude.{◌≡◌, IfSome, IfNone};
 ghost use Rattle.std.specs.List.{count_by};
 ghost use Rattle.ws_action.specs.Actions.{Action as AnAction};
 ghost use Rattle.ws_cache.specs.Compiles.{Compiles, compiled_of};

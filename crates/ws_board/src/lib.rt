@@ -1,9 +1,9 @@
 //! The board: which actions of a build are to be compiled, by whom they are run, and what happened.
 #![tactic(auto)]
 
-ghost use Rattle.std.specs.Prelude.{◌≡◌, ℕ, List, [], ◌++◌, ◌∷◌, length, map, option_copied, IfOk, IfErr, OnOk, OnErr, IsTrue, ◌↔◌};
+ghost use Rattle.std.specs.Prelude.{◌≡◌, IfOk, IfErr, OnOk, OnErr, IsTrue, ◌↔◌};
 ghost use Rattle.ws_action.specs.Actions.{action_id};
-ghost use Rattle.ws_board.specs.Machine.{IsRunBy, opening, after_take, after_finish, after_back};
+ghost use Rattle.ws_board.specs.Machine.{IsRunBy, opening, after_finish, after_back};
 ghost use Rattle.ws_board.specs.Calls.{TakeStep};
 
 pub use ending::Built;
@@ -17,8 +17,6 @@ use ws_cache::{Cache, Entry};
 
 mod ending;
 mod rule;
-#[cfg(test)]
-mod tests;
 mod work;
 
 /// The jobs of a build, the cache, and the history of events, which has room for the end of each

@@ -1,8 +1,8 @@
 //! What the jobs say of each other.
-ghost use Rattle.std.specs.Prelude.{◌≡◌, ℕ, ◌<◌, ◌+◌, ◌≤◌, List, length, map, IfOk, IfSome, IfNone};
+ghost use Rattle.std.specs.Prelude.{◌≡◌, ℕ, ◌<◌, ◌+◌, ◌≤◌, length, map, IfOk, IfSome, IfNone};
 ghost use Rattle.std.specs.List.{list_any};
 ghost use Rattle.ws_action.specs.Actions.{Action as AnAction, action_id};
-ghost use Rattle.ws_board.specs.Machine.{is_job_ready, is_job_running, is_run_of, is_free, IsFree, NoneFree, StandsAt, stood, finished, opened, run, running_count, IsRunBy};
+ghost use Rattle.ws_board.specs.Machine.{is_job_running, is_run_of, is_free, IsFree, NoneFree, StandsAt, stood, finished, opened, run, running_count, IsRunBy};
 ghost use Rattle.ws_board.specs.declared.work.Status.{Status as AStatus};
 
 use crate::work::{Job, Status};

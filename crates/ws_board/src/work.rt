@@ -1,8 +1,7 @@
 //! What a board works with: jobs, hands, tasks and events.
-ghost use Rattle.std.specs.Prelude.{◌≡◌, ℕ, IfOk, IfErr, IsTrue, ◌↔◌};
-ghost use Rattle.std.specs.Bool.{OnTrue};
+ghost use Rattle.std.specs.Prelude.{◌≡◌, ℕ, IfOk, IsTrue, ◌↔◌};
 ghost use Rattle.ws_action.specs.Actions.{action_id};
-ghost use Rattle.ws_board.specs.Machine.{is_ready, is_running, is_job_ready, is_job_running, is_run_of, finished};
+ghost use Rattle.ws_board.specs.Machine.{is_ready, is_running, is_run_of, finished};
 
 use std::alloc::AllocError;
 use std::cmp::Ordering;

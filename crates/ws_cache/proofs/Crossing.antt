@@ -2,11 +2,10 @@
 use denote.Param.Send.{IsSend, IsSync, sendable}
 use Rattle.std.proofs.Crossing.{crosses}
 use Rattle.std.proofs.MapsCrossing as maps
-use Rattle.go_parse.proofs.Crossing.{parsed_send, parsed_sync}
+use Rattle.go_ast.proofs.Crossing.{parsed_send, parsed_sync}
 use Rattle.ws_action.specs.contracts.Action as action
 use Rattle.ws_cache.proofs.Outcome.TheSendSync as outcome
 use Rattle.ws_cache.specs.contracts.Entry as entry
-use Rattle.ws_cache.specs.contracts.contents.Contents as contents
 use Rattle.ws_cache.specs.contracts.Cache as cache
 
 action_send : IsSend action.the_row
@@ -22,14 +21,8 @@ entry_sync : IsSync entry.the_row
 entry_sync = search (action_sync, outcome.the_field_sync, crosses, maps.crosses, sendable) depth 20
 
 -- what owners share has to be both
-contents_send : IsSend contents.the_row
-contents_send = search (entry_send, entry_sync, crosses, maps.crosses, sendable) depth 20
-
-contents_sync : IsSync contents.the_row
-contents_sync = search (entry_send, entry_sync, crosses, maps.crosses, sendable) depth 20
-
 pub cache_send : IsSend cache.the_row
-cache_send = search (contents_send, crosses, sendable) depth 20
+cache_send = search (entry_send, entry_sync, crosses, maps.crosses, sendable) depth 20
 
 pub cache_sync : IsSync cache.the_row
-cache_sync = search (contents_sync, crosses, sendable) depth 20
+cache_sync = search (entry_send, entry_sync, crosses, maps.crosses, sendable) depth 20

@@ -1,3 +1,4 @@
-pub mod Outcomes
-mod Cloned
 pub mod Crossing
+pub mod Joined
+pub mod Laws
+pub mod Outcomes

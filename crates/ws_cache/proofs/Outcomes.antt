@@ -1,7 +1,7 @@
 -- Compiling an action gives one outcome.
 use Rattle.std.proofs.Common.{◌≡◌, ℕ, List, sym, ap, ◌∙◌}
 use Rattle.go_text.specs.Faults.{Fault}
-use Rattle.go_check.specs.Typed.{Typed}
+use Rattle.go_export.specs.Typed.{Typed}
 use Rattle.go_check.specs.Packages as answers
 use Rattle.go_check.specs.Packages.{Answer}
 use Rattle.go_check.specs.Sources.{IsAnswerOf}

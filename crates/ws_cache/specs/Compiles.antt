@@ -3,7 +3,7 @@ use Rattle.std.specs.Prelude.{◌≡◌}
 use Rattle.std.specs.Arc.{arc_value}
 use Rattle.go_text.specs.Faults.{Fault}
 use Rattle.go_code.specs.Packages.{Object}
-use Rattle.go_check.specs.Typed.{Typed}
+use Rattle.go_export.specs.Typed.{Typed}
 use Rattle.go_check.specs.Packages as answers
 use Rattle.go_check.specs.Sources.{IsAnswerOf}
 use Rattle.go_gen.specs.Translation.{object_of}

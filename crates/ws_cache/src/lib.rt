@@ -1,30 +1,25 @@
 //! Compiled packages by the id of what they were compiled from.
 #![tactic(auto)]
 
-ghost use Rattle.std.specs.Prelude.{◌≡◌, ℕ, ◌++◌, ◌∷◌, [], List, OnOk, OnErr, IfOk, IfErr, Some, is_some, if◌then◌else◌, option_copied, MatchOption};
+ghost use Rattle.std.specs.Prelude.{◌≡◌, ℕ, ◌++◌, ◌∷◌, [], List, OnOk, OnErr, IfOk, IfErr, Some, is_some, if◌then◌else◌, option_copied};
 ghost use Rattle.std.specs.FinMap as map;
-ghost use Rattle.std.specs.BTreeMap.{IsOrdered};
 ghost use Rattle.std.specs.List.{Contains};
-ghost use Rattle.ws_version.specs.Kept.{SameMembers, taken, joined as joined_by};
-ghost use Rattle.ws_version.specs.Gathered.{is_news, gathered};
+ghost use Rattle.ws_map.specs.Kept.{SameMembers, taken, joined as joined_by};
 ghost use Rattle.ws_action.specs.Actions.{Action as AnAction, action_id};
 ghost use Rattle.ws_action.specs.Clash.{NoClash, Includes, hashed_actions, AllSized};
 ghost use Rattle.ws_cache.specs.Compiles.{Compiled, Compiles, compiled_of};
 ghost use Rattle.ws_cache.specs.Count.{compiled_count, new_actions_count};
 ghost use Rattle.ws_cache.specs.Held.{IsHeld, CacheStandsFor, id_cmp};
-ghost use Rattle.ws_cache.specs.Joined.{downwards, lesser};
+ghost use Rattle.ws_cache.specs.Joined.{lesser};
 
-mod contents;
-
-use contents::Contents;
 use go_code::object::Object;
 use go_text::fault::Fault;
 use std::alloc::{AllocError, Global};
 use std::cmp::Ordering;
-use std::collections::BTreeMap;
 use std::marker::Model;
 use std::sync::Arc;
 use ws_action::Action;
+use ws_map::{Ranked, SharedMap};
 use ws_version::Join;
 
 /// What compiling a package gives.
@@ -129,10 +124,31 @@ impl Clone for Entry {
     }
 }
 
+impl Ranked for Entry {
+    ghost use Rattle.ws_cache.specs.Joined.{downwards};
+    ghost use Rattle.ws_cache.specs.Laws.{downwards_total, downwards-IsAntisymmetric};
+
+    ghost rank = { downwards };
+
+    ghost total = { downwards_total };
+
+    ghost one = { downwards-IsAntisymmetric };
+
+    ghost cloned = { λ a b e. e };
+
+    /// Of two entries that of the lesser action stays.
+    fn is_below(&self, other: &Entry) -> bool {
+        match other.action.cmp_action(&self.action) {
+            Ordering::Less => true,
+            _ => false,
+        }
+    }
+}
+
 /// Entries by their ids: for each id the entry of the least action that was put with it.
 #[derive(Drop)]
 pub struct Cache {
-    entries: Contents,
+    entries: SharedMap<[u8; 32], Entry>,
 }
 
 impl Model for Cache {
@@ -155,7 +171,7 @@ impl Cache {
         ensures stands { CacheStandsFor result [] }
     {
         Cache {
-            entries: Contents::new(alloc),
+            entries: SharedMap::new(alloc),
         }
     }
 
@@ -167,30 +183,6 @@ impl Cache {
         self.entries.get(id)
     }
 
-    fn is_news(&self, id: &[u8; 32], action: &Action) -> bool
-        ensures { result ≡ is_news downwards (map.get self.now id.now) action.now }
-    {
-        match self.get(id) {
-            None => true,
-            Some(old) => match action.cmp_action(old.action()) {
-                Ordering::Less => true,
-                _ => false,
-            },
-        }
-    }
-
-    fn take(&mut self, id: [u8; 32], entry: Entry) -> Result<(), Entry>
-        ensures ok { OnOk result (self.new ≡ taken lesser self.old id entry) }
-        ensures back { IfErr result (λ back. back ≡ entry) }
-        ensures err { OnErr result (self.new ≡ self.old) }
-    {
-        if !self.is_news(&id, entry.action()) {
-            return Ok(());
-        }
-        self.entries.insert(id, entry)?;
-        Ok(())
-    }
-
     /// Adds an entry: of two with one id that of the lesser action stays. An `Err`, for want of
     /// memory, gives the entry back and changes nothing.
     pub fn put(&mut self, entry: Entry) -> Result<(), Entry>
@@ -200,64 +192,25 @@ impl Cache {
         ensures stands { OnOk result ((E : List AnAction) → CacheStandsFor self.old E → CacheStandsFor self.new (E ++ entry ∷ [])) }
     {
         let id = entry.id();
-        self.take(id, entry)?;
+        self.entries.take(id, entry)?;
         Ok(())
     }
-
-    /// The entries, and none where nothing was ever put.
-    fn map(&self) -> Option<&BTreeMap<[u8; 32], Entry>>
-        ensures { MatchOption result (self.now ≡ map.empty) (λ entries. map.from_entries {R = id_cmp} entries.now.entries ≡ self.now) }
-    {
-        self.entries.map()
-    }
-
-    fn insert_copy(&mut self, id: [u8; 32], entry: &Entry) -> Result<(), AllocError>
-        ensures { OnOk result (self.new ≡ map.insert self.old id entry.now) }
-    {
-        match self.entries.insert(id, entry.copy()?) {
-            Ok(()) => Ok(()),
-            Err(_) => Err(AllocError),
-        }
-    }
-
-    fn take_all(&mut self, other: &Cache) -> Result<(), AllocError>
-        ensures { OnOk result (self.new ≡ joined_by lesser self.old other.now) }
-    {
-        let Some(entries) = other.map() else {
-            return Ok(());
-        };
-        match self.map() {
-            None => *self = other.copy()?,
-            Some(_) => take_entries(self, entries)?,
-        }
-        Ok(())
-    }
-}
-
-/// Adds a copy of each entry that is news.
-fn take_entries(all: &mut Cache, entries: &BTreeMap<[u8; 32], Entry>) -> Result<(), AllocError>
-    ensures ok { OnOk result (all.new ≡ gathered lesser all.old entries.now.entries) }
-    ensures ordered { IsOrdered id_cmp entries.now }
-{
-    for (id, entry) in entries {
-        if all.is_news(id, entry.action()) {
-            all.insert_copy(*id, entry)?;
-        }
-    }
-    Ok(())
 }
 
 impl Join for Cache {
-    ghost use Rattle.ws_version.specs.Kept.{joined as joined_by, joined-commutative, joined-associative, joined-idempotent};
-    ghost use Rattle.ws_cache.specs.Joined.{lesser, id_cmp_total, id_cmp-IsAntisymmetric, lesser-semilattice};
+    ghost use Rattle.ws_map.specs.Kept.{joined as joined_by};
+    ghost use Rattle.ws_map.proofs.Kept.{joined-commutative, joined-associative, joined-idempotent};
+    ghost use Rattle.ws_map.proofs.Keyed.{bytes_cmp_total, bytes_cmp-IsAntisymmetric};
+    ghost use Rattle.ws_cache.specs.Joined.{lesser};
+    ghost use Rattle.ws_cache.specs.Laws.{lesser-semilattice};
 
     ghost joined = { joined_by lesser };
 
-    ghost commutative = { joined-commutative id_cmp_total id_cmp-IsAntisymmetric lesser-semilattice };
+    ghost commutative = { joined-commutative bytes_cmp_total bytes_cmp-IsAntisymmetric lesser-semilattice };
 
-    ghost associative = { joined-associative id_cmp_total id_cmp-IsAntisymmetric lesser-semilattice };
+    ghost associative = { joined-associative bytes_cmp_total bytes_cmp-IsAntisymmetric lesser-semilattice };
 
-    ghost idempotent = { joined-idempotent id_cmp_total id_cmp-IsAntisymmetric lesser-semilattice };
+    ghost idempotent = { joined-idempotent bytes_cmp_total bytes_cmp-IsAntisymmetric lesser-semilattice };
 
     /// Another of equal contents, which shares them. An `Err` only where memory ran out.
     fn copy(&self) -> Result<Cache, AllocError> {
@@ -272,9 +225,7 @@ impl Join for Cache {
         ensures err { OnErr result (self.new ≡ self.old) }
         ensures stands { OnOk result ((E F : List AnAction) → CacheStandsFor self.old E → CacheStandsFor other.now F → CacheStandsFor self.new (E ++ F)) }
     {
-        let mut both = self.copy()?;
-        both.take_all(other)?;
-        *self = both;
+        self.entries.merge(&other.entries)?;
         Ok(())
     }
 }

@@ -5,7 +5,7 @@ use Rattle.std.specs.Fmt.{decimal}
 use Rattle.go_text.specs.declared.place.Place.{Place}
 use Rattle.go_text.specs.declared.fault.FaultKind.{FaultKind}
 use Rattle.go_text.specs.Faults.{Fault, fault_number, fault_word}
-use Rattle.ws_replica.specs.Reports.{Verdict, Good, Blocked, Wrong}
+use Rattle.ws_report.specs.Reports.{Verdict, Good, Blocked, Wrong}
 
 abbrev pub place_text : Place → List ℕ
 place_text place = codes ":" ++ decimal place.line ++ (codes ":" ++ decimal place.column)

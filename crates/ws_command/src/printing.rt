@@ -5,13 +5,13 @@ ghost use Rattle.std.specs.List.{flat_map};
 ghost use Rattle.ws_command.specs.Printing.{place_text, kind_text, fault_text, blocked_text, row_text, is_bad, summary_text, target_text, report_text};
 ghost use Rattle.ws_command.specs.RunPrinting.{panic_word, ending_text, panic_size, panic_text, run_target_text, head_text, run_text};
 ghost use Rattle.ws_command.specs.ShowPrinting.{content_text, write_text, show_text};
-ghost use Rattle.ws_replica.specs.Reports.{rows, row};
+ghost use Rattle.ws_report.specs.Reports.{rows, row};
 
 use go_code::ending::{Ending, PanicKind};
 use go_text::fault::{Fault, FaultKind};
 use go_text::place::Place;
 use std::alloc::{AllocError, Global};
-use ws_replica::{Report, Verdict};
+use ws_report::{Report, Verdict};
 use ws_version::{Held, Write};
 
 fn push(out: &mut Vec<u8>, text: &[u8]) -> Result<(), AllocError>

@@ -6,7 +6,7 @@ use Rattle.std.proofs.lemmas.Slice.Eq.{bytes_eq-Decides}
 use Rattle.go_text.specs.Faults.{Fault}
 use Rattle.go_text.specs.declared.fault.FaultKind.TheVariants.{PackageName}
 use Rattle.go_ast.specs.Trees.{Name}
-use Rattle.go_parse.specs.Parse.{Parsed, IsPackage, IsOther}
+use Rattle.go_ast.specs.Parse.{Parsed, IsPackage, IsOther}
 use Rattle.ws_graph.specs.Plan.{NoFiles, Faulty, Sound, AreParsed, AllNamed, HasOther, StopsIn, DiffersIn, IsSound}
 use Rattle.ws_graph.proofs.OnePlan.{one_package}
 

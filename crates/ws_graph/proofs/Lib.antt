@@ -1,3 +1,4 @@
+mod Built
 pub mod Judging
 pub mod OnePlan
 pub mod PlanFiles

@@ -5,13 +5,13 @@ use Rattle.go_text.specs.declared.place.Place.{Place}
 use Rattle.go_text.specs.declared.fault.FaultKind.{FaultKind}
 use Rattle.go_text.specs.declared.fault.FaultKind.TheVariants.{PackageName}
 use Rattle.ws_version.specs.Writes.{Write}
-use Rattle.ws_version.specs.Kept.{SameMembers}
-use Rattle.ws_register.specs.Sources.{package_files}
-use Rattle.ws_register.specs.Laws.{same_sources}
+use Rattle.ws_map.specs.Kept.{SameMembers}
+use Rattle.ws_graph.specs.Packages.{package_files}
+use Rattle.ws_register.proofs.Laws.{same_sources}
 use Rattle.go_ast.specs.Trees.{Name, File}
-use Rattle.go_parse.specs.Parse.{Parse, Parsed, Derived, Stopped, IsParse, IsPackage, IsNamed, IsOther}
+use Rattle.go_ast.specs.Parse.{Parse, Parsed, Derived, Stopped, IsParse, IsPackage, IsNamed, IsOther}
 use Rattle.ws_graph.specs.Plan.{Planned, NoFiles, Faulty, Sound, source_of, AllParsed, AreParsed, AllNamed, StopsIn, DiffersIn, IsSound, IsPlan, IsPlanOf}
-use Rattle.go_parse.proofs.Once.{one_parse}
+use Rattle.go_ast.proofs.Once.{one_parse}
 
 -- a file's name and text
 abbrev Pair : Type 0

@@ -7,7 +7,7 @@ use Rattle.go_text.specs.declared.place.Place.{Place}
 use Rattle.go_text.specs.declared.fault.FaultKind.{FaultKind}
 use Rattle.ws_register.specs.Sources.{pair_of}
 use Rattle.go_ast.specs.Trees.{File}
-use Rattle.go_parse.specs.Parse.{Parsed, Derived, Stopped, IsParse, IsNamed, IsOther}
+use Rattle.go_ast.specs.Parse.{Parsed, Derived, Stopped, IsParse, IsNamed, IsOther}
 use Rattle.ws_graph.specs.Plan.{source_of, AllParsed, AllNamed, HasOther, StopsIn}
 
 -- what is said of the parsed that are left is said of all

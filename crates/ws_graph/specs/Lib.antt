@@ -1,2 +1,3 @@
-pub mod Plan
 pub mod Node
+pub mod Packages
+pub mod Plan

@@ -5,9 +5,10 @@ use Rattle.go_text.specs.declared.place.Place.{Place}
 use Rattle.go_text.specs.declared.fault.FaultKind.{FaultKind}
 use Rattle.go_text.specs.declared.fault.FaultKind.TheVariants.{PackageName}
 use Rattle.ws_version.specs.Writes.{Write}
-use Rattle.ws_register.specs.Sources.{IsSources, package_files}
+use Rattle.ws_register.specs.Sources.{IsSources}
+use Rattle.ws_graph.specs.Packages.{package_files}
 use Rattle.go_ast.specs.Trees.{Name, File}
-use Rattle.go_parse.specs.Parse.{Derived, Stopped, IsParse, IsPackage, IsNamed, IsOther, Parsed}
+use Rattle.go_ast.specs.Parse.{Derived, Stopped, IsParse, IsPackage, IsNamed, IsOther, Parsed}
 
 -- no file, or the plan's fault, or all files with what they parse to
 pub data Planned : Type 0 where

@@ -8,20 +8,23 @@ ghost use Rattle.go_text.specs.declared.place.Place.{Place as APlace};
 ghost use Rattle.go_text.specs.declared.fault.FaultKind.{FaultKind as AKind};
 ghost use Rattle.go_ast.specs.Trees.{File as AFile};
 ghost use Rattle.ws_version.specs.Writes.{Write, held_cmp};
-ghost use Rattle.ws_version.specs.Kept.{StandsFor, SameMembers};
+ghost use Rattle.ws_map.specs.Kept.{StandsFor, SameMembers};
 ghost use Rattle.ws_register.specs.Sources.{pair_of};
-ghost use Rattle.go_parse.specs.Parse.{Derived, Stopped, IsParse, IsNamed, IsOther};
+ghost use Rattle.go_ast.specs.Parse.{Derived, Stopped, IsParse, IsNamed, IsOther};
 ghost use Rattle.ws_graph.specs.Plan.{Planned, NoFiles, source_of, AreParsed, AllNamed, HasOther, StopsIn, IsPlan, IsPlanOf};
 ghost use Rattle.ws_graph.specs.Node.{planned_of};
 ghost use Rattle.ws_graph.specs.declared.FileError.TheVariants.{Memory};
 
-use go_parse::{ParseError, Parsed};
+use go_ast::parsed::Parsed;
+use go_parse::{ParseError, parse_source};
 use go_text::fault::{Fault, FaultKind};
 use go_text::source::Source;
+pub use packages::package_files;
 pub use planned::{Node, Plan, PlanError};
 use std::alloc::{AllocError, AllocFailed, Global};
 use ws_register::Registers;
 
+mod packages;
 mod planned;
 
 // Why a file wasn't parsed.
@@ -52,7 +55,7 @@ fn parsed_file(alloc: Global, source: Source) -> Result<Parsed, FileError>
     ensures stopped { (fault : AFault) → result ≡ Err (FileError.Stopped fault) → (kind : AKind) × (place : APlace) × IsParse source.text (Stopped kind place) × (fault ≡ record { file = source.name; place = place; kind = kind }) }
 {
     let name = String::from_str(alloc, source.name())?;
-    match Parsed::new(alloc, source) {
+    match parse_source(alloc, source) {
         Ok(parsed) => {
             // The accessor is what says that the text is a file.
             let _file = parsed.file();
@@ -122,7 +125,7 @@ pub fn plan(alloc: Global, registers: &Registers, directory: &str) -> Result<Pla
     ensures none { (writes : List Write) → StandsFor held_cmp registers.now writes → result ≡ Err PlanError.NoPackage → IsPlanOf writes directory.now NoFiles }
 {
     let name = String::from_str(alloc, directory)?;
-    let files = registers.files(directory)?;
+    let files = package_files(registers, directory)?;
     let node = match parsed_files(alloc, files) {
         Ok(parsed) => judged(alloc, parsed)?,
         Err(FileError::Stopped(fault)) => Node::Faulty(fault),

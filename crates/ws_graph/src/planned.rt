@@ -2,7 +2,7 @@
 ghost use Rattle.std.specs.Prelude.{◌≡◌};
 ghost use Rattle.ws_graph.specs.declared.planned.PlanError.TheVariants.{Memory};
 
-use go_parse::Parsed;
+use go_ast::parsed::Parsed;
 use go_text::fault::Fault;
 use std::alloc::AllocError;
 use thiserror::Error;
@@ -13,8 +13,8 @@ pub enum PlanError {
     /// No file of the directory belongs to a build.
     #[error("no package")]
     NoPackage,
-    /// An allocation was refused.
-    #[error("memory")]
+    /// Memory ran out.
+    #[error("out of memory")]
     Memory,
 }
 

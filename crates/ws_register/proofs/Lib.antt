@@ -1,5 +1,7 @@
-mod Cloned
+pub mod Counters
 mod Ends
+pub mod Exists
 mod Files
+pub mod Greatest
+pub mod Laws
 mod Listed
-mod Walks

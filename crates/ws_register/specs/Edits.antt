@@ -2,8 +2,8 @@
 use Rattle.std.specs.Prelude.{◌≡◌, ◌≤◌, ℕ, ◌+◌, Bool, true, cond, not, ◌&&◌, eqb, max, List, [], ◌∷◌, ◌⊎◌, Option, Some, None, is_none}
 use Rattle.std.specs.Str.{bytes_eq}
 use Rattle.std.specs.FinMap.{FinMap, get, entries}
-use Rattle.ws_version.specs.Paths.{is_path, file_name}
-use Rattle.ws_version.specs.Greater.{joined_option}
+use Rattle.ws_path.specs.Paths.{is_path, file_name}
+use Rattle.ws_map.specs.Greater.{joined_option}
 use Rattle.ws_version.specs.Writes.{Held, Write, path_cmp, greater_held}
 use Rattle.ws_register.specs.declared.EditError.{EditError}
 use Rattle.ws_register.specs.declared.EditError.TheVariants.{BadPath, NoFile, CounterFull, Memory}

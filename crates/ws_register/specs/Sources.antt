@@ -1,13 +1,13 @@
 -- The sources among writes, and the files of one package.
-use Rattle.std.specs.Prelude.{◌≡◌, ℕ, Bool, cond, not, ◌&&◌, eqb, List, map, codes, Option, None}
-use Rattle.std.specs.List.{filter, filter_map, starts_with, ends_with}
+use Rattle.std.specs.Prelude.{◌≡◌, ℕ, Bool, cond, List, map, Option, None}
+use Rattle.std.specs.List.{filter, filter_map}
 use Rattle.std.specs.Option.{option_map}
 use Rattle.std.specs.Str.{bytes_eq}
 use Rattle.std.specs.FinMap.{entries}
 use Rattle.go_text.specs.Named.{Source}
-use Rattle.ws_version.specs.Paths.{directory, file_name}
+use Rattle.ws_map.specs.Kept.{StandsFor}
+use Rattle.ws_path.specs.Paths.{directory, file_name}
 use Rattle.ws_version.specs.Writes.{Write, held_cmp}
-use Rattle.ws_version.specs.Kept.{StandsFor}
 use Rattle.ws_register.specs.Edits.{Contents}
 pub use Rattle.ws_register.specs.Edits.{top}
 
@@ -27,30 +27,22 @@ IsShown W shown = (m : Contents) × StandsFor held_cmp m W × (shown ≡ entries
 abbrev pub IsSources : List Write → List (List ℕ × List ℕ) → Type 0
 IsSources W S = (m : Contents) × StandsFor held_cmp m W × (S ≡ texts_of (entries m))
 
--- files whose name begins with `.` or `_`, or ends in `_test.go`, aren't part of a build
-abbrev pub is_built : List ℕ → Bool
-is_built name = not (starts_with eqb name (codes ".")) && (not (starts_with eqb name (codes "_")) && not (ends_with eqb name (codes "_test.go")))
-
--- the path of a file in the directory that is part of a build
-abbrev pub is_package_path : List ℕ → List ℕ → Bool
-is_package_path dir path = bytes_eq (directory path) dir && is_built (file_name path)
+-- whether a path lies in the directory
+abbrev pub is_in : List ℕ → List ℕ → Bool
+is_in dir path = bytes_eq (directory path) dir
 
 -- with its file name in the place of its path
 abbrev pub named : List ℕ × List ℕ → List ℕ × List ℕ
 named source = (file_name source.0, source.1)
 
--- the files of a directory's package, name and text, in the order of the sources
-abbrev pub package_files : List ℕ → List (List ℕ × List ℕ) → List (List ℕ × List ℕ)
-package_files dir sources = map named (filter (λ source. is_package_path dir source.0) sources)
-
--- those of what a replica holds
-abbrev pub package_files_of : List ℕ → Contents → List (List ℕ × List ℕ)
-package_files_of dir m = package_files dir (texts_of (entries m))
+-- the files of a directory, name and text, in the order of the sources
+abbrev pub files_in : List ℕ → List (List ℕ × List ℕ) → List (List ℕ × List ℕ)
+files_in dir sources = map named (filter (λ source. is_in dir source.0) sources)
 
 -- the name and the text of a source
 abbrev pub pair_of : Source → List ℕ × List ℕ
 pair_of source = (source.name, source.text)
 
--- the file that one write is of a directory's package, if it is one
-abbrev pub package_file : List ℕ → Write → Option (List ℕ × List ℕ)
-package_file dir w = cond (is_package_path dir w.0) (option_map named (source_of w)) None
+-- the file that one write is in a directory, if it is one
+abbrev pub file_in : List ℕ → Write → Option (List ℕ × List ℕ)
+file_in dir w = cond (is_in dir w.0) (option_map named (source_of w)) None

@@ -1,35 +1,30 @@
 //! The greatest write for each path.
 #![tactic(auto)]
 
-ghost use Rattle.std.specs.Prelude.{◌≡◌, ℕ, ◌+◌, ◌++◌, ◌∷◌, [], List, OnOk, OnErr, IfOk, IfErr, IfSome, true, false, Some, None, string_bytes, option_copied, option_map, string_cmp, map as map_list};
+ghost use Rattle.std.specs.Prelude.{◌≡◌, ℕ, ◌+◌, ◌++◌, ◌∷◌, [], List, OnOk, OnErr, IfOk, IfErr, true, false, Some, None, string_bytes, option_copied, option_map, string_cmp, map as map_list};
 ghost use Rattle.std.specs.FinMap as map;
 ghost use Rattle.std.specs.List.{Contains};
 ghost use Rattle.std.specs.Ordering.{is_gt, is_lt};
 ghost use Rattle.std.specs.BTreeMap.{IsOrdered};
 ghost use Rattle.std.specs.BTreeMap.Range.{IsLeBy, IsLtBy, entries_between};
 ghost use Rattle.std.specs.Range.Bound.{IsForward};
+ghost use Rattle.ws_map.specs.Kept.{StandsFor, StandsAt, SameMembers, taken, joined as joined_by};
 ghost use Rattle.ws_version.specs.Writes.{Write as AWrite, Held as AHeld, held_cmp, path_cmp, greater_held};
-ghost use Rattle.ws_version.specs.Kept.{StandsFor, StandsAt, SameMembers, taken, joined as joined_by};
-ghost use Rattle.ws_version.specs.Gathered.{is_news, gathered};
-ghost use Rattle.ws_register.specs.Texted.{texted, by_path, Stands};
+ghost use Rattle.ws_register.specs.Texted.{texted};
 ghost use Rattle.ws_register.specs.Between.{is_between};
-ghost use Rattle.ws_register.specs.Sources.{texts_of, is_built, is_package_path, package_file, package_files, package_files_of, pair_of, IsShown, IsSources};
+ghost use Rattle.ws_register.specs.Sources.{texts_of, is_in, file_in, files_in, pair_of, IsShown, IsSources};
 ghost use Rattle.ws_register.specs.declared.EditError.TheVariants.{Memory};
 ghost use Rattle.ws_register.specs.Edits.{top, greatest_at, greatest_counter, fits, is_missing, edit_refusal, removal_refusal, IsRefusal, edited, removed};
 
-mod contents;
-
-use contents::Contents;
 use go_text::source::Source;
 use go_text::text::Text;
 use std::alloc::{AllocError, Global};
-use std::cmp::Ordering;
 use std::collections::BTreeMap;
-use std::collections::btree_map::Iter;
 use std::marker::Model;
 use std::ops::Bound;
 use thiserror::Error;
-use ws_version::path::{directory as directory_of, file_name, is_path};
+use ws_map::SharedMap;
+use ws_path::{directory as directory_of, file_name, is_path};
 use ws_version::{Held, Join, Version, Write};
 
 /// Why an edit or a removal is refused.
@@ -61,7 +56,7 @@ impl From<AllocError> for EditError {
 #[derive(Drop)]
 pub struct Registers {
     alloc: Global,
-    held: Contents,
+    held: SharedMap<String, Held>,
     greatest: u64,
 }
 
@@ -88,7 +83,7 @@ impl Registers {
     {
         Registers {
             alloc,
-            held: Contents::new(alloc),
+            held: SharedMap::new(alloc),
             greatest: 0,
         }
     }
@@ -98,27 +93,7 @@ impl Registers {
         ensures value { option_copied result ≡ map.get self.now path.now }
         ensures stands { (W : List AWrite) → StandsFor held_cmp self.now W → StandsAt held_cmp W path.now (option_copied result) }
     {
-        self.held.get(path)
-    }
-
-    fn is_news(&self, path: &str, held: &Held) -> bool
-        ensures { result ≡ is_news held_cmp (map.get self.now path.now) held.now }
-    {
-        match self.get(path) {
-            None => true,
-            Some(old) => is_below(old, held),
-        }
-    }
-
-    fn put(&mut self, path: String, held: Held) -> Result<(), AllocError>
-        requires news { is_news held_cmp (map.get self.old (string_bytes path)) held ≡ true }
-        ensures ok { OnOk result (self.new ≡ map.insert self.old (string_bytes path) held) }
-        ensures err { OnErr result (self.new ≡ self.old) }
-    {
-        let counter = held.counter();
-        self.held.insert(path, held)?;
-        self.greatest = self.greatest.max(counter);
-        Ok(())
+        self.held.map()?.get(path)
     }
 
     /// Takes one write: it is kept if it is above what is held at its path. An `Err`, for want of
@@ -128,10 +103,12 @@ impl Registers {
         ensures err { OnErr result (self.new ≡ self.old) }
         ensures stands { OnOk result ((W : List AWrite) → StandsFor held_cmp self.old W → StandsFor held_cmp self.new (W ++ write ∷ [])) }
     {
-        if self.is_news(write.path(), write.held()) {
-            let (path, held) = write.into_parts();
-            self.put(path, held)?;
-        }
+        let (path, held) = write.into_parts();
+        let counter = held.counter();
+        let Ok(()) = self.held.take(path, held) else {
+            return Err(AllocError);
+        };
+        self.greatest = self.greatest.max(counter);
         Ok(())
     }
 
@@ -141,30 +118,6 @@ impl Registers {
         ensures stands { (W : List AWrite) → StandsFor held_cmp self.now W → result ≡ top W }
     {
         self.greatest
-    }
-
-    /// Takes copies of the other's writes. After an `Err` some may be taken, and some not.
-    fn take_all(&mut self, other: &Registers) -> Result<(), AllocError>
-        ensures { OnOk result (self.new ≡ joined_by greater_held self.old other.now) }
-    {
-        let Some(entries) = other.held.map() else {
-            return Ok(());
-        };
-        take_entries(self, entries)?;
-        Ok(())
-    }
-
-    /// Whether the other holds nothing that is news.
-    fn knows(&self, other: &Registers) -> bool
-        ensures { result ≡ true → joined_by greater_held self.now other.now ≡ self.now }
-    {
-        let Some(others) = other.held.map() else {
-            return true;
-        };
-        let Some(mine) = self.held.map() else {
-            return false;
-        };
-        are_known(mine, others)
     }
 
     /// Copies of the held writes, removals too, in path order. An `Err` is for want of memory.
@@ -192,12 +145,11 @@ impl Registers {
         Ok(sources)
     }
 
-    /// Copies of the sources of a directory that are part of a build, in the order of their names:
-    /// no removals, no name that begins with `.` or `_`, and none that ends in `_test.go`. An
-    /// `Err` is for want of memory.
+    /// Copies of the sources of a directory, in the order of their names: no removals. An `Err` is
+    /// for want of memory.
     pub fn files(&self, directory: &str) -> Result<Vec<Source>, AllocError>
-        ensures ok { IfOk result (λ files. map_list pair_of files.items ≡ package_files_of directory.now self.now) }
-        ensures stands { IfOk result (λ files. (W : List AWrite) → StandsFor held_cmp self.now W → (S : List (List ℕ × List ℕ)) × IsSources W S × (map_list pair_of files.items ≡ package_files directory.now S)) }
+        ensures ok { IfOk result (λ files. map_list pair_of files.items ≡ files_in directory.now (texts_of (map.entries self.now))) }
+        ensures stands { IfOk result (λ files. (W : List AWrite) → StandsFor held_cmp self.now W → (S : List (List ℕ × List ℕ)) × IsSources W S × (map_list pair_of files.items ≡ files_in directory.now S)) }
     {
         let Some(entries) = self.held.map() else {
             return Ok(Vec::new(self.alloc));
@@ -276,7 +228,7 @@ impl Registers {
     }
 }
 
-/// Whether a path is one, and this the name of the file there.
+// Whether a path is one, and this the name of the file there.
 fn fits(path: &str, name: &str) -> bool
     ensures { result ≡ fits path.now name.now }
 {
@@ -323,58 +275,6 @@ pub fn law_removal_stays()
     ensures { (m : map.FinMap path_cmp AHeld) → (W : List AWrite) → (w : AWrite) → (h : AHeld) → StandsFor held_cmp m W → Contains W w → w.1.text ≡ None → map.get m w.0 ≡ Some h → is_missing (Some h) ≡ false → is_lt (held_cmp w.1 h) ≡ true }
 {}
 
-// Whether what is held is below what comes.
-fn is_below(old: &Held, held: &Held) -> bool
-    ensures { result ≡ is_lt (held_cmp old.now held.now) }
-{
-    match old.cmp_held(held) {
-        Ordering::Less => true,
-        _ => false,
-    }
-}
-
-fn take_entries(all: &mut Registers, entries: &BTreeMap<String, Held>) -> Result<(), AllocError>
-    ensures ok { OnOk result (all.new ≡ gathered greater_held all.old (texted entries.now.entries)) }
-    ensures ordered { IsOrdered string_cmp entries.now }
-{
-    for (path, held) in entries {
-        if all.is_news(path, held) {
-            all.put(path.clone()?, held.copy()?)?;
-        }
-    }
-    Ok(())
-}
-
-// What the next of the entries holds that stands at a path; those before it are passed over.
-fn next_at<'a>(rest: &mut Iter<'a, String, Held>, path: &str) -> Option<&'a Held>
-    ensures found { IfSome result (λ held. Stands rest.old path.now held.now) }
-    ensures left { (e : _) → Contains rest.new e → Contains rest.old e }
-{
-    'rest: while let Some((at, held)) = rest.next() {
-        if at.as_str() == path {
-            return Some(held);
-        }
-    }
-    None
-}
-
-// Whether none of the entries is news to others. Both are in path order, so that one walk does.
-fn are_known(others: &BTreeMap<String, Held>, entries: &BTreeMap<String, Held>) -> bool
-    ensures known { result ≡ true → gathered greater_held (by_path others.now.entries) (texted entries.now.entries) ≡ by_path others.now.entries }
-    ensures ordered { IsOrdered string_cmp entries.now }
-{
-    let mut rest = others.iter();
-    for (path, held) in entries {
-        let Some(old) = next_at(&mut rest, path.as_str()) else {
-            return false;
-        };
-        if is_below(old, held) {
-            return false;
-        }
-    }
-    true
-}
-
 fn list_of(alloc: Global, entries: &BTreeMap<String, Held>) -> Result<Vec<Write>, AllocError>
     ensures ok { IfOk result (λ writes. writes.items ≡ texted entries.now.entries) }
     ensures ordered { IsOrdered string_cmp entries.now }
@@ -407,7 +307,7 @@ fn files_of(
     entries: &BTreeMap<String, Held>,
     directory: &str,
 ) -> Result<Vec<Source>, AllocError>
-    ensures ok { IfOk result (λ files. map_list pair_of files.items ≡ package_files directory.now (texts_of (texted entries.now.entries))) }
+    ensures ok { IfOk result (λ files. map_list pair_of files.items ≡ files_in directory.now (texts_of (texted entries.now.entries))) }
     ensures ordered { OnOk result (IsOrdered string_cmp entries.now) }
 {
     let ends = ends_of(alloc, directory)?;
@@ -415,11 +315,11 @@ fn files_of(
     Ok(files)
 }
 
-/// Two ends that the paths of a directory's package lie between. Only the files in no directory
-/// don't stand together.
+// Two ends that the paths of a directory's files lie between. Only the files in no directory don't
+// stand together.
 fn ends_of(alloc: Global, directory: &str) -> Result<(Bound<String>, Bound<String>), AllocError>
     ensures forward { IfOk result (λ ends. IsForward (IsLeBy string_cmp) (IsLtBy string_cmp) ends.0 ends.1) }
-    ensures around { IfOk result (λ ends. (path : List ℕ) → is_package_path directory.now path ≡ true → is_between ends.0 ends.1 path ≡ true) }
+    ensures around { IfOk result (λ ends. (path : List ℕ) → is_in directory.now path ≡ true → is_between ends.0 ends.1 path ≡ true) }
 {
     if directory.is_empty() {
         return Ok((Bound::Unbounded, Bound::Unbounded));
@@ -445,7 +345,7 @@ fn files_between(
     directory: &str,
 ) -> Result<Vec<Source>, AllocError>
     requires forward { IsForward (IsLeBy string_cmp) (IsLtBy string_cmp) ends.0 ends.1 }
-    ensures ok { IfOk result (λ files. map_list pair_of files.items ≡ package_files directory.now (texts_of (texted (entries_between string_cmp ends.0 ends.1 entries.now.entries)))) }
+    ensures ok { IfOk result (λ files. map_list pair_of files.items ≡ files_in directory.now (texts_of (texted (entries_between string_cmp ends.0 ends.1 entries.now.entries)))) }
     ensures ordered { IsOrdered string_cmp entries.now }
 {
     let mut files = Vec::new(alloc);
@@ -457,41 +357,30 @@ fn files_between(
     Ok(files)
 }
 
-/// The file of a directory's package that is held at a path, if it is one.
+// The file of a directory that is held at a path, if it is one.
 fn file_of(
     alloc: Global,
     path: &str,
     held: &Held,
     directory: &str,
 ) -> Result<Option<Source>, AllocError>
-    ensures { IfOk result (λ file. option_map pair_of file ≡ package_file directory.now (path.now, held.now)) }
+    ensures { IfOk result (λ file. option_map pair_of file ≡ file_in directory.now (path.now, held.now)) }
 {
     let Some(text) = held.text() else {
         return Ok(None);
     };
-    if !is_package_path(path, directory) {
+    if directory_of(path) != directory {
         return Ok(None);
     }
     let name = String::from_str(alloc, file_name(path))?;
     Ok(Some(Source::of(name, text.copy()?)))
 }
 
-fn is_package_path(path: &str, directory: &str) -> bool
-    ensures { result ≡ is_package_path directory.now path.now }
-{
-    directory_of(path) == directory && is_built(file_name(path))
-}
-
-fn is_built(name: &str) -> bool
-    ensures { result ≡ is_built name.now }
-{
-    let name = name.as_bytes();
-    !name.starts_with(b".") && !name.starts_with(b"_") && !name.ends_with(b"_test.go")
-}
-
 impl Join for Registers {
-    ghost use Rattle.ws_version.specs.Kept.{joined as joined_by, joined-commutative, joined-associative, joined-idempotent};
-    ghost use Rattle.ws_version.specs.Writes.{greater_held, path_cmp_total, path_cmp-IsAntisymmetric, held-semilattice};
+    ghost use Rattle.ws_map.specs.Kept.{joined as joined_by};
+    ghost use Rattle.ws_map.proofs.Kept.{joined-commutative, joined-associative, joined-idempotent};
+    ghost use Rattle.ws_version.specs.Writes.{greater_held};
+    ghost use Rattle.ws_version.proofs.Writes.{path_cmp_total, path_cmp-IsAntisymmetric, held-semilattice};
 
     ghost joined = { joined_by greater_held };
 
@@ -515,20 +404,8 @@ impl Join for Registers {
         ensures err { OnErr result (self.new ≡ self.old) }
         ensures stands { OnOk result ((V W : List AWrite) → StandsFor held_cmp self.old V → StandsFor held_cmp other.now W → StandsFor held_cmp self.new (V ++ W)) }
     {
-        // What brings no news changes nothing, and what is all news is shared: neither costs a clone.
-        if self.knows(other) {
-            return Ok(());
-        }
-        if other.knows(self) {
-            *self = other.copy()?;
-            return Ok(());
-        }
-        let mut both = self.copy()?;
-        both.take_all(other)?;
-        *self = both;
+        self.held.merge(&other.held)?;
+        self.greatest = self.greatest.max(other.greatest);
         Ok(())
     }
 }
-
-#[cfg(test)]
-mod tests;

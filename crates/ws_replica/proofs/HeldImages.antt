@@ -6,21 +6,22 @@ use Rattle.std.specs.FinMap.{FinMap, get}
 use Rattle.std.proofs.lemmas.List.Elements.{Contains-append_left}
 use Rattle.std.proofs.lemmas.Grind.{flat_map-append}
 use Rattle.go_text.specs.Faults.{Fault}
-use Rattle.go_check.specs.Typed.{Typed, IsWellTyped}
+use Rattle.go_export.specs.Typed.{Typed}
+use Rattle.go_export.specs.WellTyped.{IsWellTyped}
 use Rattle.go_check.specs.Meaning.{IsProgram}
 use Rattle.go_check.specs.Packages as answers
 use Rattle.go_check.specs.Sources.{IsAnswerOf}
 use Rattle.go_code.specs.Images.{Image}
 use Rattle.go_code.specs.Packages.{Object}
 use Rattle.go_gen.specs.Translation.{object_of}
-use Rattle.go_parse.specs.Parse.{Parsed}
+use Rattle.go_ast.specs.Parse.{Parsed}
 use Rattle.ws_version.specs.Writes.{Write}
 use Rattle.ws_action.specs.Actions.{Action, action_id, action_of, IsSized}
 use Rattle.ws_action.specs.Clash.{NoClash, AllSized, hashed, hashed_actions}
 use Rattle.ws_cache.specs.Compiles.{Good, Faulty, Compiles}
 use Rattle.ws_cache.specs.Held.{id_cmp, IsHeld, CacheStandsFor}
-use Rattle.ws_cache.specs.Joined.{cache_stands}
-use Rattle.ws_cache.specs.Laws.{found_itself, found_no_other}
+use Rattle.ws_cache.proofs.Joined.{cache_stands}
+use Rattle.ws_cache.proofs.Laws.{found_itself, found_no_other}
 use Rattle.ws_cache.proofs.Outcomes.{one_outcome}
 use Rattle.ws_graph.specs.Plan.{Planned, NoFiles, Sound, IsPlanOf}
 use Rattle.ws_graph.specs.Plan as plans
@@ -54,7 +55,7 @@ faulty_held cache action held fault found compiles = λ other at object gives ty
     cc
 
 -- an image that is held means a well-typed program
-pub held_means : (cache : FinMap id_cmp Action) (action : Action) (image : Image) → IsImageHeld cache action (Some image) → (typed : Typed) × IsWellTyped typed × IsProgram typed × MeansProgram image typed
+pub held_means : (cache : FinMap id_cmp Action) (action : Action) (image : Image) → IsImageHeld cache action (Some image) → (typed : Typed) × IsWellTyped typed × IsProgram (typed ∷ []) × MeansProgram image typed
 held_means cache action image (held, found, object, (typed, answer, is), linked) =
     let meant = linked typed is in
     (typed, answer_typed held.path held.files typed answer, meant.0, meant.1)
@@ -99,6 +100,6 @@ sound_image edition W E directory parsed cache image plan stands sized its held 
   right = λ clear. right edition directory parsed E cache stands (sized_more E (action_of edition directory parsed) sized its) clear image held;
 }
 
-pub some_means : (cache : FinMap id_cmp Action) (action : Action) (image : Option Image) → IsImageHeld cache action image → IfSome image (λ image. (typed : Typed) × IsWellTyped typed × IsProgram typed × MeansProgram image typed)
+pub some_means : (cache : FinMap id_cmp Action) (action : Action) (image : Option Image) → IsImageHeld cache action image → IfSome image (λ image. (typed : Typed) × IsWellTyped typed × IsProgram (typed ∷ []) × MeansProgram image typed)
 some_means cache a None h = tt
 some_means cache a (Some image) h = held_means cache a image h

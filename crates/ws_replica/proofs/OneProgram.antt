@@ -4,22 +4,22 @@ use Rattle.std.specs.Prelude.{◌⊎◌, map, codes, IsSome}
 use Rattle.std.specs.List.{Contains}
 use Rattle.std.specs.Str.{bytes_eq}
 use Rattle.std.proofs.lemmas.Slice.Eq.{bytes_eq-Decides}
-use Rattle.std.specs.List.{flat_map}
-use Rattle.std.specs.Option.{option_map}
+use Rattle.std.proofs.lemmas.List.Elements.{All-cons, All-nil}
 use Rattle.go_code.specs.declared.ending.Ending.{Ending}
-use Rattle.go_check.specs.Verdicts.{all_known}
-use Rattle.go_check.specs.Packages.{NamedFile, Answer, IsChecked, package_name, file_known}
+use Rattle.go_check.specs.Packages.{NamedFile, Answer, IsChecked}
 use Rattle.go_check.specs.Packages as answers
 use Rattle.go_check.specs.Sources.{source_of, AreTreesOf, IsAnswerOf}
 use Rattle.go_check.proofs.Trees.{some_answer_of}
-use Rattle.go_check.specs.Typed.{Typed, Function, IsWellTyped}
+use Rattle.go_export.specs.Typed.{Typed, Function}
+use Rattle.go_export.specs.WellTyped.{IsWellTyped}
 use Rattle.go_check.specs.Meaning.{IsProgram, SourceMeaning, function_named}
-use Rattle.go_check.specs.Sound.{source_some}
-use Rattle.go_check.proofs.Sound.{files_typed}
-use Rattle.go_parse.specs.Parse.{Parsed}
+use Rattle.go_check.proofs.Programs.{checked_known}
+use Rattle.go_check.proofs.Sound.{source_some}
+use Rattle.go_check.proofs.WellTyped.{files_typed}
+use Rattle.go_ast.specs.Parse.{Parsed}
 use Rattle.ws_action.specs.Actions.{Action, action_of}
-use Rattle.ws_action.specs.Clash.{none_in_empty, head_or_later, later, at_head}
-use Rattle.ws_cache.specs.Laws.{same_action, same_action-Decides}
+use Rattle.ws_action.proofs.Members.{none_in_empty, head_or_later, later, at_head}
+use Rattle.ws_cache.proofs.Laws.{same_action, same_action-Decides}
 use Rattle.ws_cache.proofs.Outcomes.{one_typed, not_both}
 use Rattle.ws_graph.specs.Plan.{Planned, NoFiles, Faulty, Sound, IsPlan}
 use Rattle.ws_replica.proofs.SomePlan.{trees_of}
@@ -54,12 +54,12 @@ some_or_none : (o : Option Function) → IsSome o ⊎ (IsSome o → ⊥)
 some_or_none None = inr none_is_none
 some_or_none (Some f) = inl refl
 
-program_by : (typed : Typed) (b : Bool) → bytes_eq typed.package (codes "main") ≡ b → IsSome (function_named (codes "main") typed.functions) ⊎ (IsSome (function_named (codes "main") typed.functions) → ⊥) → IsProgram typed ⊎ (IsProgram typed → ⊥)
+program_by : (typed : Typed) (b : Bool) → bytes_eq typed.package (codes "main") ≡ b → IsSome (function_named (codes "main") typed.functions) ⊎ (IsSome (function_named (codes "main") typed.functions) → ⊥) → IsProgram (typed ∷ []) ⊎ (IsProgram (typed ∷ []) → ⊥)
 program_by typed true e (inl s) = inl ((bytes_eq-Decides typed.package (codes "main")).0 e, s)
 program_by typed true e (inr no_main) = inr (λ p. no_main p.1)
 program_by typed false e s = inr (λ p. let t : bytes_eq typed.package (codes "main") ≡ true = (bytes_eq-Decides typed.package (codes "main")).1 p.0 in cc)
 
-pub program : (typed : Typed) → IsProgram typed ⊎ (IsProgram typed → ⊥)
+pub program : (typed : Typed) → IsProgram (typed ∷ []) ⊎ (IsProgram (typed ∷ []) → ⊥)
 program typed = program_by typed (bytes_eq typed.package (codes "main")) refl (some_or_none (function_named (codes "main") typed.functions))
 
 checked_by : (path : List ℕ) (files : List (List ℕ × List ℕ)) (answer : Answer) → IsAnswerOf path files answer → Decided (λ typed. IsAnswerOf path files (answers.Good typed))
@@ -75,7 +75,7 @@ held_by edition directory held parsed (inr no_entry) c = inr (λ typed h. no_ent
 held_by edition directory held parsed (inl entry) (inr faulty) = inr (λ typed h. faulty typed h.checked)
 held_by edition directory held parsed (inl entry) (inl (typed, c)) = elim (program typed) [
   | inl p ↦ inl (typed, record { compiled = entry; checked = c; program = p })
-  | inr no_program ↦ inr (λ other h. no_program (subst IsProgram (one_typed directory (map source_of parsed) other typed h.checked c) h.program))
+  | inr no_program ↦ inr (λ other h. no_program (subst (λ (t : Typed). IsProgram (t ∷ [])) (one_typed directory (map source_of parsed) other typed h.checked c) h.program))
 ]
 
 pub program_decided : (edition : ℕ) (directory : List ℕ) (held : List Action) (files : List (List ℕ × List ℕ)) (planned : Planned) → IsPlan files planned → Decided (IsPlannedProgram edition directory held planned)
@@ -87,21 +87,16 @@ program_decided edition directory held files (Sound parsed) plan =
 
 -- ---- its meaning
 
-typed_by : (path : List ℕ) (files : List NamedFile) (typed : Typed) (known : Option (List Function)) → all_known (flat_map file_known files) ≡ known → option_map (λ functions. let t : Typed = record { path = path; «package» = package_name files; functions = functions } in t) known ≡ Some typed → IsWellTyped typed
-typed_by path files typed None e k = cc
-typed_by path files typed (Some functions) e k =
-    let is : ◌≡◌ {A = Typed} (record { path = path; «package» = package_name files; functions = functions }) typed = cc in
-    subst IsWellTyped is (files_typed files functions e)
-
 checked_typed : (path : List ℕ) (files : List NamedFile) (typed : Typed) → IsChecked path files typed → IsWellTyped typed
-checked_typed path files typed c = typed_by path files typed (all_known (flat_map file_known files)) refl c.known
+checked_typed path files typed c = files_typed files typed.functions (checked_known path files typed c).functions
 
 -- a checked package is well typed
 pub answer_typed : (path : List ℕ) (files : List (List ℕ × List ℕ)) (typed : Typed) → IsAnswerOf path files (answers.Good typed) → IsWellTyped typed
 answer_typed path files typed h = checked_typed path h.files typed h.is
 
 -- so a program has a meaning
-pub some_meaning : (edition : ℕ) (directory : List ℕ) (held : List Action) (planned : Planned) (typed : Typed) → IsPlannedProgram edition directory held planned typed → (ticks : ℕ) → (ending : Ending) × (output : List ℕ) × SourceMeaning typed ticks ending output
+pub some_meaning : (edition : ℕ) (directory : List ℕ) (held : List Action) (planned : Planned) (typed : Typed) → IsPlannedProgram edition directory held planned typed → (ticks : ℕ) → (ending : Ending) × (output : List ℕ) × SourceMeaning (typed ∷ []) ticks ending output
 some_meaning edition directory held NoFiles typed h ticks = absurd h
 some_meaning edition directory held (Faulty fault) typed h ticks = absurd h
-some_meaning edition directory held (Sound parsed) typed h ticks = source_some typed ticks (answer_typed directory (map source_of parsed) typed h.checked) h.program
+some_meaning edition directory held (Sound parsed) typed h ticks =
+    source_some (typed ∷ []) ticks (All-cons IsWellTyped typed [] (answer_typed directory (map source_of parsed) typed h.checked) (All-nil IsWellTyped)) h.program

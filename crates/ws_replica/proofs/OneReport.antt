@@ -4,7 +4,8 @@ use Rattle.ws_action.specs.Actions.{action_of}
 use Rattle.ws_cache.specs.Compiles.{Compiled}
 use Rattle.ws_cache.proofs.Outcomes.{one_outcome}
 use Rattle.ws_graph.specs.Plan.{Planned, NoFiles, Faulty, Sound}
-use Rattle.ws_replica.specs.Reports.{Verdict, verdict_of, IsReport}
+use Rattle.ws_replica.specs.Reports.{verdict_of, IsReport}
+use Rattle.ws_report.specs.Reports.{Verdict}
 
 pub one_report : (edition : ℕ) (directory : List ℕ) (planned : Planned) (r s : List (List ℕ × Verdict)) → IsReport edition directory planned r → IsReport edition directory planned s → r ≡ s
 one_report edition directory NoFiles r s g h = g ∙ sym h

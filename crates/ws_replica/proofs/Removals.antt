@@ -3,11 +3,11 @@ use Rattle.std.specs.Prelude.{◌≡◌, ℕ, List, None, Result, IfErr, OnOk}
 use Rattle.std.specs.FinMap.{get}
 use Rattle.std.proofs.Common.{subst}
 use Rattle.ws_version.specs.Writes.{Write, held_cmp}
-use Rattle.ws_version.specs.Kept.{StandsFor}
+use Rattle.ws_map.specs.Kept.{StandsFor}
 use Rattle.ws_register.specs.declared.EditError.{EditError}
 use Rattle.ws_register.specs.Edits.{Contents, top, greatest_at, greatest_counter, removal_refusal, IsRefusal}
-use Rattle.ws_register.specs.Counters.{greatest_counter-top}
-use Rattle.ws_register.specs.Greatest.{greatest_at-held}
+use Rattle.ws_register.proofs.Counters.{greatest_counter-top}
+use Rattle.ws_register.proofs.Greatest.{greatest_at-held}
 
 module _ (m : Contents) (W : List Write) (path : List ℕ) (stands : StandsFor held_cmp m W) where
   same_refusal : removal_refusal (greatest_counter m) path (get m path) ≡ removal_refusal (top W) path (greatest_at path W)

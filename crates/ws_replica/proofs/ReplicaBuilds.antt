@@ -11,17 +11,20 @@ use Rattle.std.proofs.lemmas.Cmp.{tied_itself}
 use Rattle.std.specs.Ordering.{is_eq, eq_by_cmp}
 use Rattle.go_text.specs.Faults.{Fault}
 use Rattle.ws_version.specs.Writes.{Held, Write, held_cmp, path_cmp}
-use Rattle.ws_version.specs.Kept.{StandsFor, StandsAt, taken, get-joined}
-use Rattle.ws_version.specs.Greater.{joined_option}
+use Rattle.ws_map.specs.Kept.{StandsFor, StandsAt, taken}
+use Rattle.ws_map.proofs.Kept.{get-joined}
+use Rattle.ws_map.specs.Greater.{joined_option}
 use Rattle.ws_register.specs.Edits.{Contents}
 use Rattle.ws_action.specs.Actions.{Action, action_id, action_of, IsSized}
-use Rattle.go_parse.specs.Parse.{Parsed}
+use Rattle.go_ast.specs.Parse.{Parsed}
 use Rattle.ws_graph.specs.Plan.{Faulty, Sound, IsPlanOf}
-use Rattle.ws_action.specs.Clash.{NoClash, AllSized, hashed_actions, none_in_empty, head_or_later}
+use Rattle.ws_action.specs.Clash.{NoClash, AllSized, hashed_actions}
+use Rattle.ws_action.proofs.Members.{none_in_empty, head_or_later}
 use Rattle.ws_cache.specs.Held.{id_cmp, IsLeast, IsHeld, CacheStandsFor}
 use Rattle.ws_cache.specs.Compiles.{Compiled, Compiles}
-use Rattle.ws_cache.specs.Joined.{lesser, id_cmp_total, cache_stands, taken_stands}
-use Rattle.ws_cache.specs.Laws.{put_again, found_itself, found_no_other, count_of_one}
+use Rattle.ws_cache.specs.Joined.{lesser}
+use Rattle.ws_cache.proofs.Joined.{id_cmp_total, cache_stands, taken_stands}
+use Rattle.ws_cache.proofs.Laws.{put_again, found_itself, found_no_other, count_of_one}
 use Rattle.ws_board.specs.declared.work.Status.{Status}
 use Rattle.ws_board.specs.declared.work.Status.TheVariants.{Ready, Running, Done}
 use Rattle.ws_board.specs.declared.work.Event.{Event}
@@ -29,10 +32,11 @@ use Rattle.ws_board.specs.declared.work.Event.TheVariants.{Take, Finish, Idle}
 use Rattle.ws_board.specs.Work.{Job, State}
 use Rattle.ws_board.specs.Machine.{opening, is_finish, IsHeldFor}
 use Rattle.ws_pool.specs.Runs.{RunsTo, RunsAll, after_run}
-use Rattle.ws_replica.specs.declared.Verdict.{Verdict as RustVerdict}
-use Rattle.ws_replica.specs.declared.Report.{Report}
+use Rattle.ws_report.specs.declared.Verdict.{Verdict as RustVerdict}
+use Rattle.ws_report.specs.declared.Report.{Report}
 use Rattle.ws_replica.specs.Holdings.{Replica, ReplicaStandsFor}
-use Rattle.ws_replica.specs.Reports.{Wrong, verdict_of, seen, rows}
+use Rattle.ws_replica.specs.Reports.{verdict_of}
+use Rattle.ws_report.specs.Reports.{Wrong, seen, rows}
 use Rattle.ws_replica.specs.Builds.{IsBuilt, IsBuild}
 
 -- registers that took nothing

@@ -1,11 +1,14 @@
 -- What replicas that settle stand for.
 use Rattle.std.specs.Prelude.{◌≡◌, List, [], ◌∷◌, ◌++◌, map, Result, Ok, Err, OnOk}
 use Rattle.std.proofs.Common.{refl, sym, subst, append-nil, append_assoc}
-use Rattle.ws_version.specs.Writes.{Write, held_cmp_total, path_cmp_total}
-use Rattle.ws_version.specs.Kept.{stands_for-joined}
+use Rattle.ws_version.specs.Writes.{Write}
+use Rattle.ws_version.specs.Laws.{held_cmp_total}
+use Rattle.ws_version.proofs.Writes.{path_cmp_total}
+use Rattle.ws_map.proofs.Kept.{stands_for-joined}
 use Rattle.ws_action.specs.Actions.{Action}
-use Rattle.ws_cache.specs.Joined.{lesser, joined_stands}
-use Rattle.ws_version.specs.Kept.{joined}
+use Rattle.ws_cache.specs.Joined.{lesser}
+use Rattle.ws_cache.proofs.Joined.{joined_stands}
+use Rattle.ws_map.specs.Kept.{joined}
 use Rattle.ws_replica.specs.Holdings.{Replica, ReplicaStandsFor, Took, AllStandFor, all_taken, both}
 use Rattle.ws_replica.specs.Joins.{joined_from, settled}
 
@@ -29,7 +32,7 @@ joined_from-stands first V E (next ∷ rest) (t ∷ took) stands all =
     let others = all_taken took in
     same_taken (joined_from both (both first next) rest) ((V ++ t.writes) ++ others.writes) (V ++ (t.writes ++ others.writes)) ((E ++ t.actions) ++ others.actions) (E ++ (t.actions ++ others.actions)) (append_assoc V t.writes others.writes) (append_assoc E t.actions others.actions) more
 
--- one that stands for all, in the place of each
+-- one that stands for all, in each one's stead
 each_stands : (all : Replica) (whole : Took) → ReplicaStandsFor all whole.writes whole.actions → (replicas : List Replica) (took : List Took) → AllStandFor replicas took → AllStandFor (map (λ _. all) replicas) (map (λ _. whole) took)
 each_stands all whole stands [] [] each = tt
 each_stands all whole stands [] (t ∷ took) each = absurd each

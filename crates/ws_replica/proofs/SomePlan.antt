@@ -7,10 +7,11 @@ use Rattle.std.proofs.lemmas.Slice.Eq.{bytes_eq-Decides}
 use Rattle.go_text.specs.Faults.{Fault}
 use Rattle.go_text.specs.declared.fault.FaultKind.TheVariants.{PackageName}
 use Rattle.ws_version.specs.Writes.{Write}
-use Rattle.ws_register.specs.Exists.{some_contents}
-use Rattle.ws_register.specs.Sources.{texts_of, IsSources, package_files}
+use Rattle.ws_register.proofs.Exists.{some_contents}
+use Rattle.ws_register.specs.Sources.{texts_of, IsSources}
+use Rattle.ws_graph.specs.Packages.{package_files}
 use Rattle.go_ast.specs.Trees.{Name, File}
-use Rattle.go_parse.specs.Parse.{Parse, Derived, Stopped, IsParse, IsPackage, IsNamed, Parsed}
+use Rattle.go_ast.specs.Parse.{Parse, Derived, Stopped, IsParse, IsPackage, IsNamed, Parsed}
 use Rattle.ws_graph.specs.Plan.{Planned, NoFiles, Faulty, Sound, source_of, AllParsed, AreParsed, AllNamed, HasOther, StopsIn, IsPlan, IsPlanOf}
 use Rattle.go_check.specs.Packages.{NamedFile, Answer}
 use Rattle.go_check.specs.Packages as answers
@@ -20,8 +21,9 @@ use Rattle.go_gen.specs.Translation.{object_of}
 use Rattle.ws_action.specs.Actions.{action_of}
 use Rattle.ws_cache.specs.Compiles.{Compiled, Compiles}
 use Rattle.ws_cache.specs.Compiles as compiled
-use Rattle.ws_replica.specs.Reports.{Verdict, Wrong, verdict_of, IsReport}
-use Rattle.go_parse.proofs.Exists.{parse_exists}
+use Rattle.ws_replica.specs.Reports.{verdict_of, IsReport}
+use Rattle.ws_report.specs.Reports.{Verdict, Wrong}
+use Rattle.go_ast.proofs.Exists.{parse_exists}
 
 -- ---- the sources of a set of writes
 

@@ -10,8 +10,9 @@ use Rattle.ws_graph.specs.declared.planned.PlanError.{PlanError}
 use Rattle.ws_graph.specs.declared.planned.PlanError.TheVariants as plan
 use Rattle.ws_replica.specs.declared.BuildError.{BuildError}
 use Rattle.ws_replica.specs.declared.BuildError.TheVariants as build
-use Rattle.ws_replica.specs.declared.Report.{Report}
-use Rattle.ws_replica.specs.Reports.{rows, verdict_of, actions_of, IsReport}
+use Rattle.ws_report.specs.declared.Report.{Report}
+use Rattle.ws_replica.specs.Reports.{verdict_of, actions_of, IsReport}
+use Rattle.ws_report.specs.Reports.{rows}
 use Rattle.ws_replica.specs.Holdings.{Replica, ReplicaStandsFor}
 use Rattle.ws_graph.specs.Plan.{Planned, NoFiles, IsPlanOf}
 use Rattle.ws_version.specs.Writes.{Write}

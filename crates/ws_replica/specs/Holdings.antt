@@ -3,12 +3,16 @@ use Rattle.std.specs.Prelude.{◌≡◌, List, [], ◌∷◌, refl}
 use Rattle.std.specs.List.{flat_map}
 use Rattle.std.specs.Coded.{Coded, code_by, coded×, coded_ℕ, coded_list}
 use Rattle.std.specs.FinMap.{FinMap, code}
-use Rattle.ws_version.specs.Writes.{Write, held_code, held_cmp, path_cmp_total, path_cmp-IsAntisymmetric, held-semilattice, greater_held}
-use Rattle.ws_version.specs.Kept.{StandsFor, joined, joined-commutative, joined-associative, joined-idempotent}
+use Rattle.ws_version.specs.Writes.{Write, held_code, held_cmp, greater_held}
+use Rattle.ws_version.proofs.Writes.{path_cmp_total, path_cmp-IsAntisymmetric, held-semilattice}
+use Rattle.ws_map.specs.Kept.{StandsFor, joined}
+use Rattle.ws_map.proofs.Kept.{joined-commutative, joined-associative, joined-idempotent}
 use Rattle.ws_register.specs.Edits.{Contents}
 use Rattle.ws_action.specs.Actions.{Action, action_code}
 use Rattle.ws_cache.specs.Held.{id_cmp, CacheStandsFor}
-use Rattle.ws_cache.specs.Joined.{lesser, id_cmp_total, id_cmp-IsAntisymmetric, lesser-semilattice}
+use Rattle.ws_cache.specs.Joined.{lesser}
+use Rattle.ws_cache.specs.Laws.{lesser-semilattice}
+use Rattle.ws_cache.proofs.Joined.{id_cmp_total, id_cmp-IsAntisymmetric}
 
 -- what is held at each path, and what is compiled
 pub record Replica : Type 0 where

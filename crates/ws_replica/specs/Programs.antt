@@ -1,16 +1,16 @@
 -- The program of a directory, and the image of what is compiled.
-use Rattle.std.specs.Prelude.{◌≡◌, ◌≢◌, ℕ, List, ◌++◌, map, Option, None, Some}
+use Rattle.std.specs.Prelude.{◌≡◌, ◌≢◌, ℕ, List, [], ◌∷◌, ◌++◌, map, Option, None, Some}
 use Rattle.std.specs.FinMap.{FinMap, get}
 use Rattle.std.specs.List.{Contains}
 use Rattle.go_check.specs.Packages as answers
 use Rattle.go_check.specs.Sources.{source_of, IsAnswerOf}
-use Rattle.go_check.specs.Typed.{Typed}
+use Rattle.go_export.specs.Typed.{Typed}
 use Rattle.go_check.specs.Meaning.{IsProgram, SourceMeaning}
 use Rattle.go_code.specs.declared.ending.Ending.{Ending}
 use Rattle.go_code.specs.Finals.{Ends}
 use Rattle.go_code.specs.Images.{Image}
 use Rattle.go_code.specs.Machine.{MachineMeaning}
-use Rattle.go_parse.specs.Parse.{Parsed}
+use Rattle.go_ast.specs.Parse.{Parsed}
 use Rattle.go_code.specs.Packages.{Object}
 use Rattle.go_gen.specs.Translation.{object_of}
 use Rattle.ws_version.specs.Writes.{Write}
@@ -26,7 +26,7 @@ use Rattle.ws_replica.specs.Reports.{actions_of}
 pub record IsHeldProgram (edition : ℕ) (directory : List ℕ) (held : List Action) (parsed : List Parsed) (typed : Typed) : Type 0 where
   pub compiled : Contains held (action_of edition directory parsed)
   pub checked : IsAnswerOf directory (map source_of parsed) (answers.Good typed)
-  pub program : IsProgram typed
+  pub program : IsProgram (typed ∷ [])
 
 -- the same of a plan; one that isn't sound has no program
 abbrev pub IsPlannedProgram : ℕ → List ℕ → List Action → Planned → Typed → Type 0
@@ -36,7 +36,7 @@ IsPlannedProgram edition directory held (Sound parsed) typed = IsHeldProgram edi
 
 -- for every number of ticks the image does what the sources mean
 abbrev pub MeansProgram : Image → Typed → Type 0
-MeansProgram image typed = (ticks : ℕ) (ending : Ending) (output : List ℕ) → SourceMeaning typed ticks ending output → MachineMeaning image ticks (Ends ending output)
+MeansProgram image typed = (ticks : ℕ) (ending : Ending) (output : List ℕ) → SourceMeaning (typed ∷ []) ticks ending output → MachineMeaning image ticks (Ends ending output)
 
 -- some image where there is a program, and none where there is none
 abbrev pub IsImageOf : ℕ → List ℕ → List Action → Planned → Option Image → Type 0
@@ -59,8 +59,8 @@ IsTranslated object = (typed : Typed) × (object ≡ object_of typed)
 
 -- an object is linked to this image, if it is a program's
 abbrev pub IsLinked : Object → Option Image → Type 0
-IsLinked object None = (typed : Typed) → object ≡ object_of typed → IsProgram typed → ⊥
-IsLinked object (Some image) = (typed : Typed) → object ≡ object_of typed → IsProgram typed × MeansProgram image typed
+IsLinked object None = (typed : Typed) → object ≡ object_of typed → IsProgram (typed ∷ []) → ⊥
+IsLinked object (Some image) = (typed : Typed) → object ≡ object_of typed → IsProgram (typed ∷ []) × MeansProgram image typed
 
 -- the image of what a cache holds for an action's id
 abbrev pub IsImageHeld : FinMap id_cmp Action → Action → Option Image → Type 0

@@ -79,6 +79,3 @@ pub fn settle<R: Threads + Sync>(
 {
     settle_all(rt, alloc, replicas)
 }
-
-#[cfg(test)]
-mod tests;

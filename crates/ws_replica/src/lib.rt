@@ -1,39 +1,37 @@
 //! Replicas: what is written and what is compiled, and builds.
 #![tactic(auto)]
 
-ghost use Rattle.std.specs.Prelude.{◌≡◌, ◌≢◌, ℕ, ◌++◌, ◌∷◌, [], List, if◌then◌else◌, is_some, IfOk, IfErr, IfSome, OnOk, OnErr, Err, None, string_bytes, option_copied};
-ghost use Rattle.std.specs.FinMap as map;
-ghost use Rattle.std.specs.List.{count_by, slice_get};
+ghost use Rattle.std.specs.Prelude.{◌≡◌, ◌≢◌, ℕ, ◌++◌, ◌∷◌, [], List, IfOk, IfErr, IfSome, OnOk, OnErr, Err, None, string_bytes, option_copied};
 ghost use Rattle.go_text.specs.Editions.{edition_number};
 ghost use Rattle.ws_version.specs.Writes.{Write as AWrite, held_cmp};
-ghost use Rattle.ws_version.specs.Kept.{StandsAt};
+ghost use Rattle.ws_map.specs.Kept.{StandsAt};
 ghost use Rattle.ws_register.specs.Edits.{top, greatest_at, edit_refusal, removal_refusal, IsRefusal, edited, removed};
 ghost use Rattle.ws_register.specs.Sources.{IsShown, IsSources};
 ghost use Rattle.ws_register.specs.Texted.{texted};
-ghost use Rattle.ws_action.specs.Actions.{Action as AnAction, action_of, action_id, IsSized};
+ghost use Rattle.ws_action.specs.Actions.{Action as AnAction, action_of};
 ghost use Rattle.ws_action.specs.Clash.{AllSized, NoClash, hashed_actions};
-ghost use Rattle.ws_cache.specs.Held.{IsHeld, CacheStandsFor};
-ghost use Rattle.ws_cache.specs.Joined.{lesser};
+ghost use Rattle.ws_cache.specs.Held.{CacheStandsFor};
 ghost use Rattle.ws_cache.specs.Count.{compiled_count};
 ghost use Rattle.ws_cache.specs.Compiles.{Compiles, compiled_of};
 ghost use Rattle.ws_graph.specs.Plan.{Planned, Sound, NoFiles, IsPlanOf};
-ghost use Rattle.ws_board.specs.Machine.{opening, is_finish};
+ghost use Rattle.ws_board.specs.Machine.{opening};
 ghost use Rattle.ws_pool.specs.Runs.{RunsTo};
 ghost use Rattle.ws_replica.specs.Holdings.{ReplicaStandsFor, both};
 ghost use Rattle.ws_replica.specs.declared.BuildError.TheVariants.{Memory};
 ghost use Rattle.ws_replica.specs.Builds.{IsBuilt, refusal_of};
 ghost use Rattle.ws_replica.specs.Programs.{IsTranslated, IsLinked, IsImageHeld, IsImage, MeansProgram};
-ghost use Rattle.go_check.specs.Typed.{Typed, IsWellTyped};
+ghost use Rattle.go_export.specs.Typed.{Typed};
+ghost use Rattle.go_export.specs.WellTyped.{IsWellTyped};
 ghost use Rattle.go_check.specs.Meaning.{IsProgram};
 ghost use Rattle.std.specs.Arc.{arc_value};
-ghost use Rattle.ws_replica.specs.Reports.{Verdict as AVerdict, actions_of, verdict_of, IsReport, seen, is_good, rows};
+ghost use Rattle.ws_replica.specs.Reports.{actions_of, verdict_of, IsReport};
+ghost use Rattle.ws_report.specs.Reports.{Verdict as AVerdict, seen, rows};
 
+use go_ast::parsed::Parsed;
 use go_code::image::Image;
 use go_code::object::Object;
 use go_link::link::{LinkError, link};
-use go_parse::Parsed;
 use go_text::edition::Edition;
-use go_text::fault::Fault;
 use go_text::source::Source;
 use go_text::text::Text;
 use std::alloc::{AllocError, Global};
@@ -46,11 +44,10 @@ use ws_cache::{Cache, Outcome};
 use ws_graph::{Node, Plan, PlanError, plan};
 use ws_pool::drive;
 use ws_register::{EditError, Registers};
+use ws_report::{Report, Verdict};
 use ws_version::{Held, Join, Write};
 
 pub mod join;
-#[cfg(test)]
-mod tests;
 
 /// Why there is no report.
 #[derive(Debug, Drop, Error)]
@@ -59,7 +56,7 @@ pub enum BuildError {
     #[error("no package")]
     NoPackage,
     /// An allocation was refused.
-    #[error("memory")]
+    #[error("out of memory")]
     Memory,
 }
 
@@ -80,34 +77,6 @@ impl From<AllocError> for BuildError {
     fn from(_e: AllocError) -> BuildError {
         BuildError::Memory
     }
-}
-
-/// What a build says of a directory.
-#[derive(Drop)]
-pub enum Verdict {
-    Good,
-    /// It imports one that is faulty or blocked.
-    Blocked,
-    Faulty(Fault),
-}
-
-impl Verdict {
-    /// Whether the directory is good.
-    pub fn is_good(&self) -> bool
-        ensures { result ≡ is_good self.now }
-    {
-        match self {
-            Verdict::Good => true,
-            Verdict::Blocked | Verdict::Faulty(_) => false,
-        }
-    }
-}
-
-/// What a build says of each directory that it reaches, in order, and how many actions it compiled.
-#[derive(Drop)]
-pub struct Report {
-    pub directories: Vec<(String, Verdict)>,
-    pub compiled: u64,
 }
 
 /// What is held at each path, and what is compiled.
@@ -370,7 +339,7 @@ pub fn image(
     edition: Edition,
 ) -> Result<Option<Image>, BuildError>
     ensures ok { IfOk result (λ image. (W : List AWrite) (E : List AnAction) → ReplicaStandsFor replica.now W E → AllSized E → IsImage (edition_number edition) W E directory.now image) }
-    ensures program { IfOk result (λ image. IfSome image (λ image. (typed : Typed) × IsWellTyped typed × IsProgram typed × MeansProgram image typed)) }
+    ensures program { IfOk result (λ image. IfSome image (λ image. (typed : Typed) × IsWellTyped typed × IsProgram (typed ∷ []) × MeansProgram image typed)) }
     ensures none { result ≡ Err BuildError.NoPackage → (W : List AWrite) (E : List AnAction) → ReplicaStandsFor replica.now W E → IsPlanOf W directory.now NoFiles }
 {
     let registers = &replica.registers;

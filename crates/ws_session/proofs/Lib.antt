@@ -1,5 +1,5 @@
 pub mod OneText
-pub mod Places
+pub mod Tested
 pub mod RunTelling
 pub mod Runs
 pub mod Settled

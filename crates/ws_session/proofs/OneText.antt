@@ -4,7 +4,8 @@ use Rattle.ws_version.specs.Writes.{Write as AWrite}
 use Rattle.ws_action.specs.Actions.{Action}
 use Rattle.ws_cache.specs.Count.{compiled_count}
 use Rattle.ws_graph.specs.Plan.{Planned, NoFiles, Faulty, Sound, IsPlanOf}
-use Rattle.ws_replica.specs.Reports.{Verdict, IsReport, actions_of}
+use Rattle.ws_replica.specs.Reports.{IsReport, actions_of}
+use Rattle.ws_report.specs.Reports.{Verdict}
 use Rattle.ws_command.specs.declared.refusal.Refusal.{Refusal}
 use Rattle.ws_command.specs.Commands.{Command, Nothing, Bad, Create, Write, Remove, Apply, Merge, Settle, Build, Run, Show, command_of, text_lines, text_of}
 use Rattle.ws_command.specs.Refusals.{first_of}
@@ -14,9 +15,9 @@ use Rattle.ws_command.specs.ShowPrinting.{show_text}
 use Rattle.std.specs.FinMap.{entries}
 use Rattle.ws_register.specs.Edits.{Contents}
 use Rattle.ws_register.specs.Sources.{IsShown}
-use Rattle.ws_register.specs.Laws.{one_contents, SameMembers-itself}
+use Rattle.ws_register.proofs.Laws.{one_contents, SameMembers-itself}
 use Rattle.go_check.specs.Meaning.{SourceMeaning}
-use Rattle.go_check.specs.Sound.{source_once}
+use Rattle.go_check.proofs.Sound.{source_once}
 use Rattle.ws_replica.proofs.OneProgram.{one_program}
 use Rattle.ws_session.specs.World.{World, opening, writes_of, actions_held, taking, with_replicas, seeking, refusals, Accepted, AfterBy, After, Answers, PrintsBy, Prints, Told, Ran, RanOr}
 use Rattle.ws_session.specs.Text.{TextFrom, SessionText}
@@ -38,7 +39,7 @@ module _ (one_plan : (W : List AWrite) (directory : List ℕ) (p q : Planned) �
   ran_once : (edition : ℕ) (name directory : List ℕ) (ticks : ℕ) (held : List Action) (planned : Planned) (a b : List ℕ) → RanOr edition name directory ticks held planned a → RanOr edition name directory ticks held planned b → a ≡ b
   ran_once edition name directory ticks held planned a b (inl g) (inl h) =
       let same : h.0 ≡ g.0 = one_program edition directory held planned h.0 g.0 h.1 g.1 in
-      let means = source_once g.0 ticks g.2 h.2 g.3 h.3 g.4 (subst (λ t. SourceMeaning t ticks h.2 h.3) same h.4) in
+      let means = source_once (g.0 ∷ []) ticks g.2 h.2 g.3 h.3 g.4 (subst (λ t. SourceMeaning (t ∷ []) ticks h.2 h.3) same h.4) in
       g.5 ∙ ap (λ e. run_text name directory e g.3) means.0 ∙ ap (run_text name directory h.2) means.1 ∙ sym h.5
   ran_once edition name directory ticks held planned a b (inl g) (inr h) = absurd (h.0 g.0 g.1)
   ran_once edition name directory ticks held planned a b (inr g) (inl h) = absurd (g.0 h.0 h.1)

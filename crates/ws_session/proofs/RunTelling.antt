@@ -19,7 +19,7 @@ use Rattle.ws_command.specs.Commands.{Run}
 use Rattle.ws_command.specs.Refusals.{first_of, refused}
 use Rattle.ws_command.specs.RunPrinting.{run_text}
 use Rattle.ws_session.specs.World.{World, Replica, replica_at, writes_in, writes_of, actions_in, actions_held, seeking, refusals, AfterBy, After, PrintsBy, Prints, Ran, hashed, texts_of_replica, text_list}
-use Rattle.ws_session.specs.Standing.{place_of, AllStand, Tells, IsOutcome, RunOf, RanAt}
+use Rattle.ws_session.specs.Standing.{index_of, AllStand, Tells, IsOutcome, RunOf, RanAt}
 use Rattle.ws_session.proofs.Standings.{found}
 use Rattle.ws_session.proofs.Settling.{knows_none, knows_some}
 use Rattle.ws_session.proofs.Telling.{settled_tells, build_row}
@@ -68,11 +68,11 @@ ran_of_plan edition name directory ticks held (Sound parsed) None told some o e 
 ran_of_plan edition name directory ticks held (Sound parsed) (Some outcome) told some o e = inl (o.0, o.1, outcome.ending, outcome.output, o.2, e)
 
 module _ (name directory : List ℕ) (ticks : ℕ) (text : Option (List ℕ)) (world : World) (ns : List Named) (h : AllStand ns world.replicas) where
-  pub run_unknown : (told : List ℕ) → place_of name ns ≡ None → told ≡ refused Unknown → Tells (Run name directory ticks) text world told ns
+  pub run_unknown : (told : List ℕ) → index_of name ns ≡ None → told ≡ refused Unknown → Tells (Run name directory ticks) text world told ns
   run_unknown told e t = settled_tells (Run name directory ticks) text world (Some Unknown) told ns (λ _ q. q) t
       (record { refuses = build_row _ _ false _ (knows_none name world ns h e) refl; next = world; after = refl; edition = refl; stand = h })
 
-  module _ (k : ℕ) (e : place_of name ns ≡ Some k) where
+  module _ (k : ℕ) (e : index_of name ns ≡ Some k) where
     pub run_word : (told : List ℕ) → is_utf8 directory ≡ false → told ≡ refused NoPackage → Tells (Run name directory ticks) text world told ns
     run_word told u t = settled_tells (Run name directory ticks) text world (Some NoPackage) told ns (λ _ q. q) t
         (record { refuses = build_row _ _ true false (knows_some name k world ns h e) u; next = world; after = refl; edition = refl; stand = h })

@@ -1,13 +1,15 @@
 -- What a run of an image says of the sources.
-use Rattle.std.proofs.Common.{◌≡◌, ℕ, List, Option, None, Some, sym, ap, subst, ◌∙◌}
+use Rattle.std.proofs.Common.{◌≡◌, ℕ, List, [], ◌∷◌, Option, None, Some, sym, ap, subst, ◌∙◌}
+use Rattle.std.proofs.lemmas.List.Elements.{All-cons, All-nil}
 use Rattle.go_code.specs.declared.ending.Ending.{Ending}
 use Rattle.go_code.specs.Finals.{Final, Ends, BadCode}
 use Rattle.go_code.specs.Images.{Image}
 use Rattle.go_code.specs.Machine.{MachineMeaning}
-use Rattle.go_code.specs.Steps.{meaning_once}
-use Rattle.go_check.specs.Typed.{Typed, IsWellTyped}
+use Rattle.go_code.proofs.Steps.{meaning_once}
+use Rattle.go_export.specs.Typed.{Typed}
+use Rattle.go_export.specs.WellTyped.{IsWellTyped}
 use Rattle.go_check.specs.Meaning.{IsProgram, SourceMeaning}
-use Rattle.go_check.specs.Sound.{source_some}
+use Rattle.go_check.proofs.Sound.{source_some}
 use Rattle.go_vm.specs.Outcomes.{Outcome}
 use Rattle.ws_version.specs.Writes.{Write}
 use Rattle.ws_action.specs.Actions.{Action}
@@ -19,10 +21,10 @@ ends_same : (a b : Ending) (s t : List ℕ) → Ends a s ≡ Ends b t → (a ≡
 ends_same a b s t e = (cc, cc)
 
 -- the machine comes to what the sources mean, and to nothing else
-meant : (image : Image) (typed : Typed) (ticks : ℕ) (a b : Ending) (s t : List ℕ) → MeansProgram image typed → SourceMeaning typed ticks a s → MachineMeaning image ticks (Ends b t) → SourceMeaning typed ticks b t
+meant : (image : Image) (typed : Typed) (ticks : ℕ) (a b : Ending) (s t : List ℕ) → MeansProgram image typed → SourceMeaning (typed ∷ []) ticks a s → MachineMeaning image ticks (Ends b t) → SourceMeaning (typed ∷ []) ticks b t
 meant image typed ticks a b s t means source machine =
     let same = ends_same a b s t (meaning_once image ticks (Ends a s) (Ends b t) (means ticks a s source) machine) in
-    subst (λ e. SourceMeaning typed ticks e t) same.0 (subst (SourceMeaning typed ticks a) same.1 source)
+    subst (λ e. SourceMeaning (typed ∷ []) ticks e t) same.0 (subst (SourceMeaning (typed ∷ []) ticks a) same.1 source)
 
 pub no_run : (edition : ℕ) (directory : List ℕ) (ticks : ℕ) (W : List Write) (E : List Action) → IsImage edition W E directory None → RunOf edition directory ticks W E None
 no_run edition directory ticks W E i = record { planned = i.planned; plan = i.plan; some = i.some; ran = λ clear. i.right clear }
@@ -39,8 +41,8 @@ image_runs edition directory ticks W E image outcome i machine = record {
 }
 
 -- and its code makes sense
-pub no_nonsense : (image : Image) (ticks : ℕ) → ((typed : Typed) × IsWellTyped typed × IsProgram typed × MeansProgram image typed) → MachineMeaning image ticks BadCode → ⊥
+pub no_nonsense : (image : Image) (ticks : ℕ) → ((typed : Typed) × IsWellTyped typed × IsProgram (typed ∷ []) × MeansProgram image typed) → MachineMeaning image ticks BadCode → ⊥
 no_nonsense image ticks (typed, well, program, means) machine =
-    let source = source_some typed ticks well program in
+    let source = source_some (typed ∷ []) ticks (All-cons IsWellTyped typed [] well (All-nil IsWellTyped)) program in
     let e : Ends source.0 source.1 ≡ BadCode = meaning_once image ticks (Ends source.0 source.1) BadCode (means ticks source.0 source.1 source.2) machine in
     cc

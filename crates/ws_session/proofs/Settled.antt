@@ -12,7 +12,7 @@ use Rattle.ws_command.specs.Commands.{Settle}
 use Rattle.ws_session.specs.World.{World, Replica, with_replicas, settled}
 use Rattle.ws_session.specs.Standing.{Stands, AllStand, Settles, labels_of, replicas_of}
 use Rattle.ws_session.proofs.Settling.{sized_both}
-use Rattle.ws_session.proofs.Places.{none_sized}
+use Rattle.ws_session.proofs.Tested.{none_sized}
 
 -- a settled list is as long as it was
 pub settled_length : {J : Type 0} (f : J → J → J) (all : List J) → length (joins.settled f all) ≡ length all

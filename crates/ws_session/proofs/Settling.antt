@@ -15,17 +15,17 @@ use Rattle.ws_command.specs.declared.refusal.Refusal.TheVariants.{BadCommand, Un
 use Rattle.ws_command.specs.Commands.{Command, Create, Write, Merge}
 use Rattle.ws_command.specs.Refusals.{first_of}
 use Rattle.ws_session.specs.World.{World, Replica, replica_at, knows, writes_in, writes_of, actions_in, actions_held, number_in, taking, grown, with_replicas, edit_of, refusals, is_text, text_in, is_path_word}
-use Rattle.ws_session.specs.Standing.{place_of, Stands, AllStand, Settles, ChangedAt, Edited, MergedFrom}
+use Rattle.ws_session.specs.Standing.{index_of, Stands, AllStand, Settles, ChangedAt, Edited, MergedFrom}
 use Rattle.ws_session.proofs.Standings.{found, not_found, same_length, stands_push}
 
 -- a refused command changes nothing
 pub refused_settles : (command : Command) (text : Option (List ℕ)) (world : World) (refusal : Refusal) (ns : List Named) → first_of (refusals command text world) ≡ Some refusal → AllStand ns world.replicas → Settles command text world (Some refusal) ns
 refused_settles command text world refusal ns e h = record { refuses = e; next = world; after = refl; edition = refl; stand = h }
 
-pub knows_none : (name : List ℕ) (world : World) (ns : List Named) → AllStand ns world.replicas → place_of name ns ≡ None → knows name world ≡ false
+pub knows_none : (name : List ℕ) (world : World) (ns : List Named) → AllStand ns world.replicas → index_of name ns ≡ None → knows name world ≡ false
 knows_none name world ns h e = ap (λ (o : Option Replica). is_some o) (not_found name ns world.replicas h e)
 
-pub knows_some : (name : List ℕ) (k : ℕ) (world : World) (ns : List Named) → AllStand ns world.replicas → place_of name ns ≡ Some k → knows name world ≡ true
+pub knows_some : (name : List ℕ) (k : ℕ) (world : World) (ns : List Named) → AllStand ns world.replicas → index_of name ns ≡ Some k → knows name world ≡ true
 knows_some name k world ns h e = ap (λ (o : Option Replica). is_some o) (found name k ns world.replicas h e).at
 
 -- ---- a new replica
@@ -41,11 +41,11 @@ create_full name text world ns le h =
 not_full : (world : World) (ns : List Named) → length ns < 64 → AllStand ns world.replicas → nat_lt 63 (length world.replicas) ≡ false
 not_full world ns lt h = le-ltb 63 (length world.replicas) (omega (arith, same_length ns world.replicas h))
 
-pub create_exists : (name : List ℕ) (k : ℕ) (text : Option (List ℕ)) (world : World) (ns : List Named) → length ns < 64 → place_of name ns ≡ Some k → AllStand ns world.replicas → Settles (Create name) text world (Some Exists) ns
+pub create_exists : (name : List ℕ) (k : ℕ) (text : Option (List ℕ)) (world : World) (ns : List Named) → length ns < 64 → index_of name ns ≡ Some k → AllStand ns world.replicas → Settles (Create name) text world (Some Exists) ns
 create_exists name k text world ns lt e h =
     refused_settles (Create name) text world Exists ns (first_two _ _ false true BadCommand Exists (not_full world ns lt h) (knows_some name k world ns h e)) h
 
-pub created : (name : List ℕ) (text : Option (List ℕ)) (world : World) (ns : List Named) (n : Named) → length ns < 64 → place_of name ns ≡ None → AllStand ns world.replicas
+pub created : (name : List ℕ) (text : Option (List ℕ)) (world : World) (ns : List Named) (n : Named) → length ns < 64 → index_of name ns ≡ None → AllStand ns world.replicas
     → n.name.items ≡ name → n.number ≡ length ns + 1 → ReplicaStandsFor n.replica [] [] → AllSized [] → Settles (Create name) text world None (ns ++ n ∷ [])
 created name text world ns n lt e h same number holds sized =
     let r : Replica = record { name = name; number = length world.replicas + 1; writes = []; actions = [] } in
@@ -66,10 +66,10 @@ write_rows : (a b c d a' b' c' d' : Bool) → a ≡ a' → b ≡ b' → c ≡ c'
 write_rows a b c d a' b' c' d' e f g h = ap (λ z. write_row z b c d) e ∙ ap (λ z. write_row a' z c d) f ∙ ap (λ z. write_row a' b' z d) g ∙ ap (λ z. write_row a' b' c' z) h
 
 module _ (name path : List ℕ) (lines : ℕ) (text : Option (List ℕ)) (world : World) (ns : List Named) (h : AllStand ns world.replicas) where
-  pub write_unknown : place_of name ns ≡ None → Settles (Write name path lines) text world (Some Unknown) ns
+  pub write_unknown : index_of name ns ≡ None → Settles (Write name path lines) text world (Some Unknown) ns
   write_unknown e = refused_settles (Write name path lines) text world Unknown ns (write_rows _ _ _ _ true _ _ _ (ap not (knows_none name world ns h e)) refl refl refl) h
 
-  module _ (k : ℕ) (e : place_of name ns ≡ Some k) where
+  module _ (k : ℕ) (e : index_of name ns ≡ Some k) where
     known : not (knows name world) ≡ false
     known = ap not (knows_some name k world ns h e)
 
@@ -128,15 +128,15 @@ merge_row : (a b : Bool) → a ≡ b → first_of ((not a, Unknown) ∷ []) ≡ 
 merge_row a b e = ap (λ z. cond (not z) (Some Unknown) None) e
 
 module _ (name other : List ℕ) (text : Option (List ℕ)) (world : World) (ns : List Named) (h : AllStand ns world.replicas) where
-  pub merge_unknown : place_of name ns ≡ None → Settles (Merge name other) text world (Some Unknown) ns
+  pub merge_unknown : index_of name ns ≡ None → Settles (Merge name other) text world (Some Unknown) ns
   merge_unknown e = refused_settles (Merge name other) text world Unknown ns (merge_row _ false (ap (λ z. z && knows other world) (knows_none name world ns h e))) h
 
-  module _ (k : ℕ) (e : place_of name ns ≡ Some k) where
-    pub merge_other_unknown : place_of other ns ≡ None → Settles (Merge name other) text world (Some Unknown) ns
+  module _ (k : ℕ) (e : index_of name ns ≡ Some k) where
+    pub merge_other_unknown : index_of other ns ≡ None → Settles (Merge name other) text world (Some Unknown) ns
     merge_other_unknown f = refused_settles (Merge name other) text world Unknown ns
         (merge_row _ false (ap (λ z. z && knows other world) (knows_some name k world ns h e) ∙ knows_none other world ns h f)) h
 
-    pub merged : (j : ℕ) (ms : List Named) → place_of other ns ≡ Some j → ChangedAt (MergedFrom ns j) ns k ms → Settles (Merge name other) text world None ms
+    pub merged : (j : ℕ) (ms : List Named) → index_of other ns ≡ Some j → ChangedAt (MergedFrom ns j) ns k ms → Settles (Merge name other) text world None ms
     merged j ms d change =
         let f = found name k ns world.replicas h e in
         let g = found other j ns world.replicas h d in

@@ -11,7 +11,7 @@ use Rattle.ws_command.specs.Commands.{Show}
 use Rattle.ws_command.specs.Refusals.{refused, first_of}
 use Rattle.ws_command.specs.ShowPrinting.{show_text}
 use Rattle.ws_session.specs.World.{World, writes_in, writes_of, refusals, AfterBy, After, PrintsBy, Prints}
-use Rattle.ws_session.specs.Standing.{place_of, AllStand, Tells}
+use Rattle.ws_session.specs.Standing.{index_of, AllStand, Tells}
 use Rattle.ws_session.proofs.Standings.{found}
 use Rattle.ws_session.proofs.Settling.{knows_none, knows_some, refused_settles}
 use Rattle.ws_session.proofs.Telling.{settled_tells}
@@ -20,10 +20,10 @@ show_row : (a b : Bool) → a ≡ b → first_of ((not a, Unknown) ∷ []) ≡ c
 show_row a b e = ap (λ z. cond (not z) (Some Unknown) None) e
 
 module _ (name : List ℕ) (text : Option (List ℕ)) (world : World) (ns : List Named) (h : AllStand ns world.replicas) (told : List ℕ) where
-  pub show_unknown : place_of name ns ≡ None → told ≡ refused Unknown → Tells (Show name) text world told ns
+  pub show_unknown : index_of name ns ≡ None → told ≡ refused Unknown → Tells (Show name) text world told ns
   show_unknown e t = settled_tells (Show name) text world (Some Unknown) told ns (λ _ q. q) t (refused_settles (Show name) text world Unknown ns (show_row _ false (knows_none name world ns h e)) h)
 
-  pub shown : (k : ℕ) → place_of name ns ≡ Some k → (writes : List AWrite) → told ≡ show_text name writes
+  pub shown : (k : ℕ) → index_of name ns ≡ Some k → (writes : List AWrite) → told ≡ show_text name writes
       → ((n : Named) (W : List AWrite) (E : List Action) → n ≡ get_or ns k n → ReplicaStandsFor n.replica W E → IsShown W writes) → Tells (Show name) text world told ns
   unfolding After Prints
   shown k e writes t is =

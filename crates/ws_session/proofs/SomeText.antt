@@ -13,14 +13,14 @@ use Rattle.ws_command.specs.Printing.{report_text}
 use Rattle.ws_command.specs.RunPrinting.{run_text}
 use Rattle.ws_command.specs.ShowPrinting.{show_text}
 use Rattle.std.specs.FinMap.{entries}
-use Rattle.ws_register.specs.Exists.{some_contents}
+use Rattle.ws_register.proofs.Exists.{some_contents}
 use Rattle.ws_command.specs.Lines.{lines_of}
 use Rattle.ws_session.specs.World.{World, opening, writes_of, actions_held, taking, with_replicas, seeking, refusals, Accepted, AfterBy, After, Answers, PrintsBy, Prints, Told, Ran, RanOr}
 use Rattle.ws_session.specs.Text.{TextFrom, SessionText}
 use Rattle.ws_replica.proofs.SomePlan.{some_plan_of, some_report}
 use Rattle.ws_replica.proofs.OneProgram.{Decided, program_decided, some_meaning}
 use Rattle.ws_replica.specs.Programs.{IsPlannedProgram}
-use Rattle.go_check.specs.Typed.{Typed}
+use Rattle.go_export.specs.Typed.{Typed}
 use Rattle.go_check.specs.Meaning.{SourceMeaning}
 use Rattle.go_code.specs.declared.ending.Ending.{Ending}
 

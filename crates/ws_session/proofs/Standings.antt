@@ -1,4 +1,4 @@
--- Replicas of a session and of a world, place by place.
+-- Replicas of a session and of a world, index by index.
 use Rattle.std.proofs.Common.{◌≡◌, ℕ, zero, suc, List, [], ◌∷◌, ◌++◌, Option, None, Some, true, false, Bool, refl, sym, ap, ◌∙◌, cond, subst, length, get_or, arith}
 use Rattle.std.proofs.Math.ListN.{set}
 use Rattle.std.specs.Prelude.{Result, Ok, Err, OnOk, IfOk}
@@ -9,9 +9,9 @@ use Rattle.ws_action.specs.Actions.{Action}
 use Rattle.ws_session.specs.declared.replicas.Named.{Named}
 use Rattle.ws_session.specs.World.{Replica, replica_at, taking, grown}
 use Rattle.std.specs.Prelude.{◌<◌}
-use Rattle.ws_session.specs.Standing.{place_of, Stands, AllStand, ChangedAt}
+use Rattle.ws_session.specs.Standing.{index_of, Stands, AllStand, ChangedAt}
 
--- what stands at the first place of a name
+-- what stands at the first index of a name
 pub record Found (name : List ℕ) (k : ℕ) (ns : List Named) (rs : List Replica) : Type 0 where
   pub replica : Replica
   pub one : Named
@@ -61,17 +61,17 @@ by_test : (name : List ℕ) (n : Named) (r : Replica) (ns : List Named) (rs : Li
 by_test name n r ns rs s h true e o f = found_here name n r ns rs s h e
 by_test name n r ns rs s h false e o f = found_later name n r ns rs s e o f
 
--- the first place of a name in what the code keeps is that in the world
-pub found_at : (name : List ℕ) (ns : List Named) (rs : List Replica) → AllStand ns rs → FoundAt name ns rs (place_of name ns)
+-- the first index of a name in what the code keeps is that in the world
+pub found_at : (name : List ℕ) (ns : List Named) (rs : List Replica) → AllStand ns rs → FoundAt name ns rs (index_of name ns)
 found_at name [] [] h = refl
 found_at name [] (r ∷ rs) h = absurd h
 found_at name (n ∷ ns) [] h = absurd h
-found_at name (n ∷ ns) (r ∷ rs) h = by_test name n r ns rs h.0 h.1 (bytes_eq n.name.items name) (ap (λ z. bytes_eq z name) (sym h.0.name)) (place_of name ns) (found_at name ns rs h.1)
+found_at name (n ∷ ns) (r ∷ rs) h = by_test name n r ns rs h.0 h.1 (bytes_eq n.name.items name) (ap (λ z. bytes_eq z name) (sym h.0.name)) (index_of name ns) (found_at name ns rs h.1)
 
-pub found : (name : List ℕ) (k : ℕ) (ns : List Named) (rs : List Replica) → AllStand ns rs → place_of name ns ≡ Some k → Found name k ns rs
+pub found : (name : List ℕ) (k : ℕ) (ns : List Named) (rs : List Replica) → AllStand ns rs → index_of name ns ≡ Some k → Found name k ns rs
 found name k ns rs h e = subst (FoundAt name ns rs) e (found_at name ns rs h)
 
-pub not_found : (name : List ℕ) (ns : List Named) (rs : List Replica) → AllStand ns rs → place_of name ns ≡ None → replica_at name rs ≡ None
+pub not_found : (name : List ℕ) (ns : List Named) (rs : List Replica) → AllStand ns rs → index_of name ns ≡ None → replica_at name rs ≡ None
 not_found name ns rs h e = subst (FoundAt name ns rs) e (found_at name ns rs h)
 
 -- what an index reads doesn't hang on a default
@@ -81,11 +81,11 @@ one_element (x ∷ xs) zero n m lt e f = e ∙ sym f
 one_element (x ∷ xs) (suc k) n m lt e f = one_element xs k n m (omega (arith, lt)) e f
 
 -- a change of the one element that was read
-pub changed_one : (Change : Named → Named → Type 0) (old : List Named) (place : ℕ) (one new : Named) → place < length old → one ≡ get_or old place one → Change one new → ChangedAt Change old place (set old place new)
-changed_one Change old place one new lt e h = record {
+pub changed_one : (Change : Named → Named → Type 0) (old : List Named) (index : ℕ) (one new : Named) → index < length old → one ≡ get_or old index one → Change one new → ChangedAt Change old index (set old index new)
+changed_one Change old index one new lt e h = record {
   changed = new;
   is = refl;
-  so = λ n f. subst (λ z. Change z new) (one_element old place one n lt e f) h;
+  so = λ n f. subst (λ z. Change z new) (one_element old index one n lt e f) h;
 }
 
 pub on_ok_map : {A E P Q : Type 0} (r : Result A E) → (P → Q) → OnOk r P → OnOk r Q

@@ -11,7 +11,8 @@ use Rattle.ws_action.specs.Clash.{NoClash, AllSized, hashed_actions}
 use Rattle.ws_cache.specs.Count.{compiled_count}
 use Rattle.ws_graph.specs.Plan.{Planned, NoFiles, Faulty, Sound, IsPlanOf}
 use Rattle.ws_replica.specs.Holdings.{ReplicaStandsFor}
-use Rattle.ws_replica.specs.Reports.{Verdict, IsReport, actions_of}
+use Rattle.ws_replica.specs.Reports.{IsReport, actions_of}
+use Rattle.ws_report.specs.Reports.{Verdict}
 use Rattle.ws_session.specs.declared.replicas.Named.{Named}
 use Rattle.ws_command.specs.declared.refusal.Refusal.{Refusal}
 use Rattle.ws_command.specs.declared.refusal.Refusal.TheVariants.{BadCommand, Unknown, NoPackage}
@@ -21,7 +22,7 @@ use Rattle.ws_command.specs.Commands.{Command, Nothing, Bad, Create, Write, Remo
 use Rattle.ws_command.specs.Refusals.{first_of, refused}
 use Rattle.ws_command.specs.Printing.{report_text}
 use Rattle.ws_session.specs.World.{World, Replica, replica_at, writes_in, writes_of, actions_in, actions_held, taking, grown, with_replicas, refusals, AfterBy, After, PrintsBy, Prints, Told, hashed, texts_of_replica, text_list}
-use Rattle.ws_session.specs.Standing.{StandFor, place_of, Stands, AllStand, Settles, Tells, told_of, ChangedAt, Built, BuildOf}
+use Rattle.ws_session.specs.Standing.{StandFor, index_of, Stands, AllStand, Settles, Tells, told_of, ChangedAt, Built, BuildOf}
 use Rattle.ws_session.proofs.Standings.{found}
 use Rattle.ws_session.proofs.Settling.{knows_none, knows_some, sized_both}
 
@@ -74,11 +75,11 @@ told_of_plan edition name directory actions (Faulty fault) report told some r e 
 told_of_plan edition name directory actions (Sound parsed) report told some r e = (report, r, e)
 
 module _ (name directory : List ℕ) (text : Option (List ℕ)) (world : World) (ns : List Named) (h : AllStand ns world.replicas) where
-  pub build_unknown : (told : List ℕ) → place_of name ns ≡ None → told ≡ refused Unknown → Tells (Build name directory) text world told ns
+  pub build_unknown : (told : List ℕ) → index_of name ns ≡ None → told ≡ refused Unknown → Tells (Build name directory) text world told ns
   build_unknown told e t = settled_tells (Build name directory) text world (Some Unknown) told ns (λ _ q. q) t
       (record { refuses = build_row _ _ false _ (knows_none name world ns h e) refl; next = world; after = refl; edition = refl; stand = h })
 
-  module _ (k : ℕ) (e : place_of name ns ≡ Some k) where
+  module _ (k : ℕ) (e : index_of name ns ≡ Some k) where
     pub build_word : (told : List ℕ) → is_utf8 directory ≡ false → told ≡ refused NoPackage → Tells (Build name directory) text world told ns
     build_word told u t = settled_tells (Build name directory) text world (Some NoPackage) told ns (λ _ q. q) t
         (record { refuses = build_row _ _ true false (knows_some name k world ns h e) u; next = world; after = refl; edition = refl; stand = h })

@@ -5,7 +5,7 @@ use Rattle.std.specs.Prelude.{◌==◌}
 use Rattle.std.specs.Option.{option_map}
 use Rattle.std.specs.List.{Contains}
 use Rattle.ws_version.specs.Writes.{Write as AWrite}
-use Rattle.ws_version.specs.Paths.{is_path}
+use Rattle.ws_path.specs.Paths.{is_path}
 use Rattle.ws_register.specs.Edits.{removed, removal_refusal, greatest_at, is_missing}
 use Rattle.ws_register.specs.declared.EditError.{EditError}
 use Rattle.ws_register.specs.declared.EditError.TheVariants as edits
@@ -17,7 +17,7 @@ use Rattle.ws_command.specs.declared.refusal.Refusal.{Refusal}
 use Rattle.ws_command.specs.declared.refusal.Refusal.TheVariants.{Unknown, BadPath, NoFile, CounterFull, BadText}
 use Rattle.ws_command.specs.Commands.{Remove, Apply}
 use Rattle.ws_session.specs.World.{World, Replica, replica_at, knows, writes_in, writes_of, number_in, taking, grown, with_replicas, removal_of, is_path_word, is_content, content_in}
-use Rattle.ws_session.specs.Standing.{place_of, Stands, AllStand, Settles, ChangedAt, Removed, RemovedOr, Removal, removal_row, Applied}
+use Rattle.ws_session.specs.Standing.{index_of, Stands, AllStand, Settles, ChangedAt, Removed, RemovedOr, Removal, removal_row, Applied}
 use Rattle.ws_session.proofs.Standings.{found}
 use Rattle.ws_session.proofs.Settling.{refused_settles, knows_none, knows_some}
 
@@ -49,8 +49,8 @@ content_row a b c = cond a (Some Unknown) (cond b (Some BadPath) (cond c (Some B
 content_rows : (a b c a' b' c' : Bool) → a ≡ a' → b ≡ b' → c ≡ c' → content_row a b c ≡ content_row a' b' c'
 content_rows a b c a' b' c' e f g = ap (λ z. content_row z b c) e ∙ ap (λ z. content_row a' z c) f ∙ ap (λ z. content_row a' b' z) g
 
-module _ (name : List ℕ) (world : World) (ns : List Named) (h : AllStand ns world.replicas) (k : ℕ) (e : place_of name ns ≡ Some k) where
-  -- the replica at the place of the name took one write more
+module _ (name : List ℕ) (world : World) (ns : List Named) (h : AllStand ns world.replicas) (k : ℕ) (e : index_of name ns ≡ Some k) where
+  -- the replica of the name took one write more
   took_write : (w : AWrite) (changed : Named) (ms : List Named) → ms ≡ set ns k changed
       → changed.name.items ≡ (found name k ns world.replicas h e).one.name.items → changed.number ≡ (found name k ns world.replicas h e).one.number
       → ReplicaStandsFor changed.replica ((found name k ns world.replicas h e).replica.writes ++ w ∷ []) (found name k ns world.replicas h e).replica.actions
@@ -68,10 +68,10 @@ module _ (name : List ℕ) (world : World) (ns : List Named) (h : AllStand ns wo
       subst (λ z. AllStand z (taking name (w ∷ []) [] world.replicas)) (sym is) (f.grows changed (w ∷ []) [] stand)
 
 module _ (name path : List ℕ) (text : Option (List ℕ)) (world : World) (ns : List Named) (h : AllStand ns world.replicas) where
-  pub remove_unknown : place_of name ns ≡ None → Settles (Remove name path) text world (Some Unknown) ns
+  pub remove_unknown : index_of name ns ≡ None → Settles (Remove name path) text world (Some Unknown) ns
   remove_unknown e = refused_settles (Remove name path) text world Unknown ns (removal_rows (not (knows name world)) (not (is_path_word path)) true (not (is_path_word path)) (removal_row path (writes_of name world)) (ap not (knows_none name world ns h e)) refl) h
 
-  module _ (k : ℕ) (e : place_of name ns ≡ Some k) where
+  module _ (k : ℕ) (e : index_of name ns ≡ Some k) where
     pub remove_path : is_path_word path ≡ false → Settles (Remove name path) text world (Some BadPath) ns
     remove_path f = refused_settles (Remove name path) text world BadPath ns (removal_rows _ _ false true _ (ap not (knows_some name k world ns h e)) (ap not f)) h
 
@@ -109,10 +109,10 @@ module _ (name path : List ℕ) (text : Option (List ℕ)) (world : World) (ns :
         removed_or refusal ms p (ap (removal_row path) writes_are ∙ of.refuses f.one f.replica.writes f.replica.actions f.is (f.stands f.one f.is).holds) of.changes
 
 module _ (name path : List ℕ) (counter number : ℕ) (lines : Option ℕ) (text : Option (List ℕ)) (world : World) (ns : List Named) (h : AllStand ns world.replicas) where
-  pub apply_unknown : place_of name ns ≡ None → Settles (Apply name path counter number lines) text world (Some Unknown) ns
+  pub apply_unknown : index_of name ns ≡ None → Settles (Apply name path counter number lines) text world (Some Unknown) ns
   apply_unknown e = refused_settles (Apply name path counter number lines) text world Unknown ns (content_rows _ _ _ true _ _ (ap not (knows_none name world ns h e)) refl refl) h
 
-  module _ (k : ℕ) (e : place_of name ns ≡ Some k) where
+  module _ (k : ℕ) (e : index_of name ns ≡ Some k) where
     pub apply_path : is_path_word path ≡ false → Settles (Apply name path counter number lines) text world (Some BadPath) ns
     apply_path f = refused_settles (Apply name path counter number lines) text world BadPath ns (content_rows _ _ _ false true _ (ap not (knows_some name k world ns h e)) (ap not f) refl) h
 

@@ -13,11 +13,12 @@ use Rattle.ws_action.specs.Actions.{Action}
 use Rattle.ws_action.specs.Clash.{AllSized, NoClash, hashed_actions}
 use Rattle.ws_cache.specs.Count.{compiled_count}
 use Rattle.ws_graph.specs.Plan.{Planned, NoFiles, IsPlanOf}
-use Rattle.ws_replica.specs.Reports.{Verdict, IsReport, actions_of}
+use Rattle.ws_replica.specs.Reports.{IsReport, actions_of}
+use Rattle.ws_report.specs.Reports.{Verdict}
 use Rattle.ws_replica.specs.Holdings as holdings
 use Rattle.ws_replica.specs.Holdings.{ReplicaStandsFor}
 use Rattle.ws_replica.specs.Programs.{IsPlannedProgram}
-use Rattle.go_check.specs.Typed.{Typed}
+use Rattle.go_export.specs.Typed.{Typed}
 use Rattle.go_check.specs.Meaning.{SourceMeaning}
 use Rattle.go_vm.specs.Outcomes.{Outcome}
 use Rattle.ws_command.specs.Refusals.{refused, first_of}
@@ -26,10 +27,10 @@ use Rattle.ws_session.specs.World.{World, Replica, refusals, AfterBy, After, Pri
 use Rattle.ws_command.specs.declared.refusal.Refusal.{Refusal}
 use Rattle.ws_command.specs.declared.refusal.Refusal.TheVariants.{NoFile, CounterFull, BadText}
 
--- the first place of that name
-abbrev pub place_of : List ℕ → List Named → Option ℕ
-place_of name [] = None
-place_of name (n ∷ ns) = cond (bytes_eq n.name.items name) (Some 0) (option_map (λ k. suc k) (place_of name ns))
+-- the first index of that name
+abbrev pub index_of : List ℕ → List Named → Option ℕ
+index_of name [] = None
+index_of name (n ∷ ns) = cond (bytes_eq n.name.items name) (Some 0) (option_map (λ k. suc k) (index_of name ns))
 
 -- a replica of the world, and what the code keeps of it
 pub record Stands (n : Named) (r : Replica) : Type 0 where
@@ -70,10 +71,10 @@ pub record Tells (command : Command) (text : Option (List ℕ)) (world : World) 
   pub clear : NoClash (hashed next) → Prints command text world told × AllStand named next.replicas
 
 -- one replica is changed so, and no other
-pub record ChangedAt (Change : Named → Named → Type 0) (old : List Named) (place : ℕ) (new : List Named) : Type 0 where
+pub record ChangedAt (Change : Named → Named → Type 0) (old : List Named) (index : ℕ) (new : List Named) : Type 0 where
   pub changed : Named
-  pub is : new ≡ slice_set old place changed
-  pub so : (n : Named) → n ≡ slice_index_or old place n → Change n changed
+  pub is : new ≡ slice_set old index changed
+  pub so : (n : Named) → n ≡ slice_index_or old index n → Change n changed
 
 -- it took an edit of its own
 pub record Edited (path text : List ℕ) (old new : Named) : Type 0 where
@@ -93,13 +94,13 @@ abbrev pub removal_row : List ℕ → List Write → Option Refusal
 removal_row path W = first_of ((is_missing (greatest_at path W), NoFile) ∷ (top W == 18446744073709551615, CounterFull) ∷ [])
 
 abbrev pub RemovedOr : List ℕ → List Named → ℕ → Option Refusal → List Named → Type 0
-RemovedOr path old place None new = ChangedAt (Removed path) old place new
-RemovedOr path old place (Some refusal) new = new ≡ old
+RemovedOr path old index None new = ChangedAt (Removed path) old index new
+RemovedOr path old index (Some refusal) new = new ≡ old
 
--- a removal by the replica at a place: refused as what it took says, with no change, or taken
-pub record Removal (path : List ℕ) (old : List Named) (place : ℕ) (refusal : Option Refusal) (new : List Named) : Type 0 where
-  pub refuses : (n : Named) (W : List Write) (E : List Action) → n ≡ slice_index_or old place n → ReplicaStandsFor n.replica W E → removal_row path W ≡ refusal
-  pub changes : RemovedOr path old place refusal new
+-- a removal by the replica at an index: refused as what it took says, with no change, or taken
+pub record Removal (path : List ℕ) (old : List Named) (index : ℕ) (refusal : Option Refusal) (new : List Named) : Type 0 where
+  pub refuses : (n : Named) (W : List Write) (E : List Action) → n ≡ slice_index_or old index n → ReplicaStandsFor n.replica W E → removal_row path W ≡ refusal
+  pub changes : RemovedOr path old index refusal new
 
 -- it took that write
 pub record Applied (write : Write) (old new : Named) : Type 0 where
@@ -119,7 +120,7 @@ labels_of ns = map (λ n. (n.name, n.number)) ns
 abbrev pub replicas_of : List Named → List holdings.Replica
 replicas_of ns = map (λ n. n.replica) ns
 
--- it took what the replica at that place holds
+-- it took what the replica at that index holds
 pub record MergedFrom (named : List Named) (theirs : ℕ) (old new : Named) : Type 0 where
   pub name : new.name.items ≡ old.name.items
   pub number : new.number ≡ old.number
@@ -150,7 +151,7 @@ pub record Built (edition : ℕ) (directory : List ℕ) (report : List (List ℕ
 abbrev pub IsOutcome : ℕ → List ℕ → ℕ → List Action → Planned → Option Outcome → Type 0
 IsOutcome edition directory ticks held planned None = (typed : Typed) → IsPlannedProgram edition directory held planned typed → ⊥
 IsOutcome edition directory ticks held planned (Some outcome) =
-    (typed : Typed) × IsPlannedProgram edition directory held planned typed × SourceMeaning typed ticks outcome.ending outcome.output
+    (typed : Typed) × IsPlannedProgram edition directory held planned typed × SourceMeaning (typed ∷ []) ticks outcome.ending outcome.output
 
 -- what is known of a run
 pub record RunOf (edition : ℕ) (directory : List ℕ) (ticks : ℕ) (W : List Write) (E : List Action) (outcome : Option Outcome) : Type 0 where
@@ -159,8 +160,8 @@ pub record RunOf (edition : ℕ) (directory : List ℕ) (ticks : ℕ) (W : List 
   pub some : planned ≢ NoFiles
   pub ran : NoClash (hashed_actions (E ++ actions_of edition directory planned)) → IsOutcome edition directory ticks E planned outcome
 
--- the replica at a place ran a directory, with this outcome
+-- the replica at an index ran a directory, with this outcome
 abbrev pub RanAt : ℕ → List ℕ → ℕ → List Named → ℕ → Option Outcome → Type 0
-RanAt edition directory ticks named place outcome =
-    (n : Named) (W : List Write) (E : List Action) → n ≡ slice_index_or named place n → ReplicaStandsFor n.replica W E → AllSized E
+RanAt edition directory ticks named index outcome =
+    (n : Named) (W : List Write) (E : List Action) → n ≡ slice_index_or named index n → ReplicaStandsFor n.replica W E → AllSized E
     → RunOf edition directory ticks W E outcome

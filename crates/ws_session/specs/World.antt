@@ -4,16 +4,17 @@ use Rattle.std.specs.List.{flat_map}
 use Rattle.std.specs.Str.{bytes_eq, is_utf8}
 use Rattle.go_text.specs.Texts.{text_error}
 use Rattle.ws_version.specs.Writes.{Write as AWrite}
-use Rattle.ws_version.specs.Paths.{is_path}
+use Rattle.ws_path.specs.Paths.{is_path}
 use Rattle.ws_register.specs.Sources.{top, IsShown}
 use Rattle.ws_register.specs.Edits.{edited, removed, greatest_at, is_missing}
 use Rattle.ws_action.specs.Actions.{Action}
 use Rattle.ws_action.specs.Clash.{hashed_actions}
 use Rattle.ws_cache.specs.Count.{compiled_count}
 use Rattle.ws_graph.specs.Plan.{Planned, NoFiles, Faulty, Sound, IsPlanOf}
-use Rattle.ws_replica.specs.Reports.{Verdict, actions_of, IsReport}
+use Rattle.ws_replica.specs.Reports.{actions_of, IsReport}
+use Rattle.ws_report.specs.Reports.{Verdict}
 use Rattle.ws_replica.specs.Programs.{IsPlannedProgram}
-use Rattle.go_check.specs.Typed.{Typed}
+use Rattle.go_export.specs.Typed.{Typed}
 use Rattle.go_check.specs.Meaning.{SourceMeaning}
 use Rattle.go_code.specs.declared.ending.Ending.{Ending}
 use Rattle.ws_command.specs.declared.refusal.Refusal.{Refusal}
@@ -182,7 +183,7 @@ Told edition name directory held planned told =
 abbrev pub RanOr : ℕ → List ℕ → List ℕ → ℕ → List Action → Planned → List ℕ → Type 0
 RanOr edition name directory ticks held planned told =
     ((typed : Typed) × IsPlannedProgram edition directory held planned typed
-    × (ending : Ending) × (output : List ℕ) × SourceMeaning typed ticks ending output × (told ≡ run_text name directory ending output))
+    × (ending : Ending) × (output : List ℕ) × SourceMeaning (typed ∷ []) ticks ending output × (told ≡ run_text name directory ending output))
     ⊎ (((typed : Typed) → IsPlannedProgram edition directory held planned typed → ⊥) × (told ≡ refused NotBuilt))
 
 -- what a run prints

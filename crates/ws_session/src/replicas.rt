@@ -1,7 +1,7 @@
 //! The replicas of a session: what each command does to them.
 ghost use Rattle.std.specs.Prelude.{◌≡◌, ◌≢◌, ◌<◌, ℕ, List, length, slice_index_or, vec_len, true, false, IfOk, OnOk, OnErr, IfSome, MatchOption, Option, Some, None, Err};
 ghost use Rattle.std.specs.Option.{option_map};
-ghost use Rattle.ws_version.specs.Paths.{file_name};
+ghost use Rattle.ws_path.specs.Paths.{file_name};
 ghost use Rattle.go_text.specs.Editions.{edition_number};
 ghost use Rattle.ws_version.specs.Writes.{Write as AWrite};
 ghost use Rattle.ws_register.specs.Sources.{top};
@@ -9,10 +9,10 @@ ghost use Rattle.ws_session.specs.declared.replicas.Named.{Named as ANamed};
 ghost use Rattle.ws_action.specs.Actions.{Action as AnAction};
 ghost use Rattle.ws_graph.specs.Plan.{NoFiles, IsPlanOf};
 ghost use Rattle.ws_replica.specs.Holdings.{ReplicaStandsFor};
-ghost use Rattle.ws_replica.specs.Reports.{rows};
+ghost use Rattle.ws_report.specs.Reports.{rows};
 ghost use Rattle.std.specs.Thread.{IsSync};
-ghost use Rattle.ws_version.specs.Paths.{is_path};
-ghost use Rattle.ws_session.specs.Standing.{StandFor, place_of, AllStand, Settles, Tells, told_of, ChangedAt, Edited, Removal, Applied, MergedFrom, Built, RanAt, replicas_of, labels_of, IsContent};
+ghost use Rattle.ws_path.specs.Paths.{is_path};
+ghost use Rattle.ws_session.specs.Standing.{StandFor, index_of, AllStand, Settles, Tells, told_of, ChangedAt, Edited, Removal, Applied, MergedFrom, Built, RanAt, replicas_of, labels_of, IsContent};
 ghost use Rattle.ws_session.specs.World.{World, opening, is_text, is_path_word};
 ghost use Rattle.ws_command.specs.Commands.{Create, Write, Remove, Apply, Merge, Settle, Build, Run, Show};
 
@@ -27,10 +27,11 @@ use std::{mem, str};
 use ws_command::commands::Asked;
 use ws_command::printing::{report_lines, run_lines, show_lines};
 use ws_command::refusal::{Refusal, refused};
+use ws_path::{file_name, is_path};
 use ws_register::EditError;
 use ws_replica::join::settle;
-use ws_replica::{BuildError, Replica, Report, build, image};
-use ws_version::path::{file_name, is_path};
+use ws_replica::{BuildError, Replica, build, image};
+use ws_report::Report;
 use ws_version::{Held, Join, Version};
 
 /// How many replicas a session may have.
@@ -53,9 +54,9 @@ pub struct Replicas {
 }
 
 /// Where the replica of that name stands.
-fn place_of(named: &[Named], name: &[u8]) -> Option<usize>
-    ensures value { result ≡ place_of name.now named.now }
-    ensures within { IfSome result (λ place. place < length named.now) }
+fn index_of(named: &[Named], name: &[u8]) -> Option<usize>
+    ensures value { result ≡ index_of name.now named.now }
+    ensures within { IfSome result (λ index. index < length named.now) }
 {
     for (i, one) in named.iter().enumerate() {
         if one.name.as_slice() == name {
@@ -100,7 +101,7 @@ fn create(alloc: Global, named: &mut Vec<Named>, name: &[u8]) -> Result<Option<R
     if named.len() >= MOST_REPLICAS {
         return Ok(Some(Refusal::BadCommand));
     }
-    if place_of(named.as_slice(), name).is_some() {
+    if index_of(named.as_slice(), name).is_some() {
         return Ok(Some(Refusal::Exists));
     }
     let number = named.len() as u32 + 1;
@@ -114,27 +115,27 @@ fn create(alloc: Global, named: &mut Vec<Named>, name: &[u8]) -> Result<Option<R
     Ok(None)
 }
 
-/// The greatest counter that the replica at a place holds.
-fn greatest_at(named: &Vec<Named>, place: usize) -> u64
-    requires { place < vec_len named.now }
-    ensures { (n : ANamed) (W : List AWrite) (E : List AnAction) → n ≡ slice_index_or named.now.items place n → ReplicaStandsFor n.replica W E → result ≡ top W }
+/// The greatest counter that the replica at an index holds.
+fn greatest_at(named: &Vec<Named>, index: usize) -> u64
+    requires { index < vec_len named.now }
+    ensures { (n : ANamed) (W : List AWrite) (E : List AnAction) → n ≡ slice_index_or named.now.items index n → ReplicaStandsFor n.replica W E → result ≡ top W }
 {
-    named[place].replica.greatest_counter()
+    named[index].replica.greatest_counter()
 }
 
-/// The replica at a place edits a path.
+/// The replica at an index edits a path.
 fn edit_at(
     alloc: Global,
     named: &mut Vec<Named>,
-    place: usize,
+    index: usize,
     path: &str,
     source: Source,
 ) -> Result<(), AllocError>
-    requires { place < vec_len named.old }
-    ensures { OnOk result (ChangedAt (Edited path.now source.text) named.old.items place named.new.items) }
+    requires { index < vec_len named.old }
+    ensures { OnOk result (ChangedAt (Edited path.now source.text) named.old.items index named.new.items) }
 {
     let path = String::from_str(alloc, path)?;
-    let one = &mut named[place];
+    let one = &mut named[index];
     let number = one.number;
     match one.replica.edit(path, source, number) {
         Ok(()) => Ok(()),
@@ -142,7 +143,7 @@ fn edit_at(
     }
 }
 
-/// The replica at a place takes what the replica at another holds.
+/// The replica at an index takes what the replica at another holds.
 fn merge_at(
     alloc: Global,
     named: &mut Vec<Named>,
@@ -160,20 +161,20 @@ fn merge_at(
     merged
 }
 
-/// The replica at a place builds a directory.
+/// The replica at an index builds a directory.
 fn build_at(
     alloc: Global,
     edition: Edition,
     named: &mut Vec<Named>,
-    place: usize,
+    index: usize,
     directory: &str,
 ) -> Result<Report, BuildError>
-    requires { place < vec_len named.old }
-    ensures ok { IfOk result (λ report. ChangedAt (Built (edition_number edition) directory.now (rows report.directories.items) report.compiled) named.old.items place named.new.items) }
-    ensures none { result ≡ Err BuildError.NoPackage → (n : ANamed) (W : List AWrite) (E : List AnAction) → n ≡ slice_index_or named.old.items place n → ReplicaStandsFor n.replica W E → IsPlanOf W directory.now NoFiles }
+    requires { index < vec_len named.old }
+    ensures ok { IfOk result (λ report. ChangedAt (Built (edition_number edition) directory.now (rows report.directories.items) report.compiled) named.old.items index named.new.items) }
+    ensures none { result ≡ Err BuildError.NoPackage → (n : ANamed) (W : List AWrite) (E : List AnAction) → n ≡ slice_index_or named.old.items index n → ReplicaStandsFor n.replica W E → IsPlanOf W directory.now NoFiles }
     ensures err { OnErr result (named.new.items ≡ named.old.items) }
 {
-    let one = &mut named[place];
+    let one = &mut named[index];
     build(alloc, &mut one.replica, directory, edition)
 }
 
@@ -187,45 +188,45 @@ fn write(
 ) -> Result<Option<Refusal>, AllocError>
     ensures { IfOk result (λ refusal. (lines : ℕ) (world : World) → AllStand named.old.items world.replicas → Settles (Write name.now word.now lines) (option_map (λ v. v.items) text) world refusal named.new.items) }
 {
-    let Some(place) = place_of(named.as_slice(), name) else {
+    let Some(index) = index_of(named.as_slice(), name) else {
         return Ok(Some(Refusal::Unknown));
     };
     let Some(path) = path_of(word) else {
         return Ok(Some(Refusal::BadPath));
     };
-    if greatest_at(named, place) == u64::MAX {
+    if greatest_at(named, index) == u64::MAX {
         return Ok(Some(Refusal::CounterFull));
     }
     let Some(source) = source_of(alloc, path, text)? else {
         return Ok(Some(Refusal::BadText));
     };
-    edit_at(alloc, named, place, path, source)?;
+    edit_at(alloc, named, index, path, source)?;
     Ok(None)
 }
 
-/// The replica at a place takes what it holds.
-fn merge_itself(named: &mut Vec<Named>, place: usize) -> Result<(), AllocError>
-    requires { place < vec_len named.old }
-    ensures { OnOk result (ChangedAt (MergedFrom named.old.items place) named.old.items place named.new.items) }
+/// The replica at an index takes what it holds.
+fn merge_itself(named: &mut Vec<Named>, index: usize) -> Result<(), AllocError>
+    requires { index < vec_len named.old }
+    ensures { OnOk result (ChangedAt (MergedFrom named.old.items index) named.old.items index named.new.items) }
 {
-    let other = named[place].replica.copy()?;
-    let one = &mut named[place];
+    let other = named[index].replica.copy()?;
+    let one = &mut named[index];
     one.replica.merge(&other)
 }
 
-/// The replica at a place removes the file at a path; or why it doesn't.
+/// The replica at an index removes the file at a path; or why it doesn't.
 fn remove_at(
     alloc: Global,
     named: &mut Vec<Named>,
-    place: usize,
+    index: usize,
     path: &str,
 ) -> Result<Option<Refusal>, AllocError>
-    requires place { place < vec_len named.old }
+    requires index { index < vec_len named.old }
     requires path { is_path path.now ≡ true }
-    ensures { IfOk result (λ refusal. Removal path.now named.old.items place refusal named.new.items) }
+    ensures { IfOk result (λ refusal. Removal path.now named.old.items index refusal named.new.items) }
 {
     let path = String::from_str(alloc, path)?;
-    let one = &mut named[place];
+    let one = &mut named[index];
     let number = one.number;
     match one.replica.remove(path, number) {
         Ok(()) => Ok(None),
@@ -245,28 +246,28 @@ fn remove(
 ) -> Result<Option<Refusal>, AllocError>
     ensures { IfOk result (λ refusal. (text : Option (List ℕ)) (world : World) → AllStand named.old.items world.replicas → Settles (Remove name.now word.now) text world refusal named.new.items) }
 {
-    let Some(place) = place_of(named.as_slice(), name) else {
+    let Some(index) = index_of(named.as_slice(), name) else {
         return Ok(Some(Refusal::Unknown));
     };
     let Some(path) = path_of(word) else {
         return Ok(Some(Refusal::BadPath));
     };
-    remove_at(alloc, named, place, path)
+    remove_at(alloc, named, index, path)
 }
 
-/// The replica at a place takes a write to a path.
+/// The replica at an index takes a write to a path.
 fn apply_at(
     alloc: Global,
     named: &mut Vec<Named>,
-    place: usize,
+    index: usize,
     path: &str,
     held: Held,
 ) -> Result<(), AllocError>
-    requires { place < vec_len named.old }
-    ensures { OnOk result (ChangedAt (Applied (path.now, held)) named.old.items place named.new.items) }
+    requires { index < vec_len named.old }
+    ensures { OnOk result (ChangedAt (Applied (path.now, held)) named.old.items index named.new.items) }
 {
     let path = String::from_str(alloc, path)?;
-    let one = &mut named[place];
+    let one = &mut named[index];
     one.replica.apply(ws_version::Write::new(path, held))
 }
 
@@ -301,7 +302,7 @@ fn apply(
 ) -> Result<Option<Refusal>, AllocError>
     ensures { IfOk result (λ refusal. (world : World) → AllStand named.old.items world.replicas → Settles (Apply name.now word.now version.counter version.number lines) (option_map (λ v. v.items) text) world refusal named.new.items) }
 {
-    let Some(place) = place_of(named.as_slice(), name) else {
+    let Some(index) = index_of(named.as_slice(), name) else {
         return Ok(Some(Refusal::Unknown));
     };
     let Some(path) = path_of(word) else {
@@ -310,7 +311,7 @@ fn apply(
     match content_of(alloc, path, lines, text)? {
         Err(refusal) => Ok(Some(refusal)),
         Ok(content) => {
-            apply_at(alloc, named, place, path, Held::new(version, content))?;
+            apply_at(alloc, named, index, path, Held::new(version, content))?;
             Ok(None)
         }
     }
@@ -320,10 +321,10 @@ fn apply(
 fn show(alloc: Global, named: &Vec<Named>, name: &[u8]) -> Result<Vec<u8>, AllocError>
     ensures { IfOk result (λ told. (text : Option (List ℕ)) (world : World) → AllStand named.now.items world.replicas → Tells (Show name.now) text world told.items named.now.items) }
 {
-    let Some(place) = place_of(named.as_slice(), name) else {
+    let Some(index) = index_of(named.as_slice(), name) else {
         return refused(alloc, Refusal::Unknown);
     };
-    let writes = named[place].replica.writes()?;
+    let writes = named[index].replica.writes()?;
     show_lines(alloc, name, writes.as_slice())
 }
 
@@ -397,10 +398,10 @@ fn merge(
 ) -> Result<Option<Refusal>, AllocError>
     ensures { IfOk result (λ refusal. (text : Option (List ℕ)) (world : World) → AllStand named.old.items world.replicas → Settles (Merge name.now other.now) text world refusal named.new.items) }
 {
-    let Some(mine) = place_of(named.as_slice(), name) else {
+    let Some(mine) = index_of(named.as_slice(), name) else {
         return Ok(Some(Refusal::Unknown));
     };
-    let Some(theirs) = place_of(named.as_slice(), other) else {
+    let Some(theirs) = index_of(named.as_slice(), other) else {
         return Ok(Some(Refusal::Unknown));
     };
     if mine == theirs {
@@ -421,33 +422,33 @@ fn build_target(
 ) -> Result<Vec<u8>, AllocError>
     ensures { IfOk result (λ told. (text : Option (List ℕ)) (world : World) → edition_number edition ≡ world.edition → AllStand named.old.items world.replicas → Tells (Build name.now word.now) text world told.items named.new.items) }
 {
-    let Some(place) = place_of(named.as_slice(), name) else {
+    let Some(index) = index_of(named.as_slice(), name) else {
         return refused(alloc, Refusal::Unknown);
     };
     let Ok(directory) = str::from_utf8(word) else {
         return refused(alloc, Refusal::NoPackage);
     };
-    match build_at(alloc, edition, named, place, directory) {
+    match build_at(alloc, edition, named, index, directory) {
         Ok(report) => report_lines(alloc, name, directory, &report),
         Err(BuildError::NoPackage) => refused(alloc, Refusal::NoPackage),
         Err(BuildError::Memory) => Err(AllocError),
     }
 }
 
-/// What a run of a directory by the replica at a place comes to; none where no program is built.
+/// What a run of a directory by the replica at an index comes to; none where no program is built.
 fn run_at(
     alloc: Global,
     edition: Edition,
     named: &Vec<Named>,
-    place: usize,
+    index: usize,
     directory: &str,
     ticks: u64,
 ) -> Result<Option<Outcome>, BuildError>
-    requires { place < vec_len named.now }
-    ensures ok { IfOk result (λ outcome. RanAt (edition_number edition) directory.now ticks named.now.items place outcome) }
-    ensures none { result ≡ Err BuildError.NoPackage → (n : ANamed) (W : List AWrite) (E : List AnAction) → n ≡ slice_index_or named.now.items place n → ReplicaStandsFor n.replica W E → IsPlanOf W directory.now NoFiles }
+    requires { index < vec_len named.now }
+    ensures ok { IfOk result (λ outcome. RanAt (edition_number edition) directory.now ticks named.now.items index outcome) }
+    ensures none { result ≡ Err BuildError.NoPackage → (n : ANamed) (W : List AWrite) (E : List AnAction) → n ≡ slice_index_or named.now.items index n → ReplicaStandsFor n.replica W E → IsPlanOf W directory.now NoFiles }
 {
-    let Some(image) = image(alloc, &named[place].replica, directory, edition)? else {
+    let Some(image) = image(alloc, &named[index].replica, directory, edition)? else {
         return Ok(None);
     };
     match run(alloc, &image, ticks) {
@@ -468,13 +469,13 @@ fn run_target(
 ) -> Result<Vec<u8>, AllocError>
     ensures { IfOk result (λ told. (text : Option (List ℕ)) (world : World) → edition_number edition ≡ world.edition → AllStand named.now.items world.replicas → Tells (Run name.now word.now ticks) text world told.items named.now.items) }
 {
-    let Some(place) = place_of(named.as_slice(), name) else {
+    let Some(index) = index_of(named.as_slice(), name) else {
         return refused(alloc, Refusal::Unknown);
     };
     let Ok(directory) = str::from_utf8(word) else {
         return refused(alloc, Refusal::NoPackage);
     };
-    match run_at(alloc, edition, named, place, directory, ticks) {
+    match run_at(alloc, edition, named, index, directory, ticks) {
         Ok(Some(outcome)) => run_lines(alloc, name, directory, outcome.ending(), outcome.output()),
         Ok(None) => refused(alloc, Refusal::NotBuilt),
         Err(BuildError::NoPackage) => refused(alloc, Refusal::NoPackage),

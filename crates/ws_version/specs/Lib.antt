@@ -1,6 +1,2 @@
-pub mod Gathered
-pub mod Greater
-pub mod Itself
-pub mod Kept
-pub mod Paths
+pub mod Laws
 pub mod Writes

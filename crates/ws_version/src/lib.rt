@@ -11,8 +11,7 @@ use go_text::text::Text;
 use std::alloc::AllocError;
 use std::cmp::Ordering;
 use std::marker::Model;
-
-pub mod path;
+use ws_map::Ranked;
 
 /// A replica's contents, which any other's may be joined to.
 pub trait Join: Send + Sync + Sized {
@@ -80,12 +79,6 @@ impl Held {
         })
     }
 
-    pub fn version(&self) -> Version
-        ensures { result ≡ record { counter = self.now.counter; number = self.now.number } }
-    {
-        self.version
-    }
-
     pub fn counter(&self) -> u64
         ensures { result ≡ self.now.counter }
     {
@@ -142,6 +135,26 @@ impl Clone for Held {
     }
 }
 
+impl Ranked for Held {
+    ghost use Rattle.ws_version.specs.Writes.{held_cmp};
+    ghost use Rattle.ws_version.specs.Laws.{held_cmp_total, held_cmp-IsAntisymmetric};
+
+    ghost rank = { held_cmp };
+
+    ghost total = { held_cmp_total };
+
+    ghost one = { held_cmp-IsAntisymmetric };
+
+    ghost cloned = { λ a b e. e };
+
+    fn is_below(&self, other: &Held) -> bool {
+        match self.cmp_held(other) {
+            Ordering::Less => true,
+            _ => false,
+        }
+    }
+}
+
 /// A write: what is held, at a path.
 #[derive(Drop)]
 pub struct Write {
@@ -184,6 +197,3 @@ impl Write {
         (self.path, self.held)
     }
 }
-
-#[cfg(test)]
-mod tests;

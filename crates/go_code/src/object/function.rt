@@ -1,17 +1,15 @@
 //! Functions of packages.
 ghost use Rattle.std.specs.Prelude.{◌≡◌, string_bytes};
 
-use crate::instr::{Instr, Symbol};
+use crate::function::Function;
+use crate::instr::Symbol;
 use std::marker::Model;
 
-/// A function of a package: its name, how many cells its parameters take, how many its frame
-/// has, the parameters among them, and its code.
+/// A function of a package, with its name.
 #[derive(Drop)]
 pub struct PackageFunction {
     name: String,
-    parameters: usize,
-    cells: usize,
-    code: Vec<Instr<Symbol>>,
+    function: Function<Symbol>,
 }
 
 impl Model for PackageFunction {
@@ -20,25 +18,15 @@ impl Model for PackageFunction {
 
     ghost Value = { packages.PackageFunction };
 
-    ghost view = { λ a. record { name = string_bytes a.name; parameters = a.parameters; cells = a.cells; code = a.code.items } };
+    ghost view = { λ a. record { name = string_bytes a.name; function = a.function } };
 }
 
 impl PackageFunction {
-    /// The function of a name, so many parameter cells, so many frame cells and a code.
-    pub fn new(
-        name: String,
-        parameters: usize,
-        cells: usize,
-        code: Vec<Instr<Symbol>>,
-    ) -> PackageFunction
-        ensures { result ≡ record { name = string_bytes name; parameters = parameters; cells = cells; code = code.items } }
+    /// The function of a name.
+    pub fn new(name: String, function: Function<Symbol>) -> PackageFunction
+        ensures { result ≡ record { name = string_bytes name; function = function } }
     {
-        PackageFunction {
-            name,
-            parameters,
-            cells,
-            code,
-        }
+        PackageFunction { name, function }
     }
 
     /// The name.
@@ -48,24 +36,10 @@ impl PackageFunction {
         self.name.as_str()
     }
 
-    /// How many cells the parameters take.
-    pub fn parameters(&self) -> usize
-        ensures { result ≡ self.now.parameters }
+    /// The function, whose code refers to functions by their symbols.
+    pub fn function(&self) -> &Function<Symbol>
+        ensures { result.now ≡ self.now.function }
     {
-        self.parameters
-    }
-
-    /// How many cells the frame has, those of the parameters among them.
-    pub fn cells(&self) -> usize
-        ensures { result ≡ self.now.cells }
-    {
-        self.cells
-    }
-
-    /// The code.
-    pub fn code(&self) -> &[Instr<Symbol>]
-        ensures { result.now ≡ self.now.code }
-    {
-        self.code.as_slice()
+        &self.function
     }
 }

@@ -2,7 +2,7 @@ use Rattle.std.proofs.Common.{◌≡◌, ℕ, ◌<◌, ◌≤◌, List, [], ◌�
 use Rattle.std.proofs.lemmas.List.{drop_all}
 use Rattle.std.specs.declared.cmp.Ordering.TheVariants.{Less, Equal}
 use Rattle.std.specs.Cmp.Lexicographic.{slice_cmp}
-use Rattle.go_parse.specs.Parse.{Parsed}
+use Rattle.go_ast.specs.Parse.{Parsed}
 use Rattle.ws_action.specs.Actions.{source_of, file_cmp}
 use Rattle.ws_action.proofs.cmp_files.Goals as goal
 

@@ -1,6 +1,6 @@
 use Rattle.std.proofs.Common.{rules, ◌≡◌, ◌<◌, ◌≤◌, ◌∷◌, length, arith, subst, List}
 use Rattle.std.specs.List.{All}
-use Rattle.go_parse.specs.Parse.{IsNamed}
+use Rattle.go_ast.specs.Parse.{IsNamed}
 use Rattle.ws_action.proofs.Naming.{named_more, named_all, have_one_name}
 use Rattle.ws_action.proofs.has_one_name.Goals as goal
 

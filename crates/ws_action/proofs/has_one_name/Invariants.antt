@@ -1,6 +1,6 @@
 use Rattle.std.proofs.Common.{take}
 use Rattle.std.specs.List.{All}
-use Rattle.go_parse.specs.Parse.{IsNamed}
+use Rattle.go_ast.specs.Parse.{IsNamed}
 use Rattle.ws_action.proofs.has_one_name.Given as goal
 
 -- the files so far have the name

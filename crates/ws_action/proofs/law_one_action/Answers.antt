@@ -1,4 +1,4 @@
-use Rattle.ws_action.specs.Clash.{one_action}
+use Rattle.ws_action.proofs.OneAction.{one_action}
 use Rattle.ws_action.proofs.law_one_action.Goals as goal
 
 pub returns : goal.returns

@@ -1,5 +1,5 @@
 use Rattle.std.proofs.Common.{ℕ, ◌<◌, ◌^◌, length, slice_index_or}
-use Rattle.go_parse.specs.Parse.{Parsed}
+use Rattle.go_ast.specs.Parse.{Parsed}
 use Rattle.ws_action.proofs.measure.Given as goal
 
 -- the names that were read

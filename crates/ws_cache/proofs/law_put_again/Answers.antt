@@ -1,4 +1,4 @@
-use Rattle.ws_cache.specs.Laws.{put_again}
+use Rattle.ws_cache.proofs.Laws.{put_again}
 use Rattle.ws_cache.proofs.law_put_again.Goals as goal
 
 pub returns : goal.returns

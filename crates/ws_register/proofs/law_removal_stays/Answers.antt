@@ -1,4 +1,4 @@
-use Rattle.ws_register.specs.Greatest.{removal_below}
+use Rattle.ws_register.proofs.Greatest.{removal_below}
 use Rattle.ws_register.proofs.law_removal_stays.Goals as goal
 
 pub returns : goal.returns

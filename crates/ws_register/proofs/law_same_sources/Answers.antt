@@ -1,4 +1,4 @@
-use Rattle.ws_register.specs.Laws.{one_sources, same_sources}
+use Rattle.ws_register.proofs.Laws.{one_sources, same_sources}
 use Rattle.ws_register.proofs.law_same_sources.Goals as goal
 
 pub returns : goal.returns

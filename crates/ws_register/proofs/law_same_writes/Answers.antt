@@ -1,4 +1,4 @@
-use Rattle.ws_register.specs.Laws.{one_contents}
+use Rattle.ws_register.proofs.Laws.{one_contents}
 use Rattle.ws_register.proofs.law_same_writes.Goals as goal
 
 pub returns : goal.returns

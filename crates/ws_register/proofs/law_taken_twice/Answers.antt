@@ -1,5 +1,5 @@
 use Rattle.std.proofs.Common.{[], ◌∷◌, ◌++◌}
-use Rattle.ws_register.specs.Laws.{one_contents, same_twice}
+use Rattle.ws_register.proofs.Laws.{one_contents, same_twice}
 use Rattle.ws_register.proofs.law_taken_twice.Goals as goal
 
 pub returns : goal.returns

@@ -1,5 +1,5 @@
 use Rattle.ws_version.specs.Writes.{held_cmp}
-use Rattle.ws_version.specs.Itself.{held_or_above}
+use Rattle.ws_map.proofs.Itself.{held_or_above}
 use Rattle.ws_register.proofs.law_taken_write.Goals as goal
 
 pub returns : goal.returns

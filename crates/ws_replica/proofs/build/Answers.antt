@@ -2,7 +2,7 @@ use Rattle.std.proofs.Common.{◌≡◌, sym, ap, subst, string_bytes, List, ℕ
 use Rattle.std.specs.FinMap.{FinMap}
 use Rattle.go_text.specs.Editions.{edition_number}
 use Rattle.ws_version.specs.Writes.{held_cmp}
-use Rattle.ws_version.specs.Kept.{StandsFor}
+use Rattle.ws_map.specs.Kept.{StandsFor}
 use Rattle.ws_register.specs.Edits.{Contents}
 use Rattle.ws_action.specs.Actions.{Action, action_of}
 use Rattle.ws_cache.specs.Held.{id_cmp, CacheStandsFor}

@@ -5,7 +5,7 @@ use Rattle.go_ast.specs.Trees.{Expr, call, place_of}
 use Rattle.go_ast.specs.declared.expression.ExprKind.{ExprKind}
 use Rattle.go_ast.specs.Views.{expr_of, exprs_in}
 use Rattle.go_ast.proofs.Rows.{call_seen}
-use Rattle.go_check.specs.Views.{constant_of}
+use Rattle.go_export.specs.Views.{constant_of}
 use Rattle.go_check.specs.Rules.{value}
 use Rattle.go_check.specs.Verdicts.{ruled, fine, broken, verdict, faults}
 use Rattle.go_check.specs.Seen.{known_of, Answers}

@@ -1,6 +1,6 @@
 use Rattle.std.proofs.Common.{◌≡◌, drop, map}
 use Rattle.go_ast.specs.Views.{exprs_in}
-use Rattle.go_check.specs.Views.{constant_of}
+use Rattle.go_export.specs.Views.{constant_of}
 use Rattle.go_check.specs.Verdicts.{values, argument_faults}
 use Rattle.go_check.specs.Seen.{joined}
 use Rattle.go_check.proofs.expression.+check.Given as goal

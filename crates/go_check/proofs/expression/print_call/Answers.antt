@@ -2,7 +2,7 @@ use Rattle.std.proofs.Common.{◌≡◌, map, true, false, sym, ◌∙◌}
 use Rattle.std.specs.List.{list_all}
 use Rattle.std.proofs.lemmas.List.Folds.{list_all-map}
 use Rattle.std.proofs.lemmas.Simd.{map-map}
-use Rattle.go_check.specs.Views.{constant_of}
+use Rattle.go_export.specs.Views.{constant_of}
 use Rattle.go_check.specs.Rules.{fits_default, defaulted}
 use Rattle.go_check.proofs.Nodes.{printed_fine, printed_large}
 use Rattle.go_check.proofs.expression.print_call.Goals as goal

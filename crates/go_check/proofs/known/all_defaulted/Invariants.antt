@@ -1,5 +1,5 @@
 use Rattle.std.proofs.Common.{◌≡◌, ◌++◌, map}
-use Rattle.go_check.specs.Views.{constant_of, expression_of}
+use Rattle.go_export.specs.Views.{constant_of, expression_of}
 use Rattle.go_check.specs.Rules.{defaulted}
 use Rattle.go_check.proofs.known.all_defaulted.Given as goal
 

@@ -1,5 +1,5 @@
-use Rattle.go_check.specs.Programs.{checked_known, checked_program}
-use Rattle.go_check.proofs.Sound.{files_typed}
+use Rattle.go_check.proofs.Programs.{checked_known, checked_program}
+use Rattle.go_check.proofs.WellTyped.{files_typed}
 use Rattle.go_check.proofs.law.law_checked_is_program.Goals as goal
 
 pub returns-clause-typed : goal.returns-clause-typed

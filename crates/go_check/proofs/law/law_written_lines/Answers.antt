@@ -1,4 +1,4 @@
-use Rattle.go_check.specs.Written.{ends_written, cut_unwritten}
+use Rattle.go_check.proofs.Written.{ends_written, cut_unwritten}
 use Rattle.go_check.proofs.law.law_written_lines.Goals as goal
 
 pub returns-clause-ended : goal.returns-clause-ended

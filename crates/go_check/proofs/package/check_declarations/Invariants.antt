@@ -1,6 +1,6 @@
 use Rattle.std.proofs.Common.{◌≡◌, ◌++◌, map, take, drop}
 use Rattle.go_ast.specs.Views.{top_of}
-use Rattle.go_check.specs.Views.{function_of}
+use Rattle.go_export.specs.Views.{function_of}
 use Rattle.go_check.specs.Verdicts.{all_known}
 use Rattle.go_check.specs.Packages.{declarations_faults, declaration_known, declared_name}
 use Rattle.go_check.specs.Seen.{joined, names_in}

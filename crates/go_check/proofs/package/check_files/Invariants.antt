@@ -1,6 +1,6 @@
 use Rattle.std.proofs.Common.{◌≡◌, [], map, take, drop}
 use Rattle.std.specs.List.{flat_map}
-use Rattle.go_check.specs.Views.{function_of}
+use Rattle.go_export.specs.Views.{function_of}
 use Rattle.go_check.specs.Verdicts.{all_known}
 use Rattle.go_check.specs.Packages.{files_faults, file_known, file_names}
 use Rattle.go_check.specs.Seen.{joined, names_in, named_of}

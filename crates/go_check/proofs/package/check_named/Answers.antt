@@ -6,7 +6,7 @@ use Rattle.go_check.specs.declared.error.CheckError.TheVariants as errors
 use Rattle.go_check.specs.Packages.{forms_faults, files_faults, main_faults}
 use Rattle.go_check.specs.Seen.{Fails, named_of}
 use Rattle.go_check.proofs.Nodes.{sooner}
-use Rattle.go_check.proofs.Sound.{files_typed}
+use Rattle.go_check.proofs.WellTyped.{files_typed}
 use Rattle.go_check.proofs.package.check_named.Goals as goal
 
 pub returns-in_err-check_forms-clause-faulty : goal.returns-in_err-check_forms-clause-faulty

@@ -1,7 +1,7 @@
 use Rattle.std.proofs.Common.{◌≡◌, drop, map}
 use Rattle.go_ast.specs.Trees.{pack_stmts}
 use Rattle.go_ast.specs.Views.{stmt_of}
-use Rattle.go_check.specs.Views.{statement_of}
+use Rattle.go_export.specs.Views.{statement_of}
 use Rattle.go_check.specs.Verdicts.{full, body_known, body_faults}
 use Rattle.go_check.specs.Seen.{joined}
 use Rattle.go_check.proofs.statement.check_body.Given as goal

@@ -1,5 +1,5 @@
 use Rattle.std.proofs.Common.{◌≡◌, take, map}
-use Rattle.go_check.specs.Views.{function_of}
+use Rattle.go_export.specs.Views.{function_of}
 use Rattle.go_gen.specs.Translation.{translated}
 use Rattle.go_gen.proofs.generate.generate_functions.Given as goal
 

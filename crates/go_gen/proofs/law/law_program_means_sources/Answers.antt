@@ -1,4 +1,4 @@
-use Rattle.go_gen.specs.Linking.{program_means, program_sense}
+use Rattle.go_gen.proofs.Linking.{program_means, program_sense}
 use Rattle.go_gen.proofs.law.law_program_means_sources.Goals as goal
 
 pub returns-clause-same : goal.returns-clause-same

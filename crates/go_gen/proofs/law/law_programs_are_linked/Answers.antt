@@ -1,4 +1,4 @@
-use Rattle.go_gen.specs.Linking.{linked_program, program_links, no_main}
+use Rattle.go_gen.proofs.Linking.{linked_program, program_links, no_main}
 use Rattle.go_gen.proofs.law.law_programs_are_linked.Goals as goal
 
 pub returns-clause-linked : goal.returns-clause-linked

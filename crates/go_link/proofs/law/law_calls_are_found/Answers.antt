@@ -1,4 +1,4 @@
-use Rattle.go_link.specs.Found.{allowed, called_found}
+use Rattle.go_link.proofs.Found.{allowed, called_found}
 use Rattle.go_link.proofs.law.law_calls_are_found.Goals as goal
 
 pub returns : goal.returns

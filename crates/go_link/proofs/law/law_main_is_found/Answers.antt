@@ -1,4 +1,4 @@
-use Rattle.go_link.specs.Found.{allowed, main_found}
+use Rattle.go_link.proofs.Found.{allowed, main_found}
 use Rattle.go_link.proofs.law.law_main_is_found.Goals as goal
 
 pub returns : goal.returns

@@ -8,9 +8,9 @@ use Rattle.go_parse.proofs.file.imports.Given as goal
 
 abbrev pub invariant-imports : goal.invariant-imports
 invariant-imports l = record {
-  reads : (iss : List (List trees.ImportSpec)) × (concat iss ≡ map import_of l.imports.items) × ((p : trees.Name) → run 250 (imports_at p []) (left l.initial.reader) ≡ run 250 (imports_at p iss) (left l.reader));
-  shorter : size l.reader ≤ size l.fn.reader;
+  reads : (iss : List (List trees.ImportSpec)) × (concat iss ≡ map import_of l.imports.items) × ((p : trees.Name) → run 250 (imports_at p []) (left l.initial.parser) ≡ run 250 (imports_at p iss) (left l.parser));
+  shorter : size l.parser ≤ size l.fn.parser;
 }
 
 abbrev pub decreases-imports : goal.decreases-imports
-decreases-imports l = size l.reader
+decreases-imports l = size l.parser

@@ -4,7 +4,7 @@ use Rattle.go_parse.proofs.function.results.Goals as goal
 
 pub returns-in-Some-clause-reads : goal.returns-in-Some-clause-reads
 returns-in-Some-clause-reads c = λ next.
-    then_reads (took (c.in_ok-accept.ensures.reads _ _) c.in-Some.is) (c.result_group.ensures.reads next)
+    then_reads (took (c.in_ok-accept.ensures.reads _ _) c.in-Some.is) (c.list.ensures.reads next)
 
 pub returns-in_err-type_expr-clause-reads : goal.returns-in_err-type_expr-clause-reads
 returns-in_err-type_expr-clause-reads c = λ next.

@@ -4,7 +4,7 @@ use Rattle.go_pstmt.proofs.Reading.{then_reads, took, missed}
 use Rattle.go_parse.proofs.import.imports_behind.Goals as goal
 
 pub returns-in-Some-clause-reads : goal.returns-in-Some-clause-reads
-returns-in-Some-clause-reads c = λ next. then_reads (took (c.in_ok-accept.ensures.reads _ _) c.in-Some.is) (c.import_group.ensures.reads next)
+returns-in-Some-clause-reads c = λ next. then_reads (took (c.in_ok-accept.ensures.reads _ _) c.in-Some.is) (c.list.ensures.reads next)
 
 pub returns-in_err-import_spec-clause-reads : goal.returns-in_err-import_spec-clause-reads
 returns-in_err-import_spec-clause-reads c = λ next.

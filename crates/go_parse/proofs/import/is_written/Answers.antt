@@ -10,7 +10,7 @@ use Rattle.go_parse.proofs.import.is_written.Goals as goal
 pub returns-in-len1-up : goal.returns-in-len1-up
 returns-in-len1-up c =
     let Is : Lexeme → Type 0 = λ t. t.text ≡ c.args.text.now in
-    let some = ap (lexemes c.args.reader.now.text.now) (first_and_rest c.args.reader.now.tokens.now _ c.in-len1-up.len_at_least) in
+    let some = ap (lexemes c.args.parser.now.text.now) (first_and_rest c.args.parser.now.tokens.now _ c.in-len1-up.len_at_least) in
     let same = slice_eq-Decides Decides-eqb _ _ _ c.eq.ensures in (
       λ h. subst (First Is) (sym some) (sym c.spelling.ensures ∙ same.0 h),
       λ h. same.1 (c.spelling.ensures ∙ subst (First Is) some h),

@@ -8,7 +8,7 @@ use Rattle.go_ast.specs.Tokens.{lexemes, LiesIn}
 use Rattle.go_ast.specs.Views.{file_of}
 use Rattle.go_pexpr.specs.Reads.{left, number}
 use Rattle.go_pexpr.proofs.Stands.{all_lie}
-use Rattle.go_parse.specs.Parse.{IsParse, Stopped, place_before, scan_kind}
+use Rattle.go_ast.specs.Parse.{IsParse, Stopped, place_before, scan_kind}
 use Rattle.go_parse.proofs.Found.{same_tokens, has_none, is_file, refused_by, stops_being}
 use Rattle.go_parse.proofs.parser.parse.Goals as goal
 
@@ -22,8 +22,8 @@ returns-in-Err-Fault-clause-err c = λ kind place e.
     subst (λ p. IsParse text (Stopped kind p)) place_is
     (has_none text fault kind c.in-Err-Fault.place refuses (sym kind_is ∙ c.scan_kind.ensures ∙ ap scan_kind c.in-Err-Fault.fault-is))
 
-pub invariant_of-reader : goal.invariant_of-reader
-invariant_of-reader c =
+pub invariant_of-parser : goal.invariant_of-parser
+invariant_of-parser c =
     let text = c.args.source.now.text in
     let ts = c.in-Ok.tokens.items in
     let seen : c.as_bytes-text.result.now ≡ text = c.as_bytes-text.ensures.value ∙ c.as_str.ensures.value ∙ c.text.ensures in
@@ -42,14 +42,14 @@ pub returns-clause-err : goal.returns-clause-err
 returns-clause-err c = λ kind place e.
     let text = c.args.source.now.text in
     let ts = c.in-Ok.tokens.items in
-    let bad = left c.file.new.reader in
+    let bad = left c.file.new.parser in
     let fault = c.in-Err-Wrong.fault in
     let seen : c.as_bytes-text.result.now ≡ text = c.as_bytes-text.ensures.value ∙ c.as_str.ensures.value ∙ c.text.ensures in
     let all : lexemes text ts ≡ lexemes c.as_bytes-text.result.now c.deref.result.now = same_tokens seen c.deref.ensures.value in
     let refused : run 250 start (lexemes c.as_bytes-text.result.now c.deref.result.now) ≡ Refused (number fault) bad =
-    refused_by _ c.file.new.reader c.in-Err-Wrong.field-0-is c.in-Err-Wrong.ensures.err in
+    refused_by _ c.file.new.parser c.in-Err-Wrong.field-0-is c.in-Err-Wrong.ensures.err in
     let kind_is : c.token_kind.result ≡ kind = cc (e) in
     let place_is : c.place_before-place.result ≡ place = cc (e) in
     stops_being text ts (number fault) bad kind place c.in-Ok.ensures.ok (ap (run 250 start) all ∙ refused)
     (ap fault_number (sym kind_is) ∙ c.token_kind.ensures ∙ ap number c.in-Err-Wrong.fault-is)
-    (sym place_is ∙ c.place_before-place.ensures c.file.new.reader.text.now ∙ ap (λ t. place_before t bad) seen)
+    (sym place_is ∙ c.place_before-place.ensures c.file.new.parser.text.now ∙ ap (λ t. place_before t bad) seen)

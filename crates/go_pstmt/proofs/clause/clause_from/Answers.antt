@@ -23,22 +23,22 @@ returns-then-is_next-clause-reads c = λ done next. record {
 
 pub returns-in_err-token-2-clause-reads : goal.returns-in_err-token-2-clause-reads
 returns-in_err-token-2-clause-reads c = λ done next.
-    let never : First (Kind (keyword keywords.Default)) (left c.args.reader.now) → ⊥ = λ h. false_true (c.if-is_next.ensures.1 h) in
+    let never : First (Kind (keyword keywords.Default)) (left c.args.parser.now) → ⊥ = λ h. false_true (c.if-is_next.ensures.1 h) in
     then_fails (case_due c.args.level done next _ never c.requires.some) (c.in_err-token-2.ensures.reads _) c.from_residual-in_err-token-2.ensures.1
 
 pub returns-in_err-values-clause-reads : goal.returns-in_err-values-clause-reads
 returns-in_err-values-clause-reads c = λ done next.
-    let never : First (Kind (keyword keywords.Default)) (left c.args.reader.now) → ⊥ = λ h. false_true (c.if-is_next.ensures.1 h) in
+    let never : First (Kind (keyword keywords.Default)) (left c.args.parser.now) → ⊥ = λ h. false_true (c.if-is_next.ensures.1 h) in
     then_fails (case_due c.args.level done next _ never c.requires.some ∙ went (c.in_ok-token-2.ensures.reads _)) (c.in_err-values.ensures.reads _) c.from_residual-in_err-values.ensures.1
 
 pub returns-in_err-expect-2-clause-reads : goal.returns-in_err-expect-2-clause-reads
 returns-in_err-expect-2-clause-reads c = λ done next.
-    let never : First (Kind (keyword keywords.Default)) (left c.args.reader.now) → ⊥ = λ h. false_true (c.if-is_next.ensures.1 h) in
+    let never : First (Kind (keyword keywords.Default)) (left c.args.parser.now) → ⊥ = λ h. false_true (c.if-is_next.ensures.1 h) in
     then_fails (case_due c.args.level done next _ never c.requires.some ∙ went (c.in_ok-token-2.ensures.reads _) ∙ went (c.in_ok-values.ensures.reads _)) (c.in_err-expect-2.ensures.reads _) c.from_residual-in_err-expect-2.ensures.1
 
 pub returns-clause-reads : goal.returns-clause-reads
 returns-clause-reads c = λ done next.
-    let never : First (Kind (keyword keywords.Default)) (left c.args.reader.now) → ⊥ = λ h. false_true (c.if-is_next.ensures.1 h) in
+    let never : First (Kind (keyword keywords.Default)) (left c.args.parser.now) → ⊥ = λ h. false_true (c.if-is_next.ensures.1 h) in
     record {
       by = case_due c.args.level done next _ never c.requires.some ∙ went (c.in_ok-token-2.ensures.reads _) ∙ went (c.in_ok-values.ensures.reads _) ∙ went (c.in_ok-expect-2.ensures.reads _);
     }

@@ -14,31 +14,31 @@ use Rattle.go_pstmt.proofs.for_loop.turns_behind.Goals as goal
 pub returns-then-is_next-clause-reads : goal.returns-then-is_next-clause-reads
 returns-then-is_next-clause-reads c = λ p next.
     let l = c.args.level in
-    let i = if_boxed simple_of c.args.start in
+    let i = if_boxed simple_of c.args.init in
     let e = if_boxed expr_of c.args.condition in
-    let ts = left c.args.reader.now in
+    let ts = left c.args.parser.now in
     let body = for_body l p next i e None in
     let behind = λ (s : trees.Simple). block_at (l + 1) (for_body l p next i e (Some s)) in
     record { by = optional_some opening_brace (l + 1) another (open_block (l + 1) body) (expr 5 true (l + 1) an_operand (list_lefts behind_turns true (l + 1) behind)) ts (c.if-is_next.ensures.0 refl) }
 
-pub returns-in_err-step-clause-reads : goal.returns-in_err-step-clause-reads
-returns-in_err-step-clause-reads c = λ p next.
+pub returns-in_err-post-clause-reads : goal.returns-in_err-post-clause-reads
+returns-in_err-post-clause-reads c = λ p next.
     let l = c.args.level in
-    let i = if_boxed simple_of c.args.start in
+    let i = if_boxed simple_of c.args.init in
     let e = if_boxed expr_of c.args.condition in
-    let ts = left c.args.reader.now in
+    let ts = left c.args.parser.now in
     let body = for_body l p next i e None in
     let behind = λ (s : trees.Simple). block_at (l + 1) (for_body l p next i e (Some s)) in
     let went = optional_none opening_brace (l + 1) (open_block (l + 1) body) (expr 5 true (l + 1) an_operand (list_lefts behind_turns true (l + 1) behind)) ts (λ f. false_true (c.if-is_next.ensures.1 f)) in
-    then_fails went (c.in_err-step.ensures.reads behind) c.from_residual.ensures.1
+    then_fails went (c.in_err-post.ensures.reads behind) c.from_residual.ensures.1
 
 pub returns-clause-reads : goal.returns-clause-reads
 returns-clause-reads c = λ p next.
     let l = c.args.level in
-    let i = if_boxed simple_of c.args.start in
+    let i = if_boxed simple_of c.args.init in
     let e = if_boxed expr_of c.args.condition in
-    let ts = left c.args.reader.now in
+    let ts = left c.args.parser.now in
     let body = for_body l p next i e None in
     let behind = λ (s : trees.Simple). block_at (l + 1) (for_body l p next i e (Some s)) in
     let went = optional_none opening_brace (l + 1) (open_block (l + 1) body) (expr 5 true (l + 1) an_operand (list_lefts behind_turns true (l + 1) behind)) ts (λ f. false_true (c.if-is_next.ensures.1 f)) in
-    record { by = went ∙ (c.in_ok-step.ensures.reads behind).by ∙ ap (λ (x : Simple). run 250 (behind (simple_of x)) (left c.simple.new.reader)) (sym c.in_ok-step-2.ensures.ok) }
+    record { by = went ∙ (c.in_ok-post.ensures.reads behind).by ∙ ap (λ (x : Simple). run 250 (behind (simple_of x)) (left c.simple.new.parser)) (sym c.in_ok-post-2.ensures.ok) }

@@ -18,7 +18,7 @@ use Rattle.go_pstmt.proofs.for_loop.turns_from.Goals as goal
 pub returns-then-is_next-clause-reads : goal.returns-then-is_next-clause-reads
 returns-then-is_next-clause-reads c = λ t next.
     let l = c.args.level in
-    let ts = left c.args.reader.now in
+    let ts = left c.args.parser.now in
     let ns = λ (s : trees.Simple). token semicolon 0 another (λ _. for_condition l t.place next (Some s)) in
     let al = λ (e : trees.Expr). block_at (l + 1) (for_body l t.place next None (Some e) None) in
     let ra = λ (n : trees.Name) (e : trees.Expr). range_body l t.place next (Some n) e in
@@ -33,7 +33,7 @@ returns-then-is_next-clause-reads c = λ t next.
 pub returns-in_err-accept-clause-reads : goal.returns-in_err-accept-clause-reads
 returns-in_err-accept-clause-reads c = λ t next.
     let l = c.args.level in
-    let ts = left c.args.reader.now in
+    let ts = left c.args.parser.now in
     let ns = λ (s : trees.Simple). token semicolon 0 another (λ _. for_condition l t.place next (Some s)) in
     let al = λ (e : trees.Expr). block_at (l + 1) (for_body l t.place next None (Some e) None) in
     let ra = λ (n : trees.Name) (e : trees.Expr). range_body l t.place next (Some n) e in
@@ -49,7 +49,7 @@ returns-in_err-accept-clause-reads c = λ t next.
 pub returns-in-Some-clause-reads : goal.returns-in-Some-clause-reads
 returns-in-Some-clause-reads c = λ t next.
     let l = c.args.level in
-    let ts = left c.args.reader.now in
+    let ts = left c.args.parser.now in
     let ns = λ (s : trees.Simple). token semicolon 0 another (λ _. for_condition l t.place next (Some s)) in
     let al = λ (e : trees.Expr). block_at (l + 1) (for_body l t.place next None (Some e) None) in
     let ra = λ (n : trees.Name) (e : trees.Expr). range_body l t.place next (Some n) e in
@@ -65,7 +65,7 @@ returns-in-Some-clause-reads c = λ t next.
 pub returns-in_err-accept-2-clause-reads : goal.returns-in_err-accept-2-clause-reads
 returns-in_err-accept-2-clause-reads c = λ t next.
     let l = c.args.level in
-    let ts = left c.args.reader.now in
+    let ts = left c.args.parser.now in
     let ns = λ (s : trees.Simple). token semicolon 0 another (λ _. for_condition l t.place next (Some s)) in
     let al = λ (e : trees.Expr). block_at (l + 1) (for_body l t.place next None (Some e) None) in
     let ra = λ (n : trees.Name) (e : trees.Expr). range_body l t.place next (Some n) e in
@@ -82,7 +82,7 @@ returns-in_err-accept-2-clause-reads c = λ t next.
 pub returns-in_err-operand-clause-reads : goal.returns-in_err-operand-clause-reads
 returns-in_err-operand-clause-reads c = λ t next.
     let l = c.args.level in
-    let ts = left c.args.reader.now in
+    let ts = left c.args.parser.now in
     let ns = λ (s : trees.Simple). token semicolon 0 another (λ _. for_condition l t.place next (Some s)) in
     let al = λ (e : trees.Expr). block_at (l + 1) (for_body l t.place next None (Some e) None) in
     let ra = λ (n : trees.Name) (e : trees.Expr). range_body l t.place next (Some n) e in
@@ -99,7 +99,7 @@ returns-in_err-operand-clause-reads c = λ t next.
 pub returns-in-Some-2-clause-reads : goal.returns-in-Some-2-clause-reads
 returns-in-Some-2-clause-reads c = λ t next.
     let l = c.args.level in
-    let ts = left c.args.reader.now in
+    let ts = left c.args.parser.now in
     let ns = λ (s : trees.Simple). token semicolon 0 another (λ _. for_condition l t.place next (Some s)) in
     let al = λ (e : trees.Expr). block_at (l + 1) (for_body l t.place next None (Some e) None) in
     let ra = λ (n : trees.Name) (e : trees.Expr). range_body l t.place next (Some n) e in
@@ -116,10 +116,10 @@ returns-in-Some-2-clause-reads c = λ t next.
           ∙ ap (λ (x : Expr). run 250 (range_body l t.place next None (expr_of x)) (left c.expr_from.new.self)) (sym c.in_ok-operand-2.ensures.ok);
     }
 
-pub returns-in_err-start-clause-reads : goal.returns-in_err-start-clause-reads
-returns-in_err-start-clause-reads c = λ t next.
+pub returns-in_err-init-clause-reads : goal.returns-in_err-init-clause-reads
+returns-in_err-init-clause-reads c = λ t next.
     let l = c.args.level in
-    let ts = left c.args.reader.now in
+    let ts = left c.args.parser.now in
     let ns = λ (s : trees.Simple). token semicolon 0 another (λ _. for_condition l t.place next (Some s)) in
     let al = λ (e : trees.Expr). block_at (l + 1) (for_body l t.place next None (Some e) None) in
     let ra = λ (n : trees.Name) (e : trees.Expr). range_body l t.place next (Some n) e in
@@ -132,12 +132,12 @@ returns-in_err-start-clause-reads c = λ t next.
     let zero = optional_none opening_brace (l + 1) body outer ts (λ f. false_true (c.if-is_next.ensures.1 f)) in
     let one = zero ∙ missed (c.in_ok-accept.ensures.reads condition inner) c.in_default.is in
     let two = one ∙ missed (c.in_ok-accept-2.ensures.reads ranged head) c.in_default-2.is in
-    then_fails two (c.in_err-start.ensures.reads ns al ra) c.from_residual-in_err-start.ensures.1
+    then_fails two (c.in_err-init.ensures.reads ns al ra) c.from_residual-in_err-init.ensures.1
 
 pub returns-in_err-expect-in-Simple-clause-reads : goal.returns-in_err-expect-in-Simple-clause-reads
 returns-in_err-expect-in-Simple-clause-reads c = λ t next.
     let l = c.args.level in
-    let ts = left c.args.reader.now in
+    let ts = left c.args.parser.now in
     let ns = λ (s : trees.Simple). token semicolon 0 another (λ _. for_condition l t.place next (Some s)) in
     let al = λ (e : trees.Expr). block_at (l + 1) (for_body l t.place next None (Some e) None) in
     let ra = λ (n : trees.Name) (e : trees.Expr). range_body l t.place next (Some n) e in
@@ -150,13 +150,13 @@ returns-in_err-expect-in-Simple-clause-reads c = λ t next.
     let zero = optional_none opening_brace (l + 1) body outer ts (λ f. false_true (c.if-is_next.ensures.1 f)) in
     let one = zero ∙ missed (c.in_ok-accept.ensures.reads condition inner) c.in_default.is in
     let two = one ∙ missed (c.in_ok-accept-2.ensures.reads ranged head) c.in_default-2.is in
-    let here = two ∙ (c.in_ok-start.ensures.reads ns al ra).by ∙ ap (λ (x : Header). run 250 (by_header ns al ra x) (left c.header_from.new.reader)) c.in-Simple.is in
-    then_fails here (c.in_err-expect-in-Simple.ensures.reads (λ _. for_condition l t.place next (Some (simple_of c.in-Simple.start.value)))) c.from_residual-in_err-expect-in-Simple.ensures.1
+    let here = two ∙ (c.in_ok-init.ensures.reads ns al ra).by ∙ ap (λ (x : Header). run 250 (by_header ns al ra x) (left c.header_from.new.parser)) c.in-Simple.is in
+    then_fails here (c.in_err-expect-in-Simple.ensures.reads (λ _. for_condition l t.place next (Some (simple_of c.in-Simple.init.value)))) c.from_residual-in_err-expect-in-Simple.ensures.1
 
 pub returns-in_ok-expect-in-Simple-clause-reads : goal.returns-in_ok-expect-in-Simple-clause-reads
 returns-in_ok-expect-in-Simple-clause-reads c = λ t next.
     let l = c.args.level in
-    let ts = left c.args.reader.now in
+    let ts = left c.args.parser.now in
     let ns = λ (s : trees.Simple). token semicolon 0 another (λ _. for_condition l t.place next (Some s)) in
     let al = λ (e : trees.Expr). block_at (l + 1) (for_body l t.place next None (Some e) None) in
     let ra = λ (n : trees.Name) (e : trees.Expr). range_body l t.place next (Some n) e in
@@ -169,13 +169,13 @@ returns-in_ok-expect-in-Simple-clause-reads c = λ t next.
     let zero = optional_none opening_brace (l + 1) body outer ts (λ f. false_true (c.if-is_next.ensures.1 f)) in
     let one = zero ∙ missed (c.in_ok-accept.ensures.reads condition inner) c.in_default.is in
     let two = one ∙ missed (c.in_ok-accept-2.ensures.reads ranged head) c.in_default-2.is in
-    let here = two ∙ (c.in_ok-start.ensures.reads ns al ra).by ∙ ap (λ (x : Header). run 250 (by_header ns al ra x) (left c.header_from.new.reader)) c.in-Simple.is in
-    then_reads c.condition_behind-in-Simple.result (here ∙ (c.in_ok-expect-in-Simple.ensures.reads (λ _. for_condition l t.place next (Some (simple_of c.in-Simple.start.value)))).by) (c.condition_behind-in-Simple.ensures.reads t.place next)
+    let here = two ∙ (c.in_ok-init.ensures.reads ns al ra).by ∙ ap (λ (x : Header). run 250 (by_header ns al ra x) (left c.header_from.new.parser)) c.in-Simple.is in
+    then_reads c.condition_behind-in-Simple.result (here ∙ (c.in_ok-expect-in-Simple.ensures.reads (λ _. for_condition l t.place next (Some (simple_of c.in-Simple.init.value)))).by) (c.condition_behind-in-Simple.ensures.reads t.place next)
 
 pub returns-in-Alone-clause-reads : goal.returns-in-Alone-clause-reads
 returns-in-Alone-clause-reads c = λ t next.
     let l = c.args.level in
-    let ts = left c.args.reader.now in
+    let ts = left c.args.parser.now in
     let ns = λ (s : trees.Simple). token semicolon 0 another (λ _. for_condition l t.place next (Some s)) in
     let al = λ (e : trees.Expr). block_at (l + 1) (for_body l t.place next None (Some e) None) in
     let ra = λ (n : trees.Name) (e : trees.Expr). range_body l t.place next (Some n) e in
@@ -188,13 +188,13 @@ returns-in-Alone-clause-reads c = λ t next.
     let zero = optional_none opening_brace (l + 1) body outer ts (λ f. false_true (c.if-is_next.ensures.1 f)) in
     let one = zero ∙ missed (c.in_ok-accept.ensures.reads condition inner) c.in_default.is in
     let two = one ∙ missed (c.in_ok-accept-2.ensures.reads ranged head) c.in_default-2.is in
-    let here = two ∙ (c.in_ok-start.ensures.reads ns al ra).by ∙ ap (λ (x : Header). run 250 (by_header ns al ra x) (left c.header_from.new.reader)) c.in-Alone.is in
+    let here = two ∙ (c.in_ok-init.ensures.reads ns al ra).by ∙ ap (λ (x : Header). run 250 (by_header ns al ra x) (left c.header_from.new.parser)) c.in-Alone.is in
     record { by = here }
 
 pub returns-in-Range-clause-reads : goal.returns-in-Range-clause-reads
 returns-in-Range-clause-reads c = λ t next.
     let l = c.args.level in
-    let ts = left c.args.reader.now in
+    let ts = left c.args.parser.now in
     let ns = λ (s : trees.Simple). token semicolon 0 another (λ _. for_condition l t.place next (Some s)) in
     let al = λ (e : trees.Expr). block_at (l + 1) (for_body l t.place next None (Some e) None) in
     let ra = λ (n : trees.Name) (e : trees.Expr). range_body l t.place next (Some n) e in
@@ -207,5 +207,5 @@ returns-in-Range-clause-reads c = λ t next.
     let zero = optional_none opening_brace (l + 1) body outer ts (λ f. false_true (c.if-is_next.ensures.1 f)) in
     let one = zero ∙ missed (c.in_ok-accept.ensures.reads condition inner) c.in_default.is in
     let two = one ∙ missed (c.in_ok-accept-2.ensures.reads ranged head) c.in_default-2.is in
-    let here = two ∙ (c.in_ok-start.ensures.reads ns al ra).by ∙ ap (λ (x : Header). run 250 (by_header ns al ra x) (left c.header_from.new.reader)) c.in-Range.is in
+    let here = two ∙ (c.in_ok-init.ensures.reads ns al ra).by ∙ ap (λ (x : Header). run 250 (by_header ns al ra x) (left c.header_from.new.parser)) c.in-Range.is in
     record { by = here }

@@ -11,7 +11,7 @@ use Rattle.go_pstmt.proofs.header.compared_behind.Goals as goal
 pub returns-in_err-value-clause-reads : goal.returns-in_err-value-clause-reads
 returns-in_err-value-clause-reads c = λ p next.
     let l = c.args.level in
-    let i = if_boxed simple_of c.args.start in
+    let i = if_boxed simple_of c.args.init in
     let behind = λ (e : trees.Expr). token opening_brace 0 another (λ _. switch_body l p next i (Some e)) in
     let went = missed (c.in_ok-accept.ensures.reads (λ _. switch_body l p next i None) (expr 5 true (l + 1) an_operand behind)) c.in_default.is in
     then_fails went (c.in_err-value.ensures.reads behind) c.from_residual-in_err-value.ensures.1
@@ -19,7 +19,7 @@ returns-in_err-value-clause-reads c = λ p next.
 pub returns-in_err-expect-clause-reads : goal.returns-in_err-expect-clause-reads
 returns-in_err-expect-clause-reads c = λ p next.
     let l = c.args.level in
-    let i = if_boxed simple_of c.args.start in
+    let i = if_boxed simple_of c.args.init in
     let behind = λ (e : trees.Expr). token opening_brace 0 another (λ _. switch_body l p next i (Some e)) in
     let went = missed (c.in_ok-accept.ensures.reads (λ _. switch_body l p next i None) (expr 5 true (l + 1) an_operand behind)) c.in_default.is in
     then_fails (went ∙ (c.in_ok-value.ensures.reads behind).by) (c.in_err-expect.ensures.reads (λ _. switch_body l p next i (Some (expr_of c.in_ok-value.value)))) c.from_residual-in_err-expect.ensures.1

@@ -20,15 +20,15 @@ returns-in-Some-clause-reads c = λ t next.
     let head : State = expr 5 true (l + 1) an_operand (λ e. lefts in_header true (l + 1) (e ∷ []) ns al ra) in
     then_reads c.condition_behind.result (took (c.in_ok-accept.ensures.reads (λ _. if_condition l t.place next None) head) c.in-Some.is) (c.condition_behind.ensures.reads t.place next)
 
-pub returns-in_err-start-clause-reads : goal.returns-in_err-start-clause-reads
-returns-in_err-start-clause-reads c = λ t next.
+pub returns-in_err-init-clause-reads : goal.returns-in_err-init-clause-reads
+returns-in_err-init-clause-reads c = λ t next.
     let l = c.args.level in
     let ns = λ (s : trees.Simple). token semicolon 0 another (λ _. if_condition l t.place next (Some s)) in
     let al = λ (e : trees.Expr). block_at (l + 1) (λ b. else_part l t.place None e b next) in
     let ra = λ (n : trees.Name) (e : trees.Expr). if_condition l t.place next None in
     let head : State = expr 5 true (l + 1) an_operand (λ e. lefts in_header true (l + 1) (e ∷ []) ns al ra) in
     let two = missed (c.in_ok-accept.ensures.reads (λ _. if_condition l t.place next None) head) c.in_default.is in
-    then_fails two (c.in_err-start.ensures.reads ns al ra) c.from_residual-in_err-start.ensures.1
+    then_fails two (c.in_err-init.ensures.reads ns al ra) c.from_residual-in_err-init.ensures.1
 
 pub returns-in_err-expect-in-Simple-clause-reads : goal.returns-in_err-expect-in-Simple-clause-reads
 returns-in_err-expect-in-Simple-clause-reads c = λ t next.
@@ -38,8 +38,8 @@ returns-in_err-expect-in-Simple-clause-reads c = λ t next.
     let ra = λ (n : trees.Name) (e : trees.Expr). if_condition l t.place next None in
     let head : State = expr 5 true (l + 1) an_operand (λ e. lefts in_header true (l + 1) (e ∷ []) ns al ra) in
     let two = missed (c.in_ok-accept.ensures.reads (λ _. if_condition l t.place next None) head) c.in_default.is in
-    let here = two ∙ (c.in_ok-start.ensures.reads ns al ra).by ∙ ap (λ (x : Header). run 250 (by_header ns al ra x) (left c.header_from.new.reader)) c.in-Simple.is in
-    then_fails here (c.in_err-expect-in-Simple.ensures.reads (λ _. if_condition l t.place next (Some (simple_of c.in-Simple.start.value)))) c.from_residual-in_err-expect-in-Simple.ensures.1
+    let here = two ∙ (c.in_ok-init.ensures.reads ns al ra).by ∙ ap (λ (x : Header). run 250 (by_header ns al ra x) (left c.header_from.new.parser)) c.in-Simple.is in
+    then_fails here (c.in_err-expect-in-Simple.ensures.reads (λ _. if_condition l t.place next (Some (simple_of c.in-Simple.init.value)))) c.from_residual-in_err-expect-in-Simple.ensures.1
 
 pub returns-in_ok-expect-in-Simple-clause-reads : goal.returns-in_ok-expect-in-Simple-clause-reads
 returns-in_ok-expect-in-Simple-clause-reads c = λ t next.
@@ -49,8 +49,8 @@ returns-in_ok-expect-in-Simple-clause-reads c = λ t next.
     let ra = λ (n : trees.Name) (e : trees.Expr). if_condition l t.place next None in
     let head : State = expr 5 true (l + 1) an_operand (λ e. lefts in_header true (l + 1) (e ∷ []) ns al ra) in
     let two = missed (c.in_ok-accept.ensures.reads (λ _. if_condition l t.place next None) head) c.in_default.is in
-    let here = two ∙ (c.in_ok-start.ensures.reads ns al ra).by ∙ ap (λ (x : Header). run 250 (by_header ns al ra x) (left c.header_from.new.reader)) c.in-Simple.is in
-    then_reads c.condition_behind-in-Simple.result (here ∙ (c.in_ok-expect-in-Simple.ensures.reads (λ _. if_condition l t.place next (Some (simple_of c.in-Simple.start.value)))).by) (c.condition_behind-in-Simple.ensures.reads t.place next)
+    let here = two ∙ (c.in_ok-init.ensures.reads ns al ra).by ∙ ap (λ (x : Header). run 250 (by_header ns al ra x) (left c.header_from.new.parser)) c.in-Simple.is in
+    then_reads c.condition_behind-in-Simple.result (here ∙ (c.in_ok-expect-in-Simple.ensures.reads (λ _. if_condition l t.place next (Some (simple_of c.in-Simple.init.value)))).by) (c.condition_behind-in-Simple.ensures.reads t.place next)
 
 pub returns-in-Alone-clause-reads : goal.returns-in-Alone-clause-reads
 returns-in-Alone-clause-reads c = λ t next.
@@ -60,7 +60,7 @@ returns-in-Alone-clause-reads c = λ t next.
     let ra = λ (n : trees.Name) (e : trees.Expr). if_condition l t.place next None in
     let head : State = expr 5 true (l + 1) an_operand (λ e. lefts in_header true (l + 1) (e ∷ []) ns al ra) in
     let two = missed (c.in_ok-accept.ensures.reads (λ _. if_condition l t.place next None) head) c.in_default.is in
-    let here = two ∙ (c.in_ok-start.ensures.reads ns al ra).by ∙ ap (λ (x : Header). run 250 (by_header ns al ra x) (left c.header_from.new.reader)) c.in-Alone.is in
+    let here = two ∙ (c.in_ok-init.ensures.reads ns al ra).by ∙ ap (λ (x : Header). run 250 (by_header ns al ra x) (left c.header_from.new.parser)) c.in-Alone.is in
     record { by = here }
 
 pub returns-in-Range-clause-reads : goal.returns-in-Range-clause-reads
@@ -71,5 +71,5 @@ returns-in-Range-clause-reads c = λ t next.
     let ra = λ (n : trees.Name) (e : trees.Expr). if_condition l t.place next None in
     let head : State = expr 5 true (l + 1) an_operand (λ e. lefts in_header true (l + 1) (e ∷ []) ns al ra) in
     let two = missed (c.in_ok-accept.ensures.reads (λ _. if_condition l t.place next None) head) c.in_default.is in
-    let here = two ∙ (c.in_ok-start.ensures.reads ns al ra).by ∙ ap (λ (x : Header). run 250 (by_header ns al ra x) (left c.header_from.new.reader)) c.in-Range.is in
+    let here = two ∙ (c.in_ok-init.ensures.reads ns al ra).by ∙ ap (λ (x : Header). run 250 (by_header ns al ra x) (left c.header_from.new.parser)) c.in-Range.is in
     then_reads c.condition_behind-in-Range.result here (c.condition_behind-in-Range.ensures.reads t.place next)

@@ -7,7 +7,7 @@ use Rattle.go_pstmt.proofs.made.for_of.Goals as goal
 
 pub returns-in-Steps : goal.returns-in-Steps
 returns-in-Steps c =
-    for_seen (record { place = c.args.place; start = c.in-Steps.start; condition = c.in-Steps.condition; step = c.in-Steps.step; body = c.args.body })
+    for_seen (record { place = c.args.place; init = c.in-Steps.init; condition = c.in-Steps.condition; post = c.in-Steps.post; body = c.args.body })
     ∙ ap (λ (h : Turns). for_of c.args.place h (block_of c.args.body)) (sym c.in-Steps.is)
 
 pub returns-in-Range : goal.returns-in-Range

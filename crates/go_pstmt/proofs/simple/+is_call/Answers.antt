@@ -37,10 +37,10 @@ returns-in-String t c =
     let e = c.args.operand.now in
     sym (ap (λ (k : ExprKind). is_call (expr_of (record { place = e.place; kind = k }))) c.in-String.is ∙ ap is_call (string_seen e.place c.in-String.field-0))
 
-pub returns-in-Literal : goal.returns-in-Literal
-returns-in-Literal t c =
+pub returns-in-CompositeLit : goal.returns-in-CompositeLit
+returns-in-CompositeLit t c =
     let e = c.args.operand.now in
-    sym (ap (λ (k : ExprKind). is_call (expr_of (record { place = e.place; kind = k }))) c.in-Literal.is ∙ ap is_call (literal_seen e.place c.in-Literal.field-0 c.in-Literal.field-1 c.in-Literal.field-2 c.in-Literal.field-0.value refl))
+    sym (ap (λ (k : ExprKind). is_call (expr_of (record { place = e.place; kind = k }))) c.in-CompositeLit.is ∙ ap is_call (literal_seen e.place c.in-CompositeLit.field-0 c.in-CompositeLit.field-1 c.in-CompositeLit.field-2 c.in-CompositeLit.field-0.value refl))
 
 pub returns-in-Conversion : goal.returns-in-Conversion
 returns-in-Conversion t c =

@@ -16,7 +16,7 @@ returns-in_err-expect-clause-reads c = λ next alone range.
     let front = map expr_of c.sides.sides.items in
     then_fails
     (c.sides.invariant.reads next alone range
-    ∙ lefts_comma m h c.args.level next alone range front (left c.sides.reader) (some_exprs c.sides.sides.items c.sides.invariant.some) (c.is_next.ensures.0 c.sides-test.true))
+    ∙ lefts_comma m h c.args.level next alone range front (left c.sides.parser) (some_exprs c.sides.sides.items c.sides.invariant.some) (c.is_next.ensures.0 c.sides-test.true))
     (c.in_err-expect.ensures.reads (λ _. expr 5 h c.args.level an_operand (λ e. lefts m h c.args.level (front ++ e ∷ []) next alone range))) c.from_residual-in_err-expect.ensures.1
 
 pub returns-in_err-expr_from-2-clause-reads : goal.returns-in_err-expr_from-2-clause-reads
@@ -26,7 +26,7 @@ returns-in_err-expr_from-2-clause-reads c = λ next alone range.
     let front = map expr_of c.sides.sides.items in
     then_fails
     (c.sides.invariant.reads next alone range
-    ∙ lefts_comma m h c.args.level next alone range front (left c.sides.reader) (some_exprs c.sides.sides.items c.sides.invariant.some) (c.is_next.ensures.0 c.sides-test.true)
+    ∙ lefts_comma m h c.args.level next alone range front (left c.sides.parser) (some_exprs c.sides.sides.items c.sides.invariant.some) (c.is_next.ensures.0 c.sides-test.true)
     ∙ (c.in_ok-expect.ensures.reads (λ _. expr 5 h c.args.level an_operand (λ e. lefts m h c.args.level (front ++ e ∷ []) next alone range))).by
     ∙ ap (λ b. run 250 (expr 5 b c.args.level an_operand (λ e. lefts m h c.args.level (front ++ e ∷ []) next alone range)) (left c.expect.new.self)) (sym c.is_bare-bare.ensures))
     (c.in_err-expr_from-2.ensures.reads (λ e. lefts m h c.args.level (front ++ e ∷ []) next alone range)) c.from_residual-in_err-expr_from-2.ensures.1
@@ -40,7 +40,7 @@ sides-preserved c =
     record {
       reads = λ next alone range.
           c.sides.invariant.reads next alone range
-          ∙ lefts_comma m h c.args.level next alone range front (left c.sides.reader) (some_exprs c.sides.sides.items c.sides.invariant.some) (c.is_next.ensures.0 c.sides-test.true)
+          ∙ lefts_comma m h c.args.level next alone range front (left c.sides.parser) (some_exprs c.sides.sides.items c.sides.invariant.some) (c.is_next.ensures.0 c.sides-test.true)
           ∙ (c.in_ok-expect.ensures.reads (λ _. expr 5 h c.args.level an_operand (λ e. lefts m h c.args.level (front ++ e ∷ []) next alone range))).by
           ∙ ap (λ b. run 250 (expr 5 b c.args.level an_operand (λ e. lefts m h c.args.level (front ++ e ∷ []) next alone range)) (left c.expect.new.self)) (sym c.is_bare-bare.ensures)
           ∙ (c.in_ok-expr_from-2.ensures.reads (λ e. lefts m h c.args.level (front ++ e ∷ []) next alone range)).by

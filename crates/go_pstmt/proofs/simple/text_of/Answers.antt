@@ -26,10 +26,10 @@ returns-in-Parenthesized c =
     let e = c.args.operand.now in
     sym (ap (λ (k : ExprKind). name_if (expr_of (record { place = e.place; kind = k }))) c.in-Parenthesized.is ∙ ap name_if (parenthesized_seen e.place c.in-Parenthesized.field-0 c.in-Parenthesized.field-0.value refl))
 
-pub returns-in-Literal : goal.returns-in-Literal
-returns-in-Literal c =
+pub returns-in-CompositeLit : goal.returns-in-CompositeLit
+returns-in-CompositeLit c =
     let e = c.args.operand.now in
-    sym (ap (λ (k : ExprKind). name_if (expr_of (record { place = e.place; kind = k }))) c.in-Literal.is ∙ ap name_if (literal_seen e.place c.in-Literal.field-0 c.in-Literal.field-1 c.in-Literal.field-2 c.in-Literal.field-0.value refl))
+    sym (ap (λ (k : ExprKind). name_if (expr_of (record { place = e.place; kind = k }))) c.in-CompositeLit.is ∙ ap name_if (literal_seen e.place c.in-CompositeLit.field-0 c.in-CompositeLit.field-1 c.in-CompositeLit.field-2 c.in-CompositeLit.field-0.value refl))
 
 pub returns-in-Conversion : goal.returns-in-Conversion
 returns-in-Conversion c =

@@ -9,58 +9,58 @@ use Rattle.go_pstmt.specs.Due.{clauses_behind}
 use Rattle.go_pstmt.proofs.statement.+statement.Given as goal
 
 abbrev pub decreases-block : goal.decreases-block
-decreases-block l = 4 * size l.reader.now
+decreases-block l = 4 * size l.parser.now
 
 abbrev pub decreases-conditional : goal.decreases-conditional
-decreases-conditional l = 4 * size l.reader.now
+decreases-conditional l = 4 * size l.parser.now
 
 abbrev pub decreases-otherwise : goal.decreases-otherwise
-decreases-otherwise l = 4 * size l.reader.now
+decreases-otherwise l = 4 * size l.parser.now
 
 abbrev pub decreases-for_loop : goal.decreases-for_loop
-decreases-for_loop l = 4 * size l.reader.now
+decreases-for_loop l = 4 * size l.parser.now
 
 abbrev pub decreases-switch : goal.decreases-switch
-decreases-switch l = 4 * size l.reader.now
+decreases-switch l = 4 * size l.parser.now
 
 abbrev pub decreases-clauses : goal.decreases-clauses
-decreases-clauses l = 4 * size l.reader.now
+decreases-clauses l = 4 * size l.parser.now
 
 abbrev pub decreases-statement : goal.decreases-statement
-decreases-statement l = 4 * size l.reader.now + 1
+decreases-statement l = 4 * size l.parser.now + 1
 
 abbrev pub decreases-item : goal.decreases-item
-decreases-item l = 4 * size l.reader.now + 2
+decreases-item l = 4 * size l.parser.now + 2
 
 abbrev pub decreases-clause_statements : goal.decreases-clause_statements
-decreases-clause_statements l = 4 * size l.reader.now + 3
+decreases-clause_statements l = 4 * size l.parser.now + 3
 
 abbrev pub invariant-block-statements : goal.invariant-block-statements
 invariant-block-statements l = record {
   reads : (next : List trees.Stmt → Lexeme → State) →
-      run 250 (list_start (statements (l.fn.level + 1)) [] next) (left l.initial.reader) ≡ run 250 (list_start (statements (l.fn.level + 1)) (map stmt_of l.statements.items) next) (left l.reader);
-  shorter : size l.reader < size l.fn.reader;
+      run 250 (list_start (statements (l.fn.level + 1)) [] next) (left l.initial.parser) ≡ run 250 (list_start (statements (l.fn.level + 1)) (map stmt_of l.statements.items) next) (left l.parser);
+  shorter : size l.parser < size l.fn.parser;
 }
 
 abbrev pub decreases-block-statements : goal.decreases-block-statements
-decreases-block-statements l = size l.reader
+decreases-block-statements l = size l.parser
 
 abbrev pub invariant-clauses-clauses : goal.invariant-clauses-clauses
 invariant-clauses-clauses l = record {
   reads : (next : trees.Clauses → Lexeme → State) →
-      run 250 (clauses_behind l.fn.level [] next) (left l.fn.reader) ≡ run 250 (clauses_behind l.fn.level (map clause_of l.clauses.items) next) (left l.reader);
-  shorter : size l.reader ≤ size l.fn.reader;
+      run 250 (clauses_behind l.fn.level [] next) (left l.fn.parser) ≡ run 250 (clauses_behind l.fn.level (map clause_of l.clauses.items) next) (left l.parser);
+  shorter : size l.parser ≤ size l.fn.parser;
 }
 
 abbrev pub decreases-clauses-clauses : goal.decreases-clauses-clauses
-decreases-clauses-clauses l = size l.reader
+decreases-clauses-clauses l = size l.parser
 
 abbrev pub invariant-clause_statements-statements : goal.invariant-clause_statements-statements
 invariant-clause_statements-statements l = record {
   reads : (done : List Clause) (p : Place) (values : Option trees.Exprs) (next : trees.Clauses → Lexeme → State) →
-      run 250 (clause_start l.fn.level done p values [] next) (left l.fn.reader) ≡ run 250 (clause_start l.fn.level done p values (map stmt_of l.statements.items) next) (left l.reader);
-  shorter : size l.reader ≤ size l.fn.reader;
+      run 250 (clause_start l.fn.level done p values [] next) (left l.fn.parser) ≡ run 250 (clause_start l.fn.level done p values (map stmt_of l.statements.items) next) (left l.parser);
+  shorter : size l.parser ≤ size l.fn.parser;
 }
 
 abbrev pub decreases-clause_statements-statements : goal.decreases-clause_statements-statements
-decreases-clause_statements-statements l = size l.reader
+decreases-clause_statements-statements l = size l.parser

@@ -1,13 +1,13 @@
 use Rattle.std.proofs.Common.{[], ap, ◌∙◌}
-use Rattle.go_code.specs.Steps.{leads_on}
-use Rattle.go_code.specs.Weight.{lessens}
+use Rattle.go_code.proofs.Ends.{steps_fall}
+use Rattle.go_code.proofs.Steps.{leads_on}
 use Rattle.go_vm.specs.Told.{state_of, told}
 use Rattle.go_vm.proofs.Coming.{comes_out}
 use Rattle.go_vm.proofs.run.finish.Goals as goal
 
 pub loop-frames-smaller : goal.loop-frames-smaller
 loop-frames-smaller c =
-    lessens c.args.image.now (state_of c.loop-frames.frames [] c.loop-frames.world) (state_of c.one_step.new.frames [] c.one_step.new.world)
+    steps_fall c.args.image.now (state_of c.loop-frames.frames [] c.loop-frames.world) (state_of c.one_step.new.frames [] c.one_step.new.world)
     (c.in_ok-one_step.ensures [] ∙ ap (λ flow. told flow (state_of c.one_step.new.frames [] c.one_step.new.world)) c.in-GoesOn.is)
 
 pub loop-frames-preserved : goal.loop-frames-preserved

@@ -2,7 +2,7 @@ use Rattle.std.proofs.Common.{List, []}
 use Rattle.go_code.specs.declared.image.Start.{Start}
 use Rattle.go_code.specs.Finals.{Final}
 use Rattle.go_code.specs.Machine.{Leads}
-use Rattle.go_code.specs.Weight.{weight}
+use Rattle.go_code.proofs.Ends.{steps_left}
 use Rattle.go_vm.specs.Told.{state_of}
 use Rattle.go_vm.proofs.run.finish.Given as goal
 
@@ -11,4 +11,4 @@ abbrev pub invariant-loop-frames : goal.invariant-loop-frames
 invariant-loop-frames l = (starts : List Start) (final : Final) → Leads l.image (state_of l.frames starts l.world) final → Leads l.image (state_of l.fn.frames starts l.fn.world) final
 
 abbrev pub decreases-loop-frames : goal.decreases-loop-frames
-decreases-loop-frames l = weight l.image (state_of l.frames [] l.world)
+decreases-loop-frames l = steps_left l.image (state_of l.frames [] l.world)

@@ -1,10 +1,17 @@
 use Rattle.std.proofs.Common.{◌≡◌, [], drop, refl, sym, subst}
 use Rattle.std.proofs.lemmas.List.{drop_all}
 use Rattle.go_code.specs.Finals.{Ends}
-use Rattle.go_code.specs.Follows.{ended_leads}
+use Rattle.go_code.proofs.Follows.{ended_leads}
 use Rattle.go_code.specs.Machine.{Leads}
 use Rattle.go_vm.specs.Told.{between}
+use Rattle.go_vm.proofs.Coming.{comes_round}
 use Rattle.go_vm.proofs.run.run.Goals as goal
+
+pub loop-start-preserved : goal.loop-start-preserved
+loop-start-preserved c = λ final l.
+    c.loop-start.invariant final
+    (comes_round c.args.image.now c.start-item.result c.starts-starts.result.now c.loop-start.start-index c.in_ok-run_start.field-0 c.loop-start.world c.run_start.new.world final
+    c.loop-start-test.true c.start-item.is c.in_ok-run_start.ensures c.in-Returned.is l)
 
 pub returns : goal.returns
 returns c =

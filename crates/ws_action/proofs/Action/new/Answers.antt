@@ -5,7 +5,7 @@ use Rattle.std.proofs.lemmas.List.{length-map}
 use Rattle.go_text.specs.Editions.{edition_number}
 use Rattle.go_text.specs.declared.edition.Edition.{Edition}
 use Rattle.go_text.specs.declared.edition.Edition.TheVariants.{One}
-use Rattle.go_parse.specs.Parse.{Parsed}
+use Rattle.go_ast.specs.Parse.{Parsed}
 use Rattle.ws_action.specs.Actions.{source_of}
 use Rattle.ws_action.proofs.Action.new.Goals as goal
 

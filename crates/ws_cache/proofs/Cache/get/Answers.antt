@@ -1,7 +1,7 @@
 use Rattle.std.proofs.Common.{sym, ap, subst, ◌∙◌}
 use Rattle.std.specs.FinMap as map
 use Rattle.ws_cache.specs.Held.{IsHeld}
-use Rattle.ws_cache.specs.Joined.{cache_stands}
+use Rattle.ws_cache.proofs.Joined.{cache_stands}
 use Rattle.ws_cache.proofs.Cache.get.Goals as goal
 
 pub returns-clause-stands : goal.returns-clause-stands

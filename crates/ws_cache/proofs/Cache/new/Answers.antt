@@ -1,5 +1,5 @@
 use Rattle.std.proofs.Common.{rules}
-use Rattle.ws_cache.specs.Joined.{empty_stands}
+use Rattle.ws_cache.proofs.Joined.{empty_stands}
 use Rattle.ws_cache.proofs.Cache.new.Goals as goal
 
 pub returns-clause-stands : goal.returns-clause-stands

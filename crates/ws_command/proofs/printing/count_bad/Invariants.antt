@@ -1,6 +1,6 @@
 use Rattle.std.proofs.Common.{◌≡◌, ◌≤◌, ◌+◌, drop, map, count_by}
 use Rattle.ws_command.specs.Printing.{is_bad}
-use Rattle.ws_replica.specs.Reports.{row}
+use Rattle.ws_report.specs.Reports.{row}
 use Rattle.ws_command.proofs.printing.count_bad.Given as goal
 
 abbrev pub invariant-loop-of : goal.invariant-loop-of

@@ -1,7 +1,7 @@
 use Rattle.std.proofs.Common.{◌≡◌, ◌++◌, drop, map}
 use Rattle.std.specs.List.{flat_map}
 use Rattle.ws_command.specs.Printing.{row_text}
-use Rattle.ws_replica.specs.Reports.{row}
+use Rattle.ws_report.specs.Reports.{row}
 use Rattle.ws_command.proofs.printing.push_rows.Given as goal
 
 abbrev pub invariant-loop-of : goal.invariant-loop-of

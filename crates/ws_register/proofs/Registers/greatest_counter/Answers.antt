@@ -1,6 +1,6 @@
 use Rattle.std.proofs.Common.{subst}
 use Rattle.ws_register.specs.Edits.{IsGreatestCounter}
-use Rattle.ws_register.specs.Counters.{counts-top, counts-entries}
+use Rattle.ws_register.proofs.Counters.{counts-top, counts-entries}
 use Rattle.ws_register.proofs.Registers.greatest_counter.Goals as goal
 
 pub returns-clause-value : goal.returns-clause-value

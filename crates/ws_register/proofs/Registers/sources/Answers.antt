@@ -1,7 +1,8 @@
-use Rattle.std.proofs.Common.{ap, sym, ◌∙◌}
+use Rattle.std.proofs.Common.{ap, sym, refl, ◌∙◌, string_bytes, string_cmp}
 use Rattle.std.specs.FinMap.{entries}
 use Rattle.ws_register.specs.Sources.{texts_of}
-use Rattle.ws_register.specs.Texted.{entries-by_path, entries-empty, texted}
+use Rattle.ws_map.proofs.Keyed.{entries-by_key, entries-empty}
+use Rattle.ws_register.specs.Texted.{texted}
 use Rattle.ws_register.specs.Edits.{Contents}
 use Rattle.ws_register.proofs.Registers.sources.Goals as goal
 
@@ -15,7 +16,7 @@ returns-in_default-clause-stands c W h = (c.args.self.now, h, returns-in_default
 pub returns-clause-ok : goal.returns-clause-ok
 returns-clause-ok c =
     c.in_ok-sources.ensures.ok
-    ∙ ap texts_of (sym (entries-by_path c.in-Some.entries.now.entries c.sources_of.ensures.ordered))
+    ∙ ap texts_of (sym (entries-by_key string_cmp string_bytes (λ a b. refl) c.in-Some.entries.now.entries c.sources_of.ensures.ordered))
     ∙ ap (λ (m : Contents). texts_of (entries m)) (c.in-Some.ensures ∙ c.self.view_is)
 
 pub returns-clause-stands : goal.returns-clause-stands

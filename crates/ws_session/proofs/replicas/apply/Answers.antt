@@ -3,7 +3,7 @@ use Rattle.std.specs.Option.{option_map}
 use Rattle.ws_version.specs.Writes.{Held}
 use Rattle.ws_command.specs.declared.refusal.Refusal.{Refusal}
 use Rattle.ws_command.specs.Commands.{Apply}
-use Rattle.ws_session.specs.Standing.{place_of, ChangedAt, Applied, Settles, IsContent}
+use Rattle.ws_session.specs.Standing.{index_of, ChangedAt, Applied, Settles, IsContent}
 use Rattle.ws_session.proofs.Writing.{apply_unknown, apply_path, apply_content, applied}
 use Rattle.ws_session.proofs.replicas.apply.Goals as goal
 
@@ -12,26 +12,26 @@ given text = option_map (λ v. v.items) text
 
 pub returns-in_default : goal.returns-in_default
 returns-in_default c = λ world h.
-    apply_unknown c.args.name.now c.args.word.now c.args.version.counter c.args.version.number c.args.lines _ world c.args.named.now.items h (ap (place_of c.args.name.now) (sym c.as_slice.ensures.value) ∙ sym c.in_default.ensures.value)
+    apply_unknown c.args.name.now c.args.word.now c.args.version.counter c.args.version.number c.args.lines _ world c.args.named.now.items h (ap (index_of c.args.name.now) (sym c.as_slice.ensures.value) ∙ sym c.in_default.ensures.value)
 
 pub returns-in_default-path_of : goal.returns-in_default-path_of
 returns-in_default-path_of c = λ world h.
-    apply_path c.args.name.now c.args.word.now c.args.version.counter c.args.version.number c.args.lines _ world c.args.named.now.items h c.in-Some.place (ap (place_of c.args.name.now) (sym c.as_slice.ensures.value) ∙ sym c.in-Some.ensures.value) c.in_default-path_of.ensures
+    apply_path c.args.name.now c.args.word.now c.args.version.counter c.args.version.number c.args.lines _ world c.args.named.now.items h c.in-Some.index (ap (index_of c.args.name.now) (sym c.as_slice.ensures.value) ∙ sym c.in-Some.ensures.value) c.in_default-path_of.ensures
 
 pub returns-in-Err : goal.returns-in-Err
 returns-in-Err c = λ world h.
-    let e = ap (place_of c.args.name.now) (sym c.as_slice.ensures.value) ∙ sym c.in-Some.ensures.value in
+    let e = ap (index_of c.args.name.now) (sym c.as_slice.ensures.value) ∙ sym c.in-Some.ensures.value in
     let text = given c.args.text in
     let content = subst (IsContent c.args.lines text) c.in-Err.is c.in_ok-refusal.ensures in
     subst (λ (r : Refusal). Settles (Apply c.args.name.now c.args.word.now c.args.version.counter c.args.version.number c.args.lines) text world (Some r) c.args.named.now.items) (sym content.1)
-    (apply_content c.args.name.now c.args.word.now c.args.version.counter c.args.version.number c.args.lines text world c.args.named.now.items h c.in-Some.place e c.in-Some-path_of.ensures.0 content.0)
+    (apply_content c.args.name.now c.args.word.now c.args.version.counter c.args.version.number c.args.lines text world c.args.named.now.items h c.in-Some.index e c.in-Some-path_of.ensures.0 content.0)
 
 pub returns-in_ok-apply_at-in-Ok : goal.returns-in_ok-apply_at-in-Ok
 returns-in_ok-apply_at-in-Ok c = λ world h.
-    let e = ap (place_of c.args.name.now) (sym c.as_slice.ensures.value) ∙ sym c.in-Some.ensures.value in
+    let e = ap (index_of c.args.name.now) (sym c.as_slice.ensures.value) ∙ sym c.in-Some.ensures.value in
     let text = given c.args.text in
     let content = subst (IsContent c.args.lines text) c.in-Ok.is c.in_ok-refusal.ensures in
-    applied c.args.name.now c.args.word.now c.args.version.counter c.args.version.number c.args.lines text world c.args.named.now.items h c.in-Some.place e c.in-Ok.content c.apply_at.new.named.items
+    applied c.args.name.now c.args.word.now c.args.version.counter c.args.version.number c.args.lines text world c.args.named.now.items h c.in-Some.index e c.in-Ok.content c.apply_at.new.named.items
     c.in-Some-path_of.ensures.0 content.0 content.1
-    (subst (λ (p : List ℕ). ChangedAt (Applied (p, record { counter = c.args.version.counter; number = c.args.version.number; text = c.in-Ok.content })) c.args.named.now.items c.in-Some.place c.apply_at.new.named.items) c.in-Some-path_of.ensures.1
-    (subst (λ (held : Held). ChangedAt (Applied (c.in-Some-path_of.path.now, held)) c.args.named.now.items c.in-Some.place c.apply_at.new.named.items) c.new.ensures c.in_ok-apply_at-in-Ok.ensures))
+    (subst (λ (p : List ℕ). ChangedAt (Applied (p, record { counter = c.args.version.counter; number = c.args.version.number; text = c.in-Ok.content })) c.args.named.now.items c.in-Some.index c.apply_at.new.named.items) c.in-Some-path_of.ensures.1
+    (subst (λ (held : Held). ChangedAt (Applied (c.in-Some-path_of.path.now, held)) c.args.named.now.items c.in-Some.index c.apply_at.new.named.items) c.new.ensures c.in_ok-apply_at-in-Ok.ensures))

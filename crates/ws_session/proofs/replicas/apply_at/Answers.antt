@@ -11,7 +11,7 @@ returns c =
     let old : Named = c.index_mut-one.result.now in
     let new : Named = record { name = old.name; number = old.number; replica = c.apply.new.self } in
     on_ok_map c.apply.result (λ stands.
-    changed_one (Applied (c.args.path.now, c.args.held)) c.args.named.now.items c.args.place old new (omega (arith, c.requires, c.args.named.now.ok.0)) c.index_mut-one.ensures.value
+    changed_one (Applied (c.args.path.now, c.args.held)) c.args.named.now.items c.args.index old new (omega (arith, c.requires, c.args.named.now.ok.0)) c.index_mut-one.ensures.value
     (record {
       name = refl;
       number = refl;

@@ -10,7 +10,7 @@ pub returns-in-Ok : goal.returns-in-Ok
 returns-in-Ok c =
     let old : Named = c.index_mut-one.result.now in
     let new : Named = record { name = old.name; number = old.number; replica = c.edit.new.self } in
-    changed_one (Edited c.args.path.now c.args.source.text) c.args.named.now.items c.args.place old new (omega (arith, c.requires, c.args.named.now.ok.0)) c.index_mut-one.ensures.value
+    changed_one (Edited c.args.path.now c.args.source.text) c.args.named.now.items c.args.index old new (omega (arith, c.requires, c.args.named.now.ok.0)) c.index_mut-one.ensures.value
     (record {
       name = refl;
       number = refl;

@@ -10,11 +10,11 @@ returns c =
     let old : Named = c.index_mut-one.result.now in
     let new : Named = record { name = old.name; number = old.number; replica = c.merge.new.self } in
     on_ok_map c.merge.result (λ stands.
-    changed_one (MergedFrom c.args.named.now.items c.args.place) c.args.named.now.items c.args.place old new (omega (arith, c.requires, c.args.named.now.ok.0)) c.index_mut-one.ensures.value
+    changed_one (MergedFrom c.args.named.now.items c.args.index) c.args.named.now.items c.args.index old new (omega (arith, c.requires, c.args.named.now.ok.0)) c.index_mut-one.ensures.value
     (record {
       name = refl;
       number = refl;
       holds = λ other e V W E F h k.
-          let same : other ≡ c.index.result.now = one_element c.args.named.now.items c.args.place other c.index.result.now (omega (arith, c.requires, c.args.named.now.ok.0)) e c.index.ensures in
+          let same : other ≡ c.index.result.now = one_element c.args.named.now.items c.args.index other c.index.result.now (omega (arith, c.requires, c.args.named.now.ok.0)) e c.index.ensures in
           stands V W E F h (subst (λ z. ReplicaStandsFor z W F) (ap (λ (n : Named). n.replica) same ∙ sym c.in_ok-other.ensures) k);
     })) c.merge.ensures.stands

@@ -1,6 +1,6 @@
 use Rattle.std.proofs.Common.{ap, sym, ◌∙◌}
 use Rattle.std.proofs.lemmas.Str.{is_utf8-from_IsUtf8}
-use Rattle.ws_version.specs.Paths.{is_path}
+use Rattle.ws_path.specs.Paths.{is_path}
 use Rattle.ws_session.proofs.Utf8.{not_utf8, and_false, and_right}
 use Rattle.ws_session.proofs.replicas.path_of.Goals as goal
 

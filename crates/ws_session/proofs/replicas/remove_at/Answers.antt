@@ -1,6 +1,6 @@
 use Rattle.std.proofs.Common.{◌≡◌, ◌<◌, length, string_bytes, ◌++◌, ◌∷◌, [], List, ℕ, Some, None, true, subst, refl, ap, ◌∙◌, arith, get_or}
 use Rattle.std.proofs.Math.ListN.{set}
-use Rattle.ws_version.specs.Paths.{is_path}
+use Rattle.ws_path.specs.Paths.{is_path}
 use Rattle.ws_register.specs.Edits.{removed, removal_refusal, greatest_at, IsRefusal}
 use Rattle.ws_register.specs.declared.EditError.{EditError}
 use Rattle.ws_register.specs.declared.EditError.TheVariants.{BadPath, NoFile, CounterFull}
@@ -20,13 +20,13 @@ pub returns-in-Ok : goal.returns-in-Ok
 returns-in-Ok c =
     let old : Named = c.index_mut-one.result.now in
     let new : Named = record { name = old.name; number = old.number; replica = c.remove.new.self } in
-    let inside : c.args.place < length c.args.named.now.items = omega (arith, c.requires.place, c.args.named.now.ok.0) in
+    let inside : c.args.index < length c.args.named.now.items = omega (arith, c.requires.index, c.args.named.now.ok.0) in
     record {
       refuses = λ n W E e h.
-          let same = one_element c.args.named.now.items c.args.place n old inside e c.index_mut-one.ensures.value in
+          let same = one_element c.args.named.now.items c.args.index n old inside e c.index_mut-one.ensures.value in
           row_of_refusal c.args.path.now W None c.requires.path
           (subst (λ (p : List ℕ). removal_refusal (top W) p (greatest_at p W) ≡ None) c.in_ok-path.ensures.ok (c.in-Ok.ensures.allowed W E (subst (λ (m : Named). ReplicaStandsFor m.replica W E) same h)));
-      changes = changed_one (Removed c.args.path.now) c.args.named.now.items c.args.place old new inside c.index_mut-one.ensures.value
+      changes = changed_one (Removed c.args.path.now) c.args.named.now.items c.args.index old new inside c.index_mut-one.ensures.value
           (record {
             name = refl;
             number = refl;
@@ -37,41 +37,41 @@ returns-in-Ok c =
 pub returns-in-Err-BadPath : goal.returns-in-Err-BadPath
 returns-in-Err-BadPath c =
     let old : Named = c.index_mut-one.result.now in
-    let inside : c.args.place < length c.args.named.now.items = omega (arith, c.requires.place, c.args.named.now.ok.0) in
+    let inside : c.args.index < length c.args.named.now.items = omega (arith, c.requires.index, c.args.named.now.ok.0) in
     record {
       refuses = λ n W E e h.
-          let same = one_element c.args.named.now.items c.args.place n old inside e c.index_mut-one.ensures.value in
+          let same = one_element c.args.named.now.items c.args.index n old inside e c.index_mut-one.ensures.value in
           let refused : removal_refusal (top W) (string_bytes c.in_ok-path.path) (greatest_at (string_bytes c.in_ok-path.path) W) ≡ Some BadPath =
           subst (λ (x : EditError). IsRefusal x (removal_refusal (top W) (string_bytes c.in_ok-path.path) (greatest_at (string_bytes c.in_ok-path.path) W))) c.in-Err-BadPath.field-0-is
           (c.in-Err-BadPath.ensures.refused W E (subst (λ (m : Named). ReplicaStandsFor m.replica W E) same h)) in
           row_of_refusal c.args.path.now W (Some BadPath) c.requires.path (subst (λ (p : List ℕ). removal_refusal (top W) p (greatest_at p W) ≡ Some BadPath) c.in_ok-path.ensures.ok refused);
-      changes = unchanged c.args.named.now.items c.args.place old c.remove.new.self c.in-Err-BadPath.ensures.err c.index_mut-one.ensures.value;
+      changes = unchanged c.args.named.now.items c.args.index old c.remove.new.self c.in-Err-BadPath.ensures.err c.index_mut-one.ensures.value;
     }
 
 pub returns-in-Err-NoFile : goal.returns-in-Err-NoFile
 returns-in-Err-NoFile c =
     let old : Named = c.index_mut-one.result.now in
-    let inside : c.args.place < length c.args.named.now.items = omega (arith, c.requires.place, c.args.named.now.ok.0) in
+    let inside : c.args.index < length c.args.named.now.items = omega (arith, c.requires.index, c.args.named.now.ok.0) in
     record {
       refuses = λ n W E e h.
-          let same = one_element c.args.named.now.items c.args.place n old inside e c.index_mut-one.ensures.value in
+          let same = one_element c.args.named.now.items c.args.index n old inside e c.index_mut-one.ensures.value in
           let refused : removal_refusal (top W) (string_bytes c.in_ok-path.path) (greatest_at (string_bytes c.in_ok-path.path) W) ≡ Some NoFile =
           subst (λ (x : EditError). IsRefusal x (removal_refusal (top W) (string_bytes c.in_ok-path.path) (greatest_at (string_bytes c.in_ok-path.path) W))) c.in-Err-NoFile.field-0-is
           (c.in-Err-NoFile.ensures.refused W E (subst (λ (m : Named). ReplicaStandsFor m.replica W E) same h)) in
           row_of_refusal c.args.path.now W (Some NoFile) c.requires.path (subst (λ (p : List ℕ). removal_refusal (top W) p (greatest_at p W) ≡ Some NoFile) c.in_ok-path.ensures.ok refused);
-      changes = unchanged c.args.named.now.items c.args.place old c.remove.new.self c.in-Err-NoFile.ensures.err c.index_mut-one.ensures.value;
+      changes = unchanged c.args.named.now.items c.args.index old c.remove.new.self c.in-Err-NoFile.ensures.err c.index_mut-one.ensures.value;
     }
 
 pub returns-in-Err-CounterFull : goal.returns-in-Err-CounterFull
 returns-in-Err-CounterFull c =
     let old : Named = c.index_mut-one.result.now in
-    let inside : c.args.place < length c.args.named.now.items = omega (arith, c.requires.place, c.args.named.now.ok.0) in
+    let inside : c.args.index < length c.args.named.now.items = omega (arith, c.requires.index, c.args.named.now.ok.0) in
     record {
       refuses = λ n W E e h.
-          let same = one_element c.args.named.now.items c.args.place n old inside e c.index_mut-one.ensures.value in
+          let same = one_element c.args.named.now.items c.args.index n old inside e c.index_mut-one.ensures.value in
           let refused : removal_refusal (top W) (string_bytes c.in_ok-path.path) (greatest_at (string_bytes c.in_ok-path.path) W) ≡ Some CounterFull =
           subst (λ (x : EditError). IsRefusal x (removal_refusal (top W) (string_bytes c.in_ok-path.path) (greatest_at (string_bytes c.in_ok-path.path) W))) c.in-Err-CounterFull.field-0-is
           (c.in-Err-CounterFull.ensures.refused W E (subst (λ (m : Named). ReplicaStandsFor m.replica W E) same h)) in
           row_of_refusal c.args.path.now W (Some CounterFull) c.requires.path (subst (λ (p : List ℕ). removal_refusal (top W) p (greatest_at p W) ≡ Some CounterFull) c.in_ok-path.ensures.ok refused);
-      changes = unchanged c.args.named.now.items c.args.place old c.remove.new.self c.in-Err-CounterFull.ensures.err c.index_mut-one.ensures.value;
+      changes = unchanged c.args.named.now.items c.args.index old c.remove.new.self c.in-Err-CounterFull.ensures.err c.index_mut-one.ensures.value;
     }

@@ -1,0 +1,3 @@
+//! Tests of the checker of packages.
+#[cfg(test)]
+mod tests;

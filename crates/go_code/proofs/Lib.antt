@@ -1,0 +1,4 @@
+pub mod Ends
+pub mod Follows
+pub mod Stands
+pub mod Steps

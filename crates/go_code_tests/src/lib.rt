@@ -1,0 +1,3 @@
+//! Tests of the machine: code, linking, runs.
+#[cfg(test)]
+mod tests;

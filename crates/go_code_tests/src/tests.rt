@@ -1,0 +1,4 @@
+mod code;
+mod link;
+mod notation;
+mod vm;

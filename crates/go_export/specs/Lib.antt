@@ -1,0 +1,4 @@
+pub mod Typed
+pub mod Types
+pub mod Views
+pub mod WellTyped

@@ -1,0 +1,4 @@
+//! Typed trees: what a checked package holds.
+#![tactic(auto)]
+
+pub mod typed;

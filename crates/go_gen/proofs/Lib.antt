@@ -1,0 +1,4 @@
+pub mod Counts
+pub mod Equality
+pub mod Linking
+pub mod Runs

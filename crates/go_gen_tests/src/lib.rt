@@ -1,0 +1,3 @@
+//! Tests of the translation of typed packages.
+#[cfg(test)]
+mod tests;

@@ -1,5 +1,0 @@
-use Rattle.go_parse.proofs.Exists.{parse_exists}
-use Rattle.go_parse.proofs.law.law_some_parse.Goals as goal
-
-pub returns : goal.returns
-returns c = parse_exists

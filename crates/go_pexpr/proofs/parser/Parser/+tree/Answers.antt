@@ -1,0 +1,799 @@
+use Rattle.std.proofs.Common.{◌≡◌, ◌+◌, ◌-◌, false, [], ◌∷◌, ◌++◌, map, Some, refl, sym, ap, ◌∙◌, arith}
+use Rattle.std.proofs.lemmas.Result.{IfOk-weaker}
+use Rattle.go_ast.specs.declared.expression.Field.{Field}
+use Rattle.go_pexpr.specs.declared.operators.Beginning.TheVariants as begins
+use Rattle.go_pexpr.proofs.Begins.{begins_as, name_first, integer_first, rune_first, string_first, parenthesis_first, bracket_first, structure_first}
+use Rattle.go_scan.specs.declared.token.TokenKind.TheVariants as kinds
+use Rattle.go_scan.specs.declared.keyword.Keyword.TheVariants as keywords
+use Rattle.go_ast.specs.Trees as trees
+use Rattle.go_ast.specs.Expected.{an_operand, a_field_end, another, an_index_end, an_element_end}
+use Rattle.go_ast.specs.Grammar.{type_place, opening, closing, opening_bracket, closing_bracket, opening_brace, period}
+use Rattle.go_ast.specs.Machine.{token, expr, suffixes, names, list_start, fields, arguments, elements, keyword, behind_bracket, behind_struct, behind_literal_type, run}
+use Rattle.go_ast.specs.Views.{unary_of, binary_of, type_of, expr_of, field_of, element_of, value_of, if_some}
+use Rattle.go_pexpr.specs.Tall.{fields_tall, exprs_tall, elements_tall}
+use Rattle.go_pexpr.proofs.SuffixTurns.{as_selector, as_index, as_call, as_literal, suffix_ends, literal_named}
+use Rattle.go_pexpr.specs.Turns.{behind_conversion, behind_paren, behind_selector, behind_index, behind_call, behind_brace, behind_value, behind_first, behind_last}
+use Rattle.go_pexpr.specs.Reads.{left, expected_of}
+use Rattle.go_pexpr.proofs.Pushed.{map_push, fields_push, exprs_push, elements_push}
+use Rattle.go_pexpr.proofs.ElementTurns.{no_colon_ends, key_takes}
+use Rattle.go_pexpr.proofs.Reading.{then_reads, then_fails, then_makes, then_refuses}
+use Rattle.go_pexpr.proofs.Steps.{optional_some, optional_none}
+use Rattle.go_pexpr.proofs.Turns.{type_as_name, type_as_array, type_as_struct, type_fails, kind_at, expr_as_name, expr_as_integer, expr_as_rune, expr_as_string, expr_as_paren, expr_as_array, expr_as_struct, expr_fails, sign_first, expr_as_sign}
+use Rattle.go_pexpr.proofs.ListTurns.{list_closes, list_ends, list_goes, list_item}
+use Rattle.go_pexpr.proofs.OperatorTurns.{followed, splits_all, operator_first, operator_within, operator_due, operators_end}
+use Rattle.go_pexpr.proofs.TreeStates.{false_true, other_not, either_same, behind_length, close_length, made_struct, open_struct, field_end, field_type, behind_operator, close_paren, behind_sign, typed_elements, typed_brace, typed_value, converted_close, converted_end, converted_value, argument_end, call_end, index_end, element_next, element_end, behind_colon, pushed, value_braces, value_alone, typed_by_brace, typed_by_parenthesis}
+use Rattle.go_pexpr.proofs.parser.Parser.+tree.Goals as goal
+
+pub array_type-returns-in_err-length-clause-reads : goal.array_type-returns-in_err-length-clause-reads
+array_type-returns-in_err-length-clause-reads t c = λ next.
+    then_fails (c.in_ok-bracket.ensures.reads (behind_bracket c.args.level next)).by
+    (c.in_err-length.ensures.reads (close_length c.args.level next c.in_ok-bracket.bracket.place)) c.from_residual-in_err-length.ensures.1
+
+pub array_type-returns-in_err-expect-clause-reads : goal.array_type-returns-in_err-expect-clause-reads
+array_type-returns-in_err-expect-clause-reads t c = λ next.
+    let p = c.in_ok-bracket.bracket.place in
+    then_fails ((c.in_ok-bracket.ensures.reads (behind_bracket c.args.level next)).by ∙ (c.in_ok-length.ensures.reads (close_length c.args.level next p)).by)
+    (c.in_err-expect.ensures.reads (behind_length c.args.level next p (expr_of c.in_ok-length.length.expr))) c.from_residual-in_err-expect.ensures.1
+
+pub array_type-returns-in_err-item-clause-reads : goal.array_type-returns-in_err-item-clause-reads
+array_type-returns-in_err-item-clause-reads t c = λ next.
+    let p = c.in_ok-bracket.bracket.place in
+    let e = expr_of c.in_ok-length.length.expr in
+    then_fails ((c.in_ok-bracket.ensures.reads (behind_bracket c.args.level next)).by ∙ (c.in_ok-length.ensures.reads (close_length c.args.level next p)).by
+    ∙ (c.in_ok-expect.ensures.reads (behind_length c.args.level next p e)).by)
+    (c.in_err-item.ensures.reads (λ a. next (trees.array p e a))) c.from_residual-in_err-item.ensures.1
+
+-- types of structs
+
+pub struct_type-returns-in_err-expect-clause-reads : goal.struct_type-returns-in_err-expect-clause-reads
+struct_type-returns-in_err-expect-clause-reads t c = λ next.
+    then_fails (c.in_ok-word.ensures.reads (behind_struct c.args.level next)).by
+    (c.in_err-expect.ensures.reads (open_struct c.args.level next c.in_ok-word.word.place)) c.from_residual-in_err-expect.ensures.1
+
+pub struct_type-returns-in_err-fields-clause-reads : goal.struct_type-returns-in_err-fields-clause-reads
+struct_type-returns-in_err-fields-clause-reads t c = λ next.
+    let p = c.in_ok-word.word.place in
+    then_fails ((c.in_ok-word.ensures.reads (behind_struct c.args.level next)).by ∙ (c.in_ok-expect.ensures.reads (open_struct c.args.level next p)).by)
+    (c.in_err-fields.ensures.reads (made_struct next p)) c.from_residual-in_err-fields.ensures.1
+
+pub struct_type-returns-clause-reads : goal.struct_type-returns-clause-reads
+struct_type-returns-clause-reads t c = λ next.
+    let p = c.in_ok-word.word.place in
+    record {
+      by = (c.in_ok-word.ensures.reads (behind_struct c.args.level next)).by ∙ (c.in_ok-expect.ensures.reads (open_struct c.args.level next p)).by
+          ∙ (c.in_ok-fields.ensures.reads (made_struct next p)).by
+          ∙ ap (λ a. run 250 (next a) (left c.fields.new.self)) (sym c.structure.ensures.expr);
+    }
+
+-- fields
+
+pub fields-returns-in_err-names-clause-reads : goal.fields-returns-in_err-names-clause-reads
+fields-returns-in_err-names-clause-reads t c = λ next.
+    let l = c.args.level in
+    let front = map field_of c.fields.items.items in
+    then_fails (c.fields.invariant.reads next
+    ∙ list_item (fields l) front (λ fs _. next fs) (names l (field_type l next front)) (left c.fields.self) (λ u. refl) refl (λ h. false_true (c.fields-test.ensures.1 h)))
+    (c.in_err-names.ensures.reads (field_type l next front)) c.from_residual.ensures.1
+
+pub fields-returns-in_err-item-clause-reads : goal.fields-returns-in_err-item-clause-reads
+fields-returns-in_err-item-clause-reads t c = λ next.
+    let l = c.args.level in
+    let front = map field_of c.fields.items.items in
+    then_fails (c.fields.invariant.reads next
+    ∙ list_item (fields l) front (λ fs _. next fs) (names l (field_type l next front)) (left c.fields.self) (λ u. refl) refl (λ h. false_true (c.fields-test.ensures.1 h))
+    ∙ (c.in_ok-names.ensures.reads (field_type l next front)).by)
+    (c.in_err-item.ensures.reads (field_end l next front c.in_ok-names.names.items)) c.from_residual-in_err-item.ensures.1
+
+pub fields-returns-in_err-expect-clause-reads : goal.fields-returns-in_err-expect-clause-reads
+fields-returns-in_err-expect-clause-reads t c = λ next.
+    let l = c.args.level in
+    let front = map field_of c.fields.items.items in
+    let ns = c.in_ok-names.names.items in
+    let more = front ++ (ns, type_of c.in_ok-item.item.type_expr) ∷ [] in
+    then_fails (c.fields.invariant.reads next
+    ∙ list_item (fields l) front (λ fs _. next fs) (names l (field_type l next front)) (left c.fields.self) (λ u. refl) refl (λ h. false_true (c.fields-test.ensures.1 h))
+    ∙ (c.in_ok-names.ensures.reads (field_type l next front)).by
+    ∙ (c.in_ok-item.ensures.reads (field_end l next front ns)).by
+    ∙ list_goes (fields l) more (λ fs _. next fs) a_field_end (left c.type_at.new.self) (λ h. false_true (c.if-not-is_next.ensures.1 h)))
+    (c.in_err-expect.ensures.reads (λ _. list_start (fields l) more (λ fs _. next fs))) c.from_residual-in_err-expect.ensures.1
+
+pub fields-fields-preserved-in_ok-expect : goal.fields-fields-preserved-in_ok-expect
+fields-fields-preserved-in_ok-expect t c =
+    let l = c.args.level in
+    let front = map field_of c.fields.items.items in
+    let ns = c.in_ok-names.names.items in
+    let f : Field = record { names = c.in_ok-names.names; type_expr = c.in_ok-item.item.type_expr } in
+    let more = front ++ (ns, type_of c.in_ok-item.item.type_expr) ∷ [] in
+    record {
+      reads = λ next.
+          c.fields.invariant.reads next
+          ∙ list_item (fields l) front (λ fs _. next fs) (names l (field_type l next front)) (left c.fields.self) (λ u. refl) refl (λ h. false_true (c.fields-test.ensures.1 h))
+          ∙ (c.in_ok-names.ensures.reads (field_type l next front)).by
+          ∙ (c.in_ok-item.ensures.reads (field_end l next front ns)).by
+          ∙ list_goes (fields l) more (λ fs _. next fs) a_field_end (left c.type_at.new.self) (λ h. false_true (c.if-not-is_next.ensures.1 h))
+          ∙ (c.in_ok-expect.ensures.reads (λ _. list_start (fields l) more (λ fs _. next fs))).by
+          ∙ ap (λ fs. run 250 (list_start (fields l) fs (λ gs _. next gs)) (left c.expect.new.self)) (sym (ap (λ fs. map field_of fs) c.in_ok-push.ensures.items ∙ map_push field_of c.fields.items.items f));
+      counted = omega (arith, ap (λ fs. fields_tall fs) c.in_ok-push.ensures.items, fields_push c.fields.items.items f, c.fields.invariant.counted, c.in_ok-item.item.counted);
+      fits = omega (arith, c.in_ok-item.ensures.fits, c.fields.invariant.fits);
+      shorter = omega (arith, c.fields.invariant.shorter, c.in_ok-names.ensures.shorter, c.in_ok-item.ensures.shorter, c.in_ok-expect.ensures.shorter);
+    }
+
+pub fields-fields-preserved : goal.fields-fields-preserved
+fields-fields-preserved t c =
+    let l = c.args.level in
+    let front = map field_of c.fields.items.items in
+    let ns = c.in_ok-names.names.items in
+    let f : Field = record { names = c.in_ok-names.names; type_expr = c.in_ok-item.item.type_expr } in
+    record {
+      reads = λ next.
+          c.fields.invariant.reads next
+          ∙ list_item (fields l) front (λ fs _. next fs) (names l (field_type l next front)) (left c.fields.self) (λ u. refl) refl (λ h. false_true (c.fields-test.ensures.1 h))
+          ∙ (c.in_ok-names.ensures.reads (field_type l next front)).by
+          ∙ (c.in_ok-item.ensures.reads (field_end l next front ns)).by
+          ∙ list_ends (fields l) (front ++ (ns, type_of c.in_ok-item.item.type_expr) ∷ []) (λ fs _. next fs) a_field_end (left c.type_at.new.self) (c.if-not-is_next.ensures.0 refl)
+          ∙ ap (λ fs. run 250 (list_start (fields l) fs (λ gs _. next gs)) (left c.type_at.new.self)) (sym (ap (λ fs. map field_of fs) c.in_ok-push.ensures.items ∙ map_push field_of c.fields.items.items f));
+      counted = omega (arith, ap (λ fs. fields_tall fs) c.in_ok-push.ensures.items, fields_push c.fields.items.items f, c.fields.invariant.counted, c.in_ok-item.item.counted);
+      fits = omega (arith, c.in_ok-item.ensures.fits, c.fields.invariant.fits);
+      shorter = omega (arith, c.fields.invariant.shorter, c.in_ok-names.ensures.shorter, c.in_ok-item.ensures.shorter);
+    }
+
+pub fields-returns-in_err-expect-2-clause-reads : goal.fields-returns-in_err-expect-2-clause-reads
+fields-returns-in_err-expect-2-clause-reads t c = λ next.
+    let front = map field_of c.fields.items.items in
+    then_fails (c.fields.invariant.reads next ∙ list_closes (fields c.args.level) front (λ fs _. next fs) (left c.fields.self) (c.fields-test.ensures.0 refl))
+    (c.in_err-expect-2.ensures.reads (λ _. next front)) c.from_residual-in_err-expect-2.ensures.1
+
+pub fields-returns-clause-reads : goal.fields-returns-clause-reads
+fields-returns-clause-reads t c = λ next.
+    let front = map field_of c.fields.items.items in
+    record {
+      by = c.fields.invariant.reads next ∙ list_closes (fields c.args.level) front (λ fs _. next fs) (left c.fields.self) (c.fields-test.ensures.0 refl)
+          ∙ (c.in_ok-expect-2.ensures.reads (λ _. next front)).by;
+    }
+
+-- types
+
+pub type_at-returns-in-Name-clause-reads : goal.type_at-returns-in-Name-clause-reads
+type_at-returns-in-Name-clause-reads t c = λ next.
+    let ts = left c.args.self.now in
+    then_reads c.named_type.result (type_as_name c.args.level (expected_of c.args.expected) next ts (name_first ts (sym c.beginning.ensures ∙ c.in-Name.is))) (c.named_type.ensures.reads next)
+
+pub type_at-returns-in-Bracket-clause-reads : goal.type_at-returns-in-Bracket-clause-reads
+type_at-returns-in-Bracket-clause-reads t c = λ next.
+    let ts = left c.args.self.now in
+    then_reads c.array_type.result (type_as_array c.args.level (expected_of c.args.expected) next ts (bracket_first ts (sym c.beginning.ensures ∙ c.in-Bracket.is))) (c.array_type.ensures.reads next)
+
+pub type_at-returns-in-Structure-clause-reads : goal.type_at-returns-in-Structure-clause-reads
+type_at-returns-in-Structure-clause-reads t c = λ next.
+    let ts = left c.args.self.now in
+    then_reads c.struct_type.result (type_as_struct c.args.level (expected_of c.args.expected) next ts (structure_first ts (sym c.beginning.ensures ∙ c.in-Structure.is))) (c.struct_type.ensures.reads next)
+
+pub type_at-returns-in_default-clause-reads : goal.type_at-returns-in_default-clause-reads
+type_at-returns-in_default-clause-reads t c = λ next.
+    let ts = left c.args.self.now in
+    then_refuses c.wrong.result _ (type_fails c.args.level (expected_of c.args.expected) next ts
+    (λ h. c.in_default.not-Name (c.beginning.ensures ∙ begins_as kinds.Name begins.Name ts refl h))
+    (λ h. c.in_default.not-Bracket (c.beginning.ensures ∙ begins_as opening_bracket begins.Bracket ts refl h))
+    (λ h. c.in_default.not-Structure (c.beginning.ensures ∙ begins_as (keyword keywords.Struct) begins.Structure ts refl h))) c.wrong.ensures
+
+-- operators
+
+pub binary-returns-in_err-left-clause-reads : goal.binary-returns-in_err-left-clause-reads
+binary-returns-in_err-left-clause-reads t c = λ next.
+    then_fails (splits_all c.args.limit c.args.header c.args.level (expected_of c.args.expected) next (left c.args.self.now))
+    (c.in_err-left.ensures.reads (λ a. followed 0 (c.args.limit - 0) c.args.header c.args.level next a)) c.from_residual.ensures.1
+
+pub binary-operators-init : goal.binary-operators-init
+binary-operators-init t c =
+    let n = c.args.limit in
+    record {
+      reads = λ next. splits_all n c.args.header c.args.level (expected_of c.args.expected) next (left c.args.self.now)
+          ∙ (c.in_ok-left.ensures.reads (λ a. followed 0 (n - 0) c.args.header c.args.level next a)).by;
+      within = omega arith;
+      fits = c.in_ok-left.ensures.fits;
+      shorter = c.in_ok-left.ensures.shorter;
+    }
+
+pub binary-returns-in_err-bump-clause-reads : goal.binary-returns-in_err-bump-clause-reads
+binary-returns-in_err-bump-clause-reads t c = λ next.
+    let h = c.args.header in
+    let l = c.args.level in
+    let j = c.tighter-tightest.result in
+    let a = expr_of c.operators.left.expr in
+    let op = binary_of c.in-Some.operator in
+    let ts = left c.operators.self in
+    let q = sym c.operator.ensures ∙ ap (if_some binary_of) c.in-Some.is in
+    let due = behind_operator j (c.args.limit - j) h l a op next in
+    then_fails (c.operators.invariant.reads next ∙ operator_due c.operators.tightest c.args.limit j c.operators.left.height h l a next ts op q c.tighter-tightest.ensures c.operators.left.counted)
+    (c.in_err-bump.ensures.reads (kind_at ts) another due (operator_first c.operators.tightest c.args.limit ts op q)) c.from_residual-in_err-bump.ensures.1
+
+pub binary-returns-in_err-right-clause-reads : goal.binary-returns-in_err-right-clause-reads
+binary-returns-in_err-right-clause-reads t c = λ next.
+    let h = c.args.header in
+    let l = c.args.level in
+    let j = c.tighter-tightest.result in
+    let a = expr_of c.operators.left.expr in
+    let op = binary_of c.in-Some.operator in
+    let ts = left c.operators.self in
+    let q = sym c.operator.ensures ∙ ap (if_some binary_of) c.in-Some.is in
+    let due = behind_operator j (c.args.limit - j) h l a op next in
+    then_fails (c.operators.invariant.reads next ∙ operator_due c.operators.tightest c.args.limit j c.operators.left.height h l a next ts op q c.tighter-tightest.ensures c.operators.left.counted
+    ∙ (c.in_ok-bump.ensures.reads (kind_at ts) another due (operator_first c.operators.tightest c.args.limit ts op q)).by)
+    (c.in_err-right.ensures.reads (λ r. followed j (c.args.limit - j) h l next (trees.binary (trees.place_of a) op a r))) c.from_residual-in_err-right.ensures.1
+
+pub binary-operators-preserved : goal.binary-operators-preserved
+binary-operators-preserved t c =
+    let h = c.args.header in
+    let l = c.args.level in
+    let j = c.tighter-tightest.result in
+    let a = expr_of c.operators.left.expr in
+    let op = binary_of c.in-Some.operator in
+    let ts = left c.operators.self in
+    let q = sym c.operator.ensures ∙ ap (if_some binary_of) c.in-Some.is in
+    record {
+      reads = λ next.
+          let due = behind_operator j (c.args.limit - j) h l a op next in
+          c.operators.invariant.reads next ∙ operator_due c.operators.tightest c.args.limit j c.operators.left.height h l a next ts op q c.tighter-tightest.ensures c.operators.left.counted
+          ∙ (c.in_ok-bump.ensures.reads (kind_at ts) another due (operator_first c.operators.tightest c.args.limit ts op q)).by
+          ∙ (c.in_ok-right.ensures.reads (λ r. followed j (c.args.limit - j) h l next (trees.binary (trees.place_of a) op a r))).by
+          ∙ ap (λ e. run 250 (followed j (c.args.limit - j) h l next e) (left c.binary.new.self)) (sym c.in_ok-left-2.ensures.expr);
+      within = omega (arith, (operator_within c.operators.tightest c.args.limit ts op q).1, c.tighter-tightest.ensures);
+      fits = omega (arith, c.in_ok-bump.ensures.fits, c.in_ok-left-2.ensures.height, c.in_ok-right.ensures.fits);
+      shorter = omega (arith, c.operators.invariant.shorter, c.in_ok-bump.ensures.shorter, c.in_ok-right.ensures.shorter);
+    }
+
+pub binary-returns-clause-reads : goal.binary-returns-clause-reads
+binary-returns-clause-reads t c = λ next. record {
+  by = c.operators.invariant.reads next
+      ∙ operators_end c.operators.tightest c.args.limit c.args.header c.args.level (expr_of c.operators.left.expr) next (left c.operators.self) c.operators.invariant.within
+      (sym c.operator.ensures ∙ ap (if_some binary_of) c.in_default.is);
+}
+
+-- operands
+
+pub operand-returns-in-Name-clause-reads : goal.operand-returns-in-Name-clause-reads
+operand-returns-in-Name-clause-reads t c = λ h next.
+    let ts = left c.args.self.now in
+    then_reads c.name_operand.result (expr_as_name h c.args.level (expected_of c.args.expected) next ts (name_first ts (sym c.beginning.ensures ∙ c.in-Name.is))) (c.name_operand.ensures.reads (λ e. suffixes h c.args.level e next))
+
+pub operand-returns-in-Integer-clause-reads : goal.operand-returns-in-Integer-clause-reads
+operand-returns-in-Integer-clause-reads t c = λ h next.
+    let ts = left c.args.self.now in
+    then_reads c.integer_operand.result (expr_as_integer h c.args.level (expected_of c.args.expected) next ts (integer_first ts (sym c.beginning.ensures ∙ c.in-Integer.is))) (c.integer_operand.ensures.reads (λ e. suffixes h c.args.level e next))
+
+pub operand-returns-in-Rune-clause-reads : goal.operand-returns-in-Rune-clause-reads
+operand-returns-in-Rune-clause-reads t c = λ h next.
+    let ts = left c.args.self.now in
+    then_reads c.rune_operand.result (expr_as_rune h c.args.level (expected_of c.args.expected) next ts (rune_first ts (sym c.beginning.ensures ∙ c.in-Rune.is))) (c.rune_operand.ensures.reads (λ e. suffixes h c.args.level e next))
+
+pub operand-returns-in-String-clause-reads : goal.operand-returns-in-String-clause-reads
+operand-returns-in-String-clause-reads t c = λ h next.
+    let ts = left c.args.self.now in
+    then_reads c.string_operand.result (expr_as_string h c.args.level (expected_of c.args.expected) next ts (string_first ts (sym c.beginning.ensures ∙ c.in-String.is))) (c.string_operand.ensures.reads (λ e. suffixes h c.args.level e next))
+
+pub operand-returns-in-Parenthesis-clause-reads : goal.operand-returns-in-Parenthesis-clause-reads
+operand-returns-in-Parenthesis-clause-reads t c = λ h next.
+    let ts = left c.args.self.now in
+    then_reads c.parenthesized.result (expr_as_paren h c.args.level (expected_of c.args.expected) next ts (parenthesis_first ts (sym c.beginning.ensures ∙ c.in-Parenthesis.is))) (c.parenthesized.ensures.reads (λ e. suffixes h c.args.level e next))
+
+pub operand-returns-in_err-array-in-Bracket-clause-reads : goal.operand-returns-in_err-array-in-Bracket-clause-reads
+operand-returns-in_err-array-in-Bracket-clause-reads t c = λ h next.
+    let ts = left c.args.self.now in
+    then_fails (expr_as_array h c.args.level (expected_of c.args.expected) next ts (bracket_first ts (sym c.beginning.ensures ∙ c.in-Bracket.is)))
+    (c.in_err-array-in-Bracket.ensures.reads (behind_literal_type c.args.level (λ e. suffixes h c.args.level e next))) c.from_residual.ensures.1
+
+pub operand-returns-in_ok-array-in-Bracket-clause-reads : goal.operand-returns-in_ok-array-in-Bracket-clause-reads
+operand-returns-in_ok-array-in-Bracket-clause-reads t c = λ h next.
+    let ts = left c.args.self.now in
+    then_reads c.typed.result (expr_as_array h c.args.level (expected_of c.args.expected) next ts (bracket_first ts (sym c.beginning.ensures ∙ c.in-Bracket.is))
+    ∙ (c.in_ok-array-in-Bracket.ensures.reads (behind_literal_type c.args.level (λ e. suffixes h c.args.level e next))).by)
+    (c.typed.ensures.reads (λ e. suffixes h c.args.level e next))
+
+pub operand-returns-in_err-structure-in-Structure-clause-reads : goal.operand-returns-in_err-structure-in-Structure-clause-reads
+operand-returns-in_err-structure-in-Structure-clause-reads t c = λ h next.
+    let ts = left c.args.self.now in
+    then_fails (expr_as_struct h c.args.level (expected_of c.args.expected) next ts (structure_first ts (sym c.beginning.ensures ∙ c.in-Structure.is)))
+    (c.in_err-structure-in-Structure.ensures.reads (behind_literal_type c.args.level (λ e. suffixes h c.args.level e next))) c.from_residual-in_err-structure-in-Structure.ensures.1
+
+pub operand-returns-in_ok-structure-in-Structure-clause-reads : goal.operand-returns-in_ok-structure-in-Structure-clause-reads
+operand-returns-in_ok-structure-in-Structure-clause-reads t c = λ h next.
+    let ts = left c.args.self.now in
+    then_reads c.typed-in-Structure.result (expr_as_struct h c.args.level (expected_of c.args.expected) next ts (structure_first ts (sym c.beginning.ensures ∙ c.in-Structure.is))
+    ∙ (c.in_ok-structure-in-Structure.ensures.reads (behind_literal_type c.args.level (λ e. suffixes h c.args.level e next))).by)
+    (c.typed-in-Structure.ensures.reads (λ e. suffixes h c.args.level e next))
+
+pub operand-returns-in-Other-clause-reads : goal.operand-returns-in-Other-clause-reads
+operand-returns-in-Other-clause-reads t c = λ h next.
+    let ts = left c.args.self.now in
+    let other = sym c.beginning.ensures ∙ c.in-Other.is in
+    then_refuses c.wrong.result _ (expr_fails h c.args.level (expected_of c.args.expected) next ts c.requires.sign
+    (λ f. other_not begins.Name (λ e. cc (e)) other (begins_as kinds.Name begins.Name ts refl f))
+    (λ f. other_not begins.Integer (λ e. cc (e)) other (begins_as kinds.Integer begins.Integer ts refl f))
+    (λ f. other_not begins.Rune (λ e. cc (e)) other (begins_as kinds.Rune begins.Rune ts refl f))
+    (λ f. other_not begins.String (λ e. cc (e)) other (begins_as kinds.String begins.String ts refl f))
+    (λ f. other_not begins.Parenthesis (λ e. cc (e)) other (begins_as opening begins.Parenthesis ts refl f))
+    (λ f. other_not begins.Bracket (λ e. cc (e)) other (begins_as opening_bracket begins.Bracket ts refl f))
+    (λ f. other_not begins.Structure (λ e. cc (e)) other (begins_as (keyword keywords.Struct) begins.Structure ts refl f))) c.wrong.ensures
+
+-- an expression in parentheses
+
+pub parenthesized-returns-in_err-inner-clause-reads : goal.parenthesized-returns-in_err-inner-clause-reads
+parenthesized-returns-in_err-inner-clause-reads t c = λ next.
+    then_fails (c.in_ok-token.ensures.reads (behind_paren c.args.level next)).by
+    (c.in_err-inner.ensures.reads (λ e. token closing 0 another (close_paren next c.in_ok-token.token.place e))) c.from_residual-in_err-inner.ensures.1
+
+pub parenthesized-returns-in_err-expect-clause-reads : goal.parenthesized-returns-in_err-expect-clause-reads
+parenthesized-returns-in_err-expect-clause-reads t c = λ next.
+    let p = c.in_ok-token.token.place in
+    then_fails ((c.in_ok-token.ensures.reads (behind_paren c.args.level next)).by ∙ (c.in_ok-inner.ensures.reads (λ e. token closing 0 another (close_paren next p e))).by)
+    (c.in_err-expect.ensures.reads (close_paren next p (expr_of c.in_ok-inner.inner.expr))) c.from_residual-in_err-expect.ensures.1
+
+-- signs
+
+pub unary-returns-in_default-clause-reads : goal.unary-returns-in_default-clause-reads
+unary-returns-in_default-clause-reads t c = λ next.
+    then_reads c.suffixes.result (c.in_ok-operand.ensures.reads c.args.header next).by (c.suffixes.ensures.reads next)
+
+pub unary-returns-in_err-token-clause-reads : goal.unary-returns-in_err-token-clause-reads
+unary-returns-in_err-token-clause-reads t c = λ next.
+    let op = unary_of c.in-Some.operator in
+    let ts = left c.args.self.now in
+    let q = sym c.sign.ensures ∙ ap (if_some unary_of) c.in-Some.is in
+    then_fails (expr_as_sign c.args.header c.args.level (expected_of c.args.expected) next ts op q)
+    (c.in_err-token.ensures.reads (kind_at ts) another (behind_sign c.args.header c.args.level op next) (sign_first ts op q)) c.from_residual-in_err-token.ensures.1
+
+pub unary-returns-in_err-operand-2-clause-reads : goal.unary-returns-in_err-operand-2-clause-reads
+unary-returns-in_err-operand-2-clause-reads t c = λ next.
+    let op = unary_of c.in-Some.operator in
+    let ts = left c.args.self.now in
+    let q = sym c.sign.ensures ∙ ap (if_some unary_of) c.in-Some.is in
+    then_fails (expr_as_sign c.args.header c.args.level (expected_of c.args.expected) next ts op q
+    ∙ (c.in_ok-token.ensures.reads (kind_at ts) another (behind_sign c.args.header c.args.level op next) (sign_first ts op q)).by)
+    (c.in_err-operand-2.ensures.reads (λ e. next (trees.unary c.in_ok-token.token.place op e))) c.from_residual-in_err-operand-2.ensures.1
+
+pub unary-returns-clause-reads : goal.unary-returns-clause-reads
+unary-returns-clause-reads t c = λ next.
+    let op = unary_of c.in-Some.operator in
+    let ts = left c.args.self.now in
+    let p = c.in_ok-token.token.place in
+    let q = sym c.sign.ensures ∙ ap (if_some unary_of) c.in-Some.is in
+    then_makes c.unary-2.result (next (trees.unary p op (expr_of c.in_ok-operand-2.operand.expr)))
+    (expr_as_sign c.args.header c.args.level (expected_of c.args.expected) next ts op q
+    ∙ (c.in_ok-token.ensures.reads (kind_at ts) another (behind_sign c.args.header c.args.level op next) (sign_first ts op q)).by
+    ∙ (c.in_ok-operand-2.ensures.reads (λ e. next (trees.unary p op e))).by)
+    (IfOk-weaker c.unary-2.result _ _ (λ e h. ap next h) c.unary-2.ensures.expr) c.unary-2.ensures.err
+
+-- behind a type
+
+pub typed-returns-in_err-token-clause-reads : goal.typed-returns-in_err-token-clause-reads
+typed-returns-in_err-token-clause-reads t c = λ next.
+    let a = type_of c.args.a.type_expr in
+    then_fails (typed_by_brace c.args.level next a (left c.args.self.now) (c.if-is_next.ensures.0 refl))
+    (c.in_err-token.ensures.reads (typed_brace c.args.level next a)) c.from_residual.ensures.1
+
+pub typed-returns-in_err-elements-clause-reads : goal.typed-returns-in_err-elements-clause-reads
+typed-returns-in_err-elements-clause-reads t c = λ next.
+    let a = type_of c.args.a.type_expr in
+    then_fails (typed_by_brace c.args.level next a (left c.args.self.now) (c.if-is_next.ensures.0 refl)
+    ∙ (c.in_ok-token.ensures.reads (typed_brace c.args.level next a)).by)
+    (c.in_err-elements.ensures.reads (typed_elements c.args.level next a c.in_ok-token.token.place)) c.from_residual-in_err-elements.ensures.1
+
+pub typed-returns-then-is_next-clause-reads : goal.typed-returns-then-is_next-clause-reads
+typed-returns-then-is_next-clause-reads t c = λ next.
+    let a = type_of c.args.a.type_expr in
+    let q = c.in_ok-token.token.place in
+    then_makes c.composite_lit.result (typed_elements c.args.level next a q (map element_of c.in_ok-elements.elements.items.items))
+    (typed_by_brace c.args.level next a (left c.args.self.now) (c.if-is_next.ensures.0 refl)
+    ∙ (c.in_ok-token.ensures.reads (typed_brace c.args.level next a)).by ∙ (c.in_ok-elements.ensures.reads (typed_elements c.args.level next a q)).by)
+    (IfOk-weaker c.composite_lit.result _ _ (λ e h. ap next h) c.composite_lit.ensures.expr) c.composite_lit.ensures.err
+
+pub typed-returns-in_err-value-clause-reads : goal.typed-returns-in_err-value-clause-reads
+typed-returns-in_err-value-clause-reads t c = λ next.
+    let a = type_of c.args.a.type_expr in
+    then_fails (typed_by_parenthesis c.args.level next a (left c.args.self.now) (λ h. false_true (c.if-is_next.ensures.1 h)))
+    (c.in_err-value.ensures.reads (typed_value next a)) c.from_residual-in_err-value.ensures.1
+
+pub typed-returns-clause-reads : goal.typed-returns-clause-reads
+typed-returns-clause-reads t c = λ next.
+    let a = type_of c.args.a.type_expr in
+    let e = expr_of c.in_ok-value.value.expr in
+    then_makes c.conversion.result (next (trees.conversion (type_place a) a e))
+    (typed_by_parenthesis c.args.level next a (left c.args.self.now) (λ h. false_true (c.if-is_next.ensures.1 h))
+    ∙ (c.in_ok-value.ensures.reads (typed_value next a)).by)
+    (IfOk-weaker c.conversion.result _ _ (λ x h. ap next h) c.conversion.ensures.expr) c.conversion.ensures.err
+
+-- what is converted
+
+pub converted-returns-in_err-value-clause-reads : goal.converted-returns-in_err-value-clause-reads
+converted-returns-in_err-value-clause-reads t c = λ next.
+    then_fails (c.in_ok-expect.ensures.reads (behind_conversion c.args.level next)).by
+    (c.in_err-value.ensures.reads (converted_value next)) c.from_residual-in_err-value.ensures.1
+
+pub converted-returns-in_err-accept-clause-reads : goal.converted-returns-in_err-accept-clause-reads
+converted-returns-in_err-accept-clause-reads t c = λ next.
+    let e = expr_of c.in_ok-value.value.expr in
+    then_fails ((c.in_ok-expect.ensures.reads (behind_conversion c.args.level next)).by ∙ (c.in_ok-value.ensures.reads (converted_value next)).by)
+    (c.in_err-accept.ensures.reads (λ _. converted_end next e) (converted_end next e)) c.from_residual-in_err-accept.ensures.1
+
+pub converted-returns-in_err-expect-2-clause-reads : goal.converted-returns-in_err-expect-2-clause-reads
+converted-returns-in_err-expect-2-clause-reads t c = λ next.
+    let e = expr_of c.in_ok-value.value.expr in
+    then_fails ((c.in_ok-expect.ensures.reads (behind_conversion c.args.level next)).by ∙ (c.in_ok-value.ensures.reads (converted_value next)).by
+    ∙ (c.in_ok-accept.ensures.reads (λ _. converted_end next e) (converted_end next e)).by
+    ∙ ap (λ s. run 250 s (left c.accept.new.self)) (either_same (converted_end next e) c.in_ok-accept.field-0))
+    (c.in_err-expect-2.ensures.reads (converted_close next e)) c.from_residual-in_err-expect-2.ensures.1
+
+pub converted-returns-clause-reads : goal.converted-returns-clause-reads
+converted-returns-clause-reads t c = λ next.
+    let e = expr_of c.in_ok-value.value.expr in
+    record {
+      by = (c.in_ok-expect.ensures.reads (behind_conversion c.args.level next)).by ∙ (c.in_ok-value.ensures.reads (converted_value next)).by
+          ∙ (c.in_ok-accept.ensures.reads (λ _. converted_end next e) (converted_end next e)).by
+          ∙ ap (λ s. run 250 s (left c.accept.new.self)) (either_same (converted_end next e) c.in_ok-accept.field-0)
+          ∙ (c.in_ok-expect-2.ensures.reads (converted_close next e)).by;
+    }
+
+-- arguments
+
+pub arguments-returns-in_err-item-clause-reads : goal.arguments-returns-in_err-item-clause-reads
+arguments-returns-in_err-item-clause-reads t c = λ next.
+    let l = c.args.level in
+    let front = map expr_of c.arguments.items.items in
+    then_fails (c.arguments.invariant.reads next
+    ∙ list_item (arguments l) front (λ es _. next es) (expr 5 false l an_operand (argument_end l next front)) (left c.arguments.self) (λ u. refl) refl (λ h. false_true (c.arguments-test.ensures.1 h)))
+    (c.in_err-item.ensures.reads (argument_end l next front)) c.from_residual.ensures.1
+
+pub arguments-returns-in_err-expect-clause-reads : goal.arguments-returns-in_err-expect-clause-reads
+arguments-returns-in_err-expect-clause-reads t c = λ next.
+    let l = c.args.level in
+    let front = map expr_of c.arguments.items.items in
+    let more = front ++ expr_of c.in_ok-item.item.expr ∷ [] in
+    then_fails (c.arguments.invariant.reads next
+    ∙ list_item (arguments l) front (λ es _. next es) (expr 5 false l an_operand (argument_end l next front)) (left c.arguments.self) (λ u. refl) refl (λ h. false_true (c.arguments-test.ensures.1 h))
+    ∙ (c.in_ok-item.ensures.reads (argument_end l next front)).by
+    ∙ list_goes (arguments l) more (λ es _. next es) another (left c.binary.new.self) (λ h. false_true (c.if-not-is_next.ensures.1 h)))
+    (c.in_err-expect.ensures.reads (λ _. list_start (arguments l) more (λ es _. next es))) c.from_residual-in_err-expect.ensures.1
+
+pub arguments-arguments-preserved-in_ok-expect : goal.arguments-arguments-preserved-in_ok-expect
+arguments-arguments-preserved-in_ok-expect t c =
+    let l = c.args.level in
+    let front = map expr_of c.arguments.items.items in
+    let e = c.in_ok-item.item.expr in
+    let more = front ++ expr_of e ∷ [] in
+    record {
+      reads = λ next.
+          c.arguments.invariant.reads next
+          ∙ list_item (arguments l) front (λ es _. next es) (expr 5 false l an_operand (argument_end l next front)) (left c.arguments.self) (λ u. refl) refl (λ h. false_true (c.arguments-test.ensures.1 h))
+          ∙ (c.in_ok-item.ensures.reads (argument_end l next front)).by
+          ∙ list_goes (arguments l) more (λ es _. next es) another (left c.binary.new.self) (λ h. false_true (c.if-not-is_next.ensures.1 h))
+          ∙ (c.in_ok-expect.ensures.reads (λ _. list_start (arguments l) more (λ es _. next es))).by
+          ∙ ap (λ es. run 250 (list_start (arguments l) es (λ fs _. next fs)) (left c.expect.new.self)) (sym (ap (λ es. map expr_of es) c.in_ok-push.ensures.items ∙ map_push expr_of c.arguments.items.items e));
+      counted = omega (arith, ap (λ es. exprs_tall es) c.in_ok-push.ensures.items, exprs_push c.arguments.items.items e, c.arguments.invariant.counted, c.in_ok-item.item.counted);
+      fits = omega (arith, c.in_ok-item.ensures.fits, c.arguments.invariant.fits);
+      shorter = omega (arith, c.arguments.invariant.shorter, c.in_ok-item.ensures.shorter, c.in_ok-expect.ensures.shorter);
+    }
+
+pub arguments-arguments-preserved : goal.arguments-arguments-preserved
+arguments-arguments-preserved t c =
+    let l = c.args.level in
+    let front = map expr_of c.arguments.items.items in
+    let e = c.in_ok-item.item.expr in
+    record {
+      reads = λ next.
+          c.arguments.invariant.reads next
+          ∙ list_item (arguments l) front (λ es _. next es) (expr 5 false l an_operand (argument_end l next front)) (left c.arguments.self) (λ u. refl) refl (λ h. false_true (c.arguments-test.ensures.1 h))
+          ∙ (c.in_ok-item.ensures.reads (argument_end l next front)).by
+          ∙ list_ends (arguments l) (front ++ expr_of e ∷ []) (λ es _. next es) another (left c.binary.new.self) (c.if-not-is_next.ensures.0 refl)
+          ∙ ap (λ es. run 250 (list_start (arguments l) es (λ fs _. next fs)) (left c.binary.new.self)) (sym (ap (λ es. map expr_of es) c.in_ok-push.ensures.items ∙ map_push expr_of c.arguments.items.items e));
+      counted = omega (arith, ap (λ es. exprs_tall es) c.in_ok-push.ensures.items, exprs_push c.arguments.items.items e, c.arguments.invariant.counted, c.in_ok-item.item.counted);
+      fits = omega (arith, c.in_ok-item.ensures.fits, c.arguments.invariant.fits);
+      shorter = omega (arith, c.arguments.invariant.shorter, c.in_ok-item.ensures.shorter);
+    }
+
+pub arguments-returns-in_err-expect-2-clause-reads : goal.arguments-returns-in_err-expect-2-clause-reads
+arguments-returns-in_err-expect-2-clause-reads t c = λ next.
+    let front = map expr_of c.arguments.items.items in
+    then_fails (c.arguments.invariant.reads next ∙ list_closes (arguments c.args.level) front (λ es _. next es) (left c.arguments.self) (c.arguments-test.ensures.0 refl))
+    (c.in_err-expect-2.ensures.reads (λ _. next front)) c.from_residual-in_err-expect-2.ensures.1
+
+pub arguments-returns-clause-reads : goal.arguments-returns-clause-reads
+arguments-returns-clause-reads t c = λ next.
+    let front = map expr_of c.arguments.items.items in
+    record {
+      by = c.arguments.invariant.reads next ∙ list_closes (arguments c.args.level) front (λ es _. next es) (left c.arguments.self) (c.arguments-test.ensures.0 refl)
+          ∙ (c.in_ok-expect-2.ensures.reads (λ _. next front)).by;
+    }
+
+-- suffixes
+
+pub called-returns-in_err-arguments-clause-reads : goal.called-returns-in_err-arguments-clause-reads
+called-returns-in_err-arguments-clause-reads t c = λ next.
+    let f = expr_of c.args.operand.expr in
+    then_fails (c.in_ok-expect.ensures.reads (behind_call c.args.level f next)).by
+    (c.in_err-arguments.ensures.reads (call_end next f)) c.from_residual-in_err-arguments.ensures.1
+
+pub called-returns-clause-reads : goal.called-returns-clause-reads
+called-returns-clause-reads t c = λ next.
+    let f = expr_of c.args.operand.expr in
+    then_makes c.call.result (call_end next f (map expr_of c.in_ok-arguments.arguments.items.items))
+    ((c.in_ok-expect.ensures.reads (behind_call c.args.level f next)).by ∙ (c.in_ok-arguments.ensures.reads (call_end next f)).by)
+    (IfOk-weaker c.call.result _ _ (λ x h. ap next h) c.call.ensures.expr) c.call.ensures.err
+
+pub indexed-returns-in_err-at-clause-reads : goal.indexed-returns-in_err-at-clause-reads
+indexed-returns-in_err-at-clause-reads t c = λ next.
+    let e = expr_of c.args.operand.expr in
+    then_fails (c.in_ok-expect.ensures.reads (behind_index c.args.level e next)).by
+    (c.in_err-at.ensures.reads (λ i. token closing_bracket 0 an_index_end (index_end next e i))) c.from_residual-in_err-at.ensures.1
+
+pub indexed-returns-in_err-expect-2-clause-reads : goal.indexed-returns-in_err-expect-2-clause-reads
+indexed-returns-in_err-expect-2-clause-reads t c = λ next.
+    let e = expr_of c.args.operand.expr in
+    then_fails ((c.in_ok-expect.ensures.reads (behind_index c.args.level e next)).by ∙ (c.in_ok-at.ensures.reads (λ i. token closing_bracket 0 an_index_end (index_end next e i))).by)
+    (c.in_err-expect-2.ensures.reads (index_end next e (expr_of c.in_ok-at.at.expr))) c.from_residual-in_err-expect-2.ensures.1
+
+pub suffixes-returns-in_err-front-in-Selector-clause-reads : goal.suffixes-returns-in_err-front-in-Selector-clause-reads
+suffixes-returns-in_err-front-in-Selector-clause-reads t c = λ next.
+    let e = expr_of c.suffixes.front.expr in
+    let ts = left c.suffixes.self in
+    then_fails (c.suffixes.invariant.reads next
+    ∙ as_selector c.args.header c.args.level e next _ ts (sym c.suffix.ensures ∙ c.in-Some.is ∙ ap Some c.in-Selector.is)
+    ∙ ap (λ m. run 250 (token period (c.args.level + m) another (behind_selector e (λ x. suffixes c.args.header c.args.level x next))) ts) (sym c.suffixes.front.counted))
+    (c.in_err-front-in-Selector.ensures.reads (λ x. suffixes c.args.header c.args.level x next)) c.from_residual.ensures.1
+
+pub suffixes-suffixes-preserved-in_ok-front-in-Selector : goal.suffixes-suffixes-preserved-in_ok-front-in-Selector
+suffixes-suffixes-preserved-in_ok-front-in-Selector t c =
+    let e = expr_of c.suffixes.front.expr in
+    let ts = left c.suffixes.self in
+    record {
+      reads = λ next.
+          c.suffixes.invariant.reads next
+          ∙ as_selector c.args.header c.args.level e next _ ts (sym c.suffix.ensures ∙ c.in-Some.is ∙ ap Some c.in-Selector.is)
+          ∙ ap (λ m. run 250 (token period (c.args.level + m) another (behind_selector e (λ x. suffixes c.args.header c.args.level x next))) ts) (sym c.suffixes.front.counted)
+          ∙ (c.in_ok-front-in-Selector.ensures.reads (λ x. suffixes c.args.header c.args.level x next)).by;
+      fits = c.in_ok-front-in-Selector.ensures.fits;
+      shorter = omega (arith, c.suffixes.invariant.shorter, c.in_ok-front-in-Selector.ensures.shorter);
+    }
+
+pub suffixes-returns-in_err-front-in-Index-clause-reads : goal.suffixes-returns-in_err-front-in-Index-clause-reads
+suffixes-returns-in_err-front-in-Index-clause-reads t c = λ next.
+    let e = expr_of c.suffixes.front.expr in
+    let ts = left c.suffixes.self in
+    then_fails (c.suffixes.invariant.reads next
+    ∙ as_index c.args.header c.args.level e next _ ts (sym c.suffix.ensures ∙ c.in-Some.is ∙ ap Some c.in-Index.is)
+    ∙ ap (λ m. run 250 (token opening_bracket (c.args.level + m) another (behind_index c.args.level e (λ x. suffixes c.args.header c.args.level x next))) ts) (sym c.suffixes.front.counted))
+    (c.in_err-front-in-Index.ensures.reads (λ x. suffixes c.args.header c.args.level x next)) c.from_residual-in_err-front-in-Index.ensures.1
+
+pub suffixes-suffixes-preserved-in_ok-front-in-Index : goal.suffixes-suffixes-preserved-in_ok-front-in-Index
+suffixes-suffixes-preserved-in_ok-front-in-Index t c =
+    let e = expr_of c.suffixes.front.expr in
+    let ts = left c.suffixes.self in
+    record {
+      reads = λ next.
+          c.suffixes.invariant.reads next
+          ∙ as_index c.args.header c.args.level e next _ ts (sym c.suffix.ensures ∙ c.in-Some.is ∙ ap Some c.in-Index.is)
+          ∙ ap (λ m. run 250 (token opening_bracket (c.args.level + m) another (behind_index c.args.level e (λ x. suffixes c.args.header c.args.level x next))) ts) (sym c.suffixes.front.counted)
+          ∙ (c.in_ok-front-in-Index.ensures.reads (λ x. suffixes c.args.header c.args.level x next)).by;
+      fits = c.in_ok-front-in-Index.ensures.fits;
+      shorter = omega (arith, c.suffixes.invariant.shorter, c.in_ok-front-in-Index.ensures.shorter);
+    }
+
+pub suffixes-returns-in_err-front-in-Call-clause-reads : goal.suffixes-returns-in_err-front-in-Call-clause-reads
+suffixes-returns-in_err-front-in-Call-clause-reads t c = λ next.
+    let e = expr_of c.suffixes.front.expr in
+    let ts = left c.suffixes.self in
+    then_fails (c.suffixes.invariant.reads next
+    ∙ as_call c.args.header c.args.level e next _ ts (sym c.suffix.ensures ∙ c.in-Some.is ∙ ap Some c.in-Call.is)
+    ∙ ap (λ m. run 250 (token opening (c.args.level + m) another (behind_call c.args.level e (λ x. suffixes c.args.header c.args.level x next))) ts) (sym c.suffixes.front.counted))
+    (c.in_err-front-in-Call.ensures.reads (λ x. suffixes c.args.header c.args.level x next)) c.from_residual-in_err-front-in-Call.ensures.1
+
+pub suffixes-suffixes-preserved-in_ok-front-in-Call : goal.suffixes-suffixes-preserved-in_ok-front-in-Call
+suffixes-suffixes-preserved-in_ok-front-in-Call t c =
+    let e = expr_of c.suffixes.front.expr in
+    let ts = left c.suffixes.self in
+    record {
+      reads = λ next.
+          c.suffixes.invariant.reads next
+          ∙ as_call c.args.header c.args.level e next _ ts (sym c.suffix.ensures ∙ c.in-Some.is ∙ ap Some c.in-Call.is)
+          ∙ ap (λ m. run 250 (token opening (c.args.level + m) another (behind_call c.args.level e (λ x. suffixes c.args.header c.args.level x next))) ts) (sym c.suffixes.front.counted)
+          ∙ (c.in_ok-front-in-Call.ensures.reads (λ x. suffixes c.args.header c.args.level x next)).by;
+      fits = c.in_ok-front-in-Call.ensures.fits;
+      shorter = omega (arith, c.suffixes.invariant.shorter, c.in_ok-front-in-Call.ensures.shorter);
+    }
+
+pub suffixes-returns-in_err-front-in-CompositeLit-clause-reads : goal.suffixes-returns-in_err-front-in-CompositeLit-clause-reads
+suffixes-returns-in_err-front-in-CompositeLit-clause-reads t c = λ next.
+    let e = expr_of c.suffixes.front.expr in
+    let ts = left c.suffixes.self in
+    let q = sym c.suffix.ensures ∙ c.in-Some.is ∙ ap Some c.in-CompositeLit.is in
+    let a = literal_named c.args.header e ts q in
+    then_fails (c.suffixes.invariant.reads next ∙ as_literal c.args.header c.args.level e next a.0 ts q a.1)
+    (c.in_err-front-in-CompositeLit.ensures.reads a.0 (λ x. suffixes c.args.header c.args.level x next) a.1) c.from_residual-in_err-front-in-CompositeLit.ensures.1
+
+pub suffixes-suffixes-preserved : goal.suffixes-suffixes-preserved
+suffixes-suffixes-preserved t c =
+    let e = expr_of c.suffixes.front.expr in
+    let ts = left c.suffixes.self in
+    let q = sym c.suffix.ensures ∙ c.in-Some.is ∙ ap Some c.in-CompositeLit.is in
+    let a = literal_named c.args.header e ts q in
+    record {
+      reads = λ next.
+          c.suffixes.invariant.reads next ∙ as_literal c.args.header c.args.level e next a.0 ts q a.1
+          ∙ (c.in_ok-front-in-CompositeLit.ensures.reads a.0 (λ x. suffixes c.args.header c.args.level x next) a.1).by;
+      fits = c.in_ok-front-in-CompositeLit.ensures.fits;
+      shorter = omega (arith, c.suffixes.invariant.shorter, c.in_ok-front-in-CompositeLit.ensures.shorter);
+    }
+
+pub suffixes-returns-clause-reads : goal.suffixes-returns-clause-reads
+suffixes-returns-clause-reads t c = λ next.
+    record { by = c.suffixes.invariant.reads next ∙ suffix_ends c.args.header c.args.level (expr_of c.suffixes.front.expr) next (left c.suffixes.self) (sym c.suffix.ensures ∙ c.in_default.is) }
+
+-- elements of a literal
+
+pub elements-returns-in_err-item-clause-reads : goal.elements-returns-in_err-item-clause-reads
+elements-returns-in_err-item-clause-reads t c = λ next.
+    let l = c.args.level in
+    let front = map element_of c.elements.items.items in
+    then_fails (c.elements.invariant.reads next
+    ∙ list_item (elements l) front (λ es _. next es) (element_next l front next) (left c.elements.self) (λ u. refl) refl (λ h. false_true (c.elements-test.ensures.1 h)))
+    (c.in_err-item.ensures.reads front (λ es _. next es)) c.from_residual.ensures.1
+
+pub elements-returns-in_err-expect-clause-reads : goal.elements-returns-in_err-expect-clause-reads
+elements-returns-in_err-expect-clause-reads t c = λ next.
+    let l = c.args.level in
+    let front = map element_of c.elements.items.items in
+    let more = front ++ element_of c.in_ok-item.item.element ∷ [] in
+    then_fails (c.elements.invariant.reads next
+    ∙ list_item (elements l) front (λ es _. next es) (element_next l front next) (left c.elements.self) (λ u. refl) refl (λ h. false_true (c.elements-test.ensures.1 h))
+    ∙ (c.in_ok-item.ensures.reads front (λ es _. next es)).by
+    ∙ list_goes (elements l) more (λ es _. next es) an_element_end (left c.element.new.self) (λ h. false_true (c.if-not-is_next.ensures.1 h)))
+    (c.in_err-expect.ensures.reads (λ _. element_end l more next)) c.from_residual-in_err-expect.ensures.1
+
+pub elements-elements-preserved-in_ok-expect : goal.elements-elements-preserved-in_ok-expect
+elements-elements-preserved-in_ok-expect t c =
+    let l = c.args.level in
+    let front = map element_of c.elements.items.items in
+    let e = c.in_ok-item.item.element in
+    let more = front ++ element_of e ∷ [] in
+    record {
+      reads = λ next.
+          c.elements.invariant.reads next
+          ∙ list_item (elements l) front (λ es _. next es) (element_next l front next) (left c.elements.self) (λ u. refl) refl (λ h. false_true (c.elements-test.ensures.1 h))
+          ∙ (c.in_ok-item.ensures.reads front (λ es _. next es)).by
+          ∙ list_goes (elements l) more (λ es _. next es) an_element_end (left c.element.new.self) (λ h. false_true (c.if-not-is_next.ensures.1 h))
+          ∙ (c.in_ok-expect.ensures.reads (λ _. element_end l more next)).by
+          ∙ ap (λ es. run 250 (element_end l es next) (left c.expect.new.self)) (sym (ap (λ es. map element_of es) c.in_ok-push.ensures.items ∙ map_push element_of c.elements.items.items e));
+      counted = omega (arith, ap (λ es. elements_tall es) c.in_ok-push.ensures.items, elements_push c.elements.items.items e, c.elements.invariant.counted, c.in_ok-item.item.counted);
+      fits = λ h. omega (arith, c.in_ok-item.ensures.fits, c.elements.invariant.fits h);
+      shorter = omega (arith, c.elements.invariant.shorter, c.in_ok-item.ensures.shorter, c.in_ok-expect.ensures.shorter);
+    }
+
+pub elements-elements-preserved : goal.elements-elements-preserved
+elements-elements-preserved t c =
+    let l = c.args.level in
+    let front = map element_of c.elements.items.items in
+    let e = c.in_ok-item.item.element in
+    record {
+      reads = λ next.
+          c.elements.invariant.reads next
+          ∙ list_item (elements l) front (λ es _. next es) (element_next l front next) (left c.elements.self) (λ u. refl) refl (λ h. false_true (c.elements-test.ensures.1 h))
+          ∙ (c.in_ok-item.ensures.reads front (λ es _. next es)).by
+          ∙ list_ends (elements l) (front ++ element_of e ∷ []) (λ es _. next es) an_element_end (left c.element.new.self) (c.if-not-is_next.ensures.0 refl)
+          ∙ ap (λ es. run 250 (element_end l es next) (left c.element.new.self)) (sym (ap (λ es. map element_of es) c.in_ok-push.ensures.items ∙ map_push element_of c.elements.items.items e));
+      counted = omega (arith, ap (λ es. elements_tall es) c.in_ok-push.ensures.items, elements_push c.elements.items.items e, c.elements.invariant.counted, c.in_ok-item.item.counted);
+      fits = λ h. omega (arith, c.in_ok-item.ensures.fits, c.elements.invariant.fits h);
+      shorter = omega (arith, c.elements.invariant.shorter, c.in_ok-item.ensures.shorter);
+    }
+
+pub elements-returns-in_err-expect-2-clause-reads : goal.elements-returns-in_err-expect-2-clause-reads
+elements-returns-in_err-expect-2-clause-reads t c = λ next.
+    let front = map element_of c.elements.items.items in
+    then_fails (c.elements.invariant.reads next ∙ list_closes (elements c.args.level) front (λ es _. next es) (left c.elements.self) (c.elements-test.ensures.0 refl))
+    (c.in_err-expect-2.ensures.reads (λ _. next front)) c.from_residual-in_err-expect-2.ensures.1
+
+pub elements-returns-clause-reads : goal.elements-returns-clause-reads
+elements-returns-clause-reads t c = λ next.
+    let front = map element_of c.elements.items.items in
+    record {
+      by = c.elements.invariant.reads next ∙ list_closes (elements c.args.level) front (λ es _. next es) (left c.elements.self) (c.elements-test.ensures.0 refl)
+          ∙ (c.in_ok-expect-2.ensures.reads (λ _. next front)).by;
+    }
+
+-- an element
+
+pub element-returns-then-not-is_next-clause-reads : goal.element-returns-then-not-is_next-clause-reads
+element-returns-then-not-is_next-clause-reads t c = λ front next.
+    let l = c.args.level in
+    let ts = left c.value.new.self in
+    record {
+      by = (c.in_ok-first.ensures.reads (behind_first l front next)).by
+          ∙ no_colon_ends l front next (value_of c.in_ok-first.first.value) ts (λ h. false_true (c.if-not-is_next.ensures.1 h))
+          ∙ ap (λ e. run 250 (pushed l front next e) ts) (sym c.element.ensures.element);
+    }
+
+pub element-returns-in_err-expect-in-Ok-clause-reads : goal.element-returns-in_err-expect-in-Ok-clause-reads
+element-returns-in_err-expect-in-Ok-clause-reads t c = λ front next.
+    let l = c.args.level in
+    let n = c.in-Ok.key in
+    then_fails ((c.in_ok-first.ensures.reads (behind_first l front next)).by
+    ∙ key_takes l front next (value_of c.in_ok-first.first.value) n (left c.value.new.self) c.in-Ok.ensures.key (c.if-not-is_next.ensures.0 refl))
+    (c.in_err-expect-in-Ok.ensures.reads (behind_colon l front next n)) c.from_residual-in_err-expect-in-Ok.ensures.1
+
+pub element-returns-in_err-value-in-Ok-clause-reads : goal.element-returns-in_err-value-in-Ok-clause-reads
+element-returns-in_err-value-in-Ok-clause-reads t c = λ front next.
+    let l = c.args.level in
+    let n = c.in-Ok.key in
+    then_fails ((c.in_ok-first.ensures.reads (behind_first l front next)).by
+    ∙ key_takes l front next (value_of c.in_ok-first.first.value) n (left c.value.new.self) c.in-Ok.ensures.key (c.if-not-is_next.ensures.0 refl)
+    ∙ (c.in_ok-expect-in-Ok.ensures.reads (behind_colon l front next n)).by)
+    (c.in_err-value-in-Ok.ensures.reads (behind_last l front next (Some n))) c.from_residual-in_err-value-in-Ok.ensures.1
+
+pub element-returns-in_ok-value-in-Ok-clause-reads : goal.element-returns-in_ok-value-in-Ok-clause-reads
+element-returns-in_ok-value-in-Ok-clause-reads t c = λ front next.
+    let l = c.args.level in
+    let n = c.in-Ok.key in
+    record {
+      by = (c.in_ok-first.ensures.reads (behind_first l front next)).by
+          ∙ key_takes l front next (value_of c.in_ok-first.first.value) n (left c.value.new.self) c.in-Ok.ensures.key (c.if-not-is_next.ensures.0 refl)
+          ∙ (c.in_ok-expect-in-Ok.ensures.reads (behind_colon l front next n)).by
+          ∙ (c.in_ok-value-in-Ok.ensures.reads (behind_last l front next (Some n))).by
+          ∙ ap (λ e. run 250 (pushed l front next e) (left c.value-in-Ok.new.self)) (sym c.element-in-Ok.ensures.element);
+    }
+
+-- the value of an element
+
+pub value-returns-in_err-token-clause-reads : goal.value-returns-in_err-token-clause-reads
+value-returns-in_err-token-clause-reads t c = λ next.
+    let l = c.args.level in
+    then_fails (optional_some opening_brace l another (behind_value l next) (expr 5 false l an_operand (value_alone next)) (left c.args.self.now) (c.if-is_next.ensures.0 refl))
+    (c.in_err-token.ensures.reads (behind_value l next)) c.from_residual.ensures.1
+
+pub value-returns-in_err-elements-clause-reads : goal.value-returns-in_err-elements-clause-reads
+value-returns-in_err-elements-clause-reads t c = λ next.
+    let l = c.args.level in
+    then_fails (optional_some opening_brace l another (behind_value l next) (expr 5 false l an_operand (value_alone next)) (left c.args.self.now) (c.if-is_next.ensures.0 refl)
+    ∙ (c.in_ok-token.ensures.reads (behind_value l next)).by)
+    (c.in_err-elements.ensures.reads (value_braces next c.in_ok-token.token.place)) c.from_residual-in_err-elements.ensures.1
+
+pub value-returns-then-is_next-clause-reads : goal.value-returns-then-is_next-clause-reads
+value-returns-then-is_next-clause-reads t c = λ next.
+    let l = c.args.level in
+    record {
+      by = optional_some opening_brace l another (behind_value l next) (expr 5 false l an_operand (value_alone next)) (left c.args.self.now) (c.if-is_next.ensures.0 refl)
+          ∙ (c.in_ok-token.ensures.reads (behind_value l next)).by
+          ∙ (c.in_ok-elements.ensures.reads (value_braces next c.in_ok-token.token.place)).by
+          ∙ ap (λ v. run 250 (next v) (left c.elements.new.self)) (sym c.braced_value.ensures.value);
+    }
+
+pub value-returns-in_err-expr-clause-reads : goal.value-returns-in_err-expr-clause-reads
+value-returns-in_err-expr-clause-reads t c = λ next.
+    let l = c.args.level in
+    then_fails (optional_none opening_brace l (behind_value l next) (expr 5 false l an_operand (value_alone next)) (left c.args.self.now) (λ h. false_true (c.if-is_next.ensures.1 h)))
+    (c.in_err-expr.ensures.reads (value_alone next)) c.from_residual-in_err-expr.ensures.1
+
+pub value-returns-clause-reads : goal.value-returns-clause-reads
+value-returns-clause-reads t c = λ next.
+    let l = c.args.level in
+    record {
+      by = optional_none opening_brace l (behind_value l next) (expr 5 false l an_operand (value_alone next)) (left c.args.self.now) (λ h. false_true (c.if-is_next.ensures.1 h))
+          ∙ (c.in_ok-expr.ensures.reads (value_alone next)).by
+          ∙ ap (λ v. run 250 (next v) (left c.binary.new.self)) (sym c.expression_value.ensures.value);
+    }
+
+-- elements of a literal of a named type
+
+pub named_literal-returns-in_err-elements-clause-reads : goal.named_literal-returns-in_err-elements-clause-reads
+named_literal-returns-in_err-elements-clause-reads t c = λ a next named.
+    let l = c.args.level in
+    then_fails (c.in_ok-token.ensures.reads (behind_brace l a next)).by
+    (c.in_err-elements.ensures.reads (typed_elements l next a c.in_ok-token.token.place)) c.from_residual-in_err-elements.ensures.1
+
+pub named_literal-returns-in-Some-clause-reads : goal.named_literal-returns-in-Some-clause-reads
+named_literal-returns-in-Some-clause-reads t c = λ a next named.
+    let l = c.args.level in
+    let q = c.in_ok-token.token.place in
+    let es = map element_of c.in_ok-elements.elements.items.items in
+    let is : Some (type_of c.in-Some.a.type_expr) ≡ Some a = c.in-Some.ensures.expr ∙ named in
+    let same : type_of c.in-Some.a.type_expr ≡ a = cc (is) in
+    then_makes c.composite_lit.result (typed_elements l next a q es)
+    ((c.in_ok-token.ensures.reads (behind_brace l a next)).by ∙ (c.in_ok-elements.ensures.reads (typed_elements l next a q)).by)
+    (IfOk-weaker c.composite_lit.result _ _ (λ e h. ap next (h ∙ ap (λ b. trees.composite_lit (type_place b) b q (trees.pack_elements es)) same)) c.composite_lit.ensures.expr) c.composite_lit.ensures.err

@@ -1,0 +1,117 @@
+use Rattle.std.proofs.Common.{◌≡◌, ◌+◌, ◌-◌, ◌*◌, ◌<◌, ◌≤◌, List, [], map, Option}
+use Rattle.go_ast.specs.Trees as trees
+use Rattle.go_ast.specs.Machine.{State, expr, suffixes, list_start, fields, arguments, elements, run}
+use Rattle.go_ast.specs.Views.{expr_of, field_of, element_of}
+use Rattle.go_pexpr.specs.Reads.{left, size, expected_of}
+use Rattle.go_pexpr.specs.Tall.{fields_tall, exprs_tall, elements_tall}
+use Rattle.go_pexpr.proofs.OperatorTurns.{followed}
+use Rattle.go_pexpr.proofs.parser.Parser.+tree.Given as goal
+
+abbrev pub decreases-array_type : goal.decreases-array_type
+decreases-array_type l = 16 * size l.self.now
+
+abbrev pub decreases-binary : goal.decreases-binary
+decreases-binary l = 16 * size l.self.now + 3 + l.limit
+
+abbrev pub decreases-fields : goal.decreases-fields
+decreases-fields l = 16 * size l.self.now
+
+abbrev pub decreases-operand : goal.decreases-operand
+decreases-operand l = 16 * size l.self.now + 1
+
+abbrev pub decreases-parenthesized : goal.decreases-parenthesized
+decreases-parenthesized l = 16 * size l.self.now
+
+abbrev pub decreases-struct_type : goal.decreases-struct_type
+decreases-struct_type l = 16 * size l.self.now
+
+abbrev pub decreases-type_at : goal.decreases-type_at
+decreases-type_at l = 16 * size l.self.now + 1
+
+abbrev pub decreases-typed : goal.decreases-typed
+decreases-typed l = 16 * size l.self.now + 1
+
+abbrev pub decreases-converted : goal.decreases-converted
+decreases-converted l = 16 * size l.self.now
+
+abbrev pub decreases-unary : goal.decreases-unary
+decreases-unary l = 16 * size l.self.now + 2
+
+abbrev pub invariant-binary-operators : goal.invariant-binary-operators
+invariant-binary-operators l = record {
+  reads : (next : trees.Expr → State) →
+      run 250 (expr l.limit l.header l.level (expected_of l.fn.expected) next) (left l.fn.self) ≡ run 250 (followed l.tightest (l.limit - l.tightest) l.header l.level next (expr_of l.left.expr)) (left l.self);
+  within : l.tightest ≤ l.limit;
+  fits : l.level + l.left.height ≤ 251;
+  shorter : size l.self < size l.fn.self;
+}
+
+abbrev pub decreases-binary-operators : goal.decreases-binary-operators
+decreases-binary-operators l = size l.self
+
+abbrev pub invariant-fields-fields : goal.invariant-fields-fields
+invariant-fields-fields l = record {
+  reads : (next : List (List trees.Name × trees.TypeExpr) → State) → run 250 (list_start (fields l.level) [] (λ fs _. next fs)) (left l.fn.self) ≡ run 250 (list_start (fields l.level) (map field_of l.items.items) (λ fs _. next fs)) (left l.self);
+  counted : l.height ≡ fields_tall l.items.items;
+  fits : l.level + l.height ≤ 251;
+  shorter : size l.self ≤ size l.fn.self;
+}
+
+abbrev pub decreases-fields-fields : goal.decreases-fields-fields
+decreases-fields-fields l = size l.self
+
+abbrev pub decreases-suffixes : goal.decreases-suffixes
+decreases-suffixes l = 16 * size l.self.now + 1
+
+abbrev pub decreases-indexed : goal.decreases-indexed
+decreases-indexed l = 16 * size l.self.now
+
+abbrev pub decreases-called : goal.decreases-called
+decreases-called l = 16 * size l.self.now
+
+abbrev pub decreases-arguments : goal.decreases-arguments
+decreases-arguments l = 16 * size l.self.now + 10
+
+abbrev pub invariant-suffixes-suffixes : goal.invariant-suffixes-suffixes
+invariant-suffixes-suffixes l = record {
+  reads : (next : trees.Expr → State) → run 250 (suffixes l.header l.level (expr_of l.fn.operand.expr) next) (left l.fn.self) ≡ run 250 (suffixes l.header l.level (expr_of l.front.expr) next) (left l.self);
+  fits : l.level + l.front.height ≤ 251;
+  shorter : size l.self ≤ size l.fn.self;
+}
+
+abbrev pub decreases-suffixes-suffixes : goal.decreases-suffixes-suffixes
+decreases-suffixes-suffixes l = size l.self
+
+abbrev pub invariant-arguments-arguments : goal.invariant-arguments-arguments
+invariant-arguments-arguments l = record {
+  reads : (next : List trees.Expr → State) → run 250 (list_start (arguments l.level) [] (λ es _. next es)) (left l.fn.self) ≡ run 250 (list_start (arguments l.level) (map expr_of l.items.items) (λ es _. next es)) (left l.self);
+  counted : l.height ≡ exprs_tall l.items.items;
+  fits : l.level + l.height ≤ 251;
+  shorter : size l.self ≤ size l.fn.self;
+}
+
+abbrev pub decreases-arguments-arguments : goal.decreases-arguments-arguments
+decreases-arguments-arguments l = size l.self
+
+abbrev pub decreases-named_literal : goal.decreases-named_literal
+decreases-named_literal l = 16 * size l.self.now
+
+abbrev pub decreases-elements : goal.decreases-elements
+decreases-elements l = 16 * size l.self.now + 11
+
+abbrev pub decreases-element : goal.decreases-element
+decreases-element l = 16 * size l.self.now + 10
+
+abbrev pub decreases-value : goal.decreases-value
+decreases-value l = 16 * size l.self.now + 9
+
+abbrev pub invariant-elements-elements : goal.invariant-elements-elements
+invariant-elements-elements l = record {
+  reads : (next : List (Option trees.Name × trees.Element) → State) → run 250 (list_start (elements l.level) [] (λ es _. next es)) (left l.fn.self) ≡ run 250 (list_start (elements l.level) (map element_of l.items.items) (λ es _. next es)) (left l.self);
+  counted : l.height ≡ elements_tall l.items.items;
+  fits : (l.level ≤ 251) → l.level + l.height ≤ 251;
+  shorter : size l.self ≤ size l.fn.self;
+}
+
+abbrev pub decreases-elements-elements : goal.decreases-elements-elements
+decreases-elements-elements l = size l.self

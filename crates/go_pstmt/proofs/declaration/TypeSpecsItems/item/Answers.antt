@@ -1,0 +1,15 @@
+use Rattle.std.proofs.Common.{[], ◌∷◌, ◌++◌, refl}
+use Rattle.go_ast.specs.Trees as trees
+use Rattle.go_ast.specs.Expected.{another}
+use Rattle.go_ast.specs.Machine.{list_end, token, type_rest, type_specs}
+use Rattle.go_scan.specs.declared.token.TokenKind.TheVariants as kinds
+use Rattle.go_pexpr.specs.Reads.{left}
+use Rattle.go_pexpr.proofs.ListTurns.{list_item}
+use Rattle.go_pstmt.proofs.Reading.{then_reads}
+use Rattle.go_pstmt.proofs.declaration.TypeSpecsItems.item.Goals as goal
+
+pub returns-clause-reads : goal.returns-clause-reads
+returns-clause-reads c = λ front next.
+    let l = c.args.self.now.level in
+    let behind = λ (s : trees.TypeSpec). list_end (type_specs l) another (front ++ s ∷ []) next in
+    then_reads (list_item (type_specs l) front next (token kinds.Name l another (type_rest l behind)) (left c.args.parser.now) (λ t. refl) refl c.requires.some) (c.type_spec.ensures.reads behind)

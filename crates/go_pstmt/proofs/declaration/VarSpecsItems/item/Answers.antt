@@ -1,0 +1,14 @@
+use Rattle.std.proofs.Common.{[], ◌∷◌, ◌++◌, refl}
+use Rattle.go_ast.specs.Trees as trees
+use Rattle.go_ast.specs.Expected.{another}
+use Rattle.go_ast.specs.Machine.{list_end, names, var_rest, var_specs}
+use Rattle.go_pexpr.specs.Reads.{left}
+use Rattle.go_pexpr.proofs.ListTurns.{list_item}
+use Rattle.go_pstmt.proofs.Reading.{then_reads}
+use Rattle.go_pstmt.proofs.declaration.VarSpecsItems.item.Goals as goal
+
+pub returns-clause-reads : goal.returns-clause-reads
+returns-clause-reads c = λ front next.
+    let l = c.args.self.now.level in
+    let behind = λ (s : trees.VarSpec). list_end (var_specs l) another (front ++ s ∷ []) next in
+    then_reads (list_item (var_specs l) front next (names l (var_rest l behind)) (left c.args.parser.now) (λ t. refl) refl c.requires.some) (c.var_spec.ensures.reads behind)

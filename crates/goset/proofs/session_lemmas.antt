@@ -1,4 +1,0 @@
-pub mod Growth
-pub mod Reaches
-pub mod Refused
-pub mod Texts

@@ -1,0 +1,5 @@
+pub mod Gathered
+pub mod Greater
+pub mod Itself
+pub mod Kept
+pub mod Keyed

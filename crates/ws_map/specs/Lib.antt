@@ -1,0 +1,4 @@
+pub mod Greater
+pub mod Kept
+pub mod Keyed
+pub mod Laws

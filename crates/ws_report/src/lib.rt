@@ -1,0 +1,35 @@
+//! What a build says: of each directory that it reaches, and how many actions it compiled.
+#![tactic(auto)]
+
+ghost use Rattle.std.specs.Prelude.{◌≡◌};
+ghost use Rattle.ws_report.specs.Reports.{is_good};
+
+use go_text::fault::Fault;
+
+/// What a build says of a directory.
+#[derive(Drop)]
+pub enum Verdict {
+    Good,
+    /// It imports one that is faulty or blocked.
+    Blocked,
+    Faulty(Fault),
+}
+
+impl Verdict {
+    /// Whether the directory is good.
+    pub fn is_good(&self) -> bool
+        ensures { result ≡ is_good self.now }
+    {
+        match self {
+            Verdict::Good => true,
+            Verdict::Blocked | Verdict::Faulty(_) => false,
+        }
+    }
+}
+
+/// What a build says of each directory that it reaches, in order, and how many actions it compiled.
+#[derive(Drop)]
+pub struct Report {
+    pub directories: Vec<(String, Verdict)>,
+    pub compiled: u64,
+}

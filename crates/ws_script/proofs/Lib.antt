@@ -1,0 +1,4 @@
+mod Growth
+mod Reaches
+mod Refused
+mod Texts

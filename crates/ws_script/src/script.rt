@@ -1,0 +1,64 @@
+//! A whole session: from the bytes that are read to the bytes that are written.
+ghost use Rattle.std.specs.Prelude.{ℕ, ◌≡◌, ◌+◌, ◌<◌, ◌≤◌, ◌^◌};
+ghost use Rattle.go_text.specs.Editions.{edition_number};
+ghost use Rattle.ws_script.specs.Ends.{Session};
+ghost use Rattle.ws_script.specs.Failures.{failed_reads, failed_writes};
+
+use crate::reading::ScriptIn;
+use crate::running::{SessionError, play};
+use crate::writing::ScriptOut;
+use go_text::edition::Edition;
+use std::alloc::Global;
+use std::sync::Wait;
+use std::thread::Threads;
+use ws_pool::Gate;
+use ws_session::replicas::Replicas;
+
+/// Reads a script to its end and writes its session's text, from no replica on. It starts threads
+/// to settle, and joins them.
+///
+/// - `Memory`: there was none for the script, or for a command. A beginning of the text is written.
+/// - `Read`: a read failed. Nothing is written.
+/// - `TooLong`: the script has more than 16,777,216 bytes. Nothing is written.
+/// - `Write`: a write failed, or took nothing. A beginning of the text is written.
+pub fn run_session<R: Threads + Sync, I: ScriptIn, O: ScriptOut>(
+    rt: &R,
+    alloc: Global,
+    edition: Edition,
+    reader: &mut I,
+    writer: &mut O,
+) -> Result<(), SessionError>
+    requires readable { I.failed reader.old + 1 < 2 ^ 64 }
+    requires writable { O.failed writer.old + 1 < 2 ^ 64 }
+    ensures session { Session (edition_number edition) result (I.told reader.old) (I.told reader.new)
+        (O.written writer.old) (O.written writer.new) }
+    ensures reads { I.failed reader.new ≡ I.failed reader.old + failed_reads result }
+    ensures writes { O.failed writer.new ≡ O.failed writer.old + failed_writes result }
+{
+    let mut replicas = Replicas::new(alloc, edition);
+    play(rt, alloc, &mut replicas, reader, writer)
+}
+
+/// The same with leave to wait, for 1 to 64 workers and any gate.
+///
+/// One hand on the calling thread builds until workers come, so that `workers` and `gate` change nothing yet.
+pub fn run_script<T: Threads + Wait + Sync, I: ScriptIn, O: ScriptOut, G: Gate>(
+    rt: &T,
+    alloc: Global,
+    reader: &mut I,
+    writer: &mut O,
+    _workers: usize,
+    edition: Edition,
+    _gate: &G,
+) -> Result<(), SessionError>
+    requires some { 1 ≤ _workers }
+    requires few { _workers ≤ 64 }
+    requires readable { I.failed reader.old + 1 < 2 ^ 64 }
+    requires writable { O.failed writer.old + 1 < 2 ^ 64 }
+    ensures session { Session (edition_number edition) result (I.told reader.old) (I.told reader.new)
+        (O.written writer.old) (O.written writer.new) }
+    ensures reads { I.failed reader.new ≡ I.failed reader.old + failed_reads result }
+    ensures writes { O.failed writer.new ≡ O.failed writer.old + failed_writes result }
+{
+    run_session(rt, alloc, edition, reader, writer)
+}

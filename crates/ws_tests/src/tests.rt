@@ -1,0 +1,9 @@
+//! Actions, entries, boards and replicas.
+
+mod actions;
+mod boards;
+mod entries;
+mod fixture;
+mod groupings;
+mod joins;
+mod replicas;

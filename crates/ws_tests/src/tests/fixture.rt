@@ -1,0 +1,34 @@
+//! What the tests start from.
+use go_ast::parsed::Parsed;
+use go_parse::parse_source;
+use go_text::edition::Edition;
+use go_text::source::Source;
+use std::alloc::Global;
+use std::test::Fail;
+use ws_action::{Action, ActionError};
+
+/// A parsed file of that name and text.
+fn parsed(alloc: Global, name: &str, text: &str) -> Result<Parsed, Fail> {
+    let name = String::from_str(alloc, name)?;
+    let text = String::from_str(alloc, text)?;
+    let source = Source::new(alloc, name, text)?;
+    parse_source(alloc, source)
+        .ok()
+        .ok_or_else(|| Fail::from("the text is not parsed"))
+}
+
+/// The action of the package p with those files, which are names and texts, or its refusal.
+pub fn made(alloc: Global, files: &[(&str, &str)]) -> Result<Result<Action, ActionError>, Fail> {
+    let mut list = Vec::new(alloc);
+    for (name, text) in files {
+        list.push(parsed(alloc, name, text)?)?;
+    }
+    let path = String::from_str(alloc, "p")?;
+    Ok(Action::new(alloc, Edition::One, path, list))
+}
+
+/// The action of the package p with those files, which are names and texts.
+pub fn action(alloc: Global, files: &[(&str, &str)]) -> Result<Action, Fail> {
+    let action = made(alloc, files)??;
+    Ok(action)
+}

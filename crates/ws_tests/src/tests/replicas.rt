@@ -1,0 +1,144 @@
+//! That each call of a replica succeeds. What replicas make of whole scripts is tested with sessions.
+use go_text::edition::Edition;
+use go_text::source::Source;
+use go_text::text::Text;
+use std::alloc::Global;
+use std::process::Abort;
+use std::test::Fail;
+use ws_register::EditError;
+use ws_replica::{BuildError, Replica, build, image};
+use ws_report::Verdict;
+use ws_version::{Held, Join, Version, Write};
+
+/// The replica takes a write with that counter and number, and that text.
+pub fn take(
+    alloc: Global,
+    replica: &mut Replica,
+    path: &str,
+    number: u32,
+    text: Option<&str>,
+) -> Result<(), Fail> {
+    let text = match text {
+        None => None,
+        Some(text) => Some(Text::new(alloc, String::from_str(alloc, text)?)?),
+    };
+    let counter = u64::from(number);
+    let held = Held::new(Version { counter, number }, text);
+    replica.apply(Write::new(String::from_str(alloc, path)?, held))?;
+    Ok(())
+}
+
+/// A held write as `PATH COUNTER.NUMBER TEXT;`.
+fn spelled(alloc: Global, write: &Write) -> Result<String, Fail> {
+    let (path, held) = (write.path(), write.held());
+    let (counter, number) = (held.counter(), held.number());
+    let text = match held.text() {
+        None => "removed",
+        Some(text) => text.as_str(),
+    };
+    let line = format!(in alloc; "{path} {counter}.{number} {text};")?;
+    Ok(line)
+}
+
+/// The held writes, behind one another.
+pub fn shown(alloc: Global, replica: &Replica) -> Result<String, Fail> {
+    let mut all = String::new(alloc);
+    for write in replica.writes()? {
+        all.push_str(spelled(alloc, &write)?.as_str())?;
+    }
+    Ok(all)
+}
+
+/// The sources, each as `PATH TEXT;`, behind one another.
+fn listed(alloc: Global, replica: &Replica) -> Result<String, Fail> {
+    let mut all = String::new(alloc);
+    for (path, text) in replica.sources()? {
+        all.push_str(path.as_str())?;
+        all.push_str(" ")?;
+        all.push_str(text.as_str())?;
+        all.push_str(";")?;
+    }
+    Ok(all)
+}
+
+/// What a build of the directory p says, and how many actions it compiled.
+pub fn built(alloc: Global, replica: &mut Replica) -> (&'static str, u64) {
+    match build(alloc, replica, "p", Edition::One) {
+        Ok(report) => match report.directories.as_slice() {
+            [(_, Verdict::Good)] => ("good", report.compiled),
+            [(_, Verdict::Faulty(_))] => ("faulty", report.compiled),
+            _ => ("another report", report.compiled),
+        },
+        Err(BuildError::NoPackage) => ("no package", 0),
+        Err(BuildError::Memory) => ("out of memory", 0),
+    }
+}
+
+/// Whether there is an image of the directory p.
+fn linked(alloc: Global, replica: &Replica) -> Option<bool> {
+    match image(alloc, replica, "p", Edition::One) {
+        Ok(image) => Some(image.is_some()),
+        Err(_) => None,
+    }
+}
+
+/// The replica with number 1 writes a text to p/x.go.
+fn edit(alloc: Global, replica: &mut Replica, text: &str) -> Result<(), Fail> {
+    let name = String::from_str(alloc, "x.go")?;
+    let source = Source::new(alloc, name, String::from_str(alloc, text)?)?;
+    replica.edit(String::from_str(alloc, "p/x.go")?, source, 1)?;
+    Ok(())
+}
+
+/// Writes, edits and removals, and what is held after them.
+fn holds(rt: &impl Abort, alloc: Global, replica: &mut Replica) -> Result<(), Fail> {
+    take(alloc, replica, "p/y.go", 4, Some("y"))?;
+    edit(alloc, replica, "x")?;
+    assert!(rt; replica.greatest_counter() == 5);
+    assert!(rt; replica.get("p/x.go").is_some() && replica.get("p/z.go").is_none());
+    assert!(rt; listed(alloc, replica)?.as_str() == "p/x.go x;p/y.go y;");
+    assert!(rt;
+        replica
+            .remove(String::from_str(alloc, "p/x.go")?, 7)
+            .is_ok()
+    );
+    let again = replica.remove(String::from_str(alloc, "p/x.go")?, 7);
+    assert!(rt; matches!(again, Err(EditError::NoFile)));
+    assert!(rt; shown(alloc, replica)?.as_str() == "p/x.go 6.7 removed;p/y.go 4.4 y;");
+    assert!(rt; listed(alloc, replica)?.as_str() == "p/y.go y;");
+    Ok(())
+}
+
+#[test]
+fn writes_are_held(rt: HostRuntime) -> Result<(), Fail> {
+    let mut replica = Replica::new(rt.alloc());
+    assert!(rt; replica.greatest_counter() == 0);
+    holds(&rt, rt.alloc(), &mut replica)
+}
+
+/// Builds of a replica, of its copy, and of the copy edited and merged with it.
+fn shares(
+    rt: &impl Abort,
+    alloc: Global,
+    first: &mut Replica,
+    second: &mut Replica,
+) -> Result<(), Fail> {
+    edit(alloc, first, "package main\nfunc main() {}\n")?;
+    assert!(rt; linked(alloc, first) == Some(false));
+    assert!(rt; built(alloc, first) == ("good", 1));
+    *second = first.copy()?;
+    assert!(rt; built(alloc, second) == ("good", 0));
+    edit(alloc, second, "package")?;
+    assert!(rt; built(alloc, second) == ("faulty", 0));
+    second.merge(first)?;
+    assert!(rt; linked(alloc, first) == Some(true) && linked(alloc, second) == Some(false));
+    Ok(())
+}
+
+#[test]
+fn results_are_shared(rt: HostRuntime) -> Result<(), Fail> {
+    let alloc = rt.alloc();
+    let (mut first, mut second) = (Replica::new(alloc), Replica::new(alloc));
+    assert!(rt; built(alloc, &mut first) == ("no package", 0));
+    shares(&rt, alloc, &mut first, &mut second)
+}

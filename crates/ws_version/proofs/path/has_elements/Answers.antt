@@ -1,9 +1,0 @@
-use Rattle.std.proofs.Common.{rules, ◌∙◌}
-use borrow.Author.Tests.{tests}
-use Rattle.std.proofs.lemmas.Iterator.Search.{all_from_yields_List}
-use Rattle.std.proofs.lemmas.Iterator.Splits.{YieldsList-from_slice_split}
-use Rattle.ws_version.specs.Paths.{is_slash, is_element}
-use Rattle.ws_version.proofs.path.has_elements.Goals as goal
-
-pub returns : goal.returns
-returns c = all_from_yields_List is_element _ _ _ c.all.ensures.ran (YieldsList-from_slice_split _ is_slash c.args.path.now (c.split.ensures.rest ∙ c.as_bytes.ensures.value) c.split.ensures.done c.split.ensures.closure (λ x r q k. search (rules, tests))) (λ x b q k. search (rules, tests))
