@@ -5,7 +5,7 @@ use Rattle.go_scan.specs.declared.keyword.Keyword.TheVariants as keywords
 use Rattle.go_ast.specs.Kinds.{same}
 use Rattle.go_ast.specs.Expected.{an_operand}
 use Rattle.go_ast.specs.Trees.{Exprs, Stmt, Clauses, no_clauses, clause, File, pack_stmts}
-use Rattle.go_ast.specs.Heights.{exprs_height, exprs_height_if, stmt_height, stmts_height, clauses_height}
+use Rattle.go_ast.specs.Heights.{exprs_height, lifted, stmt_height, stmts_height, clauses_height}
 use Rattle.go_ast.specs.Grammar.{Lexeme, Token, closing_brace, colon, IsCase, AreStmts, AreClauses, is_last}
 use Rattle.go_ast.specs.Machine.{State, Move, Take, cond, keyword, Clause, pack_clauses, with_clause, clause_body, behind_case, clauses_at, on_clause}
 use Rattle.go_ast.proofs.Same.{are_same}
@@ -22,7 +22,7 @@ stmts_pushed (x ∷ front) s = omega (arith, stmts_pushed front s)
 
 pub clauses_pushed : (done : List Clause) (p : Place) (values : Option Exprs) (front : List Stmt) →
     clauses_height (pack_clauses (with_clause done p values front)) ≡ max (clauses_height (pack_clauses done))
-    (max (exprs_height_if values) (stmts_height (pack_stmts front)))
+    (max (lifted exprs_height values) (stmts_height (pack_stmts front)))
 clauses_pushed [] p values front = omega arith
 clauses_pushed (d ∷ done) p values front = omega (arith, clauses_pushed done p values front)
 
@@ -45,7 +45,7 @@ module _ (B : ℕ) where
 
   clause_body_back : (l : ℕ) (done : List Clause) (next : Clauses → Lexeme → State) (p : Place) (values : Option Exprs) (us vs : List Lexeme) (f : File) →
       l ≤ B →
-      IsCase p values us vs → l + 1 + exprs_height_if values ≤ B + 1 → Means B (clause_body l done next p values) vs f → Clausal l done next us f
+      IsCase p values us vs → l + 1 + lifted exprs_height values ≤ B + 1 → Means B (clause_body l done next p values) vs f → Clausal l done next us f
   clause_body_back l done next p values us vs f low d high m =
       let n = m.4 in (
         (p, (values, n.0)) ∷ n.1,
@@ -170,7 +170,7 @@ module _ (B : ℕ) where
 
   -- what is due there is good
   pub clause_body_good : (l : ℕ) (done : List Clause) (next : Clauses → Lexeme → State) (p : Place) (values : Option Exprs) → l ≤ B →
-      l + 1 + clauses_height (pack_clauses done) ≤ B + 1 → l + 1 + exprs_height_if values ≤ B + 1 →
+      l + 1 + clauses_height (pack_clauses done) ≤ B + 1 → l + 1 + lifted exprs_height values ≤ B + 1 →
       ((cs : Clauses) (c : Lexeme) → l + 1 + clauses_height cs ≤ B + 1 → Good B (next cs c)) → Good B (clause_body l done next p values)
   clause_body_good l done next p values low fits high good =
       (omega arith, λ t e le. (tt, (low, omega (arith, fits, high, clauses_pushed done p values []), good)))

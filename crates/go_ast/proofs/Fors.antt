@@ -6,7 +6,7 @@ use Rattle.go_scan.specs.declared.keyword.Keyword.TheVariants as keywords
 use Rattle.go_ast.specs.Kinds.{same}
 use Rattle.go_ast.specs.Expected.{an_operand, another}
 use Rattle.go_ast.specs.Trees.{Name, Expr, Simple, call_statement, Stmt, for_statement, range_statement, Block, block, File}
-use Rattle.go_ast.specs.Heights.{height, simple_height_if, height_if, block_height, stmt_height}
+use Rattle.go_ast.specs.Heights.{height, lifted, simple_height, block_height, stmt_height}
 use Rattle.go_ast.specs.Grammar.{Lexeme, Token, define, semicolon, opening_brace, IsExpr, IsExpr?, IsSimple?, IsForHead, IsRangeName, IsBlock, IsStmt, is_short_var_decl}
 use Rattle.go_ast.specs.Machine.{in_for, behind_turns, State, token, keyword, name_if, names_if, block_at, for_body, for_turns, for_condition, range_body, behind_for}
 use Rattle.go_ast.proofs.Same.{are_same}
@@ -43,7 +43,7 @@ module _ (B : ℕ) where
       × (l + stmt_height (for_statement p i c n b) ≤ B + 1) × Means B (next (for_statement p i c n b)) ws f
 
   turns_back : (l : ℕ) (p : Place) (next : Stmt → State) (i : Option Simple) (c : Option Expr) (us : List Lexeme) (f : File) →
-      l + 1 + simple_height_if i ≤ B + 1 → l + 1 + height_if c ≤ B + 1 → Means B (for_turns l p next i c) us f → Turns l p next i c us f
+      l + 1 + lifted simple_height i ≤ B + 1 → l + 1 + lifted height c ≤ B + 1 → Means B (for_turns l p next i c) us f → Turns l p next i c us f
   turns_back l p next i c us f hi hc m = elim m [
     | inl a ↦ (let g = open_block_back B (l + 1) (for_body l p next i c None) a.0 us a.1 f a.2 a.3 a.4 in
         (None, g.0, us, g.1, refl, (λ s q. (let z : None ≡ Some s = q in cc (z))), g.2, omega (arith, hi, hc, g.3), g.4))
@@ -73,7 +73,7 @@ module _ (B : ℕ) where
       (c : Option Expr) × (r : Lexeme) × (xs ys : List Lexeme) × IsExpr? c us xs × Token semicolon r xs ys × Turns l p next i c ys f
 
   condition_back : (l : ℕ) (p : Place) (next : Stmt → State) (i : Option Simple) (us : List Lexeme) (f : File) →
-      l + 1 + simple_height_if i ≤ B + 1 → Means B (for_condition l p next i) us f → Condition l p next i us f
+      l + 1 + lifted simple_height i ≤ B + 1 → Means B (for_condition l p next i) us f → Condition l p next i us f
   condition_back l p next i us f hi m = elim m [
     | inl a ↦ (None, a.0, us, a.1, refl, a.2, turns_back l p next i None a.1 f hi (omega (arith, hi)) a.4)
     | inr a ↦ (Some a.0, a.4.0, a.1, a.4.1, a.2, a.4.2, turns_back l p next i (Some a.0) a.4.1 f hi a.3 a.4.4)
@@ -182,7 +182,7 @@ module _ (B : ℕ) where
 
   plain_forth : (l : ℕ) (next : Stmt → State) (t : Lexeme) (c : Option Expr) (b : Block) (us xs ws : List Lexeme) (f : File) → IsExpr? c us xs →
       IsBlock b xs ws →
-      l + 1 + height_if c ≤ B + 1 → l + 1 + block_height b ≤ B + 1 → Means B (next (for_statement t.place None c None b)) ws f →
+      l + 1 + lifted height c ≤ B + 1 → l + 1 + block_height b ≤ B + 1 → Means B (next (for_statement t.place None c None b)) ws f →
       Means B (behind_for l next t) us f
   plain_forth l next t None b us xs ws f d e hc hb m =
       inl (block_forth B (l + 1) (for_body l t.place next None None None) b us ws f (subst (λ x. IsBlock b x ws) (sym d) e) hb m)
@@ -296,8 +296,8 @@ module _ (B : ℕ) where
   )
 
   -- it is good
-  turns_good : (l : ℕ) (p : Place) (next : Stmt → State) (i : Option Simple) (c : Option Expr) → l + 1 ≤ B → l + 1 + simple_height_if i ≤ B + 1 →
-      l + 1 + height_if c ≤ B + 1 →
+  turns_good : (l : ℕ) (p : Place) (next : Stmt → State) (i : Option Simple) (c : Option Expr) → l + 1 ≤ B → l + 1 + lifted simple_height i ≤ B + 1 →
+      l + 1 + lifted height c ≤ B + 1 →
       ((s : Stmt) → l + stmt_height s ≤ B + 1 → Good B (next s)) → Good B (for_turns l p next i c)
   turns_good l p next i c le hi hc good = (
     inl le,
@@ -312,7 +312,7 @@ module _ (B : ℕ) where
     ),
   )
 
-  condition_good : (l : ℕ) (p : Place) (next : Stmt → State) (i : Option Simple) → l + 1 ≤ B → l + 1 + simple_height_if i ≤ B + 1 →
+  condition_good : (l : ℕ) (p : Place) (next : Stmt → State) (i : Option Simple) → l + 1 ≤ B → l + 1 + lifted simple_height i ≤ B + 1 →
       ((s : Stmt) → l + stmt_height s ≤ B + 1 → Good B (next s)) → Good B (for_condition l p next i)
   condition_good l p next i le hi good = (
     inl (omega arith),

@@ -6,7 +6,7 @@ use Rattle.go_scan.specs.declared.keyword.Keyword.TheVariants as keywords
 use Rattle.go_ast.specs.Kinds.{same}
 use Rattle.go_ast.specs.Expected.{an_operand, another}
 use Rattle.go_ast.specs.Trees.{Expr, Simple, If, conditional, Else, no_else, else_block, else_if, Block, block, File}
-use Rattle.go_ast.specs.Heights.{height, simple_height_if, if_height, else_height}
+use Rattle.go_ast.specs.Heights.{height, lifted, simple_height, if_height, else_height}
 use Rattle.go_ast.specs.Grammar.{Lexeme, Token, semicolon, opening_brace, IsExpr, IsStart, IsBlock, IsIf, IsElse}
 use Rattle.go_ast.specs.Machine.{in_header, State, token, else_part, keyword, block_at, if_condition, behind_if, behind_else, step}
 use Rattle.go_ast.proofs.Same.{are_same, not_same}
@@ -125,7 +125,7 @@ module _ (B : ℕ) where
       (d.0, d.1, d.5, start_forth l d.0 next i c b r d.1 d.2 d.3 d.4 ws f d.7 d.8 d.9 d.10 le (subst (λ x. Means B (next (conditional x i c b r)) ws f) d.6 m))
 
   -- it is good
-  condition_block : (l : ℕ) (p : Place) (next : If → State) (i : Option Simple) (c : Expr) → l + 1 ≤ B → l + 1 + simple_height_if i ≤ B + 1 →
+  condition_block : (l : ℕ) (p : Place) (next : If → State) (i : Option Simple) (c : Expr) → l + 1 ≤ B → l + 1 + lifted simple_height i ≤ B + 1 →
       l + 1 + height c ≤ B + 1 →
       ((x : If) → l + if_height x ≤ B + 1 → Good B (next x)) → ((x : If) → begins (next x) (keyword keywords.Else) ≡ false) →
       Good B (block_at (l + 1) (λ b. else_part l p i c b next))
@@ -133,7 +133,7 @@ module _ (B : ℕ) where
       block_good B (l + 1) (λ b. else_part l p i c b next) le
       (λ b low. (tt, (le, omega (arith, fits, fit, low), (λ r x. good (conditional p i c b r) x), (λ r. apart (conditional p i c b r)))))
 
-  condition_good : (l : ℕ) (p : Place) (next : If → State) (i : Option Simple) → l + 1 ≤ B → l + 1 + simple_height_if i ≤ B + 1 →
+  condition_good : (l : ℕ) (p : Place) (next : If → State) (i : Option Simple) → l + 1 ≤ B → l + 1 + lifted simple_height i ≤ B + 1 →
       ((x : If) → l + if_height x ≤ B + 1 → Good B (next x)) → ((x : If) → begins (next x) (keyword keywords.Else) ≡ false) → Good B (if_condition l p next i)
   condition_good l p next i le fits good apart = (
     le,

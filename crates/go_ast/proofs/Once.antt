@@ -25,12 +25,16 @@ kind_of n =
     else (if nat_eq n 3 then faults.Parse
     else (if nat_eq n 4 then faults.Deep
     else (if nat_eq n 6 then faults.PackageName
+    else (if nat_eq n 7 then faults.NoImport
+    else (if nat_eq n 8 then faults.Cycle
+    else (if nat_eq n 9 then faults.Program
     else (if nat_eq n 10 then faults.Redeclared
     else (if nat_eq n 11 then faults.Undeclared
     else (if nat_eq n 12 then faults.UnusedImport
     else (if nat_eq n 14 then faults.Range
     else (if nat_eq n 15 then faults.Constant
-    else faults.Main)))))))))
+    else (if nat_eq n 23 then faults.Main
+    else faults.Unexported)))))))))))))
 
 kind_again : (k : FaultKind) → kind_of (fault_number k) ≡ k
 unfolding kind_of
@@ -39,12 +43,16 @@ kind_again faults.LeftOut = refl
 kind_again faults.Parse = refl
 kind_again faults.Deep = refl
 kind_again faults.PackageName = refl
+kind_again faults.NoImport = refl
+kind_again faults.Cycle = refl
+kind_again faults.Program = refl
 kind_again faults.Redeclared = refl
 kind_again faults.Undeclared = refl
 kind_again faults.UnusedImport = refl
 kind_again faults.Range = refl
 kind_again faults.Constant = refl
 kind_again faults.Main = refl
+kind_again faults.Unexported = refl
 
 one_kind : (k l : FaultKind) → fault_number k ≡ fault_number l → k ≡ l
 one_kind k l e = sym (kind_again k) ∙ ap kind_of e ∙ kind_again l

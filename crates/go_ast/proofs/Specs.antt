@@ -9,7 +9,7 @@ use Rattle.go_ast.specs.Kinds.{same}
 use Rattle.go_ast.specs.Literals.{string_value}
 use Rattle.go_ast.specs.Expected.{a_type, a_value, a_parameter_type, another, is_left_out_at}
 use Rattle.go_ast.specs.Trees.{Name, TypeExpr, Exprs, no_exprs, some_exprs, ConstSpec, VarSpec, TypeSpec, Parameter, ImportSpec, File}
-use Rattle.go_ast.specs.Heights.{type_height, exprs_height, type_height_if, const_height, var_height, type_spec_height, parameter_height}
+use Rattle.go_ast.specs.Heights.{type_height, exprs_height, lifted, const_height, var_height, type_spec_height, parameter_height}
 use Rattle.go_ast.specs.Grammar.{Lexeme, Token, name_of, assign, closing, closing_brace, comma, period, semicolon, AreNames, IsType, IsType?, AreExprs, AreValues, IsConstSpec, IsVarSpec, IsTypeSpec, IsParameter, IsImportSpec}
 use Rattle.go_ast.specs.Machine.{State, token, type, names, begins_type, value_list, const_rest, var_rest, type_rest, import_of, import_spec}
 use Rattle.go_ast.proofs.Valued.{string_means, string_computed}
@@ -113,7 +113,7 @@ module _ (B : ℕ) where
 
   const_rest_forth : (l : ℕ) (next : ConstSpec → State) (ns : List Name) (a? : Option TypeExpr) (es : Exprs) (vs ws : List Lexeme) (f : File) →
       ((a? ≡ None) × (es ≡ no_exprs) × (vs ≡ ws)) ⊎ ((xs : List Lexeme) × IsType? a? vs xs × AreValues es xs ws) →
-      l + max (type_height_if a?) (exprs_height es) ≤ B + 1 → Means B (next (record { names = ns; type = a?; values = es })) ws f →
+      l + max (lifted type_height a?) (exprs_height es) ≤ B + 1 → Means B (next (record { names = ns; type = a?; values = es })) ws f →
       Means B (const_rest l next ns) vs f
   const_rest_forth l next ns a? es vs ws f (inl d) le m =
       let n : Means B (next (record { names = ns; type = None; values = no_exprs })) ws f =
@@ -211,13 +211,13 @@ module _ (B : ℕ) where
   -- what is behind the names, and that there is a node
   var_rest_forth : (l : ℕ) (next : VarSpec → State) (ns : List Name) (a? : Option TypeExpr) (es : Exprs) (vs ws : List Lexeme) (f : File) →
       ((a : TypeExpr) × (a? ≡ Some a) × (es ≡ no_exprs) × IsType a vs ws) ⊎ ((xs : List Lexeme) × IsType? a? vs xs × AreValues es xs ws) →
-      l + max (type_height_if a?) (exprs_height es) ≤ B + 1 → Means B (next (record { names = ns; type = a?; values = es })) ws f →
+      l + max (lifted type_height a?) (exprs_height es) ≤ B + 1 → Means B (next (record { names = ns; type = a?; values = es })) ws f →
       (l ≤ B) × Means B (var_rest l next ns) vs f
   var_rest_forth l next ns a? es vs ws f (inl d) le m =
       let n : Means B (next (record { names = ns; type = Some d.0; values = no_exprs })) ws f =
       subst (λ x. Means B (next (record { names = ns; type = Some d.0; values = x })) ws f) d.2
       (subst (λ x. Means B (next (record { names = ns; type = x; values = es })) ws f) d.1 m) in
-      let tall : type_height_if a? ≡ type_height d.0 = ap type_height_if d.1 in
+      let tall : lifted type_height a? ≡ type_height d.0 = ap (lifted type_height) d.1 in
       let low : l + type_height d.0 ≤ B + 1 = omega (arith, le, tall) in
       (omega (arith, low, type_height_positive d.0), inl (d.0, ws, d.3, low, inr n))
   var_rest_forth l next ns None es vs ws f (inr d) le m =

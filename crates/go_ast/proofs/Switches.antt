@@ -4,7 +4,7 @@ use Rattle.go_text.specs.declared.place.Place.{Place}
 use Rattle.go_scan.specs.declared.keyword.Keyword.TheVariants as keywords
 use Rattle.go_ast.specs.Expected.{an_operand, another}
 use Rattle.go_ast.specs.Trees.{Expr, Simple, Stmt, switch_statement, Clauses, File}
-use Rattle.go_ast.specs.Heights.{height, simple_height_if, height_if, stmt_height}
+use Rattle.go_ast.specs.Heights.{height, lifted, simple_height, stmt_height}
 use Rattle.go_ast.specs.Grammar.{Lexeme, Token, semicolon, opening_brace, closing_brace, IsExpr, IsExpr?, IsStart, IsStmt, AreClauses}
 use Rattle.go_ast.specs.Machine.{in_header, State, token, expr, keyword, switch_body, switch_tag, behind_switch}
 use Rattle.go_ast.proofs.Means.{IsFirst, Means, Okay, Good}
@@ -25,14 +25,14 @@ module _ (B : ℕ) where
 
   -- behind the brace
   with_tag : (l : ℕ) (p : Place) (next : Stmt → State) (i : Option Simple) (tag : Option Expr) (o : Lexeme) (us ys zs : List Lexeme) (f : File) → l ≤ B →
-      l + 1 + simple_height_if i ≤ B + 1 → l + 1 + height_if tag ≤ B + 1 → IsExpr? tag us ys → Token opening_brace o ys zs →
+      l + 1 + lifted simple_height i ≤ B + 1 → l + 1 + lifted height tag ≤ B + 1 → IsExpr? tag us ys → Token opening_brace o ys zs →
       Means B (switch_body l p next i tag) zs f →
       Tag l p next i us f
   with_tag l p next i tag o us ys zs f low hi ht d k m =
       let g = clauses_at_back B l (λ cs _. next (switch_statement p i tag cs)) zs f low m in
       (tag, g.0, o, g.1, ys, zs, g.2, g.3, d, k, g.4, g.6, omega (arith, hi, ht, g.5), g.7)
 
-  tag_back : (l : ℕ) (p : Place) (next : Stmt → State) (i : Option Simple) (us : List Lexeme) (f : File) → l ≤ B → l + 1 + simple_height_if i ≤ B + 1 →
+  tag_back : (l : ℕ) (p : Place) (next : Stmt → State) (i : Option Simple) (us : List Lexeme) (f : File) → l ≤ B → l + 1 + lifted simple_height i ≤ B + 1 →
       Means B (switch_tag l p next i) us f → Tag l p next i us f
   tag_back l p next i us f low hi m = elim m [
     | inl a ↦ with_tag l p next i None a.0 us us a.1 f low hi (omega (arith, low)) refl a.2 a.4
@@ -144,13 +144,13 @@ module _ (B : ℕ) where
   )
 
   -- it is good
-  body_good : (l : ℕ) (p : Place) (next : Stmt → State) (i : Option Simple) (tag : Option Expr) → l ≤ B → l + 1 + simple_height_if i ≤ B + 1 →
-      l + 1 + height_if tag ≤ B + 1 →
+  body_good : (l : ℕ) (p : Place) (next : Stmt → State) (i : Option Simple) (tag : Option Expr) → l ≤ B → l + 1 + lifted simple_height i ≤ B + 1 →
+      l + 1 + lifted height tag ≤ B + 1 →
       ((s : Stmt) → l + stmt_height s ≤ B + 1 → Good B (next s)) → Good B (switch_body l p next i tag)
   body_good l p next i tag low hi ht good =
       clauses_at_good B l (λ cs _. next (switch_statement p i tag cs)) low (λ cs c fit. good (switch_statement p i tag cs) (omega (arith, hi, ht, fit)))
 
-  tag_good : (l : ℕ) (p : Place) (next : Stmt → State) (i : Option Simple) → l ≤ B → l + 1 + simple_height_if i ≤ B + 1 →
+  tag_good : (l : ℕ) (p : Place) (next : Stmt → State) (i : Option Simple) → l ≤ B → l + 1 + lifted simple_height i ≤ B + 1 →
       ((s : Stmt) → l + stmt_height s ≤ B + 1 → Good B (next s)) →
       Okay B (expr 5 true (l + 1) an_operand (λ e. token opening_brace 0 another (λ _. switch_body l p next i (Some e)))) × Good B (switch_tag l p next i)
   tag_good l p next i low hi good =

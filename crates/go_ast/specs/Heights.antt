@@ -1,23 +1,18 @@
 -- How many levels of nodes a tree has: statements, blocks, expressions, types and the braces of a literal.
 use Rattle.std.specs.Prelude.{ℕ, ◌+◌, max, List, [], ◌∷◌, Option, Some, None}
-use Rattle.go_ast.specs.Trees.{TypeExpr, named, qualified, array, struct, Fields, no_fields, field, Expr, name, integer, rune, string, parenthesized, composite_lit, conversion, selector, index, call, unary, binary, Exprs, no_exprs, some_exprs, Elements, no_elements, element, Element, expression_element, value_element, Simple, call_statement, increment, decrement, assignment, operator_assignment, short_var_decl, ConstSpec, VarSpec, TypeSpec, Decl, constants, variables, types, Stmt, empty, declaration, simple, return, break, continue, fallthrough, block_statement, if_statement, for_statement, range_statement, switch_statement, Block, block, If, conditional, Else, no_else, else_block, else_if, Stmts, no_stmts, some_stmts, Clauses, no_clauses, clause, Parameter, Function, TopLevel, declared, function, File}
+use Rattle.go_ast.specs.Trees.{TypeExpr, array, struct, Fields, no_fields, field, Expr, parenthesized, composite_lit, conversion, selector, index, call, unary, binary, Exprs, no_exprs, some_exprs, Elements, no_elements, element, Element, expression_element, value_element, Simple, call_statement, increment, decrement, assignment, operator_assignment, short_var_decl, ConstSpec, VarSpec, TypeSpec, Decl, constants, variables, types, Stmt, declaration, simple, return, block_statement, if_statement, for_statement, range_statement, switch_statement, Block, block, If, conditional, Else, no_else, else_block, else_if, Stmts, no_stmts, some_stmts, Clauses, no_clauses, clause, Parameter, Function, TopLevel, declared, function, File}
 
 abbrev mutual
   pub type_height : TypeExpr → ℕ
-  type_height (named p n) = 1
-  type_height (qualified p m n) = 1
   type_height (array p e a) = max (height e) (type_height a) + 1
   type_height (struct p fs) = fields_height fs + 1
+  type_height _ = 1
 
   pub fields_height : Fields → ℕ
   fields_height no_fields = 0
   fields_height (field ns a fs) = max (type_height a) (fields_height fs)
 
   pub height : Expr → ℕ
-  height (name p text) = 1
-  height (integer p text) = 1
-  height (rune p value) = 1
-  height (string p value) = 1
   height (parenthesized p e) = height e + 1
   height (composite_lit p a q es) = max (type_height a) (elements_height es + 1) + 1
   height (conversion p a e) = max (type_height a) (height e) + 1
@@ -26,6 +21,7 @@ abbrev mutual
   height (call p f es) = max (height f) (exprs_height es) + 1
   height (unary p op e) = height e + 1
   height (binary p op a b) = max (height a) (height b) + 1
+  height _ = 1
 
   pub exprs_height : Exprs → ℕ
   exprs_height no_exprs = 0
@@ -49,21 +45,9 @@ simple_height (operator_assignment op l r) = max (height l) (height r)
 simple_height (short_var_decl ns rs) = exprs_height rs
 
 -- what may be missing
-abbrev pub height_if : Option Expr → ℕ
-height_if None = 0
-height_if (Some e) = height e
-
-abbrev pub type_height_if : Option TypeExpr → ℕ
-type_height_if None = 0
-type_height_if (Some a) = type_height a
-
-abbrev pub simple_height_if : Option Simple → ℕ
-simple_height_if None = 0
-simple_height_if (Some s) = simple_height s
-
-abbrev pub exprs_height_if : Option Exprs → ℕ
-exprs_height_if None = 0
-exprs_height_if (Some es) = exprs_height es
+abbrev pub lifted : {A : Type 0} → (A → ℕ) → Option A → ℕ
+lifted h None = 0
+lifted h (Some x) = h x
 
 -- the greatest of a list
 abbrev pub greatest : {A : Type 0} → (A → ℕ) → List A → ℕ
@@ -71,10 +55,10 @@ greatest h [] = 0
 greatest h (x ∷ xs) = max (h x) (greatest h xs)
 
 abbrev pub const_height : ConstSpec → ℕ
-const_height s = max (type_height_if s.type) (exprs_height s.values)
+const_height s = max (lifted type_height s.type) (exprs_height s.values)
 
 abbrev pub var_height : VarSpec → ℕ
-var_height s = max (type_height_if s.type) (exprs_height s.values)
+var_height s = max (lifted type_height s.type) (exprs_height s.values)
 
 abbrev pub type_spec_height : TypeSpec → ℕ
 type_spec_height s = type_height s.type
@@ -86,24 +70,21 @@ decl_height (types p ss) = greatest type_spec_height ss
 
 abbrev mutual
   pub stmt_height : Stmt → ℕ
-  stmt_height (empty p) = 1
   stmt_height (declaration p d) = decl_height d + 1
   stmt_height (simple p s) = simple_height s + 1
   stmt_height (return p es) = exprs_height es + 1
-  stmt_height (break p) = 1
-  stmt_height (continue p) = 1
-  stmt_height (fallthrough p) = 1
   stmt_height (block_statement b) = block_height b + 1
   stmt_height (if_statement i) = if_height i
-  stmt_height (for_statement p i c n b) = max (max (simple_height_if i) (height_if c)) (max (simple_height_if n) (block_height b)) + 1
+  stmt_height (for_statement p i c n b) = max (max (lifted simple_height i) (lifted height c)) (max (lifted simple_height n) (block_height b)) + 1
   stmt_height (range_statement p n e b) = max (height e) (block_height b) + 1
-  stmt_height (switch_statement p i t cs) = max (max (simple_height_if i) (height_if t)) (clauses_height cs) + 1
+  stmt_height (switch_statement p i t cs) = max (max (lifted simple_height i) (lifted height t)) (clauses_height cs) + 1
+  stmt_height _ = 1
 
   pub block_height : Block → ℕ
   block_height (block p ss q) = stmts_height ss + 1
 
   pub if_height : If → ℕ
-  if_height (conditional p i c b e) = max (max (simple_height_if i) (height c)) (max (block_height b) (else_height e)) + 1
+  if_height (conditional p i c b e) = max (max (lifted simple_height i) (height c)) (max (block_height b) (else_height e)) + 1
 
   pub else_height : Else → ℕ
   else_height no_else = 0
@@ -116,7 +97,7 @@ abbrev mutual
 
   pub clauses_height : Clauses → ℕ
   clauses_height no_clauses = 0
-  clauses_height (clause p es ss cs) = max (max (exprs_height_if es) (stmts_height ss)) (clauses_height cs)
+  clauses_height (clause p es ss cs) = max (max (lifted exprs_height es) (stmts_height ss)) (clauses_height cs)
 
 abbrev pub parameter_height : Parameter → ℕ
 parameter_height p = type_height p.type

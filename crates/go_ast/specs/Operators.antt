@@ -51,6 +51,12 @@ assignment_of _ = None
 
 -- how many levels of operators bind tighter: 0 for the tightest
 abbrev pub tighter : BinaryOperator → ℕ
+tighter logical_or = 4
+tighter logical_and = 3
+tighter add = 1
+tighter subtract = 1
+tighter bit_or = 1
+tighter bit_xor = 1
 tighter multiply = 0
 tighter divide = 0
 tighter remainder = 0
@@ -58,15 +64,4 @@ tighter shift_left = 0
 tighter shift_right = 0
 tighter bit_and = 0
 tighter and_not = 0
-tighter add = 1
-tighter subtract = 1
-tighter bit_or = 1
-tighter bit_xor = 1
-tighter equal = 2
-tighter not_equal = 2
-tighter less = 2
-tighter less_or_equal = 2
-tighter greater = 2
-tighter greater_or_equal = 2
-tighter logical_and = 3
-tighter logical_or = 4
+tighter _ = 2

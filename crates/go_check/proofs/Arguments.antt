@@ -1,18 +1,16 @@
 -- Arguments from one to the next.
-use Rattle.std.proofs.Common.{◌≡◌, ℕ, suc, ◌+◌, ◌<◌, Option, Some, None, List, [], ◌∷◌, ◌++◌, map, length, drop, get_or, refl, sym, ap, ◌∙◌, subst, add-one, append_assoc}
+use Rattle.std.proofs.Common.{◌≡◌, ℕ, suc, ◌+◌, ◌<◌, Option, List, [], ◌∷◌, ◌++◌, length, drop, get_or, sym, ap, ◌∙◌, subst, add-one}
 use Rattle.std.proofs.Math.Seq.{drop-cons}
-use Rattle.std.proofs.lemmas.List.{map-append}
 use Rattle.go_text.specs.Faults.{Fault}
 use Rattle.go_ast.specs.Trees.{Expr, place_of}
 use Rattle.go_ast.specs.declared.expression.Expr.{Expr as Expression}
 use Rattle.go_ast.specs.Views.{expr_of, exprs_in}
 use Rattle.go_check.specs.declared.error.CheckError.{CheckError}
-use Rattle.go_export.specs.declared.typed.Const.{Const}
 use Rattle.go_export.specs.Typed.{Constant}
-use Rattle.go_export.specs.Views.{constant_of}
 use Rattle.go_check.specs.Rules.{value}
 use Rattle.go_check.specs.Verdicts.{Scope, fine, asked, broken, verdict, values, with_first, faults, argument_faults}
-use Rattle.go_check.specs.Seen.{Fails, joined}
+use Rattle.go_check.specs.Seen.{Fails, joined, added}
+use Rattle.go_check.proofs.Lists.{one_joined}
 use Rattle.go_check.proofs.Nodes.{sooner}
 
 -- the faults of one argument, and what it is
@@ -42,16 +40,11 @@ pub argument_later : (s : Scope) (es : List Expression) (i : ℕ) (e : Expressio
 argument_later s es i e all h is same none =
     sym (ap (λ l. l ++ argument_faults s (exprs_in (drop (i + 1) es))) none) ∙ sym (faults_left s es i e h is) ∙ same
 
-one_joined : (done : List Constant) (x : Constant) (o : Option (List Constant)) → joined done (with_first (Some x) o) ≡ joined (done ++ x ∷ []) o
-one_joined done x None = refl
-one_joined done x (Some xs) = ap Some (sym (append_assoc done (x ∷ []) xs))
-
--- and is known
-pub value_later : (s : Scope) (es : List Expression) (i : ℕ) (e : Expression) (done pushed : List Const) (c : Const) (all : Option (List Constant)) → i < length es → e ≡ get_or es i e → all ≡ joined (map constant_of done) (values s (exprs_in (drop i es))) → own_value s (expr_of e) ≡ Some (constant_of c) → pushed ≡ done ++ c ∷ [] → all ≡ joined (map constant_of pushed) (values s (exprs_in (drop (i + 1) es)))
-value_later s es i e done pushed c all h is same known push =
+-- and what it is
+pub value_later : (s : Scope) (es : List Expression) (i : ℕ) (e : Expression) (done more all : Option (List Constant)) (o : Option Constant) → i < length es → e ≡ get_or es i e → all ≡ joined done (values s (exprs_in (drop i es))) → own_value s (expr_of e) ≡ o → more ≡ added done o → all ≡ joined more (values s (exprs_in (drop (i + 1) es)))
+value_later s es i e done more all o h is same known push =
     same
-    ∙ ap (joined (map constant_of done)) (values_left s es i e h is)
-    ∙ ap (λ o. joined (map constant_of done) (with_first o (values s (exprs_in (drop (i + 1) es))))) known
-    ∙ one_joined (map constant_of done) (constant_of c) (values s (exprs_in (drop (i + 1) es)))
-    ∙ ap (λ l. joined l (values s (exprs_in (drop (i + 1) es)))) (sym (map-append constant_of done (c ∷ [])))
-    ∙ ap (λ l. joined (map constant_of l) (values s (exprs_in (drop (i + 1) es)))) (sym push)
+    ∙ ap (joined done) (values_left s es i e h is)
+    ∙ ap (λ x. joined done (with_first x (values s (exprs_in (drop (i + 1) es))))) known
+    ∙ one_joined done o (values s (exprs_in (drop (i + 1) es)))
+    ∙ ap (λ d. joined d (values s (exprs_in (drop (i + 1) es)))) (sym push)

@@ -1,17 +1,15 @@
 -- Statements of a body from one to the next.
-use Rattle.std.proofs.Common.{◌≡◌, ℕ, suc, ◌+◌, ◌<◌, false, Option, Some, None, List, [], ◌∷◌, ◌++◌, map, length, drop, get_or, refl, sym, ap, ◌∙◌, subst, add-one, append_assoc}
+use Rattle.std.proofs.Common.{◌≡◌, ℕ, suc, ◌+◌, ◌<◌, false, Option, List, [], ◌∷◌, ◌++◌, map, length, drop, get_or, refl, sym, ap, ◌∙◌, subst, add-one}
 use Rattle.std.proofs.Math.Seq.{drop-cons}
-use Rattle.std.proofs.lemmas.List.{map-append}
 use Rattle.go_text.specs.Faults.{Fault}
 use Rattle.go_ast.specs.Trees.{Stmt, empty, pack_stmts}
 use Rattle.go_ast.specs.declared.statement.Stmt.{Stmt as Statement}
 use Rattle.go_ast.specs.Views.{stmt_of}
 use Rattle.go_check.specs.declared.error.CheckError.{CheckError}
-use Rattle.go_export.specs.declared.typed.TypedStmt.{TypedStmt}
 use Rattle.go_export.specs.Typed as typed
-use Rattle.go_export.specs.Views.{statement_of}
 use Rattle.go_check.specs.Verdicts.{Scope, fine, with_first, statement_verdict, statement_faults, with_full, full, body_known, body_faults}
-use Rattle.go_check.specs.Seen.{Fails, joined, is_empty_statement}
+use Rattle.go_check.specs.Seen.{Fails, joined, added, is_empty_statement}
+use Rattle.go_check.proofs.Lists.{one_joined}
 use Rattle.go_check.proofs.Nodes.{sooner}
 
 -- one that isn't empty counts
@@ -39,16 +37,11 @@ pub statement_later : (s : Scope) (sts : List Statement) (i : ℕ) (st : Stateme
 statement_later s sts i st all h is full_one same none =
     sym (ap (λ l. l ++ body_faults s (rest sts (i + 1))) none) ∙ sym (ap (body_faults s) (rest_left sts i st h is full_one)) ∙ same
 
-one_joined : (done : List typed.Stmt) (x : typed.Stmt) (o : Option (List typed.Stmt)) → joined done (with_first (Some x) o) ≡ joined (done ++ x ∷ []) o
-one_joined done x None = refl
-one_joined done x (Some xs) = ap Some (sym (append_assoc done (x ∷ []) xs))
-
--- and is known
-pub statement_known : (s : Scope) (sts : List Statement) (i : ℕ) (st : Statement) (done pushed : List TypedStmt) (t : TypedStmt) (all : Option (List typed.Stmt)) → i < length sts → st ≡ get_or sts i st → is_empty_statement (stmt_of st) ≡ false → all ≡ joined (map statement_of done) (body_known s (rest sts i)) → fine (statement_verdict s (stmt_of st)) ≡ Some (statement_of t) → pushed ≡ done ++ t ∷ [] → all ≡ joined (map statement_of pushed) (body_known s (rest sts (i + 1)))
-statement_known s sts i st done pushed t all h is full_one same known push =
+-- and what it is
+pub statement_known : (s : Scope) (sts : List Statement) (i : ℕ) (st : Statement) (done more all : Option (List typed.Stmt)) (o : Option typed.Stmt) → i < length sts → st ≡ get_or sts i st → is_empty_statement (stmt_of st) ≡ false → all ≡ joined done (body_known s (rest sts i)) → fine (statement_verdict s (stmt_of st)) ≡ o → more ≡ added done o → all ≡ joined more (body_known s (rest sts (i + 1)))
+statement_known s sts i st done more all o h is full_one same known push =
     same
-    ∙ ap (λ l. joined (map statement_of done) (body_known s l)) (rest_left sts i st h is full_one)
-    ∙ ap (λ o. joined (map statement_of done) (with_first o (body_known s (rest sts (i + 1))))) known
-    ∙ one_joined (map statement_of done) (statement_of t) (body_known s (rest sts (i + 1)))
-    ∙ ap (λ l. joined l (body_known s (rest sts (i + 1)))) (sym (map-append statement_of done (t ∷ [])))
-    ∙ ap (λ l. joined (map statement_of l) (body_known s (rest sts (i + 1)))) (sym push)
+    ∙ ap (λ l. joined done (body_known s l)) (rest_left sts i st h is full_one)
+    ∙ ap (λ x. joined done (with_first x (body_known s (rest sts (i + 1))))) known
+    ∙ one_joined done o (body_known s (rest sts (i + 1)))
+    ∙ ap (λ d. joined d (body_known s (rest sts (i + 1)))) (sym push)

@@ -1,11 +1,11 @@
 -- What small programs come to, computed.
-use Rattle.std.proofs.Common.{◌≡◌, ℕ, List, [], ◌∷◌, ◌++◌, refl, true}
-use Rattle.std.specs.Prelude.{⊤, codes}
+use Rattle.std.proofs.Common.{◌≡◌, ℕ, List, [], ◌∷◌, refl, true}
+use Rattle.std.specs.Prelude.{codes}
 use Rattle.go_code.specs.declared.ending.Ending.TheVariants.{Cut, Panicked}
 use Rattle.go_code.specs.declared.ending.PanicKind.TheVariants.{Depth}
 use Rattle.go_export.specs.Types.{string, bool}
-use Rattle.go_export.specs.Typed.{text, truth, Expr, constant, Stmt, print, pack_exprs, pack_stmts, Function, Typed}
-use Rattle.go_check.specs.Meaning.{World, Outcome, Gives, Ends, Calls, start_steps, step_all, call_at, first_world, calls, symbol_of}
+use Rattle.go_export.specs.Typed.{text, truth, Expr, constant, print, pack_exprs, pack_stmts, Function, Typed}
+use Rattle.go_check.specs.Meaning.{Gives, Ends, start_steps, step_all, call_at, first_world, calls, symbol_of}
 
 -- a function without parameters that prints some expressions
 abbrev printer : List ℕ → List Expr → Function

@@ -9,8 +9,7 @@ use Rattle.std.proofs.lemmas.Str.Parse.{IsNumeralModel, numerals_by_value, tells
 use Rattle.std.proofs.lemmas.Bool.Decides.{nat_tests}
 use mir.Syntax.{w128}
 use Rattle.go_text.specs.declared.fault.FaultKind.TheVariants as faults
-use Rattle.go_check.specs.Rules.{is_decimal}
-use Rattle.go_check.specs.Rules.{literal}
+use Rattle.go_check.specs.Rules.{Breaks, is_decimal, literal}
 
 listed : (ds : List ℕ) → list_all is_ascii_digit ds ≡ all_ascii_digits ds
 listed [] = refl
@@ -31,11 +30,11 @@ some (c ∷ cs) e = omega arith
 own : IsNumeralModel (λ ds. all_ascii_digits ds ≡ true) (digits_value 10)
 own = numerals_by_value _ tells_all_ascii_digits
 
-large : (text : List ℕ) → is_decimal text ≡ true → ¬ (digits_value 10 text < 2 ^ 127) → Err faults.Constant ≡ literal text
+large : (text : List ℕ) → is_decimal text ≡ true → ¬ (digits_value 10 text < 2 ^ 127) → Breaks faults.Constant ≡ literal text
 large text e l = grind (arith, nat_tests)
 
 -- a decimal literal that isn't parsed has no value
-pub not_parsed : {E : Type 0} (text : List ℕ) (r : Result ℤ E) (error : E) → ParsesSigned w128 10 text r → is_decimal text ≡ true → r ≡ Err error → Err faults.Constant ≡ literal text
+pub not_parsed : {E : Type 0} (text : List ℕ) (r : Result ℤ E) (error : E) → ParsesSigned w128 10 text r → is_decimal text ≡ true → r ≡ Err error → Breaks faults.Constant ≡ literal text
 not_parsed text r error h d e =
     let o = subst (λ q. OkIff q ((0 < length text) × (digits_value 10 text < 2 ^ 127)) (pos (digits_value 10 text))) e (parse_signed_digits own w128 text r h (digits text d)) in
     large text d (λ l. o (some text d, l))

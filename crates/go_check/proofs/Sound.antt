@@ -10,7 +10,7 @@ use Rattle.go_code.specs.declared.ending.Ending.{Ending}
 use Rattle.go_code.specs.declared.ending.Ending.TheVariants.{Ended}
 use Rattle.go_export.specs.Typed.{Expr, constant, Exprs, no_exprs, some_exprs, Stmt, print, Stmts, no_stmts, some_stmts, Symbol, Function, Typed}
 use Rattle.go_export.specs.WellTyped.{fits, IsTypedExpr, AreTypedExprs, IsTypedStmt, AreTypedStmts, IsTypedFunction, IsWellTyped}
-use Rattle.go_check.specs.Meaning.{Value, basic, Stored, World, Outcome, Gives, Ends, Stuck, Flow, Normal, Breaks, Continues, Returns, and_then, if_normal, with_tick, Calls, eval, eval_all, exec, exec_all, results_of, enter, first_locals, symbol_of, same_symbol, Declared, with_symbol, package_functions, function_at, call_at, most_open, last_package, function_named, HasMain, IsProgram, is_init, Step, calls, package_steps, main_steps, start_steps, step, step_all, first_world, IsOver, run, SourceMeaning}
+use Rattle.go_check.specs.Meaning.{Value, basic, Stored, World, Outcome, Gives, Ends, Stuck, Locals, Flow, Normal, Breaks, Continues, Returns, and_then, if_normal, with_tick, Calls, eval, eval_all, exec, exec_all, results_of, enter, first_locals, symbol_of, same_symbol, Declared, with_symbol, package_functions, function_at, call_at, most_open, last_package, function_named, HasMain, IsProgram, is_init, Step, calls, package_steps, main_steps, start_steps, step, step_all, first_world, IsOver, run, SourceMeaning}
 
 -- the outcome isn't stuck, and what it gives is so
 abbrev pub Sound : {A : Type 0} → (A → Type 0) → Outcome A → Type 0
@@ -38,10 +38,10 @@ sound_tick P (suc left) variables output next h = h (record { ticks = left; vari
 -- ---- expressions and statements
 
 mutual
-  eval_sound : (call : Calls) (e : Expr) (locals : List Value) (w : World) → IsTypedExpr e → Sound Anything (eval call e locals w)
+  eval_sound : (call : Calls) (e : Expr) (locals : Locals) (w : World) → IsTypedExpr e → Sound Anything (eval call e locals w)
   eval_sound call (constant of c) locals w t = sound_if Anything (fits of c) (Gives (basic c) w) t tt
 
-  eval_all_sound : (call : Calls) (es : Exprs) (locals : List Value) (w : World) → AreTypedExprs es → Sound Anything (eval_all call es locals w)
+  eval_all_sound : (call : Calls) (es : Exprs) (locals : Locals) (w : World) → AreTypedExprs es → Sound Anything (eval_all call es locals w)
   eval_all_sound call no_exprs locals w t = tt
   eval_all_sound call (some_exprs e es) locals w t =
       sound_then Anything Anything (eval call e locals w) _ (eval_sound call e locals w t.0)
@@ -54,18 +54,18 @@ InBody (Breaks locals) = ⊥
 InBody (Continues locals) = ⊥
 InBody (Returns results) = ⊤
 
-if_normal_sound : (next : List Value → World → Outcome Flow) → ((locals : List Value) (w : World) → Sound InBody (next locals w)) → (flow : Flow) (w : World) → InBody flow → Sound InBody (if_normal next flow w)
+if_normal_sound : (next : Locals → World → Outcome Flow) → ((locals : Locals) (w : World) → Sound InBody (next locals w)) → (flow : Flow) (w : World) → InBody flow → Sound InBody (if_normal next flow w)
 if_normal_sound next h (Normal locals) w i = h locals w
 if_normal_sound next h (Breaks locals) w i = absurd i
 if_normal_sound next h (Continues locals) w i = absurd i
 if_normal_sound next h (Returns results) w i = tt
 
 mutual
-  exec_sound : (call : Calls) (s : Stmt) (locals : List Value) (w : World) → IsTypedStmt s → Sound InBody (exec call s locals w)
+  exec_sound : (call : Calls) (s : Stmt) (locals : Locals) (w : World) → IsTypedStmt s → Sound InBody (exec call s locals w)
   exec_sound call (print operands) locals w t =
       sound_then Anything InBody (eval_all call operands locals w) _ (eval_all_sound call operands locals w t) (λ vs w1 h. tt)
 
-  exec_all_sound : (call : Calls) (ss : Stmts) (locals : List Value) (w : World) → AreTypedStmts ss → Sound InBody (exec_all call ss locals w)
+  exec_all_sound : (call : Calls) (ss : Stmts) (locals : Locals) (w : World) → AreTypedStmts ss → Sound InBody (exec_all call ss locals w)
   exec_all_sound call no_stmts locals w t = tt
   exec_all_sound call (some_stmts s ss) locals w t =
       sound_then InBody InBody (exec call s locals w) (if_normal (exec_all call ss)) (exec_sound call s locals w t.0)

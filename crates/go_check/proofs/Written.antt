@@ -10,7 +10,7 @@ use Rattle.std.proofs.lemmas.Slice.Eq.{bytes_eq-Decides}
 use Rattle.go_code.specs.declared.ending.Ending.TheVariants.{Ended, Cut}
 use Rattle.go_export.specs.Typed.{Expr, constant, Exprs, no_exprs, some_exprs, Stmt, print, Stmts, no_stmts, some_stmts, Function, Typed}
 use Rattle.go_export.specs.WellTyped.{fits, IsTypedExpr, AreTypedExprs, IsTypedStmt, AreTypedStmts, IsTypedFunction, IsWellTyped}
-use Rattle.go_check.specs.Meaning.{Value, basic, World, Outcome, Gives, Ends, Stuck, Flow, Normal, and_then, if_normal, with_tick, writes, Calls, eval, eval_all, line_text, exec, exec_all, results_of, enter, first_locals, symbol_of, same_symbol, Declared, with_symbol, function_at, call_at, most_open, function_named, IsProgram, is_init, calls, package_steps, start_steps, step_all, first_world, IsOver, run, SourceMeaning}
+use Rattle.go_check.specs.Meaning.{Value, basic, World, Outcome, Gives, Ends, Stuck, Locals, Flow, Normal, and_then, if_normal, with_tick, writes, Calls, eval, eval_all, line_text, exec, exec_all, results_of, enter, first_locals, symbol_of, same_symbol, Declared, with_symbol, function_at, call_at, most_open, function_named, IsProgram, is_init, calls, package_steps, start_steps, step_all, first_world, IsOver, run, SourceMeaning}
 use Rattle.go_check.specs.Written.{named_value, named_values, written_line, written, IsMainAlone}
 
 given : (b : Bool) (v : Value) (w : World) → IsTrue b → (if b then Gives v w else Stuck) ≡ Gives v w
@@ -18,21 +18,21 @@ given true v w e = refl
 given false v w e = cc
 
 mutual
-  eval_is : (call : Calls) (e : Expr) (locals : List Value) (w : World) → IsTypedExpr e → eval call e locals w ≡ Gives (named_value e) w
+  eval_is : (call : Calls) (e : Expr) (locals : Locals) (w : World) → IsTypedExpr e → eval call e locals w ≡ Gives (named_value e) w
   eval_is call (constant of c) locals w t = given (fits of c) (basic c) w t
 
-  eval_all_is : (call : Calls) (es : Exprs) (locals : List Value) (w : World) → AreTypedExprs es → eval_all call es locals w ≡ Gives (named_values es) w
+  eval_all_is : (call : Calls) (es : Exprs) (locals : Locals) (w : World) → AreTypedExprs es → eval_all call es locals w ≡ Gives (named_values es) w
   eval_all_is call no_exprs locals w t = refl
   eval_all_is call (some_exprs e es) locals w t =
       ap (λ (o : Outcome Value). and_then o (λ v w1. and_then (eval_all call es locals w1) (λ vs w2. Gives (v ∷ vs) w2))) (eval_is call e locals w t.0)
       ∙ ap (λ (o : Outcome (List Value)). and_then o (λ vs w2. Gives (named_value e ∷ vs) w2)) (eval_all_is call es locals w t.1)
 
 mutual
-  exec_is : (call : Calls) (s : Stmt) (locals : List Value) (w : World) → IsTypedStmt s → exec call s locals w ≡ Gives (Normal locals) (writes w (written_line s))
+  exec_is : (call : Calls) (s : Stmt) (locals : Locals) (w : World) → IsTypedStmt s → exec call s locals w ≡ Gives (Normal locals) (writes w (written_line s))
   exec_is call (print operands) locals w t =
       ap (λ (o : Outcome (List Value)). and_then o (λ values w1. Gives (Normal locals) (writes w1 (line_text values)))) (eval_all_is call operands locals w t)
 
-  exec_all_is : (call : Calls) (ss : Stmts) (locals : List Value) (w : World) → AreTypedStmts ss → exec_all call ss locals w ≡ Gives (Normal locals) (writes w (written ss))
+  exec_all_is : (call : Calls) (ss : Stmts) (locals : Locals) (w : World) → AreTypedStmts ss → exec_all call ss locals w ≡ Gives (Normal locals) (writes w (written ss))
   exec_all_is call no_stmts locals w t = ap (λ l. Gives (Normal locals) (record { ticks = w.ticks; variables = w.variables; output = l })) (sym (append-nil w.output))
   exec_all_is call (some_stmts s ss) locals w t =
       ap (λ (o : Outcome Flow). and_then o (if_normal (exec_all call ss))) (exec_is call s locals w t.0)

@@ -1,9 +1,12 @@
 -- Which forms are known so far, and where the first node of another form stands: in declaration order, a node before its parts.
-use Rattle.std.specs.Prelude.{Bool, true, false, ◌&&◌, if◌then◌else◌, Option, Some, None, List, [], ◌∷◌, codes}
+use Rattle.std.specs.Prelude.{ℕ, Bool, true, false, ◌&&◌, if◌then◌else◌, Option, Some, None, List, [], ◌∷◌, codes}
 use Rattle.std.specs.Str.{bytes_eq}
 use Rattle.go_text.specs.declared.place.Place.{Place}
-use Rattle.go_ast.specs.Trees.{Expr, Exprs, integer, string, selector, call, no_exprs, some_exprs, place_of, Simple, call_statement, Stmt, Stmts, no_stmts, some_stmts, empty, simple, Block, block, Decl, constants, variables, types, Function, TopLevel, declared, function, ImportSpec, File}
-use Rattle.go_check.specs.Rules.{is_decimal, is_library}
+use Rattle.go_ast.specs.Trees.{Expr, Exprs, name, integer, string, selector, call, no_exprs, some_exprs, place_of, Simple, call_statement, Stmt, Stmts, no_stmts, some_stmts, empty, simple, Block, block, Decl, constants, variables, types, Function, TopLevel, declared, function, File}
+use Rattle.go_check.specs.declared.import.Imported.{Imported}
+use Rattle.go_check.specs.declared.import.Imported.TheVariants.{Library, Another}
+use Rattle.go_check.specs.Imports.{Import, found}
+use Rattle.go_check.specs.Rules.{is_decimal}
 use Rattle.go_check.specs.Verdicts.{is_name, place_of_statement}
 
 -- the first of two, where there is one
@@ -16,42 +19,60 @@ abbrev pub first_in : {A : Type 0} → (A → Option Place) → List A → Optio
 first_in unknown [] = None
 first_in unknown (x ∷ xs) = or_else (unknown x) (first_in unknown xs)
 
--- ---- arguments: decimal and string literals
+-- ---- names of imported packages
 
-abbrev pub is_literal : Expr → Bool
-is_literal (integer p digits) = is_decimal digits
-is_literal (string p value) = true
-is_literal _ = false
+-- what the name before a dot finds
+abbrev pub finds : List Import → Expr → Option Imported
+finds imports (name p x) = found x imports
+finds imports _ = None
 
-abbrev pub unknown_argument : Expr → Option Place
-unknown_argument e = if is_literal e then None else Some (place_of e)
+-- it is a package other than the library
+abbrev pub is_another : Option Imported → Bool
+is_another (Some Another) = true
+is_another _ = false
 
-abbrev pub unknown_arguments : Exprs → Option Place
-unknown_arguments no_exprs = None
-unknown_arguments (some_exprs e es) = or_else (unknown_argument e) (unknown_arguments es)
+-- ---- arguments: decimal and string literals, and names of other packages
 
--- ---- statements: empty ones, and calls of fmt.Println
+abbrev pub is_operand : List Import → Expr → Bool
+is_operand imports (integer p digits) = is_decimal digits
+is_operand imports (string p value) = true
+is_operand imports (selector p operand field) = is_another (finds imports operand)
+is_operand imports _ = false
 
-abbrev pub is_println : Expr → Bool
-is_println (selector p operand field) = is_name (codes "fmt") operand && bytes_eq field.text (codes "Println")
-is_println _ = false
+abbrev pub unknown_argument : List Import → Expr → Option Place
+unknown_argument imports e = if is_operand imports e then None else Some (place_of e)
 
-abbrev pub unknown_call : Place → Expr → Option Place
-unknown_call p (call q callee arguments) = if is_println callee then unknown_arguments arguments else Some p
-unknown_call p _ = Some p
+abbrev pub unknown_arguments : List Import → Exprs → Option Place
+unknown_arguments imports no_exprs = None
+unknown_arguments imports (some_exprs e es) = or_else (unknown_argument imports e) (unknown_arguments imports es)
 
-abbrev pub unknown_simple : Place → Simple → Option Place
-unknown_simple p (call_statement e) = unknown_call p e
-unknown_simple p _ = Some p
+-- ---- statements: empty ones, and calls of the library's Println, which fmt has also where it isn't imported, and of names of other packages
 
-abbrev pub unknown_statement : Stmt → Option Place
-unknown_statement (empty p) = None
-unknown_statement (simple p c) = unknown_simple p c
-unknown_statement st = Some (place_of_statement st)
+abbrev pub selects : Option Imported → Expr → List ℕ → Bool
+selects (Some Library) operand field = bytes_eq field (codes "Println")
+selects (Some Another) operand field = true
+selects None operand field = is_name (codes "fmt") operand && bytes_eq field (codes "Println")
 
-abbrev pub unknown_statements : Stmts → Option Place
-unknown_statements no_stmts = None
-unknown_statements (some_stmts st sts) = or_else (unknown_statement st) (unknown_statements sts)
+abbrev pub is_callee : List Import → Expr → Bool
+is_callee imports (selector p operand field) = selects (finds imports operand) operand field.text
+is_callee imports _ = false
+
+abbrev pub unknown_call : List Import → Place → Expr → Option Place
+unknown_call imports p (call q callee arguments) = if is_callee imports callee then unknown_arguments imports arguments else Some p
+unknown_call imports p _ = Some p
+
+abbrev pub unknown_simple : List Import → Place → Simple → Option Place
+unknown_simple imports p (call_statement e) = unknown_call imports p e
+unknown_simple imports p _ = Some p
+
+abbrev pub unknown_statement : List Import → Stmt → Option Place
+unknown_statement imports (empty p) = None
+unknown_statement imports (simple p c) = unknown_simple imports p c
+unknown_statement imports st = Some (place_of_statement st)
+
+abbrev pub unknown_statements : List Import → Stmts → Option Place
+unknown_statements imports no_stmts = None
+unknown_statements imports (some_stmts st sts) = or_else (unknown_statement imports st) (unknown_statements imports sts)
 
 -- ---- declarations: functions main without parameters and results
 
@@ -62,25 +83,22 @@ is_nil (x ∷ xs) = false
 abbrev pub is_plain_main : Function → Bool
 is_plain_main f = bytes_eq f.name.text (codes "main") && (is_nil f.parameters && is_nil f.results)
 
-abbrev pub unknown_block : Block → Option Place
-unknown_block (block p sts q) = unknown_statements sts
+abbrev pub unknown_block : List Import → Block → Option Place
+unknown_block imports (block p sts q) = unknown_statements imports sts
 
-abbrev pub unknown_function : Function → Option Place
-unknown_function f = if is_plain_main f then unknown_block f.body else Some f.place
+abbrev pub unknown_function : List Import → Function → Option Place
+unknown_function imports f = if is_plain_main f then unknown_block imports f.body else Some f.place
 
 abbrev pub place_of_declaration : Decl → Place
 place_of_declaration (constants p specs) = p
 place_of_declaration (variables p specs) = p
 place_of_declaration (types p specs) = p
 
-abbrev pub unknown_declaration : TopLevel → Option Place
-unknown_declaration (declared d) = Some (place_of_declaration d)
-unknown_declaration (function f) = unknown_function f
+abbrev pub unknown_declaration : List Import → TopLevel → Option Place
+unknown_declaration imports (declared d) = Some (place_of_declaration d)
+unknown_declaration imports (function f) = unknown_function imports f
 
--- ---- files: imports of fmt that give it no other name, and declarations
+-- ---- files: each import has a rule
 
-abbrev pub unknown_import : ImportSpec → Option Place
-unknown_import spec = if is_library spec then None else Some spec.place
-
-abbrev pub first_unknown : File → Option Place
-first_unknown file = or_else (first_in unknown_import file.imports) (first_in unknown_declaration file.declarations)
+abbrev pub first_unknown : List Import → File → Option Place
+first_unknown imports file = first_in (unknown_declaration imports) file.declarations

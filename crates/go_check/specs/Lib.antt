@@ -1,4 +1,5 @@
 pub mod Forms
+pub mod Imports
 pub mod Meaning
 pub mod Packages
 pub mod Rules

@@ -41,12 +41,16 @@ pub data Outcome (A : Type 0) : Type 0 where
   Ends : (ending : Ending) (output : List ℕ) → Outcome A
   Stuck : Outcome A
 
--- How a statement leaves off: for the next one, for the end or the next turn of a loop, each with the values of the local variables by
--- their numbers, or for the caller with the function's results.
+-- the values of the local variables by their numbers; one that isn't declared yet has none
+abbrev pub Locals : Type 0
+Locals = List (Option Value)
+
+-- How a statement leaves off: for the next one, for the end or the next turn of a loop, each with the local variables, or for the
+-- caller with the function's results.
 pub data Flow : Type 0 where
-  Normal : (locals : List Value) → Flow
-  Breaks : (locals : List Value) → Flow
-  Continues : (locals : List Value) → Flow
+  Normal : (locals : Locals) → Flow
+  Breaks : (locals : Locals) → Flow
+  Continues : (locals : Locals) → Flow
   Returns : (results : List Value) → Flow
 
 -- one thing and then, where that gives an answer, another
@@ -56,11 +60,9 @@ and_then (Ends ending output) next = Ends ending output
 and_then Stuck next = Stuck
 
 -- goes on behind a statement that leaves off for the next one
-abbrev pub if_normal : (List Value → World → Outcome Flow) → Flow → World → Outcome Flow
+abbrev pub if_normal : (Locals → World → Outcome Flow) → Flow → World → Outcome Flow
 if_normal next (Normal locals) w = next locals w
-if_normal next (Breaks locals) w = Gives (Breaks locals) w
-if_normal next (Continues locals) w = Gives (Continues locals) w
-if_normal next (Returns results) w = Gives (Returns results) w
+if_normal next other w = Gives other w
 
 -- takes a tick; none left: the program is cut
 abbrev pub with_tick : {A : Type 0} → World → (World → Outcome A) → Outcome A
@@ -77,11 +79,11 @@ Calls = Symbol → List Value → World → Outcome (List Value)
 -- ---- expressions
 
 abbrev mutual
-  pub eval : Calls → Expr → List Value → World → Outcome Value
+  pub eval : Calls → Expr → Locals → World → Outcome Value
   eval call (constant of c) locals w = if fits of c then Gives (basic c) w else Stuck
 
   -- https://go.dev/ref/spec#Order_of_evaluation: from left to right
-  pub eval_all : Calls → Exprs → List Value → World → Outcome (List Value)
+  pub eval_all : Calls → Exprs → Locals → World → Outcome (List Value)
   eval_all call no_exprs locals w = Gives [] w
   eval_all call (some_exprs e es) locals w =
       and_then (eval call e locals w) (λ v w1. and_then (eval_all call es locals w1) (λ vs w2. Gives (v ∷ vs) w2))
@@ -103,10 +105,10 @@ abbrev pub line_text : List Value → List ℕ
 line_text values = join_by value_text (codes " ") values ++ codes "\n"
 
 abbrev mutual
-  pub exec : Calls → Stmt → List Value → World → Outcome Flow
+  pub exec : Calls → Stmt → Locals → World → Outcome Flow
   exec call (print operands) locals w = and_then (eval_all call operands locals w) (λ values w1. Gives (Normal locals) (writes w1 (line_text values)))
 
-  pub exec_all : Calls → Stmts → List Value → World → Outcome Flow
+  pub exec_all : Calls → Stmts → Locals → World → Outcome Flow
   exec_all call no_stmts locals w = Gives (Normal locals) w
   exec_all call (some_stmts s ss) locals w = and_then (exec call s locals w) (if_normal (exec_all call ss))
 
@@ -115,18 +117,17 @@ abbrev mutual
 -- what a function's body gives its caller; no break or continue leaves a body
 abbrev pub results_of : Flow → World → Outcome (List Value)
 results_of (Normal locals) w = Gives [] w
-results_of (Breaks locals) w = Stuck
-results_of (Continues locals) w = Stuck
 results_of (Returns results) w = Gives results w
+results_of _ w = Stuck
 
 -- enters a function with an argument for each parameter: that takes a tick
 abbrev pub enter : Option Function → List Value → World → (Function → World → Outcome (List Value)) → Outcome (List Value)
 enter None arguments w run = Stuck
 enter (Some f) arguments w run = if nat_eq (length arguments) (length f.parameters) then with_tick w (run f) else Stuck
 
--- the local variables of a function that is entered: the arguments, and the others at their zero values
-abbrev pub first_locals : Function → List Value → List Value
-first_locals f arguments = arguments ++ map zero_of f.locals
+-- the local variables of a function that is entered: the arguments, and the others, none of which is declared yet
+abbrev pub first_locals : Function → List Value → Locals
+first_locals f arguments = map Some arguments ++ map (λ of. None) f.locals
 
 abbrev pub symbol_of : Typed → List ℕ → Symbol
 symbol_of typed name = record { path = typed.path; name = name }

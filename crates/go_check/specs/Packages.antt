@@ -6,55 +6,78 @@ use Rattle.std.specs.Str.{bytes_eq}
 use Rattle.go_text.specs.declared.fault.FaultKind.TheVariants.{LeftOut, Main}
 use Rattle.go_text.specs.declared.place.Place.{Place}
 use Rattle.go_text.specs.Faults.{Fault}
-use Rattle.go_ast.specs.Trees.{File, ImportSpec, TopLevel, function}
+use Rattle.go_ast.specs.Trees.{File, TopLevel, function}
 use Rattle.go_ast.specs.Trees as trees
 use Rattle.go_export.specs.Typed.{Typed, Function, Stmt, pack_stmts}
-use Rattle.go_check.specs.Rules.{is_library, brought, declared}
-use Rattle.go_check.specs.Forms.{place_of_declaration, first_unknown}
-use Rattle.go_check.specs.Verdicts.{Scope, ruled, broken, fault_at, all_known, body_of, body_known, body_faults, statement_refers}
+use Rattle.go_check.specs.Imports.{Import, is_named}
+use Rattle.go_check.specs.Rules.{brought, declared}
+use Rattle.go_check.specs.Forms.{is_plain_main, first_unknown}
+use Rattle.go_check.specs.Verdicts.{Scope, broken, fault_at, all_known, body_of, body_known, body_faults, statement_refers}
 
--- a file of a package: its name, and its tree
+-- a file of a package: its name, its tree, and what its imports declare
 pub record NamedFile : Type 0 where
   pub name : List ℕ
   pub tree : File
+  pub imports : List Import
 
 -- ---- imports
 
 abbrev pub scope_of : NamedFile → Scope
-scope_of file = record { file = file.name; library = list_any is_library file.tree.imports }
+scope_of file = record { file = file.name; imports = file.imports }
 
 abbrev pub declaration_refers : List ℕ → TopLevel → Bool
 declaration_refers x (function f) = list_any (statement_refers x) (body_of f.body)
 declaration_refers x (trees.declared d) = false
 
--- the file refers to the library
-abbrev pub uses_library : File → Bool
-uses_library file = list_any (declaration_refers (codes "fmt")) file.declarations
+-- the file refers to a name
+abbrev pub refers_to : List ℕ → File → Bool
+refers_to x file = list_any (declaration_refers x) file.declarations
 
--- the faults of imports, where those before them do or don't have the library, and the file does or doesn't refer to it
-abbrev pub imports_faults : Scope → Bool → Bool → List ImportSpec → List Fault
-imports_faults s before referred [] = []
-imports_faults s before referred (spec ∷ specs) =
-    broken s spec.place (ruled (brought before referred spec)) ++ imports_faults s (before || is_library spec) referred specs
+-- https://go.dev/ref/spec#Declarations_and_scope
+-- a file declares a name in the package's block: that of a function which isn't init; other declarations are passed over
+abbrev pub declares : List ℕ → TopLevel → Bool
+declares x (function f) = bytes_eq f.name.text x && not (bytes_eq x (codes "init"))
+declares x (trees.declared d) = false
+
+abbrev pub file_declares : List ℕ → NamedFile → Bool
+file_declares x file = list_any (declares x) file.tree.declarations
+
+-- a name is taken in a file of the package by an import before, or in the package's block
+abbrev pub is_taken : List NamedFile → List Import → List ℕ → Bool
+is_taken whole before x = list_any (is_named x) before || list_any (file_declares x) whole
+
+-- the faults of imports of a file of the package, each behind those before it
+abbrev pub imports_faults : List NamedFile → NamedFile → List Import → List Import → List Fault
+imports_faults whole file before [] = []
+imports_faults whole file before (import ∷ imports) =
+    broken (scope_of file) import.place (brought (is_taken whole before import.name) (refers_to import.name file.tree) import)
+    ++ imports_faults whole file (before ++ import ∷ []) imports
 
 -- ---- declarations
 
--- what a function is named; other declarations are left out
+-- what a function is named; other declarations are passed over
 abbrev pub declared_name : TopLevel → List ℕ
 declared_name (function f) = f.name.text
 declared_name (trees.declared d) = []
 
 -- the faults of a declaration behind these names; its name comes before its body
+abbrev pub function_faults : List (List ℕ) → Scope → trees.Function → List Fault
+function_faults before s f = broken s f.name.place (declared before f.name.text) ++ body_faults s (body_of f.body)
+
 abbrev pub declaration_faults : List (List ℕ) → Scope → TopLevel → List Fault
-declaration_faults before s (function f) = broken s f.name.place (ruled (declared before f.name.text)) ++ body_faults s (body_of f.body)
-declaration_faults before s (trees.declared d) = fault_at s (place_of_declaration d) LeftOut ∷ []
+declaration_faults before s (function f) = function_faults before s f
+declaration_faults before s (trees.declared d) = []
 
 -- a function without parameters, by its name and its body's statements
 abbrev pub plain_function : List ℕ → List Stmt → Function
 plain_function name body = record { name = name; parameters = []; locals = []; body = pack_stmts body }
 
+-- what a declaration is: a function of a known form, where each of its statements is fine
+abbrev pub function_known : Scope → trees.Function → Option Function
+function_known s f = if is_plain_main f then option_map (plain_function f.name.text) (body_known s (body_of f.body)) else None
+
 abbrev pub declaration_known : Scope → TopLevel → Option Function
-declaration_known s (function f) = option_map (plain_function f.name.text) (body_known s (body_of f.body))
+declaration_known s (function f) = function_known s f
 declaration_known s (trees.declared d) = None
 
 -- the faults of declarations, each behind the names of those before it
@@ -67,31 +90,18 @@ declarations_faults before s (d ∷ ds) = declaration_faults before s d ++ decla
 abbrev pub file_names : NamedFile → List (List ℕ)
 file_names file = map declared_name file.tree.declarations
 
--- the faults of a file: its imports, then its declarations, behind the names that the files before it declare
-abbrev pub file_faults : List (List ℕ) → NamedFile → List Fault
-file_faults before file =
-    imports_faults (scope_of file) false (uses_library file.tree) file.tree.imports
-    ++ declarations_faults before (scope_of file) file.tree.declarations
+-- the faults of a file of the package: its imports, then its declarations, behind the names that the files before it declare
+abbrev pub file_faults : List NamedFile → List (List ℕ) → NamedFile → List Fault
+file_faults whole before file =
+    imports_faults whole file [] file.imports ++ declarations_faults before (scope_of file) file.tree.declarations
 
--- the faults of files, each behind the names of those before it
-abbrev pub files_faults : List (List ℕ) → List NamedFile → List Fault
-files_faults before [] = []
-files_faults before (file ∷ files) = file_faults before file ++ files_faults (before ++ file_names file) files
+-- the faults of files of the package, each behind the names of those before it
+abbrev pub files_faults : List NamedFile → List (List ℕ) → List NamedFile → List Fault
+files_faults whole before [] = []
+files_faults whole before (file ∷ files) = file_faults whole before file ++ files_faults whole (before ++ file_names file) files
 
 abbrev pub file_known : NamedFile → List (Option Function)
 file_known file = map (declaration_known (scope_of file)) file.tree.declarations
-
--- ---- forms
-
--- the fault of a file that holds a form that isn't known yet
-abbrev pub form_fault : Scope → Option Place → List Fault
-form_fault s None = []
-form_fault s (Some p) = fault_at s p LeftOut ∷ []
-
--- the faults of files that hold such forms
-abbrev pub forms_faults : List NamedFile → List Fault
-forms_faults [] = []
-forms_faults (file ∷ files) = form_fault (scope_of file) (first_unknown file.tree) ++ forms_faults files
 
 -- ---- packages
 
@@ -109,28 +119,45 @@ main_faults (first ∷ rest) =
     then fault_at (scope_of first) first.tree.package.place Main ∷ []
     else []
 
--- those of forms that aren't known yet, and where there are none those of the package's nodes, file by file, and then that of the package
+-- those of the package's nodes, file by file, and then that of the package
 abbrev pub package_faults : List NamedFile → List Fault
-package_faults files = forms_faults files ++ (files_faults [] files ++ main_faults files)
+package_faults files = files_faults files [] files ++ main_faults files
 
 -- the fault of a package is the first one
 abbrev pub FaultOf : List NamedFile → Fault → Type 0
 FaultOf files fault = (others : List Fault) × (package_faults files ≡ fault ∷ others)
 
+abbrev pub package_of : List ℕ → List NamedFile → List Function → Typed
+package_of path files functions = record { path = path; «package» = package_name files; variables = []; functions = functions }
+
 -- what the package is, where each function is fine
 abbrev pub package_known : List ℕ → List NamedFile → Option Typed
-package_known path files = option_map (λ functions. record { path = path; «package» = package_name files; variables = []; functions = functions }) (all_known (flat_map file_known files))
+package_known path files = option_map (package_of path files) (all_known (flat_map file_known files))
 
 -- a package at a path that has no fault, and what it is
 pub record IsChecked (path : List ℕ) (files : List NamedFile) (typed : Typed) : Type 0 where
   pub faultless : package_faults files ≡ []
   pub known : package_known path files ≡ Some typed
 
--- what is answered of a package
+-- what is answered of a package: what it is, its first fault, or that no rule is broken and something was passed over
 pub data Answer : Type 0 where
   Good : Typed → Answer
   Faulty : Fault → Answer
+  PassedOver : Answer
 
 abbrev pub IsAnswer : List ℕ → List NamedFile → Answer → Type 0
 IsAnswer path files (Good typed) = IsChecked path files typed
 IsAnswer path files (Faulty fault) = FaultOf files fault
+IsAnswer path files PassedOver = (package_faults files ≡ []) × (package_known path files ≡ None)
+
+-- ---- forms that have no rule so far
+
+-- the fault of the first of them in a file, or else in the files behind it
+abbrev pub left_out_in : Scope → Option Place → Option Fault → Option Fault
+left_out_in s (Some p) behind = Some (fault_at s p LeftOut)
+left_out_in s None behind = behind
+
+-- the fault of the first of them in files
+abbrev pub first_left_out : List NamedFile → Option Fault
+first_left_out [] = None
+first_left_out (file ∷ files) = left_out_in (scope_of file) (first_unknown file.imports file.tree) (first_left_out files)

@@ -1,68 +1,54 @@
 -- What the rules say of each node of a file, and the faults of the nodes in their order.
-use Rattle.std.specs.Prelude.{ℕ, Bool, false, ◌||◌, Option, Some, None, Result, Ok, Err, List, [], ◌∷◌, ◌++◌, map}
+use Rattle.std.specs.Prelude.{ℕ, Bool, false, ◌||◌, Option, Some, None, List, [], ◌∷◌, ◌++◌, map}
 use Rattle.std.specs.List.{flat_map}
 use Rattle.std.specs.Str.{bytes_eq}
 use Rattle.go_text.specs.declared.place.Place.{Place}
 use Rattle.go_text.specs.declared.fault.FaultKind.{FaultKind}
-use Rattle.go_text.specs.declared.fault.FaultKind.TheVariants.{LeftOut}
 use Rattle.go_text.specs.Faults.{Fault}
 use Rattle.go_ast.specs.Trees.{Expr, Exprs, name, integer, string, selector, call, no_exprs, some_exprs, place_of, Simple, call_statement, Stmt, Stmts, no_stmts, some_stmts, empty, declaration, simple, return, break, continue, fallthrough, block_statement, if_statement, for_statement, range_statement, switch_statement, Block, block, If, conditional}
 use Rattle.go_export.specs.Typed as typed
-use Rattle.go_check.specs.Rules.{Known, untyped, literal, integer_constant, named, selected, value, called, stated}
-
--- Of a node: it is fine, and this is known of it; it breaks a rule; or it isn't asked, since a part of it isn't fine.
-pub data Verdict (A : Type 0) : Type 0 where
-  Fine : A → Verdict A
-  Breaks : FaultKind → Verdict A
-  Passed : Verdict A
-
--- the verdict of a rule
-abbrev pub ruled : {A : Type 0} → Result A FaultKind → Verdict A
-ruled (Ok x) = Fine x
-ruled (Err kind) = Breaks kind
+use Rattle.go_check.specs.Imports.{Import, found}
+use Rattle.go_check.specs.Rules.{Verdict, Fine, Breaks, Passed, Known, untyped, literal, integer_constant, named, selected, value, called, stated}
 
 abbrev pub fine : {A : Type 0} → Verdict A → Option A
 fine (Fine x) = Some x
-fine (Breaks kind) = None
-fine Passed = None
+fine _ = None
 
 -- a rule over parts, which is asked where they are fine
-abbrev pub asked : {A B : Type 0} → (A → Result B FaultKind) → Option A → Verdict B
+abbrev pub asked : {A B : Type 0} → (A → Verdict B) → Option A → Verdict B
 asked rule None = Passed
-asked rule (Some x) = ruled (rule x)
+asked rule (Some x) = rule x
 
 abbrev pub both : {A B : Type 0} → Option A → Option B → Option (A × B)
-both None b = None
-both (Some x) None = None
 both (Some x) (Some y) = Some (x, y)
+both _ _ = None
 
 -- one more, where each is known
 abbrev pub with_first : {A : Type 0} → Option A → Option (List A) → Option (List A)
-with_first None xs = None
-with_first (Some x) None = None
 with_first (Some x) (Some xs) = Some (x ∷ xs)
+with_first _ _ = None
 
 -- all of them, where each is known
 abbrev pub all_known : {A : Type 0} → List (Option A) → Option (List A)
 all_known [] = Some []
 all_known (x ∷ xs) = with_first x (all_known xs)
 
--- the file that a node stands in: its name, and whether it imports the library
+-- the file that a node stands in: its name, and what its imports declare
 pub record Scope : Type 0 where
   pub file : List ℕ
-  pub library : Bool
+  pub imports : List Import
 
 -- ---- expressions
 
--- what an expression is, and what arguments are where values are due; other forms are left out
+-- what an expression is, and what arguments are where values are due; other forms are passed over
 abbrev mutual
   pub verdict : Scope → Expr → Verdict Known
-  verdict s (name p x) = ruled (named s.library x)
-  verdict s (integer p digits) = ruled (integer_constant (literal digits))
+  verdict s (name p x) = named (found x s.imports) x
+  verdict s (integer p digits) = integer_constant (literal digits)
   verdict s (string p bytes) = Fine (untyped (typed.text bytes))
   verdict s (selector p operand field) = asked (selected field.text) (fine (verdict s operand))
   verdict s (call p callee arguments) = asked (λ parts. called parts.0 parts.1) (both (fine (verdict s callee)) (values s arguments))
-  verdict s _ = Breaks LeftOut
+  verdict s _ = Passed
 
   pub values : Scope → Exprs → Option (List typed.Constant)
   values s no_exprs = Some []
@@ -73,19 +59,17 @@ fault_at s p kind = record { file = s.file; place = p; kind = kind }
 
 -- the fault of a node at a place, if it breaks a rule
 abbrev pub broken : {A : Type 0} → Scope → Place → Verdict A → List Fault
-broken s p (Fine x) = []
 broken s p (Breaks kind) = fault_at s p kind ∷ []
-broken s p Passed = []
+broken s p _ = []
 
 -- the faults of an expression's nodes: parts first, left to right; a value is due of an argument
 abbrev mutual
   pub faults : Scope → Expr → List Fault
   faults s (name p x) = broken s p (verdict s (name p x))
   faults s (integer p digits) = broken s p (verdict s (integer p digits))
-  faults s (string p bytes) = []
   faults s (selector p operand field) = faults s operand ++ broken s p (verdict s (selector p operand field))
   faults s (call p callee arguments) = faults s callee ++ argument_faults s arguments ++ broken s p (verdict s (call p callee arguments))
-  faults s e = fault_at s (place_of e) LeftOut ∷ []
+  faults s _ = []
 
   pub argument_faults : Scope → Exprs → List Fault
   argument_faults s no_exprs = []
@@ -114,22 +98,22 @@ place_of_statement (for_statement p start condition step body) = p
 place_of_statement (range_statement p x e body) = p
 place_of_statement (switch_statement p start e cs) = p
 
--- a call that stands as a statement; other forms are left out
+-- a call that stands as a statement; other forms are passed over
 abbrev pub simple_verdict : Scope → Simple → Verdict typed.Stmt
 simple_verdict s (call_statement e) = asked stated (fine (verdict s e))
-simple_verdict s _ = Breaks LeftOut
+simple_verdict s _ = Passed
 
 abbrev pub statement_verdict : Scope → Stmt → Verdict typed.Stmt
 statement_verdict s (simple p c) = simple_verdict s c
-statement_verdict s _ = Breaks LeftOut
+statement_verdict s _ = Passed
 
 abbrev pub simple_faults : Scope → Place → Simple → List Fault
 simple_faults s p (call_statement e) = faults s e ++ broken s p (asked stated (fine (verdict s e)))
-simple_faults s p _ = fault_at s p LeftOut ∷ []
+simple_faults s p _ = []
 
 abbrev pub statement_faults : Scope → Stmt → List Fault
 statement_faults s (simple p c) = simple_faults s p c
-statement_faults s st = fault_at s (place_of_statement st) LeftOut ∷ []
+statement_faults s _ = []
 
 -- the statements that aren't empty: an empty one means nothing
 abbrev pub with_full : Stmt → List Stmt → List Stmt

@@ -1,9 +1,11 @@
 //! What is known of expressions, and the rules of single nodes.
 ghost use Rattle.std.specs.Prelude.{◌≡◌, IfOk, map};
 ghost use Rattle.std.specs.List.{list_all};
+ghost use Rattle.std.specs.Option.{option_map};
 ghost use Rattle.std.specs.Char.{is_ascii_digit};
 ghost use Rattle.go_export.specs.Views.{constant_of, expression_of};
 ghost use Rattle.go_check.specs.Rules.{is_decimal, literal, fits_default, defaulted};
+ghost use Rattle.go_check.specs.Seen.{verdict_of, added};
 
 use go_export::typed::{Const, GoType, TypedExpr, TypedExprKind};
 use go_text::fault::FaultKind;
@@ -16,6 +18,8 @@ pub(crate) enum Known {
     Library,
     /// Its function Println.
     Println,
+    /// Another package that is imported.
+    Another,
     /// A constant that has no type yet.
     Untyped(Const),
     /// A call of Println with operands.
@@ -40,15 +44,15 @@ pub(crate) fn is_decimal(text: &[u8]) -> bool
 }
 
 /// The value of an integer literal. [Integer literals](https://go.dev/ref/spec#Integer_literals)
-/// `LeftOut` comes where it isn't decimal, `Constant` where its value is above 2^127-1.
-pub(crate) fn literal(text: &str) -> Result<i128, FaultKind>
-    ensures { result ≡ literal text.now }
+/// `None` where it isn't decimal; `Constant` where its value is above 2^127-1.
+pub(crate) fn literal(text: &str) -> Result<Option<i128>, FaultKind>
+    ensures { verdict_of (λ z. z) result ≡ literal text.now }
 {
     if !is_decimal(text.as_bytes()) {
-        return Err(FaultKind::LeftOut);
+        return Ok(None);
     }
     match text.parse::<i128>() {
-        Ok(value) => Ok(value),
+        Ok(value) => Ok(Some(value)),
         Err(_) => Err(FaultKind::Constant),
     }
 }
@@ -97,4 +101,20 @@ pub(crate) fn all_defaulted(
         all.push(defaulted(constant))?;
     }
     Ok(all)
+}
+
+/// One more behind the others, where all are known.
+pub(crate) fn added<T: Drop>(
+    all: Option<Vec<T>>,
+    one: Option<T>,
+) -> Result<Option<Vec<T>>, AllocError>
+    ensures { IfOk result (λ more. option_map (λ v. v.items) more ≡ added (option_map (λ v. v.items) all) one) }
+{
+    match (all, one) {
+        (Some(mut all), Some(one)) => {
+            all.push(one)?;
+            Ok(Some(all))
+        }
+        _ => Ok(None),
+    }
 }

@@ -1,10 +1,10 @@
 //! Which names are written before a dot.
-ghost use Rattle.std.specs.Prelude.{◌≡◌, codes, map};
+ghost use Rattle.std.specs.Prelude.{◌≡◌, map};
 ghost use Rattle.std.specs.List.{list_any};
 ghost use Rattle.go_ast.specs.Trees.{pack_stmts};
 ghost use Rattle.go_ast.specs.Views.{expr_of, exprs_in, stmt_of, top_of, file_of};
 ghost use Rattle.go_check.specs.Verdicts.{is_name, refers, one_refers, statement_refers, full};
-ghost use Rattle.go_check.specs.Packages.{declaration_refers, uses_library};
+ghost use Rattle.go_check.specs.Packages.{declaration_refers, refers_to};
 
 use go_ast::expression::{Expr, ExprKind};
 use go_ast::file::{File, TopLevel};
@@ -80,12 +80,12 @@ fn declaration_refers(name: &str, declaration: &TopLevel) -> bool
     }
 }
 
-/// Whether a file refers to the library.
-pub(crate) fn uses_library(file: &File) -> bool
-    ensures { result ≡ uses_library (file_of file.now) }
+/// Whether a file refers to a name.
+pub(crate) fn refers_to(name: &str, file: &File) -> bool
+    ensures { result ≡ refers_to name.now (file_of file.now) }
 {
     for declaration in &file.declarations {
-        if declaration_refers("fmt", declaration) {
+        if declaration_refers(name, declaration) {
             return true;
         }
     }

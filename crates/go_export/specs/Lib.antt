@@ -1,3 +1,5 @@
+pub mod Fields
+pub mod Summaries
 pub mod Typed
 pub mod Types
 pub mod Views

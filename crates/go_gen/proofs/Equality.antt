@@ -19,16 +19,16 @@ use Rattle.go_code.proofs.Stands.{stands_whole, stands_as}
 use Rattle.go_code.proofs.Steps.{leads_stop, meaning_once}
 use Rattle.go_export.specs.Typed.{Function, Stmts, Symbol, Typed}
 use Rattle.go_export.specs.WellTyped.{IsWellTyped}
-use Rattle.go_check.specs.Meaning.{Value, Stored, World, Outcome, Gives, Ends, Stuck, Flow, Normal, Breaks, Continues, Returns, and_then, with_tick, Calls, exec_all, results_of, enter, first_locals, function_at, call_at, most_open, IsProgram, Step, calls, start_steps, step, step_all, first_variables, first_world, IsOver, run, SourceMeaning}
+use Rattle.go_check.specs.Meaning.{Value, Stored, World, Outcome, Gives, Ends, Stuck, Locals, Flow, Normal, Breaks, Continues, Returns, and_then, with_tick, Calls, exec_all, results_of, enter, first_locals, function_at, call_at, most_open, IsProgram, Step, calls, start_steps, step, step_all, first_variables, first_world, IsOver, run, SourceMeaning}
 use Rattle.go_check.proofs.Sound.{source_some}
-use Rattle.go_gen.proofs.Runs.{no_slots, none_held, held, Onward, onward_if, onward_then, onward_map, After, here, On, statements_run}
-use Rattle.go_gen.specs.Translation.{body_code}
+use Rattle.go_gen.proofs.Runs.{none_held, held, Onward, onward_if, onward_then, onward_map, After, here, On, statements_run}
+use Rattle.go_gen.specs.Translation.{no_slots, body_code}
 
 -- ---- functions in images
 
 -- a package's function in an image
 abbrev pub compiled : Function → ImageFunction ℕ
-compiled f = record { parameters = 0; cells = 0; code = body_code f.body }
+compiled f = record { parameters = 0; cells = 0; code = body_code no_slots f.body }
 
 -- ---- a body that was called as a start step
 
@@ -36,8 +36,8 @@ compiled f = record { parameters = 0; cells = 0; code = body_code f.body }
 abbrev pub between : List Start → World → State
 between starts w = record { frames = []; starts = starts; globals = held w.variables; ticks = w.ticks; output = w.output }
 
-module _ (image : Image) (final : Final) (starts : List Start) (code : List (Instr ℕ)) (body : Stmts) (is : code ≡ body_code body) (goes_on : World → Type 0) (rest : (w : World) → goes_on w → Leads image (between starts w) final) where
-  falls_off : (locals : List Value) (w : World) → goes_on w → On image final 1 code [] starts no_slots (By_call (Return 0) ∷ []) locals [] w
+module _ (image : Image) (final : Final) (starts : List Start) (code : List (Instr ℕ)) (body : Stmts) (is : code ≡ body_code no_slots body) (goes_on : World → Type 0) (rest : (w : World) → goes_on w → Leads image (between starts w) final) where
+  falls_off : (locals : Locals) (w : World) → goes_on w → On image final 1 code [] starts no_slots (By_call (Return 0) ∷ []) locals [] w
   falls_off locals w g p cells holds s = return_over image (here image final 1 code [] starts no_slots p cells [] w) _ [] [] 0 [] final refl s refl refl (rest w g)
 
   -- no statement returns or leaves a loop yet
@@ -47,7 +47,7 @@ module _ (image : Image) (final : Final) (starts : List Start) (code : List (Ins
   flow_ends (Continues locals) w h = h
   flow_ends (Returns results) w h = h
 
-  body_runs : (call : Calls) (locals : List Value) (cells : List Cell) (w : World) → Onward final (λ results. goes_on) (and_then (exec_all call body locals w) results_of) → Leads image (here image final 1 code [] starts no_slots 0 cells [] w) final
+  body_runs : (call : Calls) (locals : Locals) (cells : List Cell) (w : World) → Onward final (λ results. goes_on) (and_then (exec_all call body locals w) results_of) → Leads image (here image final 1 code [] starts no_slots 0 cells [] w) final
   body_runs call locals cells w h =
       statements_run image final 1 code [] starts no_slots call body locals (By_call (Return 0) ∷ []) (λ ls w1. ⊥) (λ ls w1. ⊥) (λ results. goes_on) w
       (onward_map final _ _ (exec_all call body locals w) flow_ends (onward_then final _ (exec_all call body locals w) results_of h))
@@ -76,7 +76,7 @@ module _ (image : Image) (final : Final) (packages : List Typed) (number : Symbo
       subst (Leads image state) (sym h) (start_cut image state (number s) (compiled f) starts refl refl (found s f is) refl refl)
   ticked call starts goes_on rest s f is (suc left) variables output h =
       start_leads image (between (Run (number s) ∷ starts) (record { ticks = suc left; variables = variables; output = output })) (number s) (compiled f) starts left final refl refl (found s f is) refl refl
-      (body_runs image final starts (body_code f.body) f.body refl goes_on rest call (first_locals f []) [] (record { ticks = left; variables = variables; output = output }) h)
+      (body_runs image final starts (body_code no_slots f.body) f.body refl goes_on rest call (first_locals f []) [] (record { ticks = left; variables = variables; output = output }) h)
 
   -- a call by symbol
   called : (call : Calls) (starts : List Start) (goes_on : World → Type 0) → ((w : World) → goes_on w → Leads image (between starts w) final) → (s : Symbol) (o : Option Function) → function_at packages s ≡ o → (w : World) → Onward final (λ results. goes_on) (enter o [] w (runs_body call)) → Leads image (between (Run (number s) ∷ starts) w) final

@@ -30,38 +30,38 @@ use Rattle.go_export.specs.Typed.{Expr, constant, Exprs, no_exprs, some_exprs, S
 use Rattle.go_export.specs.Types.{Type', int, string, bool}
 use Rattle.go_export.specs.WellTyped.{IsWellTyped}
 use Rattle.go_check.specs.Meaning.{zero_of, Stored, first_variables, symbol_of as source_symbol, same_symbol as same_source, Declared, with_symbol, function_at, function_named, IsProgram, is_init, Step, calls, start_steps, SourceMeaning}
-use Rattle.go_gen.specs.Translation.{zero_cell, translated_variable, operands_count, expression_code, operands_code, statement_code, statements_code, body_code, translated, object_of}
+use Rattle.go_gen.specs.Translation.{Slots, no_slots, zero_cell, translated_variable, operands_count, expression_code, operands_code, statement_code, statements_code, body_code, translated, object_of}
 use Rattle.go_gen.proofs.Runs.{cells_of, held}
 use Rattle.go_gen.proofs.Equality.{compiled, start_of, Starts, machine_follows, source_follows, makes_sense}
 
 -- ---- code with other references
 
 mutual
-  expression_referred : {R S : Type 0} (g : R → S) (e : Expr) → map (refer g) (expression_code e) ≡ expression_code e
-  expression_referred g (constant of c) = refl
+  expression_referred : {R S : Type 0} (g : R → S) (slots : Slots) (e : Expr) → map (refer g) (expression_code slots e) ≡ expression_code slots e
+  expression_referred g slots (constant of c) = refl
 
-  operands_referred : {R S : Type 0} (g : R → S) (es : Exprs) → map (refer g) (operands_code es) ≡ operands_code es
-  operands_referred g no_exprs = refl
-  operands_referred g (some_exprs e es) =
-      map-append (refer g) (expression_code e) (operands_code es)
-      ∙ ap (λ l. l ++ map (refer g) (operands_code es)) (expression_referred g e)
-      ∙ ap (λ l. expression_code e ++ l) (operands_referred g es)
+  operands_referred : {R S : Type 0} (g : R → S) (slots : Slots) (es : Exprs) → map (refer g) (operands_code slots es) ≡ operands_code slots es
+  operands_referred g slots no_exprs = refl
+  operands_referred g slots (some_exprs e es) =
+      map-append (refer g) (expression_code slots e) (operands_code slots es)
+      ∙ ap (λ l. l ++ map (refer g) (operands_code slots es)) (expression_referred g slots e)
+      ∙ ap (λ l. expression_code slots e ++ l) (operands_referred g slots es)
 
 mutual
-  statement_referred : {R S : Type 0} (g : R → S) (s : Stmt) → map (refer g) (statement_code s) ≡ statement_code s
-  statement_referred g (print operands) =
-      map-append (refer g) (operands_code operands) (To_output (Print (operands_count operands)) ∷ [])
-      ∙ ap (λ l. l ++ To_output (Print (operands_count operands)) ∷ []) (operands_referred g operands)
+  statement_referred : {R S : Type 0} (g : R → S) (slots : Slots) (s : Stmt) → map (refer g) (statement_code slots s) ≡ statement_code slots s
+  statement_referred g slots (print operands) =
+      map-append (refer g) (operands_code slots operands) (To_output (Print (operands_count operands)) ∷ [])
+      ∙ ap (λ l. l ++ To_output (Print (operands_count operands)) ∷ []) (operands_referred g slots operands)
 
-  statements_referred : {R S : Type 0} (g : R → S) (ss : Stmts) → map (refer g) (statements_code ss) ≡ statements_code ss
-  statements_referred g no_stmts = refl
-  statements_referred g (some_stmts s ss) =
-      map-append (refer g) (statement_code s) (statements_code ss)
-      ∙ ap (λ l. l ++ map (refer g) (statements_code ss)) (statement_referred g s)
-      ∙ ap (λ l. statement_code s ++ l) (statements_referred g ss)
+  statements_referred : {R S : Type 0} (g : R → S) (slots : Slots) (ss : Stmts) → map (refer g) (statements_code slots ss) ≡ statements_code slots ss
+  statements_referred g slots no_stmts = refl
+  statements_referred g slots (some_stmts s ss) =
+      map-append (refer g) (statement_code slots s) (statements_code slots ss)
+      ∙ ap (λ l. l ++ map (refer g) (statements_code slots ss)) (statement_referred g slots s)
+      ∙ ap (λ l. statement_code slots s ++ l) (statements_referred g slots ss)
 
-body_referred : {R S : Type 0} (g : R → S) (ss : Stmts) → map (refer g) (body_code ss) ≡ body_code ss
-body_referred g ss = map-append (refer g) (statements_code ss) (By_call (Return 0) ∷ []) ∙ ap (λ l. l ++ By_call (Return 0) ∷ []) (statements_referred g ss)
+body_referred : {R S : Type 0} (g : R → S) (slots : Slots) (ss : Stmts) → map (refer g) (body_code slots ss) ≡ body_code slots ss
+body_referred g slots ss = map-append (refer g) (statements_code slots ss) (By_call (Return 0) ∷ []) ∙ ap (λ l. l ++ By_call (Return 0) ∷ []) (statements_referred g slots ss)
 
 -- ---- places of names
 
@@ -109,7 +109,7 @@ found_alone typed s =
 functions_linked : (names : List Symbol) (fs : List Function) → map (linked_function names) (map translated fs) ≡ map compiled fs
 functions_linked names [] = refl
 functions_linked names (f ∷ fs) =
-    ap (λ (code : List (Instr ℕ)). record { parameters = 0; cells = 0; code = code } ∷ map (linked_function names) (map translated fs)) (body_referred (number_of names) f.body)
+    ap (λ (code : List (Instr ℕ)). record { parameters = 0; cells = 0; code = code } ∷ map (linked_function names) (map translated fs)) (body_referred (number_of names) no_slots f.body)
     ∙ ap (λ l. compiled f ∷ l) (functions_linked names fs)
 
 -- an element that is kept or not
@@ -177,26 +177,26 @@ any_none : {A : Type 0} (test : A → Bool) (xs ys : List A) → list_any test x
 any_none test xs ys e d = list_any-append test xs ys ∙ ap (λ b. b || list_any test ys) e ∙ d
 
 mutual
-  expression_known : (all : List Symbol) (e : Expr) → list_any (is_missing all) (expression_code e) ≡ false
-  expression_known all (constant of c) = refl
+  expression_known : (all : List Symbol) (slots : Slots) (e : Expr) → list_any (is_missing all) (expression_code slots e) ≡ false
+  expression_known all slots (constant of c) = refl
 
-  operands_known : (all : List Symbol) (es : Exprs) → list_any (is_missing all) (operands_code es) ≡ false
-  operands_known all no_exprs = refl
-  operands_known all (some_exprs e es) = any_none (is_missing all) (expression_code e) (operands_code es) (expression_known all e) (operands_known all es)
+  operands_known : (all : List Symbol) (slots : Slots) (es : Exprs) → list_any (is_missing all) (operands_code slots es) ≡ false
+  operands_known all slots no_exprs = refl
+  operands_known all slots (some_exprs e es) = any_none (is_missing all) (expression_code slots e) (operands_code slots es) (expression_known all slots e) (operands_known all slots es)
 
 mutual
-  statement_known : (all : List Symbol) (s : Stmt) → list_any (is_missing all) (statement_code s) ≡ false
-  statement_known all (print operands) = any_none (is_missing all) (operands_code operands) (To_output (Print (operands_count operands)) ∷ []) (operands_known all operands) refl
+  statement_known : (all : List Symbol) (slots : Slots) (s : Stmt) → list_any (is_missing all) (statement_code slots s) ≡ false
+  statement_known all slots (print operands) = any_none (is_missing all) (operands_code slots operands) (To_output (Print (operands_count operands)) ∷ []) (operands_known all slots operands) refl
 
-  statements_known : (all : List Symbol) (ss : Stmts) → list_any (is_missing all) (statements_code ss) ≡ false
-  statements_known all no_stmts = refl
-  statements_known all (some_stmts s ss) = any_none (is_missing all) (statement_code s) (statements_code ss) (statement_known all s) (statements_known all ss)
+  statements_known : (all : List Symbol) (slots : Slots) (ss : Stmts) → list_any (is_missing all) (statements_code slots ss) ≡ false
+  statements_known all slots no_stmts = refl
+  statements_known all slots (some_stmts s ss) = any_none (is_missing all) (statement_code slots s) (statements_code slots ss) (statement_known all slots s) (statements_known all slots ss)
 
 functions_known : (all : List Symbol) (fs : List Function) → list_any (is_missing all) (flat_map (λ (f : PackageFunction). f.function.code) (map translated fs)) ≡ false
 functions_known all [] = refl
 functions_known all (f ∷ fs) =
-    any_none (is_missing all) (body_code f.body) _
-    (any_none (is_missing all) (statements_code f.body) (By_call (Return 0) ∷ []) (statements_known all f.body) refl)
+    any_none (is_missing all) (body_code no_slots f.body) _
+    (any_none (is_missing all) (statements_code no_slots f.body) (By_call (Return 0) ∷ []) (statements_known all no_slots f.body) refl)
     (functions_known all fs)
 
 -- no code of an object refers to a function that isn't there

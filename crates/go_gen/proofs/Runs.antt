@@ -16,9 +16,9 @@ use Rattle.go_code.specs.Machine.{Frame, State, Leads}
 use Rattle.go_code.proofs.Stands.{Stands, stands_next, stands_as}
 use Rattle.go_export.specs.Typed.{Constant, integer, text, truth, Expr, constant, Exprs, no_exprs, some_exprs, Stmt, print, Stmts, no_stmts, some_stmts}
 use Rattle.go_export.specs.WellTyped.{fits, int_fits}
-use Rattle.go_check.specs.Meaning.{Value, basic, Stored, World, Outcome, Gives, Ends, Stuck, Flow, Normal, Breaks, Continues, Returns, and_then, if_normal, Calls, eval, eval_all, value_text, line_text, exec, exec_all}
+use Rattle.go_check.specs.Meaning.{Value, basic, Stored, World, Outcome, Gives, Ends, Stuck, Locals, Flow, Normal, Breaks, Continues, Returns, and_then, if_normal, Calls, eval, eval_all, value_text, line_text, exec, exec_all}
 use Rattle.go_export.specs.Types.{int, string, bool}
-use Rattle.go_gen.specs.Translation.{cell_of, operands_count, expression_code, operands_code, statement_code, statements_code}
+use Rattle.go_gen.specs.Translation.{Slots, no_slots, cell_of, operands_count, expression_code, operands_code, statement_code, statements_code}
 
 -- ---- values and cells
 
@@ -91,7 +91,7 @@ onward_map final P Q (Ends ending output) f h = h
 onward_map final P Q Stuck f h = h
 
 -- a statement leaves off in one of these ways
-abbrev pub After : (List Value → World → Type 0) → (List Value → World → Type 0) → (List Value → World → Type 0) → (List Value → World → Type 0) → Flow → World → Type 0
+abbrev pub After : (Locals → World → Type 0) → (Locals → World → Type 0) → (Locals → World → Type 0) → (List Value → World → Type 0) → Flow → World → Type 0
 After normal breaks continues returns (Normal locals) w = normal locals w
 After normal breaks continues returns (Breaks locals) w = breaks locals w
 After normal breaks continues returns (Continues locals) w = continues locals w
@@ -99,19 +99,11 @@ After normal breaks continues returns (Returns results) w = returns results w
 
 -- ---- one frame, in which the code runs
 
--- Where the local variables lie in a frame: the number of the first cell of each, by the variable's number; none for one that has no
--- cells there, as today's have.
-abbrev pub Slots : Type 0
-Slots = ℕ → Option ℕ
-
-abbrev pub no_slots : Slots
-no_slots n = None
-
 -- the frame's cells hold the values of the local variables that lie in it
-abbrev pub Holds : Slots → List Value → List Cell → Type 0
-Holds slots locals cells = (number first : ℕ) (v : Value) → slots number ≡ Some first → slice_get locals number ≡ Some v → take (length (cells_of v)) (drop first cells) ≡ cells_of v
+abbrev pub Holds : Slots → Locals → List Cell → Type 0
+Holds slots locals cells = (number first : ℕ) (v : Value) → slots number ≡ Some first → slice_get locals number ≡ Some (Some v) → take (length (cells_of v)) (drop first cells) ≡ cells_of v
 
-pub none_held : (locals : List Value) (cells : List Cell) → Holds no_slots locals cells
+pub none_held : (locals : Locals) (cells : List Cell) → Holds no_slots locals cells
 none_held locals cells number first v slot is = cc
 
 module _ (image : Image) (final : Final) (depth : ℕ) (code : List (Instr ℕ)) (callers : List Frame) (starts : List Start) (slots : Slots) where
@@ -120,26 +112,26 @@ module _ (image : Image) (final : Final) (depth : ℕ) (code : List (Instr ℕ))
   here p cells stack w = record { frames = record { depth = depth; code = code; place = p; cells = cells; stack = stack } ∷ callers; starts = starts; globals = held w.variables; ticks = w.ticks; output = w.output }
 
   -- wherever these instructions stand, and whichever cells hold the local variables, the machine comes from there to the end
-  abbrev pub On : List (Instr ℕ) → List Value → List Cell → World → Type 0
+  abbrev pub On : List (Instr ℕ) → Locals → List Cell → World → Type 0
   On k locals stack w = (p : ℕ) (cells : List Cell) → Holds slots locals cells → Stands code p k → Leads image (here p cells stack w) final
 
-  on_as : (j k : List (Instr ℕ)) (locals : List Value) (stack : List Cell) (w : World) → j ≡ k → On j locals stack w → On k locals stack w
+  on_as : (j k : List (Instr ℕ)) (locals : Locals) (stack : List Cell) (w : World) → j ≡ k → On j locals stack w → On k locals stack w
   on_as j k locals stack w e on p cells holds s = on p cells holds (stands_as code p k j (sym e) s)
 
-  on_stack : (k : List (Instr ℕ)) (locals : List Value) (stack other : List Cell) (w : World) → stack ≡ other → On k locals stack w → On k locals other w
+  on_stack : (k : List (Instr ℕ)) (locals : Locals) (stack other : List Cell) (w : World) → stack ≡ other → On k locals stack w → On k locals other w
   on_stack k locals stack other w e on = subst (λ s. On k locals s w) e on
 
-  pub eval_runs : (call : Calls) (e : Expr) (locals : List Value) (k : List (Instr ℕ)) (stack : List Cell) (w : World) → Onward final (λ v w1. On k locals (stack ++ cells_of v) w1) (eval call e locals w) → On (expression_code e ++ k) locals stack w
+  pub eval_runs : (call : Calls) (e : Expr) (locals : Locals) (k : List (Instr ℕ)) (stack : List Cell) (w : World) → Onward final (λ v w1. On k locals (stack ++ cells_of v) w1) (eval call e locals w) → On (expression_code slots e ++ k) locals stack w
   eval_runs call (constant of c) locals k stack w h p cells holds s =
       let known = onward_if final (λ v w1. On k locals (stack ++ cells_of v) w1) (fits of c) (Gives (basic c) w) h in
       push_leads image (here p cells stack w) _ callers (cell_of c) k final refl s (constant_known of c known.0) (known.1 (p + 1) cells holds (stands_next code p _ k s))
 
   -- operands: as many values come on the stack
-  pub operands_run : (call : Calls) (es : Exprs) (locals : List Value) (k : List (Instr ℕ)) (stack : List Cell) (w : World) → Onward final (λ vs w1. length (row_of vs) ≡ operands_count es → On k locals (stack ++ row_of vs) w1) (eval_all call es locals w) → On (operands_code es ++ k) locals stack w
+  pub operands_run : (call : Calls) (es : Exprs) (locals : Locals) (k : List (Instr ℕ)) (stack : List Cell) (w : World) → Onward final (λ vs w1. length (row_of vs) ≡ operands_count es → On k locals (stack ++ row_of vs) w1) (eval_all call es locals w) → On (operands_code slots es ++ k) locals stack w
   operands_run call no_exprs locals k stack w h = on_stack k locals (stack ++ []) stack w (append-nil stack) (h refl)
   operands_run call (some_exprs e es) locals k stack w h =
-      on_as (expression_code e ++ (operands_code es ++ k)) _ locals stack w (sym (append_assoc (expression_code e) (operands_code es) k))
-      (eval_runs call e locals (operands_code es ++ k) stack w
+      on_as (expression_code slots e ++ (operands_code slots es ++ k)) _ locals stack w (sym (append_assoc (expression_code slots e) (operands_code slots es) k))
+      (eval_runs call e locals (operands_code slots es ++ k) stack w
       (onward_map final _ _ (eval call e locals w)
       (λ v w1 rest. operands_run call es locals k (stack ++ cells_of v) w1
       (onward_map final _ _ (eval_all call es locals w1)
@@ -147,34 +139,34 @@ module _ (image : Image) (final : Final) (depth : ℕ) (code : List (Instr ℕ))
       (onward_then final _ (eval_all call es locals w1) _ rest)))
       (onward_then final _ (eval call e locals w) _ h)))
 
-  pub statement_runs : (call : Calls) (s : Stmt) (locals : List Value) (k : List (Instr ℕ)) (breaks continues returns : List Value → World → Type 0) (w : World) → Onward final (After (λ ls. On k ls []) breaks continues returns) (exec call s locals w) → On (statement_code s ++ k) locals [] w
+  pub statement_runs : (call : Calls) (s : Stmt) (locals : Locals) (k : List (Instr ℕ)) (breaks continues : Locals → World → Type 0) (returns : List Value → World → Type 0) (w : World) → Onward final (After (λ ls. On k ls []) breaks continues returns) (exec call s locals w) → On (statement_code slots s ++ k) locals [] w
   statement_runs call (print operands) locals k breaks continues returns w h =
-      on_as (operands_code operands ++ (To_output (Print (operands_count operands)) ∷ k)) _ locals [] w (sym (append_assoc (operands_code operands) (To_output (Print (operands_count operands)) ∷ []) k))
+      on_as (operands_code slots operands ++ (To_output (Print (operands_count operands)) ∷ k)) _ locals [] w (sym (append_assoc (operands_code slots operands) (To_output (Print (operands_count operands)) ∷ []) k))
       (operands_run call operands locals (To_output (Print (operands_count operands)) ∷ k) [] w
       (onward_map final _ _ (eval_all call operands locals w)
       (λ vs w1 on long p cells holds s. print_leads image (here p cells (row_of vs) w1) _ callers [] (row_of vs) (operands_count operands) k final refl s refl long
       (subst (λ (l : List ℕ). Leads image (here (p + 1) cells [] (record { ticks = w1.ticks; variables = w1.variables; output = w1.output ++ l })) final) (sym (line_printed vs)) (on (p + 1) cells holds (stands_next code p _ k s))))
       (onward_then final _ (eval_all call operands locals w) _ h)))
 
-  onward_flow : (normal breaks continues returns : List Value → World → Type 0) (next : List Value → World → Outcome Flow) (flow : Flow) (w : World) → Onward final (After normal breaks continues returns) (if_normal next flow w) → After (λ ls w1. Onward final (After normal breaks continues returns) (next ls w1)) breaks continues returns flow w
+  onward_flow : (normal breaks continues : Locals → World → Type 0) (returns : List Value → World → Type 0) (next : Locals → World → Outcome Flow) (flow : Flow) (w : World) → Onward final (After normal breaks continues returns) (if_normal next flow w) → After (λ ls w1. Onward final (After normal breaks continues returns) (next ls w1)) breaks continues returns flow w
   onward_flow normal breaks continues returns next (Normal locals) w h = h
   onward_flow normal breaks continues returns next (Breaks locals) w h = h
   onward_flow normal breaks continues returns next (Continues locals) w h = h
   onward_flow normal breaks continues returns next (Returns results) w h = h
 
-  after_map : (normal other breaks continues returns : List Value → World → Type 0) (flow : Flow) (w : World) → ((ls : List Value) (w1 : World) → normal ls w1 → other ls w1) → After normal breaks continues returns flow w → After other breaks continues returns flow w
+  after_map : (normal other breaks continues : Locals → World → Type 0) (returns : List Value → World → Type 0) (flow : Flow) (w : World) → ((ls : Locals) (w1 : World) → normal ls w1 → other ls w1) → After normal breaks continues returns flow w → After other breaks continues returns flow w
   after_map normal other breaks continues returns (Normal locals) w f h = f locals w h
   after_map normal other breaks continues returns (Breaks locals) w f h = h
   after_map normal other breaks continues returns (Continues locals) w f h = h
   after_map normal other breaks continues returns (Returns results) w f h = h
 
-  pub statements_run : (call : Calls) (ss : Stmts) (locals : List Value) (k : List (Instr ℕ)) (breaks continues returns : List Value → World → Type 0) (w : World) → Onward final (After (λ ls. On k ls []) breaks continues returns) (exec_all call ss locals w) → On (statements_code ss ++ k) locals [] w
+  pub statements_run : (call : Calls) (ss : Stmts) (locals : Locals) (k : List (Instr ℕ)) (breaks continues : Locals → World → Type 0) (returns : List Value → World → Type 0) (w : World) → Onward final (After (λ ls. On k ls []) breaks continues returns) (exec_all call ss locals w) → On (statements_code slots ss ++ k) locals [] w
   statements_run call no_stmts locals k breaks continues returns w h = h
   statements_run call (some_stmts s ss) locals k breaks continues returns w h =
-      on_as (statement_code s ++ (statements_code ss ++ k)) _ locals [] w (sym (append_assoc (statement_code s) (statements_code ss) k))
-      (statement_runs call s locals (statements_code ss ++ k) breaks continues returns w
+      on_as (statement_code slots s ++ (statements_code slots ss ++ k)) _ locals [] w (sym (append_assoc (statement_code slots s) (statements_code slots ss) k))
+      (statement_runs call s locals (statements_code slots ss ++ k) breaks continues returns w
       (onward_map final _ _ (exec call s locals w)
-      (λ flow w1 rest. after_map _ (λ ls. On (statements_code ss ++ k) ls []) breaks continues returns flow w1
+      (λ flow w1 rest. after_map _ (λ ls. On (statements_code slots ss ++ k) ls []) breaks continues returns flow w1
       (λ ls. statements_run call ss ls k breaks continues returns)
       (onward_flow (λ ls. On k ls []) breaks continues returns (exec_all call ss) flow w1 rest))
       (onward_then final _ (exec call s locals w) _ h)))

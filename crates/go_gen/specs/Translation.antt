@@ -1,5 +1,5 @@
 -- The code of each typed tree. `R` is what code refers to functions by: a symbol in an object, and in an image the function's number.
-use Rattle.std.specs.Prelude.{ℕ, suc, pos, false, List, [], ◌∷◌, ◌++◌, map}
+use Rattle.std.specs.Prelude.{ℕ, suc, pos, false, List, [], ◌∷◌, ◌++◌, map, Option, None}
 use Rattle.go_code.specs.declared.cell.Cell.{Cell}
 use Rattle.go_code.specs.declared.cell.Cell.TheVariants.{Int, Bool as Truth, Text}
 use Rattle.go_code.specs.declared.instr.Instr.{Instr}
@@ -10,6 +10,15 @@ use Rattle.go_code.specs.declared.instr.CallInstr.TheVariants.{Return}
 use Rattle.go_code.specs.Packages.{PackageVariable, PackageFunction, Object}
 use Rattle.go_export.specs.Types.{Type', int, string, bool}
 use Rattle.go_export.specs.Typed.{Constant, integer, text, truth, Expr, constant, Exprs, no_exprs, some_exprs, Stmt, print, Stmts, no_stmts, some_stmts, Variable, Function, Typed}
+
+-- Where the local variables lie in a frame: the number of the first cell of each, by the variable's number; none for one that has no
+-- cells there.
+abbrev pub Slots : Type 0
+Slots = ℕ → Option ℕ
+
+-- a frame without local variables
+abbrev pub no_slots : Slots
+no_slots number = None
 
 -- a constant is one cell
 abbrev pub cell_of : Constant → Cell
@@ -30,31 +39,31 @@ operands_count (some_exprs e es) = suc (operands_count es)
 
 abbrev mutual
   -- a constant is pushed
-  pub expression_code : {R : Type 0} → Expr → List (Instr R)
-  expression_code {R} (constant of c) = In_frame (Push (cell_of c)) ∷ []
+  pub expression_code : {R : Type 0} → Slots → Expr → List (Instr R)
+  expression_code {R} slots (constant of c) = In_frame (Push (cell_of c)) ∷ []
 
   -- operands, from left to right
-  pub operands_code : {R : Type 0} → Exprs → List (Instr R)
-  operands_code {R} no_exprs = []
-  operands_code {R} (some_exprs e es) = expression_code e ++ operands_code es
+  pub operands_code : {R : Type 0} → Slots → Exprs → List (Instr R)
+  operands_code {R} slots no_exprs = []
+  operands_code {R} slots (some_exprs e es) = expression_code slots e ++ operands_code slots es
 
 abbrev mutual
   -- Println: its operands, and then so many cells are printed
-  pub statement_code : {R : Type 0} → Stmt → List (Instr R)
-  statement_code {R} (print operands) = operands_code operands ++ To_output (Print (operands_count operands)) ∷ []
+  pub statement_code : {R : Type 0} → Slots → Stmt → List (Instr R)
+  statement_code {R} slots (print operands) = operands_code slots operands ++ To_output (Print (operands_count operands)) ∷ []
 
   -- statements in their order
-  pub statements_code : {R : Type 0} → Stmts → List (Instr R)
-  statements_code {R} no_stmts = []
-  statements_code {R} (some_stmts s ss) = statement_code s ++ statements_code ss
+  pub statements_code : {R : Type 0} → Slots → Stmts → List (Instr R)
+  statements_code {R} slots no_stmts = []
+  statements_code {R} slots (some_stmts s ss) = statement_code slots s ++ statements_code slots ss
 
 -- a function's body, whose end returns nothing
-abbrev pub body_code : {R : Type 0} → Stmts → List (Instr R)
-body_code {R} statements = statements_code statements ++ By_call (Return 0) ∷ []
+abbrev pub body_code : {R : Type 0} → Slots → Stmts → List (Instr R)
+body_code {R} slots statements = statements_code slots statements ++ By_call (Return 0) ∷ []
 
 -- a function, which has no parameters and no other cells
 abbrev pub translated : Function → PackageFunction
-translated f = record { name = f.name; function = record { parameters = 0; cells = 0; code = body_code f.body } }
+translated f = record { name = f.name; function = record { parameters = 0; cells = 0; code = body_code no_slots f.body } }
 
 -- a variable of a package, with its zero value's cells
 abbrev pub translated_variable : Variable → PackageVariable

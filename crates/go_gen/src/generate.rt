@@ -2,7 +2,7 @@
 ghost use Rattle.std.specs.Prelude.{◌≡◌, ◌++◌, map, OnOk, IfOk};
 ghost use Rattle.go_export.specs.Typed.{pack_exprs, pack_stmts};
 ghost use Rattle.go_export.specs.Views.{type_of, variable_of, constant_of, expression_of, statement_of, function_of, typed_of};
-ghost use Rattle.go_gen.specs.Translation.{zero_cell, translated_variable, cell_of, operands_count, expression_code, operands_code, statement_code, statements_code, body_code, translated, object_of};
+ghost use Rattle.go_gen.specs.Translation.{no_slots, zero_cell, translated_variable, cell_of, operands_count, expression_code, operands_code, statement_code, statements_code, body_code, translated, object_of};
 
 use crate::code::Code;
 use go_code::cell::{Cell, Text};
@@ -29,7 +29,7 @@ fn constant_cell(alloc: Global, constant: &Const) -> Result<Cell, AllocError>
 
 /// Puts an expression's code before a code.
 fn emit_expression(alloc: Global, code: &mut Code, expression: &TypedExpr) -> Result<(), AllocError>
-    ensures { OnOk result (code.new ≡ expression_code (expression_of expression.now) ++ code.old) }
+    ensures { OnOk result (code.new ≡ expression_code no_slots (expression_of expression.now) ++ code.old) }
 {
     let TypedExprKind::Constant(constant) = &expression.kind;
     code.put(Instr::Frame(FrameInstr::Push(constant_cell(alloc, constant)?)))
@@ -37,7 +37,7 @@ fn emit_expression(alloc: Global, code: &mut Code, expression: &TypedExpr) -> Re
 
 /// Puts the code of operands before a code.
 fn emit_operands(alloc: Global, code: &mut Code, operands: &[TypedExpr]) -> Result<(), AllocError>
-    ensures { OnOk result (code.new ≡ operands_code (pack_exprs (map expression_of operands.now)) ++ code.old) }
+    ensures { OnOk result (code.new ≡ operands_code no_slots (pack_exprs (map expression_of operands.now)) ++ code.old) }
 {
     for i in (0..operands.len()).rev() {
         emit_expression(alloc, code, &operands[i])?;
@@ -54,7 +54,7 @@ fn operands_count(operands: &[TypedExpr]) -> usize
 
 /// Puts a statement's code before a code.
 fn emit_statement(alloc: Global, code: &mut Code, statement: &TypedStmt) -> Result<(), AllocError>
-    ensures { OnOk result (code.new ≡ statement_code (statement_of statement.now) ++ code.old) }
+    ensures { OnOk result (code.new ≡ statement_code no_slots (statement_of statement.now) ++ code.old) }
 {
     let TypedStmt::Print(operands) = statement;
     code.put(Instr::Output(OutputInstr::Print(operands_count(operands))))?;
@@ -67,7 +67,7 @@ fn emit_statements(
     code: &mut Code,
     statements: &[TypedStmt],
 ) -> Result<(), AllocError>
-    ensures { OnOk result (code.new ≡ statements_code (pack_stmts (map statement_of statements.now)) ++ code.old) }
+    ensures { OnOk result (code.new ≡ statements_code no_slots (pack_stmts (map statement_of statements.now)) ++ code.old) }
 {
     for i in (0..statements.len()).rev() {
         emit_statement(alloc, code, &statements[i])?;

@@ -1,7 +1,8 @@
-//! Objects against code that is written by hand.
+//! Objects against code that is written by hand, and a summary against a digest that was computed by other means.
 use go_code::cell::Cell;
 use go_code::image::Start;
 use go_code::instr::{CallInstr, FrameInstr, Instr, OutputInstr};
+use go_export::summary::Summary;
 use go_export::typed::{
     Const, GoType, Typed, TypedExpr, TypedExprKind, TypedFunction, TypedStmt, TypedVariable,
 };
@@ -182,5 +183,27 @@ fn links_no_library(rt: HostRuntime) -> Result<(), AllocError> {
     let alloc = rt.alloc();
     let objects = [Arc::new(alloc, generate(alloc, &library(alloc)?)?)?];
     assert!(rt; matches!(link(alloc, &objects, &[0]), Err(LinkError::NoMain)));
+    Ok(())
+}
+
+// The digest was computed with Python:
+//     from hashlib import sha256
+//     be = lambda n: n.to_bytes(8, "big")
+//     field = lambda x: be(len(x)) + x
+//     text = field(b"goset summary") + field(b"cmd/a") + field(b"main") + be(0)
+//     print(len(text), sha256(text).hexdigest())
+const DIGEST: [u8; 32] = [
+    0x0c, 0xd2, 0x96, 0x5c, 0x80, 0xf7, 0x0b, 0xdd, 0xbf, 0x23, 0x39, 0x41, 0xfe, 0x08, 0x93, 0xe8,
+    0x7d, 0xfc, 0x3c, 0xbb, 0x2c, 0x19, 0x22, 0x54, 0x60, 0x35, 0x8f, 0x34, 0xa0, 0x79, 0xd7, 0x1a,
+];
+
+#[test]
+fn summary_of_a_program(rt: HostRuntime) -> Result<(), AllocError> {
+    let alloc = rt.alloc();
+    let summary = Summary::of(alloc, &program(alloc)?)?;
+    assert!(rt; summary.path() == "cmd/a");
+    assert!(rt; summary.package() == "main");
+    assert!(rt; summary.text().len() == 54);
+    assert!(rt; summary.digest() == DIGEST);
     Ok(())
 }

@@ -1,5 +1,6 @@
 -- Where the states of lists go on as others do.
 use Rattle.std.proofs.Common.{◌≡◌, false, List, [], ◌∷◌, None, refl, sym, ap, ◌∙◌}
+use Rattle.go_scan.specs.declared.token.TokenKind.{TokenKind}
 use Rattle.go_ast.specs.Kinds.{same}
 use Rattle.go_ast.specs.Expected.{Expected, another}
 use Rattle.go_ast.specs.Grammar.{Lexeme}
@@ -41,6 +42,9 @@ module _ (k : ListKind) (front : List (Item k)) (next : List (Item k) → Lexeme
   list_goes x (t ∷ ts) never =
       same_step (list_end k x front next) (token (separator k) 0 x (λ _. list_start k front next)) t ts
       (ap (cond (same (separator k) t.kind) (Take 0 (list_start k front next))) (passed (closer k) t (Take 0 (next front t)) (Fail x) never))
+
+  pub list_separated : (x : Expected) (m : TokenKind) (ts : List Lexeme) → m ≡ separator k → (First (Kind (closer k)) ts → ⊥) → run 250 (list_end k x front next) ts ≡ run 250 (token m 0 x (λ _. list_start k front next)) ts
+  list_separated x m ts e never = list_goes x ts never ∙ ap (λ s. run 250 (token s 0 x (λ _. list_start k front next)) ts) (sym e)
 
   -- elsewhere an item is due
   pub list_item : (s : State) (ts : List Lexeme) → ((t : Lexeme) → on_item k front next t ≡ step s t) → final s ≡ None → (First (Kind (closer k)) ts → ⊥) → run 250 (list_start k front next) ts ≡ run 250 s ts

@@ -1,5 +1,5 @@
 -- How what a function read follows from what its callees read.
-use Rattle.std.proofs.Common.{◌≡◌, ℕ, Option, Some, None, Result, Ok, Err, IfOk, IfErr, sym, ap, ◌∙◌, subst}
+use Rattle.std.proofs.Common.{◌≡◌, ℕ, Option, Some, None, Result, Ok, Err, IfOk, IfErr, OnOk, sym, ap, ◌∙◌, subst}
 use Rattle.std.specs.Prelude.{IsErrAnd}
 use Rattle.go_pexpr.specs.declared.parser.Parser.{Parser}
 use Rattle.go_pexpr.specs.declared.parser.Refusal.{Refusal}
@@ -25,6 +25,19 @@ then_reads {before = before} {mid = mid} {old = old} {at = at} {new = new} (Err 
 pub then_fails : {A B : Type 0} {before mid : State} {after : A → State} {after_call : B → State} {old at new : Parser} {r : Result A Refusal} {e : Refusal} →
     run 250 before (left old) ≡ run 250 mid (left at) → Reads {A = B} mid after_call at (Err e) new → IsErrAnd r (λ y. y ≡ e) → Reads before after old r new
 then_fails {before = before} {mid = mid} {old = old} {at = at} {new = new} {r = r} {e = e} went d h = failing r e h (fails_after e before mid old at new went d.by)
+
+-- the answer of a call that stands beside what was made in front of it
+pub was_read : {A : Type 0} {before : State} {after : A → State} {old new : Parser} {r : Result A Refusal} {a : A} → Reads before after old r new → r ≡ Ok a → run 250 before (left old) ≡ run 250 (after a) (left new)
+was_read {before = before} {after = after} {old = old} {new = new} d e = (subst (λ z. Reads before after old z new) e d).by
+
+pub was_failing : {A : Type 0} {before : State} {after : A → State} {old new : Parser} {r : Result A Refusal} {e : Refusal} → Reads before after old r new → r ≡ Err e → Reads before after old (Err e) new
+was_failing {before = before} {after = after} {old = old} {new = new} d e = subst (λ z. Reads before after old z new) e d
+
+pub if_read : {A : Type 0} (P : A → Type 0) {r : Result A Refusal} {a : A} → IfOk r P → r ≡ Ok a → P a
+if_read P h e = subst (λ z. IfOk z P) e h
+
+pub on_read : {A : Type 0} (P : Type 0) {r : Result A Refusal} {a : A} → OnOk r P → r ≡ Ok a → P
+on_read P h e = subst (λ z. OnOk z P) e h
 
 -- what was made, where only memory may fail
 pub then_makes : {A : Type 0} {before : State} {after : A → State} {old new : Parser} (r : Result A Refusal) (s : State) →

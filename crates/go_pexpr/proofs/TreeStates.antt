@@ -1,15 +1,14 @@
 -- What is due where the functions that read trees stand, under the names that their proofs have for it.
-use Rattle.std.proofs.Common.{◌≡◌, ℕ, ◌+◌, Bool, true, false, List, [], ◌∷◌, ◌++◌, Option, Some, None, refl, sym, ◌∙◌}
+use Rattle.std.proofs.Common.{◌≡◌, ℕ, ◌+◌, Bool, true, false, List, [], ◌∷◌, ◌++◌, Option, Some, None, refl, sym, ap, ◌∙◌, arith}
 use Rattle.go_text.specs.declared.place.Place.{Place}
 use Rattle.go_pexpr.specs.declared.operators.Beginning.{Beginning}
 use Rattle.go_pexpr.specs.declared.operators.Beginning.TheVariants as begins
 use Rattle.go_ast.specs.Trees as trees
 use Rattle.go_ast.specs.Expected.{an_operand, a_type, a_field_end, another, an_element_end}
-use Rattle.go_ast.specs.Grammar.{Lexeme, type_place, comma, opening, closing, closing_bracket, opening_brace}
+use Rattle.go_ast.specs.Grammar.{Lexeme, type_place, comma, opening, closing, opening_brace}
 use Rattle.go_ast.specs.Machine.{State, token, optional, type, expr, list_start, list_end, fields, arguments, elements, behind_literal_type, run}
-use Rattle.go_pexpr.specs.Turns.{behind_conversion, behind_last, value_at, element_at}
+use Rattle.go_pexpr.specs.Turns.{behind_conversion, behind_brace, behind_last, value_at, element_at}
 use Rattle.go_pexpr.specs.Reads.{First, either}
-use Rattle.go_pexpr.proofs.OperatorTurns.{followed}
 use Rattle.go_pexpr.proofs.Steps.{Kind, optional_some, optional_none}
 
 pub false_true : false ≡ true → ⊥
@@ -24,11 +23,8 @@ either_same s (Some a) = refl
 
 -- types of arrays
 
-abbrev pub behind_length : ℕ → (trees.TypeExpr → State) → Place → trees.Expr → Lexeme → State
-behind_length l next p e t = type (l + 1) a_type (λ a. next (trees.array p e a))
-
-abbrev pub close_length : ℕ → (trees.TypeExpr → State) → Place → trees.Expr → State
-close_length l next p e = token closing_bracket 0 another (behind_length l next p e)
+abbrev pub item_of : ℕ → (trees.TypeExpr → State) → Place → trees.Expr → State
+item_of l next p e = type (l + 1) a_type (λ a. next (trees.array p e a))
 
 -- types of structs
 
@@ -47,13 +43,7 @@ abbrev pub field_type : ℕ → (List (List trees.Name × trees.TypeExpr) → St
 field_type l next front ns = type l a_type (field_end l next front ns)
 
 -- behind an operator
-abbrev pub behind_operator : ℕ → ℕ → Bool → ℕ → trees.Expr → trees.BinaryOperator → (trees.Expr → State) → Lexeme → State
-behind_operator j c h l a op next t = expr j h (l + 1) an_operand (λ r. followed j c h l next (trees.binary (trees.place_of a) op a r))
-
 -- an expression in parentheses
-
-abbrev pub close_paren : (trees.Expr → State) → Place → trees.Expr → Lexeme → State
-close_paren next p e t = next (trees.parenthesized p e)
 
 -- signs
 
@@ -65,8 +55,11 @@ behind_sign h l op next t = expr 0 h (l + 1) an_operand (λ e. next (trees.unary
 abbrev pub typed_elements : ℕ → (trees.Expr → State) → trees.TypeExpr → Place → List (Option trees.Name × trees.Element) → State
 typed_elements l next a q es = next (trees.composite_lit (type_place a) a q (trees.pack_elements es))
 
-abbrev pub typed_brace : ℕ → (trees.Expr → State) → trees.TypeExpr → Lexeme → State
-typed_brace l next a o = list_start (elements (l + 2)) [] (λ es _. typed_elements l next a o.place es)
+-- the level of the elements is one below that of their brace
+pub elements_due : (l : ℕ) (next : trees.Expr → State) (a : trees.TypeExpr) (ts : List Lexeme) → run 250 (token opening_brace (l + 1) another (behind_brace l a next)) ts ≡ run 250 (token opening_brace (l + 1) another (λ o. list_start (elements (l + 1 + 1)) [] (λ es _. typed_elements l next a o.place es))) ts
+elements_due l next a ts =
+    let one : l + 2 ≡ l + 1 + 1 = omega arith in
+    ap (λ m. run 250 (token opening_brace (l + 1) another (λ o. list_start (elements m) [] (λ es _. typed_elements l next a o.place es))) ts) one
 
 abbrev pub typed_value : (trees.Expr → State) → trees.TypeExpr → trees.Expr → State
 typed_value next a e = next (trees.conversion (type_place a) a e)
@@ -74,21 +67,18 @@ typed_value next a e = next (trees.conversion (type_place a) a e)
 abbrev pub typed_open : ℕ → (trees.Expr → State) → trees.TypeExpr → Lexeme → State
 typed_open l next a = behind_conversion l (typed_value next a)
 
-abbrev pub converted_close : (trees.Expr → State) → trees.Expr → Lexeme → State
-converted_close next e t = next e
-
 abbrev pub converted_end : (trees.Expr → State) → trees.Expr → State
-converted_end next e = token closing 0 another (converted_close next e)
+converted_end next e = token closing 0 another (λ _. next e)
 
 abbrev pub converted_value : (trees.Expr → State) → trees.Expr → State
 converted_value next e = optional comma 0 (λ _. converted_end next e) (converted_end next e)
 
 -- behind a type stands a brace or else a parenthesis
-pub typed_by_brace : (l : ℕ) (next : trees.Expr → State) (a : trees.TypeExpr) (ts : List Lexeme) → First (Kind opening_brace) ts → run 250 (behind_literal_type l next a) ts ≡ run 250 (token opening_brace (l + 1) another (typed_brace l next a)) ts
-typed_by_brace l next a ts first = optional_some opening_brace (l + 1) another (typed_brace l next a) (token opening (l + 1) another (typed_open l next a)) ts first
+pub typed_by_brace : (l : ℕ) (next : trees.Expr → State) (a : trees.TypeExpr) (ts : List Lexeme) → First (Kind opening_brace) ts → run 250 (behind_literal_type l next a) ts ≡ run 250 (token opening_brace (l + 1) another (behind_brace l a next)) ts
+typed_by_brace l next a ts first = optional_some opening_brace (l + 1) another (behind_brace l a next) (token opening (l + 1) another (typed_open l next a)) ts first
 
 pub typed_by_parenthesis : (l : ℕ) (next : trees.Expr → State) (a : trees.TypeExpr) (ts : List Lexeme) → (First (Kind opening_brace) ts → ⊥) → run 250 (behind_literal_type l next a) ts ≡ run 250 (token opening (l + 1) another (typed_open l next a)) ts
-typed_by_parenthesis l next a ts never = optional_none opening_brace (l + 1) (typed_brace l next a) (token opening (l + 1) another (typed_open l next a)) ts never
+typed_by_parenthesis l next a ts never = optional_none opening_brace (l + 1) (behind_brace l a next) (token opening (l + 1) another (typed_open l next a)) ts never
 
 -- arguments
 
@@ -100,8 +90,8 @@ argument_end l next front e = list_end (arguments l) another (front ++ e ∷ [])
 abbrev pub call_end : (trees.Expr → State) → trees.Expr → List trees.Expr → State
 call_end next f es = next (trees.call (trees.place_of f) f (trees.pack es))
 
-abbrev pub index_end : (trees.Expr → State) → trees.Expr → trees.Expr → Lexeme → State
-index_end next e i t = next (trees.index (trees.place_of e) e i)
+abbrev pub index_end : (trees.Expr → State) → trees.Expr → trees.Expr → State
+index_end next e i = next (trees.index (trees.place_of e) e i)
 
 -- elements of a literal
 

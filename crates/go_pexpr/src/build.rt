@@ -1,5 +1,5 @@
 //! Makes trees from their parts, and counts their levels.
-ghost use Rattle.std.specs.Prelude.{◌≡◌, ℕ, ◌+◌, ◌<◌, max, map, IfOk, IfErr, Option, Some, None};
+ghost use Rattle.std.specs.Prelude.{◌≡◌, ℕ, ◌+◌, ◌<◌, max, map, IfOk, IfErr, Ok, Err, Option, Some, None};
 ghost use Rattle.go_ast.specs.Trees as trees;
 ghost use Rattle.go_ast.specs.Grammar.{type_place};
 ghost use Rattle.go_ast.specs.Views.{unary_of, binary_of, type_of, expr_of, exprs_in, element_of, field_of, value_of, if_some};
@@ -72,6 +72,32 @@ pub(crate) struct Fields {
     ghost counted: { height ≡ fields_tall items.items },
 }
 
+/// What was made first, beside what was read behind it, if that was read.
+///
+/// A caller that returns early where nothing was read has then no tree left to drop, which would lengthen its proof.
+pub(crate) fn beside<A: Drop, B: Drop>(
+    first: A,
+    read: Result<B, Refusal>,
+) -> Result<(A, B), Refusal>
+    ensures first { IfOk result (λ both. both.0 ≡ first) }
+    ensures read { IfOk result (λ both. read ≡ Ok both.1) }
+    ensures err { IfErr result (λ e. read ≡ Err e) }
+{
+    let second = read?;
+    Ok((first, second))
+}
+
+/// Puts two parts of a tree into boxes.
+fn boxed<A: Drop, B: Drop>(alloc: Global, a: A, b: B) -> Result<(Box<A>, Box<B>), Refusal>
+    ensures first { IfOk result (λ both. both.0.value ≡ a) }
+    ensures second { IfOk result (λ both. both.1.value ≡ b) }
+    ensures err { IfErr result (λ e. e ≡ Refusal.Memory) }
+{
+    let a = Box::new(alloc, a)?;
+    let b = Box::new(alloc, b)?;
+    Ok((a, b))
+}
+
 /// The type of a name.
 pub(crate) fn named(place: Place, name: Name) -> TallType
     ensures expr { type_of result.type_expr ≡ trees.named place name }
@@ -113,8 +139,7 @@ pub(crate) fn array(
     ensures err { IfErr result (λ e. e ≡ Refusal.Memory) }
 {
     let height = length.height.max(item.height) + 1;
-    let length = Box::new(alloc, length.expr)?;
-    let item = Box::new(alloc, item.type_expr)?;
+    let (length, item) = boxed(alloc, length.expr, item.type_expr)?;
     Ok(TallType {
         type_expr: TypeExpr {
             place,
@@ -247,8 +272,7 @@ pub(crate) fn conversion(alloc: Global, a: TallType, value: Tall) -> Result<Tall
 {
     let height = a.height.max(value.height) + 1;
     let place = a.type_expr.place;
-    let to = Box::new(alloc, a.type_expr)?;
-    let value = Box::new(alloc, value.expr)?;
+    let (to, value) = boxed(alloc, a.type_expr, value.expr)?;
     Ok(Tall {
         expr: Expr {
             place,
@@ -286,8 +310,7 @@ pub(crate) fn index(alloc: Global, operand: Tall, at: Tall) -> Result<Tall, Refu
 {
     let height = operand.height.max(at.height) + 1;
     let place = operand.expr.place;
-    let operand = Box::new(alloc, operand.expr)?;
-    let at = Box::new(alloc, at.expr)?;
+    let (operand, at) = boxed(alloc, operand.expr, at.expr)?;
     Ok(Tall {
         expr: Expr {
             place,
@@ -353,8 +376,7 @@ pub(crate) fn binary(
 {
     let height = left.height.max(right.height) + 1;
     let place = left.expr.place;
-    let left = Box::new(alloc, left.expr)?;
-    let right = Box::new(alloc, right.expr)?;
+    let (left, right) = boxed(alloc, left.expr, right.expr)?;
     Ok(Tall {
         expr: Expr {
             place,

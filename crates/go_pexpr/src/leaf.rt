@@ -9,7 +9,7 @@ ghost use Rattle.go_ast.specs.Machine.{State, token, behind_name};
 ghost use Rattle.go_ast.specs.Views.{type_of, expr_of};
 ghost use Rattle.go_pexpr.specs.Reads.{Reads, left, size};
 
-use crate::build::{Tall, TallType, integer, name, named, qualified, rune, string};
+use crate::build::{Tall, TallType, beside, integer, name, named, qualified, rune, string};
 use crate::expected::Expected;
 use crate::literal::{rune_value, string_value};
 use crate::parser::{Parser, Refusal};
@@ -33,9 +33,8 @@ impl<'a> Parser<'a> {
         if !self.is_next(period) {
             return Ok(named(place, name));
         }
-        self.expect(period, 0, Expected::Another)?;
-        let selected = self.name(0, Expected::SelectedName)?;
-        Ok(qualified(place, name, selected))
+        let (package, selected) = beside(name, self.selected_name(0))?;
+        Ok(qualified(place, package, selected))
     }
 
     /// Reads a name that stands as an operand.

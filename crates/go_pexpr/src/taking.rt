@@ -3,9 +3,10 @@ ghost use Rattle.std.specs.Prelude.{◌≡◌, ◌<◌, ◌≤◌, ◌↔◌, �
 ghost use Rattle.go_ast.specs.Trees as trees;
 ghost use Rattle.go_scan.specs.declared.token.TokenKind.{TokenKind};
 ghost use Rattle.go_scan.specs.declared.token.TokenKind.TheVariants as kinds;
-ghost use Rattle.go_ast.specs.Grammar.{Lexeme, name_of};
-ghost use Rattle.go_ast.specs.Expected.{is_never_read, begins_left_out, begins_left_out_type, is_left_out_at};
-ghost use Rattle.go_ast.specs.Machine.{State, token, optional, names};
+ghost use Rattle.go_ast.specs.Grammar.{Lexeme, name_of, period};
+ghost use Rattle.go_ast.specs.Expected.{another, a_selected_name, is_never_read, begins_left_out, begins_left_out_type, is_left_out_at};
+ghost use Rattle.go_ast.specs.Machine as machine;
+ghost use Rattle.go_ast.specs.Machine.{State, ListKind, Item, token, optional, names, list_start, list_end};
 ghost use Rattle.go_ast.specs.Tokens.{LiesIn};
 ghost use Rattle.go_ast.specs.Tokens.{lexeme, bytes_of};
 ghost use Rattle.go_pexpr.specs.Next.{left_out_at};
@@ -197,6 +198,23 @@ impl<'a> Parser<'a> {
         Ok(Some(token))
     }
 
+    /// Takes the separator behind an item of a list, if the list's end is not next.
+    pub fn separate(
+        &mut self,
+        separator: TokenKind,
+        closer: TokenKind,
+        expected: Expected,
+    ) -> Result<(), Refusal>
+        ensures reads { (k : ListKind) (front : List (Item k)) (next : List (Item k) → Lexeme → State) → separator ≡ machine.separator k → closer ≡ machine.closer k → Reads (list_end k (expected_of expected) front next) (λ _. list_start k front next) self.old result self.new }
+        ensures no_longer { OnOk result (size self.new ≤ size self.old) }
+    {
+        if self.is_next(closer) {
+            return Ok(());
+        }
+        self.expect(separator, 0, expected)?;
+        Ok(())
+    }
+
     /// Takes the next token.
     pub fn bump(&mut self, need: u32) -> Result<Token, Refusal>
         ensures reads { (k : TokenKind) (x : _) (next : Lexeme → State) → First (λ t. t.kind ≡ k) (left self.old) → Reads (token k need x next) (λ t. next (lexeme self.old.text.now t)) self.old result self.new }
@@ -239,6 +257,19 @@ impl<'a> Parser<'a> {
     {
         let token = self.expect(TokenKind::Name, need, expected)?;
         self.name_at(token)
+    }
+
+    /// Takes a period and the name behind it.
+    ///
+    /// `Selector = "." identifier .`
+    pub(crate) fn selected_name(&mut self, need: u32) -> Result<Name, Refusal>
+        ensures reads { (next : Lexeme → State) → Reads (token period need another (λ _. token kinds.Name 0 a_selected_name next)) (λ n. next (lexeme_of n)) self.old result self.new }
+        ensures fits { OnOk result (need ≤ 250) }
+        ensures shorter { OnOk result (size self.new < size self.old) }
+    {
+        let period = TokenKind::Punctuation(Punctuation::Period);
+        self.expect(period, need, Expected::Another)?;
+        self.name(0, Expected::SelectedName)
     }
 
     /// Takes a name, if it is the next.

@@ -3,16 +3,16 @@ ghost use Rattle.std.specs.Prelude.{◌≡◌, ◌<◌, ◌≤◌, ◌+◌, ℕ,
 ghost use Rattle.go_ast.specs.Trees as trees;
 ghost use Rattle.go_scan.specs.declared.token.TokenKind.TheVariants as kinds;
 ghost use Rattle.go_scan.specs.declared.keyword.Keyword.TheVariants as keywords;
-ghost use Rattle.go_ast.specs.Expected.{an_operand, another};
-ghost use Rattle.go_ast.specs.Grammar.{Lexeme, opening, opening_bracket, opening_brace, closing_brace, period};
-ghost use Rattle.go_ast.specs.Machine.{State, Item, token, type, expr, suffixes, list_start, list_end, fields, arguments, elements, keyword, behind_bracket, behind_struct, behind_literal_type, literal_type};
+ghost use Rattle.go_ast.specs.Expected.{an_operand, a_type, another};
+ghost use Rattle.go_ast.specs.Grammar.{Lexeme, opening, closing, opening_bracket, opening_brace, period, comma, colon};
+ghost use Rattle.go_ast.specs.Machine.{State, token, optional, names, type, expr, suffixes, list_start, fields, arguments, elements, keyword, behind_bracket, behind_struct, behind_literal_type, literal_type};
 ghost use Rattle.go_ast.specs.Views.{type_of, expr_of, exprs_in, value_of, element_of, field_of};
 ghost use Rattle.go_pexpr.specs.Next.{sign_at};
 ghost use Rattle.go_pexpr.specs.Reads.{Reads, First, left, size, expected_of};
 ghost use Rattle.go_pexpr.specs.Turns.{behind_conversion, behind_paren, behind_selector, behind_index, behind_call, behind_brace, behind_last, element_at, value_at};
 
 use crate::build::{
-    Arguments, Elements, Fields, Tall, TallElement, TallType, TallValue, array, binary,
+    Arguments, Elements, Fields, Tall, TallElement, TallType, TallValue, array, beside, binary,
     braced_value, call, composite_lit, conversion, element, expression_value, index, key_in,
     named_by, parenthesized, selector, structure, unary,
 };
@@ -24,6 +24,15 @@ use go_ast::name::Name;
 use go_scan::keyword::Keyword;
 use go_scan::punctuation::Punctuation;
 use go_scan::token::TokenKind;
+use go_text::place::Place;
+
+/// The marks around an expression, and what is expected where the second is.
+#[derive(Clone, Copy, Drop)]
+struct Marks {
+    first: TokenKind,
+    last: TokenKind,
+    end: Expected,
+}
 
 impl<'a> Parser<'a> {
     /// Reads a type.
@@ -56,11 +65,14 @@ impl<'a> Parser<'a> {
     {
         let open = TokenKind::Punctuation(Punctuation::OpenBracket);
         let close = TokenKind::Punctuation(Punctuation::CloseBracket);
-        let bracket = self.expect(open, level + 1, Expected::Another)?;
-        let length = self.binary(5, false, level + 1, Expected::Length)?;
-        self.expect(close, 0, Expected::Another)?;
-        let item = self.type_at(level + 1, Expected::Type)?;
-        array(self.alloc, bracket.place, length, item)
+        let marks = Marks {
+            first: open,
+            last: close,
+            end: Expected::Another,
+        };
+        let (place, length) = self.enclosed(marks, level + 1, level + 1, Expected::Length)?;
+        let (length, item) = beside(length, self.type_at(level + 1, Expected::Type))?;
+        array(self.alloc, place, length, item)
     }
 
     /// Reads the type of structs.
@@ -86,7 +98,7 @@ impl<'a> Parser<'a> {
 
     /// Reads the fields of a struct and the brace that closes them.
     ///
-    /// `FieldDecl = IdentifierList Type .`
+    /// `{ FieldDecl ";" } "}" .`
     #[cycle(tree)]
     fn fields(&mut self, level: u32) -> Result<Fields, Refusal>
         requires { level ≤ 251 }
@@ -99,17 +111,28 @@ impl<'a> Parser<'a> {
         let mut items = Vec::new(self.alloc);
         let mut height = 0;
         'fields: while !self.is_next(close) {
-            let names = self.names(level)?;
-            let item = self.type_at(level, Expected::Type)?;
+            let (names, item) = self.field(level)?;
             height = item.height.max(height);
             let type_expr = item.type_expr;
             items.push(Field { names, type_expr })?;
-            if !self.is_next(close) {
-                self.expect(semicolon, 0, Expected::FieldEnd)?;
-            }
+            self.separate(semicolon, close, Expected::FieldEnd)?;
         }
         self.expect(close, 0, Expected::Another)?;
         Ok(Fields { items, height })
+    }
+
+    /// Reads the names and the type of a field.
+    ///
+    /// `FieldDecl = IdentifierList Type .`
+    #[cycle(tree)]
+    fn field(&mut self, level: u32) -> Result<(Vec<Name>, TallType), Refusal>
+        ensures reads { (next : List trees.Name → trees.TypeExpr → State) → Reads (names level (λ ns. type level a_type (next ns))) (λ f. next f.0.items (type_of f.1.type_expr)) self.old result self.new }
+        ensures fits { IfOk result (λ f. level + f.1.height ≤ 251) }
+        ensures shorter { OnOk result (size self.new < size self.old) }
+    {
+        let names = self.names(level)?;
+        let item = self.type_at(level, Expected::Type)?;
+        Ok((names, item))
     }
 
     /// Reads an expression of operators of so many levels.
@@ -133,11 +156,27 @@ impl<'a> Parser<'a> {
         let mut tightest = 0;
         'operators: while let Some(operator) = self.operator(tightest, limit) {
             tightest = tighter(operator);
-            self.bump(level + left.height)?;
-            let right = self.binary(tightest, header, level + 1, Expected::Operand)?;
-            left = binary(self.alloc, operator, left, right)?;
+            let need = level + left.height;
+            let (front, right) = beside(left, self.right(need, tightest, header, level + 1))?;
+            left = binary(self.alloc, operator, front, right)?;
         }
         Ok(left)
+    }
+
+    /// Takes the next token and reads the operand behind it, of operators of so many levels.
+    ///
+    /// `binary_op Expression .`
+    #[cycle(tree)]
+    fn right(&mut self, need: u32, limit: u8, header: bool, level: u32) -> Result<Tall, Refusal>
+        requires limit { limit ≤ 5 }
+        requires level { level ≤ 252 }
+        ensures reads { (k : TokenKind) (x : _) (next : trees.Expr → State) → First (λ t. t.kind ≡ k) (left self.old) → Reads (token k need x (λ _. expr limit header level an_operand next)) (λ e. next (expr_of e.expr)) self.old result self.new }
+        ensures need { OnOk result (need ≤ 250) }
+        ensures fits { IfOk result (λ e. level + e.height ≤ 251) }
+        ensures shorter { OnOk result (size self.new < size self.old) }
+    {
+        self.bump(need)?;
+        self.binary(limit, header, level, Expected::Operand)
     }
 
     /// Reads an expression without operators between operands.
@@ -200,10 +239,53 @@ impl<'a> Parser<'a> {
     {
         let open = TokenKind::Punctuation(Punctuation::OpenParenthesis);
         let close = TokenKind::Punctuation(Punctuation::CloseParenthesis);
-        let token = self.expect(open, level + 1, Expected::Another)?;
-        let inner = self.binary(5, false, level + 1, Expected::Operand)?;
-        self.expect(close, 0, Expected::Another)?;
-        parenthesized(self.alloc, token.place, inner)
+        let marks = Marks {
+            first: open,
+            last: close,
+            end: Expected::Another,
+        };
+        let (place, inner) = self.enclosed(marks, level + 1, level + 1, Expected::Operand)?;
+        parenthesized(self.alloc, place, inner)
+    }
+
+    /// Reads an expression between two marks, and tells where the first is.
+    #[cycle(tree)]
+    fn enclosed(
+        &mut self,
+        marks: Marks,
+        need: u32,
+        level: u32,
+        expected: Expected,
+    ) -> Result<(Place, Tall), Refusal>
+        requires { level ≤ need + 2 }
+        ensures reads { (next : Place → trees.Expr → State) → Reads (token marks.first need another (λ t. expr 5 false level (expected_of expected) (λ e. token marks.last 0 (expected_of marks.end) (λ _. next t.place e)))) (λ r. next r.0 (expr_of r.1.expr)) self.old result self.new }
+        ensures need { OnOk result (need ≤ 250) }
+        ensures fits { IfOk result (λ r. level + r.1.height ≤ 251) }
+        ensures shorter { OnOk result (size self.new < size self.old) }
+    {
+        let front = self.opened(marks.first, need, level, expected)?;
+        let (enclosed, _) = beside(front, self.expect(marks.last, 0, marks.end))?;
+        Ok(enclosed)
+    }
+
+    /// Reads an expression behind a mark, and tells where the mark is.
+    #[cycle(tree)]
+    fn opened(
+        &mut self,
+        mark: TokenKind,
+        need: u32,
+        level: u32,
+        expected: Expected,
+    ) -> Result<(Place, Tall), Refusal>
+        requires { level ≤ need + 2 }
+        ensures reads { (next : Place → trees.Expr → State) → Reads (token mark need another (λ t. expr 5 false level (expected_of expected) (next t.place))) (λ r. next r.0 (expr_of r.1.expr)) self.old result self.new }
+        ensures need { OnOk result (need ≤ 250) }
+        ensures fits { IfOk result (λ r. level + r.1.height ≤ 251) }
+        ensures shorter { OnOk result (size self.new < size self.old) }
+    {
+        let token = self.expect(mark, need, Expected::Another)?;
+        let inner = self.binary(5, false, level, expected)?;
+        Ok((token.place, inner))
     }
 
     /// Reads what is behind an array or struct type that begins an operand.
@@ -218,12 +300,40 @@ impl<'a> Parser<'a> {
     {
         let brace = TokenKind::Punctuation(Punctuation::OpenBrace);
         if self.is_next(brace) {
-            let token = self.expect(brace, level + 1, Expected::Another)?;
-            let elements = self.elements(level + 2)?;
-            return composite_lit(self.alloc, a, token.place, elements);
+            return self.literal(a, level);
         }
-        let value = self.converted(level)?;
+        let (a, value) = beside(a, self.converted(level))?;
         conversion(self.alloc, a, value)
+    }
+
+    /// Reads the elements of a literal of a type.
+    ///
+    /// `LiteralValue .`
+    #[cycle(tree)]
+    fn literal(&mut self, a: TallType, level: u32) -> Result<Tall, Refusal>
+        requires level { level ≤ 252 }
+        requires height { (level ≤ 249) → level + 1 + a.height ≤ 251 }
+        ensures reads { (next : trees.Expr → State) → Reads (token opening_brace (level + 1) another (behind_brace level (type_of a.type_expr) next)) (λ e. next (expr_of e.expr)) self.old result self.new }
+        ensures fits { IfOk result (λ e. level + e.height ≤ 251) }
+        ensures shorter { OnOk result (size self.new < size self.old) }
+    {
+        let (a, braced) = beside(a, self.braced(level + 1))?;
+        composite_lit(self.alloc, a, braced.0, braced.1)
+    }
+
+    /// Reads elements with their braces, and tells where the first brace is.
+    ///
+    /// `LiteralValue = "{" [ KeyedElement { "," KeyedElement } [ "," ] ] "}" .`
+    #[cycle(tree)]
+    fn braced(&mut self, need: u32) -> Result<(Place, Elements), Refusal>
+        ensures reads { (next : Place → List (Option trees.Name × trees.Element) → State) → Reads (token opening_brace need another (λ t. list_start (elements (need + 1)) [] (λ es _. next t.place es))) (λ r. next r.0 (map element_of r.1.items.items)) self.old result self.new }
+        ensures fits { IfOk result (λ r. need + r.1.height ≤ 250) }
+        ensures shorter { OnOk result (size self.new < size self.old) }
+    {
+        let open = TokenKind::Punctuation(Punctuation::OpenBrace);
+        let token = self.expect(open, need, Expected::Another)?;
+        let elements = self.elements(need + 1)?;
+        Ok((token.place, elements))
     }
 
     /// Reads what is converted to a type, with its parentheses.
@@ -237,13 +347,23 @@ impl<'a> Parser<'a> {
         ensures shorter { OnOk result (size self.new < size self.old) }
     {
         let open = TokenKind::Punctuation(Punctuation::OpenParenthesis);
+        let (_, inner) = self.opened(open, level + 1, level + 1, Expected::Operand)?;
+        let (value, _) = beside(inner, self.converted_end())?;
+        Ok(value)
+    }
+
+    /// Takes a comma, if it is the next, and the parenthesis behind what is converted.
+    ///
+    /// `[ "," ] ")" .`
+    fn converted_end(&mut self) -> Result<(), Refusal>
+        ensures reads { (next : State) → Reads (optional comma 0 (λ _. token closing 0 another (λ _. next)) (token closing 0 another (λ _. next))) (λ _. next) self.old result self.new }
+        ensures shorter { OnOk result (size self.new < size self.old) }
+    {
         let comma = TokenKind::Punctuation(Punctuation::Comma);
         let close = TokenKind::Punctuation(Punctuation::CloseParenthesis);
-        self.expect(open, level + 1, Expected::Another)?;
-        let value = self.binary(5, false, level + 1, Expected::Operand)?;
         self.accept(comma, 0)?;
         self.expect(close, 0, Expected::Another)?;
-        Ok(value)
+        Ok(())
     }
 
     /// Reads the suffixes of an operand.
@@ -277,9 +397,8 @@ impl<'a> Parser<'a> {
         ensures fits { IfOk result (λ e. level + e.height ≤ 251) }
         ensures shorter { OnOk result (size self.new < size self.old) }
     {
-        let period = TokenKind::Punctuation(Punctuation::Period);
-        self.expect(period, level + operand.height, Expected::Another)?;
-        let name = self.name(0, Expected::SelectedName)?;
+        let need = level + operand.height;
+        let (operand, name) = beside(operand, self.selected_name(need))?;
         selector(self.alloc, operand, name)
     }
 
@@ -295,10 +414,15 @@ impl<'a> Parser<'a> {
     {
         let open = TokenKind::Punctuation(Punctuation::OpenBracket);
         let close = TokenKind::Punctuation(Punctuation::CloseBracket);
-        self.expect(open, level + operand.height, Expected::Another)?;
-        let at = self.binary(5, false, level + 1, Expected::Index)?;
-        self.expect(close, 0, Expected::IndexEnd)?;
-        index(self.alloc, operand, at)
+        let marks = Marks {
+            first: open,
+            last: close,
+            end: Expected::IndexEnd,
+        };
+        let need = level + operand.height;
+        let enclosed = self.enclosed(marks, need, level + 1, Expected::Index);
+        let (operand, inside) = beside(operand, enclosed)?;
+        index(self.alloc, operand, inside.1)
     }
 
     /// Reads the arguments of a call.
@@ -311,15 +435,30 @@ impl<'a> Parser<'a> {
         ensures fits { IfOk result (λ e. level + e.height ≤ 251) }
         ensures shorter { OnOk result (size self.new < size self.old) }
     {
-        let open = TokenKind::Punctuation(Punctuation::OpenParenthesis);
-        self.expect(open, level + operand.height, Expected::Another)?;
-        let arguments = self.arguments(level + 1)?;
+        let need = level + operand.height;
+        let (operand, arguments) = beside(operand, self.passed(need, level + 1))?;
         call(self.alloc, operand, arguments)
+    }
+
+    /// Reads the arguments of a call with their parentheses.
+    ///
+    /// `Arguments = "(" [ ExpressionList [ "," ] ] ")" .`
+    #[cycle(tree)]
+    fn passed(&mut self, need: u32, level: u32) -> Result<Arguments, Refusal>
+        requires { level ≤ need + 1 }
+        ensures reads { (next : List trees.Expr → State) → Reads (token opening need another (λ _. list_start (arguments level) [] (λ es _. next es))) (λ es. next (map expr_of es.items.items)) self.old result self.new }
+        ensures need { OnOk result (need ≤ 250) }
+        ensures fits { IfOk result (λ es. level + es.height ≤ 251) }
+        ensures shorter { OnOk result (size self.new < size self.old) }
+    {
+        let open = TokenKind::Punctuation(Punctuation::OpenParenthesis);
+        self.expect(open, need, Expected::Another)?;
+        self.arguments(level)
     }
 
     /// Reads the arguments of a call and the parenthesis that closes them.
     ///
-    /// `Arguments = "(" [ ExpressionList [ "," ] ] ")" .`
+    /// `[ ExpressionList [ "," ] ] ")" .`
     #[cycle(tree)]
     fn arguments(&mut self, level: u32) -> Result<Arguments, Refusal>
         requires { level ≤ 251 }
@@ -335,9 +474,7 @@ impl<'a> Parser<'a> {
             let item = self.binary(5, false, level, Expected::Operand)?;
             height = item.height.max(height);
             items.push(item.expr)?;
-            if !self.is_next(close) {
-                self.expect(comma, 0, Expected::Another)?;
-            }
+            self.separate(comma, close, Expected::Another)?;
         }
         self.expect(close, 0, Expected::Another)?;
         Ok(Arguments { items, height })
@@ -353,18 +490,15 @@ impl<'a> Parser<'a> {
         ensures fits { IfOk result (λ e. level + e.height ≤ 251) }
         ensures shorter { OnOk result (size self.new < size self.old) }
     {
-        let open = TokenKind::Punctuation(Punctuation::OpenBrace);
-        let token = self.expect(open, level + 1, Expected::Another)?;
-        let elements = self.elements(level + 2)?;
         match named_by(operand.expr) {
-            Some(a) => composite_lit(self.alloc, a, token.place, elements),
+            Some(a) => self.literal(a, level),
             None => Err(self.wrong(Expected::Another)),
         }
     }
 
     /// Reads the elements of a literal and the brace that closes them.
     ///
-    /// `LiteralValue = "{" [ KeyedElement { "," KeyedElement } [ "," ] ] "}" .`
+    /// `[ KeyedElement { "," KeyedElement } [ "," ] ] "}" .`
     #[cycle(tree)]
     fn elements(&mut self, level: u32) -> Result<Elements, Refusal>
         requires { level ≤ 252 }
@@ -380,9 +514,7 @@ impl<'a> Parser<'a> {
             let item = self.element(level)?;
             height = item.height.max(height);
             items.push(item.element)?;
-            if !self.is_next(close) {
-                self.expect(comma, 0, Expected::ElementEnd)?;
-            }
+            self.separate(comma, close, Expected::ElementEnd)?;
         }
         self.expect(close, 0, Expected::Another)?;
         Ok(Elements { items, height })
@@ -406,12 +538,26 @@ impl<'a> Parser<'a> {
         }
         match key_in(first) {
             Ok(key) => {
-                self.expect(colon, 0, Expected::Another)?;
-                let value = self.value(level)?;
+                let (key, value) = beside(key, self.keyed(level))?;
                 Ok(element(Some(key), value))
             }
             Err(value) => Ok(element(None, value)),
         }
+    }
+
+    /// Reads a colon and the value behind it.
+    ///
+    /// `":" Element .`
+    #[cycle(tree)]
+    fn keyed(&mut self, level: u32) -> Result<TallValue, Refusal>
+        requires { level ≤ 252 }
+        ensures reads { (next : trees.Element → State) → Reads (token colon 0 another (λ _. value_at level next)) (λ v. next (value_of v.value)) self.old result self.new }
+        ensures fits { IfOk result (λ v. level + v.height ≤ 251) }
+        ensures shorter { OnOk result (size self.new < size self.old) }
+    {
+        let colon = TokenKind::Punctuation(Punctuation::Colon);
+        self.expect(colon, 0, Expected::Another)?;
+        self.value(level)
     }
 
     /// Reads the value of an element: an expression, or elements without the type of their literal.
@@ -426,9 +572,8 @@ impl<'a> Parser<'a> {
     {
         let open = TokenKind::Punctuation(Punctuation::OpenBrace);
         if self.is_next(open) {
-            let token = self.expect(open, level, Expected::Another)?;
-            let elements = self.elements(level + 1)?;
-            return Ok(braced_value(token.place, elements));
+            let (place, elements) = self.braced(level)?;
+            return Ok(braced_value(place, elements));
         }
         let expr = self.binary(5, false, level, Expected::Operand)?;
         Ok(expression_value(expr))

@@ -5,17 +5,44 @@ ghost use Rattle.go_scan.specs.declared.token.TokenKind.TheVariants as kinds;
 ghost use Rattle.go_ast.specs.Expected.{another};
 ghost use Rattle.go_ast.specs.Grammar.{assign};
 ghost use Rattle.go_ast.specs.Machine.{State, token, optional, names, group, value_list, const_rest, var_rest, type_rest, const_specs, var_specs, type_specs};
-ghost use Rattle.go_ast.specs.Views.{const_of, var_of, type_spec_of, decl_of};
+ghost use Rattle.go_ast.specs.Views.{exprs_in, const_of, var_of, type_spec_of, decl_of};
 ghost use Rattle.go_pexpr.specs.Reads.{Reads, size};
 
 use crate::list::{Items, list};
 use crate::marks::{ASSIGN, OPENING, SEMICOLON};
 use go_ast::declaration::{ConstSpec, Decl, TypeSpec, VarSpec};
+use go_ast::expression::Expr;
 use go_ast::name::Name;
 use go_pexpr::expected::Expected;
 use go_pexpr::parser::{Parser, Refusal};
 use go_scan::token::TokenKind;
 use go_text::place::Place;
+
+/// Reads `=` and the values behind it.
+///
+/// `"=" ExpressionList .`
+fn assigned_values(parser: &mut Parser<'_>, level: u32) -> Result<Vec<Expr>, Refusal>
+    requires { level ≤ 252 }
+    ensures reads { (next : trees.Exprs → State) → Reads (token assign 0 another (λ _. value_list level next)) (λ es. next (exprs_in es.items)) parser.old result parser.new }
+    ensures shorter { OnOk result (size parser.new < size parser.old) }
+{
+    parser.expect(ASSIGN, 0, Expected::Another)?;
+    parser.exprs(false, level, Expected::Value)
+}
+
+/// Reads `=` and the values behind it, if it is the next.
+///
+/// `[ "=" ExpressionList ] .`
+fn values_if(parser: &mut Parser<'_>, need: u32, level: u32) -> Result<Vec<Expr>, Refusal>
+    requires { level ≤ 252 }
+    ensures reads { (next : trees.Exprs → State) → Reads (optional assign need (λ _. value_list level next) (next trees.no_exprs)) (λ es. next (exprs_in es.items)) parser.old result parser.new }
+    ensures no_longer { OnOk result (size parser.new ≤ size parser.old) }
+{
+    if let Some(_) = parser.accept(ASSIGN, need)? {
+        return parser.exprs(false, level, Expected::Value);
+    }
+    Ok(Vec::new(parser.alloc))
+}
 
 /// Reads what is behind the names of constants, where no type is written.
 ///
@@ -29,18 +56,11 @@ fn untyped_const(
     ensures reads { (next : trees.ConstSpec → State) → Reads (optional assign level (λ _. value_list level (λ es. next (record { names = names.items; type = None; values = es }))) (next (record { names = names.items; type = None; values = trees.no_exprs }))) (λ s. next (const_of s)) parser.old result parser.new }
     ensures no_longer { OnOk result (size parser.new ≤ size parser.old) }
 {
-    if let Some(_) = parser.accept(ASSIGN, level)? {
-        let values = parser.exprs(false, level, Expected::Value)?;
-        return Ok(ConstSpec {
-            names,
-            type_expr: None,
-            values,
-        });
-    }
+    let values = values_if(parser, level, level)?;
     Ok(ConstSpec {
         names,
         type_expr: None,
-        values: Vec::new(parser.alloc),
+        values,
     })
 }
 
@@ -56,8 +76,7 @@ fn const_spec(parser: &mut Parser<'_>, level: u32) -> Result<ConstSpec, Refusal>
     let Some(type_expr) = parser.type_if(level, Expected::Type)? else {
         return untyped_const(parser, level, names);
     };
-    parser.expect(ASSIGN, 0, Expected::Another)?;
-    let values = parser.exprs(false, level, Expected::Value)?;
+    let values = assigned_values(parser, level)?;
     Ok(ConstSpec {
         names,
         type_expr: Some(type_expr),
@@ -122,8 +141,7 @@ fn untyped_var(parser: &mut Parser<'_>, level: u32, names: Vec<Name>) -> Result<
     ensures reads { (next : trees.VarSpec → State) → Reads (token assign 0 another (λ _. value_list level (λ es. next (record { names = names.items; type = None; values = es })))) (λ s. next (var_of s)) parser.old result parser.new }
     ensures shorter { OnOk result (size parser.new < size parser.old) }
 {
-    parser.expect(ASSIGN, 0, Expected::Another)?;
-    let values = parser.exprs(false, level, Expected::Value)?;
+    let values = assigned_values(parser, level)?;
     Ok(VarSpec {
         names,
         type_expr: None,
@@ -143,18 +161,11 @@ fn var_spec(parser: &mut Parser<'_>, level: u32) -> Result<VarSpec, Refusal>
     let Some(type_expr) = parser.type_if(level, Expected::Type)? else {
         return untyped_var(parser, level, names);
     };
-    if let Some(_) = parser.accept(ASSIGN, 0)? {
-        let values = parser.exprs(false, level, Expected::Value)?;
-        return Ok(VarSpec {
-            names,
-            type_expr: Some(type_expr),
-            values,
-        });
-    }
+    let values = values_if(parser, 0, level)?;
     Ok(VarSpec {
         names,
         type_expr: Some(type_expr),
-        values: Vec::new(parser.alloc),
+        values,
     })
 }
 

@@ -8,6 +8,7 @@ ghost use Rattle.go_text.specs.declared.place.Place.{Place};
 ghost use Rattle.go_pexpr.specs.Reads.{Reads, size};
 ghost use Rattle.go_pstmt.specs.Turns.{by_turns};
 
+use crate::header::value_before;
 use crate::marks::{OPENING_BRACE, RANGE, SEMICOLON};
 use crate::simple::{Header, Position, header_from, simple};
 use go_ast::expression::Expr;
@@ -59,13 +60,8 @@ fn condition_behind(
     ensures reads { (p : Place) (next : trees.Stmt → State) → Reads (for_condition level p next (if_boxed simple_of init)) (by_turns level p next) parser.old result parser.new }
     ensures no_longer { OnOk result (size parser.new ≤ size parser.old) }
 {
-    if let Some(_) = parser.accept(SEMICOLON, 0)? {
-        return turns_behind(parser, level, init, None);
-    }
-    let condition = parser.expr_from(true, level + 1, Expected::Operand)?;
-    let condition = Box::new(parser.alloc, condition)?;
-    parser.expect(SEMICOLON, 0, Expected::Another)?;
-    turns_behind(parser, level, init, Some(condition))
+    let condition = value_before(parser, level + 1, SEMICOLON)?;
+    turns_behind(parser, level, init, condition)
 }
 
 /// Reads what is between a `for` and its block.

@@ -1,8 +1,9 @@
 //! Reads what is between an `if` or a `switch` and its block.
-ghost use Rattle.std.specs.Prelude.{◌≡◌, ◌+◌, ◌<◌, ◌≤◌, Option, Some, None, OnOk};
+ghost use Rattle.std.specs.Prelude.{◌≡◌, ◌+◌, ◌<◌, ◌≤◌, Option, Some, None, OnOk, true};
 ghost use Rattle.go_ast.specs.Trees as trees;
+ghost use Rattle.go_ast.specs.Expected.{an_operand, another};
 ghost use Rattle.go_ast.specs.Grammar.{Lexeme};
-ghost use Rattle.go_ast.specs.Machine.{State, behind_if, if_condition, block_at, else_part, behind_switch, switch_tag, switch_body};
+ghost use Rattle.go_ast.specs.Machine.{State, token, optional, expr, behind_if, if_condition, block_at, else_part, behind_switch, switch_tag, switch_body};
 ghost use Rattle.go_ast.specs.Views.{expr_of, simple_of, if_boxed};
 ghost use Rattle.go_text.specs.declared.place.Place.{Place};
 ghost use Rattle.go_pexpr.specs.Reads.{Reads, size};
@@ -13,6 +14,7 @@ use go_ast::expression::Expr;
 use go_ast::statement::Simple;
 use go_pexpr::expected::Expected;
 use go_pexpr::parser::{Parser, Refusal};
+use go_scan::token::TokenKind;
 
 /// The head of an `if`.
 #[derive(Drop)]
@@ -30,6 +32,27 @@ pub(crate) struct Compared {
     pub init: Option<Box<Simple>>,
     /// The value that is compared, if there is one.
     pub value: Option<Box<Expr>>,
+}
+
+/// Reads an expression, which may be missing, and the mark behind it.
+///
+/// `[ Expression ] .`
+pub(crate) fn value_before(
+    parser: &mut Parser<'_>,
+    level: u32,
+    mark: TokenKind,
+) -> Result<Option<Box<Expr>>, Refusal>
+    requires { level ≤ 252 }
+    ensures reads { (next : Option trees.Expr → State) → Reads (optional mark 0 (λ _. next None) (expr 5 true level an_operand (λ e. token mark 0 another (λ _. next (Some e))))) (λ v. next (if_boxed expr_of v)) parser.old result parser.new }
+    ensures shorter { OnOk result (size parser.new < size parser.old) }
+{
+    if let Some(_) = parser.accept(mark, 0)? {
+        return Ok(None);
+    }
+    let value = parser.expr_from(true, level, Expected::Operand)?;
+    let value = Box::new(parser.alloc, value)?;
+    parser.expect(mark, 0, Expected::Another)?;
+    Ok(Some(value))
 }
 
 /// Reads the condition of an `if`, behind the statement before it.
@@ -81,16 +104,8 @@ fn compared_behind(
     ensures reads { (p : Place) (next : trees.Stmt → State) → Reads (switch_tag level p next (if_boxed simple_of init)) (λ h. switch_body level p next (if_boxed simple_of h.init) (if_boxed expr_of h.value)) parser.old result parser.new }
     ensures shorter { OnOk result (size parser.new < size parser.old) }
 {
-    if let Some(_) = parser.accept(OPENING_BRACE, 0)? {
-        return Ok(Compared { init, value: None });
-    }
-    let value = parser.expr_from(true, level + 1, Expected::Operand)?;
-    let value = Box::new(parser.alloc, value)?;
-    parser.expect(OPENING_BRACE, 0, Expected::Another)?;
-    Ok(Compared {
-        init,
-        value: Some(value),
-    })
+    let value = value_before(parser, level + 1, OPENING_BRACE)?;
+    Ok(Compared { init, value })
 }
 
 /// Reads what is between a `switch` and its clauses.

@@ -2,7 +2,7 @@
 use Rattle.std.specs.Prelude.{ℕ, List, codes}
 use Rattle.go_text.specs.declared.place.Place.{Place}
 use Rattle.go_text.specs.declared.fault.FaultKind.{FaultKind}
-use Rattle.go_text.specs.declared.fault.FaultKind.TheVariants.{Scan, LeftOut, Parse, Deep, PackageName, Redeclared, Undeclared, UnusedImport, Range, Constant, Main}
+use Rattle.go_text.specs.declared.fault.FaultKind.TheVariants.{Scan, LeftOut, Parse, Deep, PackageName, NoImport, Cycle, Program, Redeclared, Undeclared, UnusedImport, Range, Constant, Main, Unexported}
 
 -- the file's name, the place in it, and what is wrong there
 pub record Fault : Type 0 where
@@ -10,30 +10,26 @@ pub record Fault : Type 0 where
   pub place : Place
   pub kind : FaultKind
 
--- the number of a kind in reports
-abbrev pub fault_number : FaultKind → ℕ
-fault_number Scan = 1
-fault_number LeftOut = 2
-fault_number Parse = 3
-fault_number Deep = 4
-fault_number PackageName = 6
-fault_number Redeclared = 10
-fault_number Undeclared = 11
-fault_number UnusedImport = 12
-fault_number Range = 14
-fault_number Constant = 15
-fault_number Main = 23
+-- the number and the word of a kind in reports
+abbrev pub fault_code : FaultKind → ℕ × List ℕ
+fault_code Scan = (1, codes "scan")
+fault_code LeftOut = (2, codes "leftout")
+fault_code Parse = (3, codes "parse")
+fault_code Deep = (4, codes "deep")
+fault_code PackageName = (6, codes "packagename")
+fault_code NoImport = (7, codes "noimport")
+fault_code Cycle = (8, codes "cycle")
+fault_code Program = (9, codes "program")
+fault_code Redeclared = (10, codes "redeclared")
+fault_code Undeclared = (11, codes "undeclared")
+fault_code UnusedImport = (12, codes "unusedimport")
+fault_code Range = (14, codes "range")
+fault_code Constant = (15, codes "constant")
+fault_code Main = (23, codes "main")
+fault_code Unexported = (25, codes "unexported")
 
--- the word of a kind in reports
+abbrev pub fault_number : FaultKind → ℕ
+fault_number kind = (fault_code kind).0
+
 abbrev pub fault_word : FaultKind → List ℕ
-fault_word Scan = codes "scan"
-fault_word LeftOut = codes "leftout"
-fault_word Parse = codes "parse"
-fault_word Deep = codes "deep"
-fault_word PackageName = codes "packagename"
-fault_word Redeclared = codes "redeclared"
-fault_word Undeclared = codes "undeclared"
-fault_word UnusedImport = codes "unusedimport"
-fault_word Range = codes "range"
-fault_word Constant = codes "constant"
-fault_word Main = codes "main"
+fault_word kind = (fault_code kind).1

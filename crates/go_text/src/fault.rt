@@ -19,6 +19,12 @@ pub enum FaultKind {
     Deep,
     /// A package name that differs from that of the package's first file.
     PackageName,
+    /// An import of a directory that has no files of a package.
+    NoImport,
+    /// An import whose package imports this one in turn.
+    Cycle,
+    /// An import of a program.
+    Program,
     /// A name that its block declares already.
     Redeclared,
     /// A name that nothing declares where it is used.
@@ -31,6 +37,8 @@ pub enum FaultKind {
     Constant,
     /// A program with no function main.
     Main,
+    /// A name that its package doesn't export.
+    Unexported,
 }
 
 impl FaultKind {
@@ -44,12 +52,16 @@ impl FaultKind {
             FaultKind::Parse => 3,
             FaultKind::Deep => 4,
             FaultKind::PackageName => 6,
+            FaultKind::NoImport => 7,
+            FaultKind::Cycle => 8,
+            FaultKind::Program => 9,
             FaultKind::Redeclared => 10,
             FaultKind::Undeclared => 11,
             FaultKind::UnusedImport => 12,
             FaultKind::Range => 14,
             FaultKind::Constant => 15,
             FaultKind::Main => 23,
+            FaultKind::Unexported => 25,
         }
     }
 
@@ -63,12 +75,16 @@ impl FaultKind {
             FaultKind::Parse => "parse",
             FaultKind::Deep => "deep",
             FaultKind::PackageName => "packagename",
+            FaultKind::NoImport => "noimport",
+            FaultKind::Cycle => "cycle",
+            FaultKind::Program => "program",
             FaultKind::Redeclared => "redeclared",
             FaultKind::Undeclared => "undeclared",
             FaultKind::UnusedImport => "unusedimport",
             FaultKind::Range => "range",
             FaultKind::Constant => "constant",
             FaultKind::Main => "main",
+            FaultKind::Unexported => "unexported",
         }
     }
 }

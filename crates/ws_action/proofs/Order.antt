@@ -7,19 +7,25 @@ use Rattle.std.specs.FinMap.{IsAntisymmetric, nat_cmp-IsAntisymmetric, slice_cmp
 use Rattle.std.proofs.lemmas.Cmp.{on_total, then_total, lists_total, nat_list_cmp_total}
 use Rattle.std.proofs.lemmas.Map.Lookups.{exact_pairs, exact_bytes}
 use Rattle.std.proofs.Common.{ap}
-use Rattle.ws_action.specs.Actions.{bytes_cmp, file_cmp, action_cmp}
+use Rattle.ws_action.specs.Actions.{Named, bytes_cmp, named_cmp, action_cmp}
 
-file_cmp_total : IsTotalOrder file_cmp
-file_cmp_total = then_total (on_total (λ f. f.0) nat_list_cmp_total) (on_total (λ f. f.1) nat_list_cmp_total)
+named_cmp_total : IsTotalOrder named_cmp
+named_cmp_total = then_total (on_total (λ n. n.0) nat_list_cmp_total) (on_total (λ n. n.1) nat_list_cmp_total)
 
 pub action_cmp_total : IsTotalOrder action_cmp
-action_cmp_total = then_total (on_total (λ a. a.edition) nat_cmp_total) (then_total (on_total (λ a. a.path) nat_list_cmp_total) (on_total (λ a. a.files) (lists_total file_cmp_total)))
+action_cmp_total =
+    then_total (on_total (λ a. a.edition) nat_cmp_total)
+    (then_total (on_total (λ a. a.path) nat_list_cmp_total)
+    (then_total (on_total (λ a. a.files) (lists_total named_cmp_total)) (on_total (λ a. a.imports) (lists_total named_cmp_total))))
 
-file_cmp-IsAntisymmetric : IsAntisymmetric file_cmp
-file_cmp-IsAntisymmetric = exact_pairs bytes_cmp bytes_cmp exact_bytes exact_bytes
+named_cmp-IsAntisymmetric : IsAntisymmetric named_cmp
+named_cmp-IsAntisymmetric = exact_pairs bytes_cmp bytes_cmp exact_bytes exact_bytes
 
 pub action_cmp-IsAntisymmetric : IsAntisymmetric action_cmp
 action_cmp-IsAntisymmetric a b e =
-    let parts : ◌≡◌ {A = ℕ × (List ℕ × List (List ℕ × List ℕ))} (a.edition, (a.path, a.files)) (b.edition, (b.path, b.files)) =
-    exact_pairs nat_cmp (λ p q. ordering_then (bytes_cmp p.0 q.0) (slice_cmp file_cmp p.1 q.1)) nat_cmp-IsAntisymmetric (exact_pairs bytes_cmp (slice_cmp file_cmp) exact_bytes (slice_cmp-IsAntisymmetric file_cmp-IsAntisymmetric)) (a.edition, (a.path, a.files)) (b.edition, (b.path, b.files)) e in
-    ap (λ (p : ℕ × (List ℕ × List (List ℕ × List ℕ))). record { edition = p.0; path = p.1.0; files = p.1.1 }) parts
+    let lists = slice_cmp-IsAntisymmetric named_cmp-IsAntisymmetric in
+    let parts : ◌≡◌ {A = ℕ × (List ℕ × (List Named × List Named))} (a.edition, (a.path, (a.files, a.imports))) (b.edition, (b.path, (b.files, b.imports))) =
+    exact_pairs nat_cmp (λ p q. ordering_then (bytes_cmp p.0 q.0) (ordering_then (slice_cmp named_cmp p.1.0 q.1.0) (slice_cmp named_cmp p.1.1 q.1.1))) nat_cmp-IsAntisymmetric
+    (exact_pairs bytes_cmp (λ p q. ordering_then (slice_cmp named_cmp p.0 q.0) (slice_cmp named_cmp p.1 q.1)) exact_bytes (exact_pairs (slice_cmp named_cmp) (slice_cmp named_cmp) lists lists))
+    (a.edition, (a.path, (a.files, a.imports))) (b.edition, (b.path, (b.files, b.imports))) e in
+    ap (λ (p : ℕ × (List ℕ × (List Named × List Named))). record { edition = p.0; path = p.1.0; files = p.1.1.0; imports = p.1.1.1 }) parts

@@ -1,6 +1,5 @@
 -- Actions: what a package is compiled from, when it is refused, the text that stands for it in a digest, and the order by contents.
 use Rattle.std.specs.Prelude.{◌≡◌, ◌≢◌, ℕ, ◌<◌, ◌^◌, Bool, true, false, ◌&&◌, List, [], ◌∷◌, ◌++◌, length, map, refl, codes}
-use Rattle.std.specs.Int.{to_be_bytes, w64}
 use Rattle.std.specs.Fmt.{decimal}
 use Rattle.std.specs.List.{All, Contains, flat_map}
 use Rattle.std.specs.declared.cmp.Ordering.{Ordering}
@@ -8,28 +7,43 @@ use Rattle.std.specs.Ordering.{nat_cmp, ordering_then, is_lt}
 use Rattle.std.specs.Coded.{Coded, code_by, coded×, coded_ℕ, coded_list}
 use Rattle.std.specs.Cmp.Lexicographic.{slice_cmp}
 use Rattle.sha2.specs.Sha256.{sha256}
-use Rattle.go_ast.specs.Trees.{Name}
-use Rattle.go_ast.specs.Parse.{Parsed, IsPackage, IsNamed, IsOther}
+use Rattle.go_ast.specs.Trees.{Name, File, ImportSpec}
+use Rattle.go_ast.specs.Parse.{Parsed, Derived, IsParse, IsPackage, IsNamed, IsOther}
+use Rattle.go_export.specs.Fields.{be, field}
+use Rattle.go_export.specs.Summaries.{Summary, summary_text}
 use Rattle.ws_action.specs.declared.ActionError.{ActionError}
-use Rattle.ws_action.specs.declared.ActionError.TheVariants.{NoFile, Unordered, MixedNames}
+use Rattle.ws_action.specs.declared.ActionError.TheVariants.{NoFile, Unordered, MixedNames, NotImports}
 
--- the number of the edition, the package's directory, and its files by name and text
+-- a name and a text
+abbrev pub Named : Type 0
+Named = List ℕ × List ℕ
+
+-- the number of the edition, the package's directory, its files by name and text, and its imports by path and their summary's text
 pub record Action : Type 0 where
   pub edition : ℕ
   pub path : List ℕ
-  pub files : List (List ℕ × List ℕ)
+  pub files : List Named
+  pub imports : List Named
+
+abbrev pub coded_named : Coded (List Named)
+coded_named = coded_list (coded× (coded_list coded_ℕ) (coded_list coded_ℕ))
 
 -- as a pair of pairs
 abbrev pub action_code : Coded Action
-action_code = code_by (ℕ × (List ℕ × List (List ℕ × List ℕ))) (coded× coded_ℕ (coded× (coded_list coded_ℕ) (coded_list (coded× (coded_list coded_ℕ) (coded_list coded_ℕ))))) (λ a. (a.edition, (a.path, a.files))) (λ p. record { edition = p.0; path = p.1.0; files = p.1.1 }) (λ _. refl)
+action_code = code_by (ℕ × (List ℕ × (List Named × List Named))) (coded× coded_ℕ (coded× (coded_list coded_ℕ) (coded× coded_named coded_named)))
+    (λ a. (a.edition, (a.path, (a.files, a.imports)))) (λ p. record { edition = p.0; path = p.1.0; files = p.1.1.0; imports = p.1.1.1 }) (λ _. refl)
 
 -- a file's name and text
-abbrev pub source_of : Parsed → List ℕ × List ℕ
+abbrev pub source_of : Parsed → Named
 source_of file = (file.name, file.text)
 
--- the action of an edition, a directory and its parsed files
-abbrev pub action_of : ℕ → List ℕ → List Parsed → Action
-action_of edition path files = record { edition = edition; path = path; files = map source_of files }
+-- the path of an imported package and its summary's text
+abbrev pub import_of : Summary → Named
+import_of summary = (summary.path, summary_text summary)
+
+-- the action of an edition, a directory, its parsed files and the summaries of its imports
+abbrev pub action_of : ℕ → List ℕ → List Parsed → List Summary → Action
+action_of edition path files summaries = record { edition = edition; path = path; files = map source_of files; imports = map import_of summaries }
 
 -- ---- refusals
 
@@ -38,14 +52,18 @@ abbrev pub bytes_cmp : List ℕ → List ℕ → Ordering
 bytes_cmp = slice_cmp nat_cmp
 
 -- each name is below the next, and the first above `last`
-abbrev pub ascends_from : List ℕ → List Parsed → Bool
+abbrev pub ascends_from : List ℕ → List Named → Bool
 ascends_from last [] = true
-ascends_from last (file ∷ files) = is_lt (bytes_cmp last file.name) && ascends_from file.name files
+ascends_from last (next ∷ rest) = is_lt (bytes_cmp last next.0) && ascends_from next.0 rest
 
 -- each name is below the next
-abbrev pub ascends : List Parsed → Bool
+abbrev pub ascends : List Named → Bool
 ascends [] = true
-ascends (first ∷ files) = ascends_from first.name files
+ascends (first ∷ rest) = ascends_from first.0 rest
+
+-- so are the names of files, and the paths of summaries
+abbrev pub are_ordered : List Parsed → List Summary → Bool
+are_ordered files summaries = ascends (map source_of files) && ascends (map import_of summaries)
 
 -- each has the package name of the first
 pub record HaveName (first : Parsed) (files : List Parsed) : Type 0 where
@@ -69,52 +87,78 @@ abbrev pub HaveOtherName : List Parsed → Type 0
 HaveOtherName [] = ⊥
 HaveOtherName (first ∷ files) = HaveOther first files
 
--- they make an action: there is one, their names are strictly ascending, and they have one package name
-pub record MakeAction (files : List Parsed) : Type 0 where
+-- the file that a text is imports a package at this path, other than the library
+pub record Imports (text path : List ℕ) : Type 0 where
+  pub tree : File
+  pub parse : IsParse text (Derived tree)
+  pub spec : ImportSpec
+  pub among : Contains tree.imports spec
+  pub is : spec.path ≡ path
+  pub other : path ≢ codes "fmt"
+
+-- one of the files does
+abbrev pub IsImported : List Parsed → List ℕ → Type 0
+IsImported files path = (file : Parsed) × Contains files file × Imports file.text path
+
+-- one of the summaries has the path
+abbrev pub HasSummary : List Summary → List ℕ → Type 0
+HasSummary summaries path = (summary : Summary) × Contains summaries summary × (summary.path ≡ path)
+
+-- the summaries are exactly those of the packages that the files import
+pub record AreImports (files : List Parsed) (summaries : List Summary) : Type 0 where
+  pub all : (path : List ℕ) → IsImported files path → HasSummary summaries path
+  pub only : (path : List ℕ) → HasSummary summaries path → IsImported files path
+
+-- they make an action: there is a file, names and paths are strictly ascending, the files have one package name, and the summaries are
+-- exactly those of their imports
+pub record MakeAction (files : List Parsed) (summaries : List Summary) : Type 0 where
   pub some : files ≢ []
-  pub ascending : ascends files ≡ true
+  pub ordered : are_ordered files summaries ≡ true
   pub named : HaveOneName files
+  pub imported : AreImports files summaries
 
 -- or the first of these holds
-abbrev pub AreRefused : List Parsed → ActionError → Type 0
-AreRefused files NoFile = files ≡ []
-AreRefused files Unordered = (files ≢ []) × (ascends files ≡ false)
-AreRefused files MixedNames = (ascends files ≡ true) × HaveOtherName files
+abbrev pub AreRefused : List Parsed → List Summary → ActionError → Type 0
+AreRefused files summaries NoFile = files ≡ []
+AreRefused files summaries Unordered = (files ≢ []) × (are_ordered files summaries ≡ false)
+AreRefused files summaries MixedNames = (are_ordered files summaries ≡ true) × HaveOtherName files
+AreRefused files summaries NotImports = (are_ordered files summaries ≡ true) × HaveOneName files × (AreImports files summaries → ⊥)
 
 -- ---- texts
 
--- n in 8 bytes, the most significant first
-abbrev pub be : ℕ → List ℕ
-be n = to_be_bytes w64 n
+-- a file or an import: its name or path, and the digest of its text
+abbrev pub named_text : Named → List ℕ
+named_text n = field n.0 ++ field (sha256 n.1)
 
--- some bytes behind their number
-abbrev pub field : List ℕ → List ℕ
-field x = be (length x) ++ x
+-- how many there are, and each
+abbrev pub list_text : List Named → List ℕ
+list_text ns = be (length ns) ++ flat_map named_text ns
 
--- a file: its name, and the digest of its text
-abbrev pub file_text : List ℕ × List ℕ → List ℕ
-file_text file = field file.0 ++ field (sha256 file.1)
-
--- the text that stands for an action: the edition in decimal, the path, the files, and no imports
+-- the text that stands for an action: the edition in decimal, the path, the files and the imports
 unfoldable pub action_text : Action → List ℕ
-action_text a = field (codes "goset action") ++ field (decimal a.edition) ++ field a.path ++ be (length a.files) ++ flat_map file_text a.files ++ be 0
+action_text a = field (codes "goset action") ++ field (decimal a.edition) ++ field a.path ++ list_text a.files ++ list_text a.imports
 
 -- its digest
 unfoldable pub action_id : Action → List ℕ
 action_id a = sha256 (action_text a)
 
 -- the numbers in the text fit their bytes
+pub record AreSized (ns : List Named) : Type 0 where
+  pub count : length ns < 2 ^ 64
+  pub names : All (λ n. length n.0 < 2 ^ 64) ns
+
 pub record IsSized (a : Action) : Type 0 where
   pub edition : a.edition < 2 ^ 32
   pub path : length a.path < 2 ^ 64
-  pub count : length a.files < 2 ^ 64
-  pub names : All (λ file. length file.0 < 2 ^ 64) a.files
+  pub files : AreSized a.files
+  pub imports : AreSized a.imports
 
 -- ---- the order
 
-abbrev pub file_cmp : List ℕ × List ℕ → List ℕ × List ℕ → Ordering
-file_cmp f g = ordering_then (bytes_cmp f.0 g.0) (bytes_cmp f.1 g.1)
+-- by name, then text
+abbrev pub named_cmp : Named → Named → Ordering
+named_cmp m n = ordering_then (bytes_cmp m.0 n.0) (bytes_cmp m.1 n.1)
 
--- by contents: the edition, then the path, then the files by name and text
+-- by contents: the edition, then the path, then the files and the imports by name and text
 abbrev pub action_cmp : Action → Action → Ordering
-action_cmp a b = ordering_then (nat_cmp a.edition b.edition) (ordering_then (bytes_cmp a.path b.path) (slice_cmp file_cmp a.files b.files))
+action_cmp a b = ordering_then (nat_cmp a.edition b.edition) (ordering_then (bytes_cmp a.path b.path) (ordering_then (slice_cmp named_cmp a.files b.files) (slice_cmp named_cmp a.imports b.imports)))

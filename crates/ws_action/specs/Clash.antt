@@ -1,20 +1,20 @@
 -- No two different texts of a list have one digest, and what is hashed for actions.
-use Rattle.std.specs.Prelude.{◌≡◌, ℕ, List, ◌∷◌, map}
+use Rattle.std.specs.Prelude.{◌≡◌, ℕ, List, ◌∷◌, ◌++◌, map}
 use Rattle.std.specs.List.{Contains, flat_map}
 use Rattle.sha2.specs.Sha256.{sha256}
-use Rattle.ws_action.specs.Actions.{Action, action_text, IsSized}
+use Rattle.ws_action.specs.Actions.{Named, Action, action_text, IsSized}
 
 -- no two different texts of T have one digest
 abbrev pub NoClash : List (List ℕ) → Type 0
 NoClash T = (s t : List ℕ) → Contains T s → Contains T t → sha256 s ≡ sha256 t → s ≡ t
 
--- the texts of files
-abbrev pub texts_of : List (List ℕ × List ℕ) → List (List ℕ)
-texts_of files = map (λ file. file.1) files
+-- the texts of files or imports
+abbrev pub texts_of : List Named → List (List ℕ)
+texts_of ns = map (λ n. n.1) ns
 
--- what is hashed for an action: its text, and the texts of its files
+-- what is hashed for an action: its text, and the texts of its files and of its imports' summaries
 abbrev pub hashed : Action → List (List ℕ)
-hashed a = action_text a ∷ texts_of a.files
+hashed a = action_text a ∷ texts_of a.files ++ texts_of a.imports
 
 -- what is hashed for the actions
 abbrev pub hashed_actions : List Action → List (List ℕ)

@@ -1,50 +1,64 @@
 //! Actions: what a package is compiled from, and the text and the id by which caches know it.
 #![tactic(auto)]
 
-ghost use Rattle.std.specs.Prelude.{◌≡◌, ℕ, List, ◌++◌, ◌<◌, ◌^◌, length, map, OnOk, IfOk, IfErr, string_bytes};
+ghost use Rattle.std.specs.Prelude.{◌≡◌, ℕ, List, map, OnOk, IfOk, IfErr, string_bytes};
+ghost use Rattle.std.specs.Arc.{arc_value};
 ghost use Rattle.std.specs.Bool.{OnTrue, OnFalse};
-ghost use Rattle.std.specs.List.{All, Contains, flat_map};
 ghost use Rattle.std.specs.Cmp.Lexicographic.{slice_cmp};
-ghost use Rattle.sha2.specs.Sha256.{sha256};
+ghost use Rattle.std.specs.List.{Contains};
+ghost use Rattle.std.specs.Ordering.{ordering_then};
 ghost use Rattle.go_text.specs.Editions.{edition_number};
 ghost use Rattle.go_ast.specs.Parse.{IsNamed, IsOther};
 ghost use Rattle.ws_action.specs.Clash.{NoClash, Includes, hashed_actions, AllSized};
-ghost use Rattle.ws_action.specs.Actions.{Action as AnAction, source_of, action_of, ascends, HaveOneName, HaveOtherName, MakeAction, AreRefused, be, field, file_text, action_text, action_id, IsSized, file_cmp, action_cmp};
+ghost use Rattle.ws_action.specs.Actions.{Action as AnAction, source_of, import_of, action_of, are_ordered, HaveOneName, HaveOtherName, MakeAction, AreRefused, action_text, action_id, IsSized, named_cmp, action_cmp};
 
+mod import;
+mod part;
+
+use crate::import::are_imports;
+use crate::part::{ascend, cmp_parts, measure, push_parts};
 use go_ast::parsed::Parsed;
+use go_export::field::{digest, push_field};
+use go_export::summary::Summary;
 use go_text::edition::Edition;
-use sha2::{Digest, Sha256};
 use std::alloc::{AllocError, Global};
 use std::cmp::Ordering;
 use std::marker::Model;
+use std::sync::Arc;
 use thiserror::Error;
 
-/// Why files make no action.
+/// Why files and summaries make no action.
 #[derive(Debug, Drop, Error)]
 pub enum ActionError {
-    /// There is none.
+    /// There is no file.
     #[error("no file")]
     NoFile,
-    /// Their names are not strictly ascending by bytes.
-    #[error("file names are not strictly ascending")]
+    /// The files' names, or the summaries' paths, are not strictly ascending by bytes.
+    #[error("file names or import paths are not strictly ascending")]
     Unordered,
-    /// They have different package names.
+    /// The files have different package names.
     #[error("package names differ")]
     MixedNames,
+    /// The summaries aren't exactly those of the packages that the files import, `fmt` aside.
+    #[error("summaries and imports differ")]
+    NotImports,
 }
 
-/// What a package is compiled from: the edition, the package's directory and its parsed files,
-/// of which there is one at least, in strictly ascending order of names and with one package name.
+/// What a package is compiled from: the edition, the package's directory, its parsed files, of
+/// which there is one at least, in strictly ascending order of names and with one package name, and
+/// the summaries of exactly the packages that they import, in strictly ascending order of paths.
 #[derive(Drop)]
 pub struct Action {
     alloc: Global,
     edition: Edition,
     path: String,
     files: Vec<Parsed>,
+    imports: Vec<Arc<Summary>>,
 }
 
 impl Model for Action {
-    ghost use Rattle.std.specs.Prelude.{string_bytes};
+    ghost use Rattle.std.specs.Prelude.{string_bytes, map};
+    ghost use Rattle.std.specs.Arc.{arc_value};
     ghost use Rattle.go_text.specs.Editions.{edition_number};
     ghost use Rattle.ws_action.specs.Actions as actions;
 
@@ -52,32 +66,37 @@ impl Model for Action {
 
     ghost coded = { actions.action_code };
 
-    ghost view = { λ a. actions.action_of (edition_number a.edition) (string_bytes a.path) a.files.items };
+    ghost view = { λ a. actions.action_of (edition_number a.edition) (string_bytes a.path) a.files.items (map arc_value a.imports.items) };
 
-    ghost invariant = { λ a. actions.MakeAction a.files.items };
+    ghost invariant = { λ a. actions.MakeAction a.files.items (map arc_value a.imports.items) };
 }
 
 impl Action {
-    /// The action of an edition, a package's directory and its parsed files. An `Err` says why
-    /// the files make none: the first that holds of `NoFile`, `Unordered` and `MixedNames`.
+    /// The action of an edition, a package's directory, its parsed files and the summaries of its
+    /// imports. An `Err` says why they make none: the first that holds of `NoFile`, `Unordered`,
+    /// `MixedNames` and `NotImports`.
     pub fn new(
         alloc: Global,
         edition: Edition,
         path: String,
         files: Vec<Parsed>,
+        imports: Vec<Arc<Summary>>,
     ) -> Result<Action, ActionError>
-        ensures ok { IfOk result (λ a. a ≡ action_of (edition_number edition) (string_bytes path) files.items) }
-        ensures allowed { OnOk result (MakeAction files.items) }
-        ensures refused { IfErr result (λ e. AreRefused files.items e) }
+        ensures ok { let summaries = map arc_value imports.items in IfOk result (λ a. a ≡ action_of (edition_number edition) (string_bytes path) files.items summaries) }
+        ensures allowed { OnOk result (MakeAction files.items (map arc_value imports.items)) }
+        ensures refused { IfErr result (λ e. AreRefused files.items (map arc_value imports.items) e) }
         ensures sized { IfOk result (λ a. IsSized a) }
     {
-        check_files(&files)?;
-        measure(&path, &files);
+        check_parts(&files, &imports)?;
+        let _ = path.len();
+        measure(&files);
+        measure(&imports);
         Ok(Action {
             alloc,
             edition,
             path,
             files,
+            imports,
         })
     }
 
@@ -95,12 +114,19 @@ impl Action {
         self.path.as_str()
     }
 
-    /// The package's files, which are none that `new` refuses.
+    /// The package's files.
     pub fn files(&self) -> &[Parsed]
         ensures value { map source_of result.now ≡ self.now.files }
-        ensures allowed { MakeAction result.now }
+        ensures named { HaveOneName result.now }
     {
         self.files.as_slice()
+    }
+
+    /// The summaries of the packages that the files import.
+    pub fn imports(&self) -> &[Arc<Summary>]
+        ensures { map import_of (map arc_value result.now) ≡ self.now.imports }
+    {
+        self.imports.as_slice()
     }
 
     /// What the action's copies and texts are allocated by.
@@ -108,7 +134,7 @@ impl Action {
         self.alloc
     }
 
-    /// Another of equal contents, which shares the texts. An `Err` only where memory ran out.
+    /// Another of equal contents, which shares the texts and the summaries. An `Err` only where memory ran out.
     pub fn copy(&self) -> Result<Action, AllocError>
         ensures { IfOk result (λ copy. copy ≡ self.now) }
     {
@@ -117,6 +143,7 @@ impl Action {
             edition: self.edition,
             path: self.path.clone()?,
             files: copy_files(self.alloc, &self.files)?,
+            imports: copy_imports(self.alloc, &self.imports)?,
         })
     }
 
@@ -129,9 +156,8 @@ impl Action {
         push_field(&mut text, b"goset action")?;
         push_field(&mut text, edition.as_bytes())?;
         push_field(&mut text, self.path.as_bytes())?;
-        push_number(&mut text, self.files.len() as u64)?;
-        push_files(&mut text, &self.files)?;
-        push_number(&mut text, 0)?;
+        push_parts(&mut text, &self.files)?;
+        push_parts(&mut text, &self.imports)?;
         Ok(text)
     }
 
@@ -143,52 +169,56 @@ impl Action {
         Ok(digest(&text))
     }
 
-    /// By edition, then directory, then the files by name and text.
+    /// By edition, then directory, then the files by name and text, then the imports by path and
+    /// summary text.
     pub fn cmp_action(&self, other: &Action) -> Ordering
         ensures { result ≡ action_cmp self.now other.now }
     {
         match self.edition.number().cmp(&other.edition.number()) {
             Ordering::Equal => match self.path.cmp(&other.path) {
-                Ordering::Equal => cmp_files(&self.files, &other.files),
+                Ordering::Equal => self.cmp_parts(other),
                 unequal => unequal,
             },
             unequal => unequal,
         }
     }
+
+    /// By the files, then the imports.
+    fn cmp_parts(&self, other: &Action) -> Ordering
+        ensures { result ≡ ordering_then (slice_cmp named_cmp self.now.files other.now.files) (slice_cmp named_cmp self.now.imports other.now.imports) }
+    {
+        match cmp_parts(&self.files, &other.files) {
+            Ordering::Equal => cmp_parts(&self.imports, &other.imports),
+            unequal => unequal,
+        }
+    }
 }
 
-/// What keeps files from making an action: the first that holds.
-fn check_files(files: &[Parsed]) -> Result<(), ActionError>
-    ensures ok { OnOk result (MakeAction files.now) }
-    ensures err { IfErr result (λ e. AreRefused files.now e) }
+/// What keeps files and summaries from making an action: the first that holds.
+fn check_parts(files: &[Parsed], imports: &[Arc<Summary>]) -> Result<(), ActionError>
+    ensures ok { OnOk result (MakeAction files.now (map arc_value imports.now)) }
+    ensures err { IfErr result (λ e. AreRefused files.now (map arc_value imports.now) e) }
 {
     if files.is_empty() {
         return Err(ActionError::NoFile);
     }
-    if !ascends(files) {
+    if !are_ordered(files, imports) {
         return Err(ActionError::Unordered);
     }
     if !has_one_name(files) {
         return Err(ActionError::MixedNames);
     }
+    if !are_imports(files, imports) {
+        return Err(ActionError::NotImports);
+    }
     Ok(())
 }
 
-/// Whether each file's name is below the next one's, by bytes.
-fn ascends(files: &[Parsed]) -> bool
-    ensures { result ≡ ascends files.now }
+/// Whether the names of the files and the paths of the summaries are strictly ascending.
+fn are_ordered(files: &[Parsed], imports: &[Arc<Summary>]) -> bool
+    ensures { result ≡ are_ordered files.now (map arc_value imports.now) }
 {
-    let Some((first, rest)) = files.split_first() else {
-        return true;
-    };
-    let mut last = first;
-    for file in rest {
-        if last.name() >= file.name() {
-            return false;
-        }
-        last = file;
-    }
-    true
+    ascend(files) && ascend(imports)
 }
 
 /// Whether a file's package has that name.
@@ -216,54 +246,14 @@ fn has_one_name(files: &[Parsed]) -> bool
     true
 }
 
-/// Reads how long the path and each file's name are: that the lengths fit 64 bits is known of
-/// what is read.
-fn measure(path: &str, files: &[Parsed])
-    ensures path { length path.now < 2 ^ 64 }
-    ensures count { length files.now < 2 ^ 64 }
-    ensures names { All (λ file. length file.name < 2 ^ 64) files.now }
+fn copy_imports(alloc: Global, imports: &[Arc<Summary>]) -> Result<Vec<Arc<Summary>>, AllocError>
+    ensures { IfOk result (λ copies. map arc_value copies.items ≡ map arc_value imports.now) }
 {
-    let _ = path.len();
-    let _ = files.len();
-    for file in files {
-        let _ = file.name().len();
+    let mut copies = Vec::new(alloc);
+    for summary in imports {
+        copies.push(Arc::try_clone(summary)?)?;
     }
-}
-
-/// The SHA-256 digest of some bytes.
-fn digest(bytes: &[u8]) -> [u8; 32]
-    ensures { result ≡ sha256 bytes.now }
-{
-    let mut hasher = Sha256::new();
-    hasher.update(bytes);
-    hasher.finalize()
-}
-
-fn push_number(text: &mut Vec<u8>, number: u64) -> Result<(), AllocError>
-    ensures { OnOk result (text.new.items ≡ text.old.items ++ be number) }
-{
-    text.extend_from_slice(&number.to_be_bytes())?;
-    Ok(())
-}
-
-/// Appends how many bytes there are, and the bytes.
-fn push_field(text: &mut Vec<u8>, bytes: &[u8]) -> Result<(), AllocError>
-    ensures { OnOk result (text.new.items ≡ text.old.items ++ field bytes.now) }
-{
-    push_number(text, bytes.len() as u64)?;
-    text.extend_from_slice(bytes)?;
-    Ok(())
-}
-
-/// Appends the name of each file and the digest of its text.
-fn push_files(text: &mut Vec<u8>, files: &[Parsed]) -> Result<(), AllocError>
-    ensures { OnOk result (text.new.items ≡ text.old.items ++ flat_map file_text (map source_of files.now)) }
-{
-    for file in files {
-        push_field(text, file.name().as_bytes())?;
-        push_field(text, &digest(file.text().as_str().as_bytes()))?;
-    }
-    Ok(())
+    Ok(copies)
 }
 
 fn copy_files(alloc: Global, files: &[Parsed]) -> Result<Vec<Parsed>, AllocError>
@@ -274,35 +264,6 @@ fn copy_files(alloc: Global, files: &[Parsed]) -> Result<Vec<Parsed>, AllocError
         copies.push(file.copy()?)?;
     }
     Ok(copies)
-}
-
-fn cmp_file(file: &Parsed, other: &Parsed) -> Ordering
-    ensures { result ≡ file_cmp (source_of file.now) (source_of other.now) }
-{
-    match file.name().cmp(other.name()) {
-        Ordering::Equal => file.text().as_str().cmp(other.text().as_str()),
-        unequal => unequal,
-    }
-}
-
-/// As lists of files, each by name and text.
-fn cmp_files(files: &[Parsed], others: &[Parsed]) -> Ordering
-    ensures { result ≡ slice_cmp file_cmp (map source_of files.now) (map source_of others.now) }
-{
-    for (i, file) in files.iter().enumerate() {
-        let Some(other) = others.get(i) else {
-            return Ordering::Greater;
-        };
-        match cmp_file(file, other) {
-            Ordering::Equal => {}
-            unequal => return unequal,
-        }
-    }
-    if files.len() < others.len() {
-        Ordering::Less
-    } else {
-        Ordering::Equal
-    }
 }
 
 /// Of actions whose hashed texts are in a list without clashes, no two have one id.

@@ -1,1 +1,10 @@
-pub mod BoardJobs
+pub mod Carry
+pub mod Counts
+pub mod Endings
+pub mod Finished
+pub mod Histories
+pub mod Marks
+pub mod OneEnd
+pub mod Runs
+pub mod SameActions
+pub mod Sounds

@@ -1,13 +1,47 @@
--- What a take answers.
-use Rattle.std.specs.Prelude.{◌≡◌, ℕ, true}
-use Rattle.std.specs.List.{list_any}
+-- What the calls of a board promise.
+use Rattle.std.specs.Prelude.{◌≡◌, ℕ, true, List, [], ◌∷◌, ◌++◌, Option, Some, None}
+use Rattle.std.specs.List.{count_by}
+use Rattle.std.specs.FinMap.{empty}
+use Rattle.ws_action.specs.Actions.{Action, action_id}
+use Rattle.ws_board.specs.declared.work.Status.{Status}
+use Rattle.ws_board.specs.declared.work.Status.TheVariants.{Waiting, Ready, Running, Blocked, Done}
+use Rattle.ws_board.specs.declared.work.Event.{Event}
+use Rattle.ws_board.specs.declared.work.Event.TheVariants.{Take, Idle}
 use Rattle.ws_board.specs.declared.work.Taken.{Taken}
 use Rattle.ws_board.specs.declared.work.Taken.TheVariants as taken
-use Rattle.ws_board.specs.Work.{State}
-use Rattle.ws_board.specs.Machine.{IsFree, NoneFree, IsIdle, is_job_running, after_take, after_idle}
+use Rattle.ws_board.specs.Work.{Seen}
+use Rattle.ws_board.specs.Machine.{is_running, status_at, action_at, held, NoneFree, IsRunBy, BoardStep}
 
--- A free job; idle, where nothing is ready and nothing runs; or later, which is no event, where no job is free but one runs.
-abbrev pub TakeStep : ℕ → Taken → State → State → Type 0
-TakeStep hand (taken.Job task) old new = IsFree old.jobs task.job task.action × (new ≡ after_take old hand task.job task.action)
-TakeStep hand taken.Idle old new = IsIdle old.jobs × (new ≡ after_idle old hand)
-TakeStep hand taken.Later old new = NoneFree old.jobs × (list_any is_job_running old.jobs ≡ true) × (new ≡ old)
+-- nothing happened yet
+pub record IsFresh (seen : Seen) : Type 0 where
+  pub nothing_added : seen.state.added ≡ empty
+  pub nothing_runs : count_by is_running seen.state.statuses ≡ 0
+  pub nothing_happened : seen.history ≡ []
+
+-- the event was a step of the machine and was added to the history, and the opening stays
+pub record Happens (old : Seen) (event : Event) (new : Seen) : Type 0 where
+  pub step : BoardStep old.opening old.state event new.state
+  pub history : new.history ≡ old.history ++ event ∷ []
+  pub opening : new.opening ≡ old.opening
+
+-- some job runs
+abbrev pub SomeRuns : List Status → Type 0
+SomeRuns statuses = (k : ℕ) × (is_running (status_at statuses k) ≡ true)
+
+-- What a take answers: a job, which the hand then runs; idle; or later, which is no event, where no job may be given but some job runs.
+abbrev pub TakeStep : ℕ → Taken → Seen → Seen → Type 0
+TakeStep hand (taken.Job task) old new = IsRunBy new.opening.jobs new.state.statuses hand task.job task.action × Happens old (Take hand task.job) new
+TakeStep hand taken.Idle old new = Happens old (Idle hand) new
+TakeStep hand taken.Later old new = NoneFree old.opening.jobs old.state.statuses × SomeRuns old.state.statuses × (new ≡ old)
+
+-- the entry that is held for a job that is done
+abbrev pub result_of : (List ℕ → Option Action) → Status → Option Action → Option Action
+result_of at (Done good) (Some action) = at (action_id action)
+result_of at (Done good) None = None
+result_of at Waiting action = None
+result_of at Ready action = None
+result_of at (Running hand) action = None
+result_of at Blocked action = None
+
+abbrev pub result_at : Seen → ℕ → Option Action
+result_at seen k = result_of (held seen.opening seen.state) (status_at seen.state.statuses k) (action_at seen.opening.jobs k)

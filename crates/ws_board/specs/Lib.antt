@@ -1,3 +1,5 @@
 pub mod Calls
+pub mod Carrying
+pub mod Ends
 pub mod Machine
 pub mod Work

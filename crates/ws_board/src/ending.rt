@@ -1,52 +1,69 @@
 //! What a board came to.
-ghost use Rattle.std.specs.Prelude.{◌≡◌, IfSome, IfNone};
+ghost use Rattle.std.specs.Prelude.{◌≡◌, IfSome, IfNone, None, Some};
 ghost use Rattle.std.specs.List.{count_by};
 ghost use Rattle.ws_action.specs.Actions.{Action as AnAction};
 ghost use Rattle.ws_cache.specs.Compiles.{Compiles, compiled_of};
-ghost use Rattle.ws_board.specs.Machine.{is_finish, IsHeldFor};
+ghost use Rattle.ws_board.specs.Machine.{is_finish};
+ghost use Rattle.ws_board.specs.Calls.{result_at};
 
-use crate::work::{Event, Job};
+use crate::rule::{action_at, held, status_at};
+use crate::work::{Event, Job, Status};
 use std::marker::Model;
 use ws_cache::{Cache, Outcome};
 
-/// The jobs of a board, its cache and its history.
+/// The jobs of a board, where they stand, the entries that came of them, and the history.
 #[derive(Drop)]
 pub struct Built {
     jobs: Vec<Job>,
-    cache: Cache,
+    opened: Cache,
+    statuses: Vec<Status>,
+    added: Cache,
     history: Vec<Event>,
 }
 
 impl Model for Built {
     ghost use Rattle.ws_board.specs.Work as work;
 
-    ghost Value = { work.State };
+    ghost Value = { work.Seen };
 
-    ghost coded = { work.state_code };
+    ghost coded = { work.seen_code };
 
-    ghost view = { λ a. record { jobs = a.jobs.items; cache = a.cache; history = a.history.items } };
+    ghost view = { λ a. record { opening = record { jobs = a.jobs.items; cache = a.opened }; state = record { statuses = a.statuses.items; added = a.added }; history = a.history.items } };
 }
 
 impl Built {
-    pub(super) fn new(jobs: Vec<Job>, cache: Cache, history: Vec<Event>) -> Built
-        ensures { result ≡ record { jobs = jobs.items; cache = cache; history = history.items } }
+    pub(super) fn new(
+        jobs: Vec<Job>,
+        opened: Cache,
+        statuses: Vec<Status>,
+        added: Cache,
+        history: Vec<Event>,
+    ) -> Built
+        ensures { result ≡ record { opening = record { jobs = jobs.items; cache = opened }; state = record { statuses = statuses.items; added = added }; history = history.items } }
     {
         Built {
             jobs,
-            cache,
+            opened,
+            statuses,
+            added,
             history,
         }
     }
 
-    /// What compiling the job's action gives, by the entry that the cache holds for its id: none
-    /// if it holds none, or there is no such job.
+    /// What compiling the job's action gives, if the job is done: none if it is blocked, or there
+    /// is no such job.
     pub fn result(&self, job: usize) -> Option<&Outcome>
-        ensures some { IfSome result (λ outcome. (held : AnAction) × IsHeldFor self.now job (Some held) × Compiles held (compiled_of outcome.now)) }
-        ensures none { IfNone result ((held : AnAction) → ¬ (IsHeldFor self.now job (Some held))) }
+        ensures some { IfSome result (λ outcome. (entry : AnAction) × (result_at self.now job ≡ Some entry) × Compiles entry (compiled_of outcome.now)) }
+        ensures none { IfNone result (result_at self.now job ≡ None) }
     {
-        let job = self.jobs.get(job)?;
-        let entry = self.cache.get(&job.id())?;
-        Some(entry.outcome())
+        match status_at(&self.statuses, job) {
+            Status::Done(_) => {
+                let action = action_at(&self.jobs, job)?;
+                let entry = held(&self.opened, &self.added, &action.id())?;
+                Some(entry.outcome())
+            }
+            Status::Waiting | Status::Ready | Status::Running(_) | Status::Blocked => None,
+        }
     }
 
     /// How many jobs were finished.
@@ -69,10 +86,10 @@ impl Built {
         self.history.as_slice()
     }
 
-    /// Gives up all but the cache.
-    pub fn into_cache(self) -> Cache
-        ensures { result ≡ self.cache }
+    /// Gives up all but the entries that were added to those of the opening.
+    pub fn into_added(self) -> Cache
+        ensures { result ≡ self.state.added }
     {
-        self.cache
+        self.added
     }
 }

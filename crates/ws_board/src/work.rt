@@ -1,7 +1,7 @@
 //! What a board works with: jobs, hands, tasks and events.
-ghost use Rattle.std.specs.Prelude.{◌≡◌, ℕ, IfOk, IsTrue, ◌↔◌};
+ghost use Rattle.std.specs.Prelude.{◌≡◌, ℕ, IfOk, IsTrue, ◌↔◌, option_copied};
 ghost use Rattle.ws_action.specs.Actions.{action_id};
-ghost use Rattle.ws_board.specs.Machine.{is_ready, is_running, is_run_of, finished};
+ghost use Rattle.ws_board.specs.Machine.{is_waiting, is_ready, is_running, is_active, is_open, is_bad};
 
 use std::alloc::AllocError;
 use std::cmp::Ordering;
@@ -9,23 +9,38 @@ use std::marker::Model;
 use ws_action::Action;
 use ws_cache::Entry;
 
-/// Where a job stands. Jobs have no imports yet, so that none waits and none is blocked.
+/// Where a job stands.
 #[derive(Clone, Copy, PartialEq, Eq, Debug)]
 pub enum Status {
+    /// Some import is neither done nor blocked.
+    Waiting,
     Ready,
     /// The hand with that number runs it.
     Running(u64),
-    Done,
+    /// It has no action, or an import is blocked or has a faulty result.
+    Blocked,
+    /// Whether its result is good.
+    Done(bool),
 }
 
 impl Status {
+    /// Whether the job waits.
+    pub fn is_waiting(self) -> bool
+        ensures { result ≡ is_waiting self }
+    {
+        match self {
+            Status::Waiting => true,
+            Status::Ready | Status::Running(_) | Status::Blocked | Status::Done(_) => false,
+        }
+    }
+
     /// Whether the job is ready.
     pub fn is_ready(self) -> bool
         ensures { result ≡ is_ready self }
     {
         match self {
             Status::Ready => true,
-            Status::Running(_) | Status::Done => false,
+            Status::Waiting | Status::Running(_) | Status::Blocked | Status::Done(_) => false,
         }
     }
 
@@ -35,7 +50,38 @@ impl Status {
     {
         match self {
             Status::Running(_) => true,
-            Status::Ready | Status::Done => false,
+            Status::Waiting | Status::Ready | Status::Blocked | Status::Done(_) => false,
+        }
+    }
+
+    /// Whether the job is ready or run.
+    pub fn is_active(self) -> bool
+        ensures { result ≡ is_active self }
+    {
+        match self {
+            Status::Ready | Status::Running(_) => true,
+            Status::Waiting | Status::Blocked | Status::Done(_) => false,
+        }
+    }
+
+    /// Whether the job is neither done nor blocked.
+    pub fn is_open(self) -> bool
+        ensures { result ≡ is_open self }
+    {
+        match self {
+            Status::Waiting | Status::Ready | Status::Running(_) => true,
+            Status::Blocked | Status::Done(_) => false,
+        }
+    }
+
+    /// Whether the job is blocked, or done with a faulty result.
+    pub fn is_bad(self) -> bool
+        ensures { result ≡ is_bad self }
+    {
+        match self {
+            Status::Blocked => true,
+            Status::Done(good) => !good,
+            Status::Waiting | Status::Ready | Status::Running(_) => false,
         }
     }
 }
@@ -92,104 +138,114 @@ fn same_action(action: &Action, other: &Action) -> bool
     }
 }
 
-/// An action that is to be compiled, with its id, and where that stands.
+/// An action with its id.
 #[derive(Drop)]
-pub(super) struct Job {
+pub(super) struct Identified {
     action: Action,
     id: [u8; 32],
-    status: Status,
+}
+
+impl Model for Identified {
+    ghost use Rattle.std.specs.Prelude.{◌≡◌};
+    ghost use Rattle.ws_action.specs.Actions as actions;
+
+    ghost Value = { actions.Action };
+
+    ghost coded = { actions.action_code };
+
+    ghost view = { λ a. a.action };
+
+    ghost invariant = { λ a. a.id ≡ actions.action_id a.action };
+}
+
+impl Identified {
+    fn new(action: Action) -> Result<Identified, AllocError>
+        ensures { IfOk result (λ identified. identified ≡ action) }
+    {
+        let id = action.id()?;
+        Ok(Identified { action, id })
+    }
+
+    pub(super) fn copy(&self) -> Result<Identified, AllocError>
+        ensures { IfOk result (λ copy. copy ≡ self.now) }
+    {
+        Ok(Identified {
+            action: self.action.copy()?,
+            id: self.id,
+        })
+    }
+
+    pub(super) fn id(&self) -> [u8; 32]
+        ensures { result ≡ action_id self.now }
+    {
+        self.id
+    }
+}
+
+/// What is to be compiled, if anything is, and the numbers of the jobs that it imports.
+#[derive(Drop)]
+pub struct Job {
+    action: Option<Identified>,
+    imports: Vec<usize>,
 }
 
 impl Model for Job {
-    ghost use Rattle.std.specs.Prelude.{◌≡◌};
-    ghost use Rattle.ws_action.specs.Actions.{action_id};
     ghost use Rattle.ws_board.specs.Work as work;
 
     ghost Value = { work.Job };
 
-    ghost view = { λ a. record { action = a.action; status = a.status } };
+    ghost coded = { work.job_code };
 
-    ghost invariant = { λ a. a.id ≡ action_id a.action };
+    ghost view = { λ a. record { action = a.action; imports = a.imports.items } };
 }
 
 impl Job {
-    pub(super) fn new(action: Action, id: [u8; 32], status: Status) -> Job
-        requires { id ≡ action_id action }
-        ensures { result ≡ record { action = action; status = status } }
+    /// The job of an action, and of the numbers of the jobs that it imports. One without an action
+    /// is blocked from the start, and so is what imports it. An `Err` only where memory ran out.
+    pub fn new(action: Option<Action>, imports: Vec<usize>) -> Result<Job, AllocError>
+        ensures { IfOk result (λ job. job ≡ record { action = action; imports = imports.items }) }
     {
-        Job { action, id, status }
+        let action = match action {
+            Some(action) => Some(Identified::new(action)?),
+            None => None,
+        };
+        Ok(Job { action, imports })
     }
 
-    pub(super) fn id(&self) -> [u8; 32]
-        ensures { result ≡ action_id self.now.action }
+    pub(super) fn action(&self) -> Option<&Identified>
+        ensures { option_copied result ≡ self.now.action }
     {
-        self.id
+        self.action.as_ref()
     }
 
-    pub(super) fn action(&self) -> &Action
-        ensures { result.now ≡ self.now.action }
+    pub(super) fn imports(&self) -> &[usize]
+        ensures { result.now ≡ self.now.imports }
     {
-        &self.action
-    }
-
-    pub(super) fn status(&self) -> Status
-        ensures { result ≡ self.now.status }
-    {
-        self.status
-    }
-
-    pub(super) fn is_run_of(&self, id: &[u8; 32]) -> bool
-        ensures { result ≡ is_run_of id.now self.now }
-    {
-        self.status.is_running() && self.id == *id
-    }
-
-    pub(super) fn has_action(&self, task: &Task) -> bool
-        ensures { IsTrue result ↔ (self.now.action ≡ task.now.action) }
-    {
-        same_action(&self.action, &task.action)
-    }
-
-    pub(super) fn stand(&mut self, status: Status)
-        ensures { self.new ≡ record { action = self.old.action; status = status } }
-    {
-        self.status = status;
-    }
-
-    pub(super) fn finish(&mut self, id: &[u8; 32])
-        ensures { self.new ≡ finished id.now self.old }
-    {
-        if self.id == *id {
-            self.status = Status::Done;
-        }
+        self.imports.as_slice()
     }
 }
 
 /// A job that was given. It can't be dropped: it must be finished or given back.
 pub struct Task {
     job: usize,
-    action: Action,
-    id: [u8; 32],
+    action: Identified,
 }
 
 impl Model for Task {
-    ghost use Rattle.std.specs.Prelude.{◌≡◌};
-    ghost use Rattle.ws_action.specs.Actions.{action_id};
     ghost use Rattle.ws_board.specs.Work as work;
 
     ghost Value = { work.Task };
 
-    ghost view = { λ a. record { job = a.job; action = a.action } };
+    ghost coded = { work.task_code };
 
-    ghost invariant = { λ a. a.id ≡ action_id a.action };
+    ghost view = { λ a. record { job = a.job; action = a.action } };
 }
 
 impl Task {
-    pub(super) fn new(job: usize, action: Action, id: [u8; 32]) -> Task
-        requires { id ≡ action_id action }
+    pub(super) fn new(job: usize, action: Identified) -> Task
         ensures { result ≡ record { job = job; action = action } }
     {
-        Task { job, action, id }
+        Task { job, action }
     }
 
     /// The number of the job.
@@ -203,7 +259,7 @@ impl Task {
     pub fn action(&self) -> Result<Action, AllocError>
         ensures { IfOk result (λ action. action ≡ self.now.action) }
     {
-        let action = self.action.copy()?;
+        let action = self.action.action.copy()?;
         Ok(action)
     }
 
@@ -211,23 +267,25 @@ impl Task {
     pub fn fits(&self, entry: &Entry) -> bool
         ensures { IsTrue result ↔ (action_id entry.now ≡ action_id self.now.action) }
     {
-        entry.id() == self.id
+        entry.id() == self.action.id
     }
 
     pub(super) fn id(&self) -> [u8; 32]
         ensures { result ≡ action_id self.now.action }
     {
-        self.id
+        self.action.id()
+    }
+
+    pub(super) fn is_of(&self, action: &Identified) -> bool
+        ensures { IsTrue result ↔ (action.now ≡ self.now.action) }
+    {
+        same_action(&action.action, &self.action.action)
     }
 
     pub(super) fn spend(self) -> usize
         ensures { result ≡ self.job }
     {
-        let Task {
-            job,
-            action: _,
-            id: _,
-        } = self;
+        let Task { job, action: _ } = self;
         job
     }
 }

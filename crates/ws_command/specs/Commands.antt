@@ -1,5 +1,6 @@
 -- What a line of a script asks for.
 use Rattle.std.specs.Prelude.{ℕ, zero, suc, ◌==◌, ◌&&◌, ◌||◌, nat_lt, Bool, true, false, cond, List, [], ◌∷◌, ◌++◌, length, Option, None, Some, codes}
+use Rattle.std.specs.List.{list_all}
 use Rattle.std.specs.Str.{bytes_eq}
 use Rattle.std.specs.Option.{option_map}
 use Rattle.ws_command.specs.Lines.{words_of, number_of, without_return, is_digit}
@@ -22,13 +23,9 @@ pub data Command : Type 0 where
 abbrev pub is_name_byte : ℕ → Bool
 is_name_byte b = is_digit b || (nat_lt 96 b && nat_lt b 123) || (nat_lt 64 b && nat_lt b 91) || (b == 95) || (b == 45)
 
-abbrev pub all_name_bytes : List ℕ → Bool
-all_name_bytes [] = true
-all_name_bytes (b ∷ bytes) = is_name_byte b && all_name_bytes bytes
-
 -- 1 to 32 letters, digits, `_` and `-`
 abbrev pub is_name : List ℕ → Bool
-is_name word = nat_lt 0 (length word) && nat_lt (length word) 33 && all_name_bytes word
+is_name word = nat_lt 0 (length word) && nat_lt (length word) 33 && list_all is_name_byte word
 
 -- a command of names that are good
 abbrev pub if_good : Bool → Command → Command
@@ -60,10 +57,9 @@ of_words (word ∷ a ∷ b ∷ []) =
 of_words (word ∷ a ∷ b ∷ c ∷ []) =
     cond (bytes_eq word (codes "write")) (if_good (is_name a) (if_number (number_of c) (Write a b)))
     (cond (bytes_eq word (codes "run")) (if_good (is_name a) (if_number (number_of c) (Run a b))) Bad)
-of_words (word ∷ a ∷ b ∷ c ∷ d ∷ []) = Bad
 of_words (word ∷ a ∷ b ∷ c ∷ d ∷ e ∷ []) =
     cond (bytes_eq word (codes "apply")) (if_good (is_name a) (if_number (number_of c) (λ counter. if_number (number_of d) (λ number. if_good (is_version counter number) (apply_of a b counter number e))))) Bad
-of_words (word ∷ a ∷ b ∷ c ∷ d ∷ e ∷ f ∷ words) = Bad
+of_words _ = Bad
 
 abbrev pub command_of : List ℕ → Command
 command_of line = of_words (words_of (without_return line))
@@ -72,16 +68,7 @@ command_of line = of_words (words_of (without_return line))
 abbrev pub text_lines : Command → ℕ
 text_lines (Write name path lines) = lines
 text_lines (Apply name path counter number (Some lines)) = lines
-text_lines (Apply name path counter number None) = 0
-text_lines (Remove name path) = 0
-text_lines Settle = 0
-text_lines (Show name) = 0
-text_lines Nothing = 0
-text_lines Bad = 0
-text_lines (Create name) = 0
-text_lines (Merge name other) = 0
-text_lines (Build name directory) = 0
-text_lines (Run name directory ticks) = 0
+text_lines _ = 0
 
 -- the text of the first n lines, each with a newline, where there are so many
 abbrev pub text_of : ℕ → List (List ℕ) → Option (List ℕ)

@@ -28,8 +28,7 @@ row_text (directory, Wrong fault) = fault_text directory fault
 
 abbrev pub is_bad : List ℕ × Verdict → Bool
 is_bad (directory, Good) = false
-is_bad (directory, Blocked) = true
-is_bad (directory, Wrong fault) = true
+is_bad _ = true
 
 -- how many directories were reached, or how many of them aren't good
 unfoldable pub summary_text : List (List ℕ × Verdict) → List ℕ

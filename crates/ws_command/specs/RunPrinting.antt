@@ -22,31 +22,21 @@ ending_text (Panicked kind) = codes " panic " ++ panic_word kind ++ codes " "
 
 -- how long the text of the program's own panic is
 abbrev pub kind_size : PanicKind → List ℕ
-kind_size Divide = []
-kind_size Index = []
-kind_size Shift = []
-kind_size Depth = []
-kind_size Long = []
 kind_size (User text) = codes " " ++ decimal (length text)
+kind_size _ = []
 
 abbrev pub panic_size : Ending → List ℕ
-panic_size Ended = []
-panic_size Cut = []
 panic_size (Panicked kind) = kind_size kind
+panic_size _ = []
 
 -- and that text, which a newline follows
 abbrev pub kind_text : PanicKind → List ℕ
-kind_text Divide = []
-kind_text Index = []
-kind_text Shift = []
-kind_text Depth = []
-kind_text Long = []
 kind_text (User text) = text ++ 10 ∷ []
+kind_text _ = []
 
 abbrev pub panic_text : Ending → List ℕ
-panic_text Ended = []
-panic_text Cut = []
 panic_text (Panicked kind) = kind_text kind
+panic_text _ = []
 
 abbrev pub run_target_text : List ℕ → List ℕ → List ℕ
 run_target_text name directory = codes "run " ++ name ++ codes " " ++ directory

@@ -1,4 +1,21 @@
+pub mod Adding
 mod Built
+pub mod Faults
+pub mod Filed
 pub mod Judging
+pub mod Kept
+pub mod Leading
+pub mod Linked
+pub mod Mains
+pub mod Named
+pub mod OneBuildPlan
 pub mod OnePlan
+pub mod Places
 pub mod PlanFiles
+pub mod RankedPlan
+pub mod Searching
+pub mod SomeBuildPlan
+pub mod SomePlan
+pub mod Sorted
+pub mod Taking
+pub mod Within

@@ -37,7 +37,7 @@ one_place : (t : List ℕ) (k l : FaultKind) (p q : Place) → IsParse t (Stoppe
 unfolding place_in
 one_place t k l p q g h = ap (place_in p) (one_parse t (Stopped k p) (Stopped l q) g h)
 
-one_file : (t : List ℕ) (a b : File) → IsParse t (Derived a) → IsParse t (Derived b) → a ≡ b
+pub one_file : (t : List ℕ) (a b : File) → IsParse t (Derived a) → IsParse t (Derived b) → a ≡ b
 unfolding file_in
 one_file t a b g h = ap (file_in a) (one_parse t (Derived a) (Derived b) g h)
 
@@ -49,7 +49,7 @@ pub one_package : (t : List ℕ) (m n : Name) → IsPackage t m → IsPackage t 
 one_package t m n g h = g.2 ∙ ap (λ (f : File). f.package) (one_file t g.0 h.0 g.1 h.1) ∙ sym h.2
 
 -- it isn't one and another
-named_so : (name t : List ℕ) → IsNamed name t → IsOther name t → ⊥
+pub named_so : (name t : List ℕ) → IsNamed name t → IsOther name t → ⊥
 named_so name t g h = h.other (ap (λ (n : Name). n.text) (one_package t h.clause g.clause h.package_is g.package_is) ∙ g.same)
 
 -- a text that stops is not among texts that parse
@@ -134,7 +134,7 @@ stops_once files f g a b =
     let same = one_stop a.front b.front a.name a.text b.name b.text a.rest b.rest a.kind b.kind a.place b.place (sym a.whole ∙ b.whole) a.parses b.parses a.stops b.stops in
     a.is ∙ (λ i. record { file = same.names i; place = same.places i; kind = same.kinds i }) ∙ sym b.is
 
-stops_or_parses : (files : List Pair) (f : Fault) (ps : List Parsed) → StopsIn files f → AreParsed files ps → ⊥
+pub stops_or_parses : (files : List Pair) (f : Fault) (ps : List Parsed) → StopsIn files f → AreParsed files ps → ⊥
 stops_or_parses files f ps a b = no_stop a.front ps a.name a.text a.rest a.kind a.place (b.sources ∙ a.whole) b.parses a.stops
 
 -- first files that are one have one package name

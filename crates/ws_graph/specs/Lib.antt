@@ -1,3 +1,5 @@
+pub mod BuildPlan
+pub mod Discovery
 pub mod Node
 pub mod Packages
 pub mod Plan

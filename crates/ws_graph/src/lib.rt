@@ -19,13 +19,21 @@ use go_ast::parsed::Parsed;
 use go_parse::{ParseError, parse_source};
 use go_text::fault::{Fault, FaultKind};
 use go_text::source::Source;
+pub use law::{law_build_plan_is_ranked, law_one_build_plan, law_some_build_plan};
 pub use packages::package_files;
 pub use planned::{Node, Plan, PlanError};
 use std::alloc::{AllocError, AllocFailed, Global};
 use ws_register::Registers;
 
+mod directories;
+mod discovery;
+pub mod law;
+mod link;
 mod packages;
 mod planned;
+pub mod planning;
+mod target;
+mod wave;
 
 // Why a file wasn't parsed.
 #[derive(Drop)]

@@ -1,9 +1,10 @@
 //! Which files of a directory are its package's.
 ghost use Rattle.std.specs.Prelude.{◌≡◌, ℕ, List, IfOk, map};
 ghost use Rattle.std.specs.List.{filter};
+ghost use Rattle.std.specs.FinMap.{entries};
 ghost use Rattle.ws_map.specs.Kept.{StandsFor};
 ghost use Rattle.ws_version.specs.Writes.{Write, held_cmp};
-ghost use Rattle.ws_register.specs.Sources.{pair_of, IsSources};
+ghost use Rattle.ws_register.specs.Sources.{pair_of, texts_of, IsSources};
 ghost use Rattle.ws_graph.specs.Packages.{is_built, package_files};
 
 use go_text::source::Source;
@@ -13,7 +14,8 @@ use ws_register::Registers;
 /// Copies of the files of a directory's package, in the order of their names: no name that begins
 /// with `.` or `_`, and none that ends in `_test.go`. An `Err` is for want of memory.
 pub fn package_files(registers: &Registers, directory: &str) -> Result<Vec<Source>, AllocError>
-    ensures { IfOk result (λ files. (W : List Write) → StandsFor held_cmp registers.now W → (S : List (List ℕ × List ℕ)) × IsSources W S × (map pair_of files.items ≡ package_files directory.now S)) }
+    ensures exact { IfOk result (λ files. map pair_of files.items ≡ package_files directory.now (texts_of (entries registers.now))) }
+    ensures stands { IfOk result (λ files. (W : List Write) → StandsFor held_cmp registers.now W → (S : List (List ℕ × List ℕ)) × IsSources W S × (map pair_of files.items ≡ package_files directory.now S)) }
 {
     let mut files = registers.files(directory)?;
     keep_built(&mut files);
@@ -26,7 +28,7 @@ fn keep_built(files: &mut Vec<Source>)
     files.retain(|file| is_built(file.name()));
 }
 
-fn is_built(name: &str) -> bool
+pub fn is_built(name: &str) -> bool
     ensures { result ≡ is_built name.now }
 {
     let name = name.as_bytes();

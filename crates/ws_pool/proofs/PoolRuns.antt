@@ -1,80 +1,161 @@
 -- One hand runs a board's jobs.
-use Rattle.std.proofs.Common.{◌≡◌, ℕ, zero, suc, ◌+◌, ◌<◌, ◌≤◌, List, [], ◌∷◌, Option, Some, None, Bool, true, false, cond, map, sym, ap, subst, ◌∙◌, refl, arith, ◌||◌}
-use Rattle.std.specs.List.{list_any}
-use Rattle.std.specs.Prelude.{if◌then◌else◌}
+use Rattle.std.proofs.Common.{◌≡◌, ℕ, ◌+◌, ◌<◌, ◌≤◌, List, [], ◌∷◌, ◌++◌, Option, Some, None, Bool, true, false, ◌||◌, cond, length, count_by, sym, ap, subst, ◌∙◌, refl, inl, inr, ◌⊎◌, arith, get_or-set_other, get_or-set_same}
+use Rattle.std.proofs.Math.ListN.{set, length-set}
+use Rattle.std.specs.List.{list_any, Contains, flat_map}
+use Rattle.std.specs.FinMap.{empty}
+use Rattle.std.proofs.lemmas.Bool.{cases_eq}
+use Rattle.std.proofs.lemmas.List.Elements.{Contains-append_left, Contains-append_right, Contains-append_cases, Contains-push_cases}
+use Rattle.ws_map.specs.Kept.{taken}
 use Rattle.ws_action.specs.Actions.{Action, action_id}
+use Rattle.ws_action.specs.Clash.{NoClash, Includes, AllSized, hashed, hashed_actions}
+use Rattle.ws_action.proofs.Members.{none_in_empty, head_or_later, later, at_head}
+use Rattle.ws_cache.specs.Held.{CacheStandsFor}
+use Rattle.ws_cache.specs.Joined.{lesser}
+use Rattle.ws_cache.proofs.Joined.{empty_stands, taken_stands}
 use Rattle.ws_board.specs.declared.work.Status.{Status}
-use Rattle.ws_board.specs.declared.work.Status.TheVariants.{Ready, Running, Done}
-use Rattle.ws_board.specs.Work.{Job, State}
-use Rattle.ws_board.specs.Machine.{is_ready, is_running, is_job_running, running_count, run, has_id, IsFree, StandsAt, stood, finished, after_take, after_finish}
-use Rattle.ws_pool.specs.Runs.{after_run, RunsTo}
-use Rattle.ws_board.proofs.BoardJobs.{runs-stood, runs-finished_less}
+use Rattle.ws_board.specs.declared.work.Status.TheVariants.{Waiting, Ready, Running, Blocked, Done}
+use Rattle.ws_board.specs.declared.work.Event.{Event}
+use Rattle.ws_board.specs.declared.work.Event.TheVariants.{Take, Finish, Idle}
+use Rattle.ws_board.specs.Work.{Job, Task, Entries, Opening, State, Seen}
+use Rattle.ws_board.specs.Machine.{is_open, is_running, is_idle, status_at, action_at, held, IsRunBy, stood}
+use Rattle.ws_board.specs.Calls.{IsFresh, Happens, SomeRuns}
+use Rattle.ws_board.specs.Ends.{End, actions_of, IsRanked, AreClear, ComesTo, ComesToEnds}
+use Rattle.ws_board.proofs.Runs.{inside_of, less, set_runs, finish_runs, finished_done, counted_none}
+use Rattle.ws_board.proofs.Sounds.{step_agrees}
+use Rattle.ws_board.proofs.Endings.{actions_has}
 
-abbrev pub ready : Status → ℕ
-ready status = cond (is_ready status) 1 0
+-- the board so far: nothing runs, and what was added are actions of its jobs
+pub record IsDriven (first now : Seen) : Type 0 where
+  pub opening : now.opening ≡ first.opening
+  pub rests : count_by is_running now.state.statuses ≡ 0
+  pub entries : List Action
+  pub stands : CacheStandsFor now.state.added entries
+  pub among : Includes (actions_of first.opening.jobs) entries
 
--- how many jobs are ready
-abbrev pub ready_count : List Job → ℕ
-ready_count [] = 0
-ready_count (job ∷ jobs) = ready job.status + ready_count jobs
+pub driven_start : (board : Seen) → IsFresh board → IsDriven board board
+driven_start board fresh = record {
+  opening = refl;
+  rests = fresh.nothing_runs;
+  entries = [];
+  stands = empty_stands board.state.added fresh.nothing_added;
+  among = λ x c. absurd (none_in_empty x c);
+}
 
-status_of : Option Job → Status
-status_of None = Done
-status_of (Some job) = job.status
+-- ---- a job is taken, and finished with its own action's entry
 
-ready-stood : (jobs : List Job) (k hand : ℕ) (a : Action) → StandsAt jobs k a Ready → ready_count (stood jobs k a (Running hand)) + 1 ≡ ready_count jobs
-unfolding status_of
-ready-stood [] k hand a h = cc
-ready-stood (job ∷ jobs) zero hand a h =
-    let same : ready job.status ≡ 1 = ap (λ o. ready (status_of o)) h in
-    omega (arith, same)
-ready-stood (job ∷ jobs) (suc k) hand a h = omega (arith, ready-stood jobs k hand a h)
+take_state : (old mid : Seen) (hand job : ℕ) → Happens old (Take hand job) mid → mid.state ≡ stood old.state job (Running hand)
+take_state old mid hand job h = h.step.2
 
-finished_le : (job : Job) (b : Bool) → ready (if b then record { action = job.action; status = Done } else job).status ≤ ready job.status
-finished_le job true = omega arith
-finished_le job false = omega arith
+took_ready : (old mid : Seen) (hand job : ℕ) → Happens old (Take hand job) mid → status_at old.state.statuses job ≡ Ready
+took_ready old mid hand job h = h.step.1.ready
 
-ready-finished : (id : List ℕ) (jobs : List Job) → ready_count (map (finished id) jobs) ≤ ready_count jobs
-ready-finished id [] = omega arith
-ready-finished id (job ∷ jobs) = omega (arith, finished_le job (has_id id job), ready-finished id jobs)
+took_inside : (old mid : Seen) (hand job : ℕ) → Happens old (Take hand job) mid → job < length old.state.statuses
+took_inside old mid hand job h = inside_of old.state.statuses job Ready (took_ready old mid hand job h) refl
 
-stands-stood : (jobs : List Job) (k : ℕ) (a : Action) (was now : Status) → StandsAt jobs k a was → StandsAt (stood jobs k a now) k a now
-stands-stood [] k a was now h = cc
-stands-stood (job ∷ jobs) zero a was now h = refl
-stands-stood (job ∷ jobs) (suc k) a was now h = stands-stood jobs k a was now h
+take_runs : (old mid : Seen) (hand job : ℕ) → Happens old (Take hand job) mid → count_by is_running mid.state.statuses ≡ count_by is_running old.state.statuses + 1
+take_runs old mid hand job h =
+    let e = set_runs old.state.statuses job Ready (Running hand) (took_ready old mid hand job h) (took_inside old mid hand job h) in
+    ap (λ (s : State). count_by is_running s.statuses) (take_state old mid hand job h) ∙ omega (arith, e)
 
--- a job that is run is ready no more
-pub run_fewer : (old : State) (hand k : ℕ) (a : Action) → IsFree old.jobs k a → ready_count (after_run old hand k a).jobs < ready_count old.jobs
-run_fewer old hand k a free = omega (arith, ready-finished (action_id a) (stood old.jobs k a (Running hand)), ready-stood old.jobs k hand a free.ready)
+finish_fewer : (mid new : Seen) (hand job : ℕ) → Happens mid (Finish hand job) new → count_by is_running new.state.statuses + 1 ≤ count_by is_running mid.state.statuses
+finish_fewer mid new hand job h =
+    let fin = h.step.2 in
+    finish_runs mid.opening.jobs (held mid.opening new.state) (action_id h.step.0) fin.good mid.state.statuses fin.marked new.state.statuses fin.marks fin.carried hand job h.step.0 fin.run refl
 
--- and nothing runs after it
-pub run_rests : (old : State) (hand k : ℕ) (a : Action) → IsFree old.jobs k a → running_count old.jobs ≡ 0 → running_count (after_run old hand k a).jobs ≡ 0
-run_rests old hand k a free none =
-    let one : running_count (stood old.jobs k a (Running hand)) + run Ready ≡ running_count old.jobs + run (Running hand) = runs-stood old.jobs k a Ready (Running hand) free.ready in
-    let less : running_count (map (finished (action_id a)) (stood old.jobs k a (Running hand))) + 1 ≤ running_count (stood old.jobs k a (Running hand)) = runs-finished_less (action_id a) (stood old.jobs k a (Running hand)) k hand a (stands-stood old.jobs k a Ready (Running hand) free.ready) refl in
-    omega (arith, one, less, none)
+pub driven_step : (first old mid new : Seen) (hand : ℕ) (task : Task) → IsRunBy mid.opening.jobs mid.state.statuses hand task.job task.action → Happens old (Take hand task.job) mid → Happens mid (Finish hand task.job) new
+    → new.state.added ≡ taken lesser mid.state.added (action_id task.action) task.action → IsDriven first old → IsDriven first new
+driven_step first old mid new hand task run took done added h =
+    let opened : mid.opening ≡ first.opening = took.opening ∙ h.opening in
+    let same : mid.state.added ≡ old.state.added = ap (λ (s : State). s.added) (take_state old mid hand task.job took) in
+    let its : Contains (actions_of first.opening.jobs) task.action = subst (λ (o : Opening). Contains (actions_of o.jobs) task.action) opened (actions_has mid.opening.jobs task.job task.action run.its) in
+    record {
+      opening = done.opening ∙ opened;
+      rests = omega (arith, take_runs old mid hand task.job took, finish_fewer mid new hand task.job done, h.rests);
+      entries = h.entries ++ task.action ∷ [];
+      stands = taken_stands mid.state.added new.state.added h.entries task.action added (subst (λ (m : Entries). CacheStandsFor m h.entries) (sym same) h.stands);
+      among = λ x c. elim (Contains-push_cases h.entries task.action x c) [ inl l ↦ h.among x l | inr e ↦ subst (Contains (actions_of first.opening.jobs)) e its ];
+    }
 
-pub run_leads : (old new : State) (k : ℕ) (a : Action) → IsFree old.jobs k a → RunsTo (after_run old 0 k a) new → RunsTo old new
-run_leads old new k a free h = (k ∷ h.0, (a, free, h.1))
+-- ---- fewer are open
 
-none_at : (status : Status) (rest : Bool) → run status ≡ 0 → rest ≡ false → (is_running status || rest) ≡ false
-none_at Ready rest h e = e
-none_at (Running hand) rest h e = absurd (omega (arith, h))
-none_at Done rest h e = e
+open_or : (s : Status) → (is_open s ≡ true) ⊎ (is_open s ≡ false)
+open_or Waiting = inl refl
+open_or Ready = inl refl
+open_or (Running hand) = inl refl
+open_or Blocked = inr refl
+open_or (Done good) = inr refl
 
--- where the count is 0, none runs
-pub none_runs : (jobs : List Job) → running_count jobs ≡ 0 → list_any is_job_running jobs ≡ false
-none_runs [] h = refl
-none_runs (job ∷ jobs) h = none_at job.status (list_any is_job_running jobs) (omega (arith, h)) (none_runs jobs (omega (arith, h)))
+take_open : (old mid : Seen) (hand job : ℕ) → Happens old (Take hand job) mid → (k : ℕ) → is_open (status_at mid.state.statuses k) ≡ true → is_open (status_at old.state.statuses k) ≡ true
+take_open old mid hand job h k e = elim (cases_eq k job) [
+  | inl same ↦ ap (λ i. is_open (status_at old.state.statuses i)) same ∙ ap is_open (took_ready old mid hand job h)
+  | inr other ↦ ap is_open (sym (ap (λ (s : State). status_at s.statuses k) (take_state old mid hand job h) ∙ get_or-set_other old.state.statuses job k (Running hand) Blocked other)) ∙ e
+]
 
-pub after_step : (old mid new : State) (hand k : ℕ) (a : Action) → hand ≡ 0 → mid ≡ after_take old hand k a → new ≡ after_finish mid hand k a a → new ≡ after_run old 0 k a
-after_step old mid new hand k a none taken done = done ∙ ap (λ (s : State). after_finish s hand k a a) taken ∙ ap (λ (h : ℕ). after_run old h k a) none
+finish_open : (mid new : Seen) (hand job : ℕ) → Happens mid (Finish hand job) new → (k : ℕ) → is_open (status_at new.state.statuses k) ≡ true → is_open (status_at mid.state.statuses k) ≡ true
+finish_open mid new hand job h k e = elim (open_or (status_at mid.state.statuses k)) [
+  | inl still ↦ still
+  | inr closed ↦ (
+      let agree = step_agrees mid.opening mid.state (Finish hand job) new.state h.step k closed in
+      let c : true ≡ false = sym e ∙ ap is_open agree ∙ closed in absurd (cc))
+]
 
-pub step_keeps : (first old new : State) (k : ℕ) (a : Action) → IsFree old.jobs k a → new ≡ after_run old 0 k a → (running_count old.jobs ≡ 0) × ((end : State) → RunsTo old end → RunsTo first end) → (running_count new.jobs ≡ 0) × ((end : State) → RunsTo new end → RunsTo first end)
-step_keeps first old new k a free e h = (
-  ap (λ (s : State). running_count s.jobs) e ∙ run_rests old 0 k a free h.0,
-  λ end runs. h.1 end (run_leads old end k a free (subst (λ (s : State). RunsTo s end) e runs)),
-)
+pub open_falls : (old mid new : Seen) (hand job : ℕ) → Happens old (Take hand job) mid → Happens mid (Finish hand job) new → count_by is_open new.state.statuses < count_by is_open old.state.statuses
+open_falls old mid new hand job took done =
+    let fin = done.step.2 in
+    let len : length new.state.statuses ≡ length old.state.statuses =
+    fin.carried.same_length ∙ fin.marks.same_length ∙ ap (λ (s : State). length s.statuses) (take_state old mid hand job took) ∙ length-set old.state.statuses job (Running hand) in
+    let at_end = finished_done mid.opening.jobs (held mid.opening new.state) (action_id done.step.0) fin.good mid.state.statuses fin.marked new.state.statuses fin.marks fin.carried hand job done.step.0 fin.run refl in
+    let fewer = less is_open old.state.statuses new.state.statuses job len (λ k e. take_open old mid hand job took k (finish_open mid new hand job done k e)) (took_inside old mid hand job took)
+    (ap is_open (took_ready old mid hand job took)) (ap is_open at_end) in
+    omega (arith, fewer)
 
-pub step_falls : (old new : State) (k : ℕ) (a : Action) → IsFree old.jobs k a → new ≡ after_run old 0 k a → ready_count new.jobs < ready_count old.jobs
-step_falls old new k a free e = subst (λ (s : State). ready_count s.jobs < ready_count old.jobs) (sym e) (run_fewer old 0 k a free)
+-- where nothing runs, none waits for another
+pub never_later : (xs : List Status) → count_by is_running xs ≡ 0 → SomeRuns xs → ⊥
+never_later xs none some = counted_none xs none some.0 some.1
+
+pub idled : (past history : List Event) (hand : ℕ) → history ≡ past ++ Idle hand ∷ [] → list_any is_idle history ≡ true
+idled past history hand e = ap (list_any is_idle) e ∙ at_end past
+  where
+    or_true : (b : Bool) → (b || true) ≡ true
+    or_true true = refl
+    or_true false = refl
+
+    at_end : (es : List Event) → list_any is_idle (es ++ Idle hand ∷ []) ≡ true
+    at_end [] = refl
+    at_end (x ∷ es) = ap (λ b. is_idle x || b) (at_end es) ∙ or_true (is_idle x)
+
+-- ---- no more texts than those of the jobs
+
+hashed_from : (A : List Action) (a : Action) → Contains A a → Includes (hashed_actions A) (hashed a)
+hashed_from [] a c = absurd (none_in_empty a c)
+hashed_from (x ∷ rest) a c = λ s h. elim (head_or_later x rest a c) [
+  | inl e ↦ Contains-append_left (hashed x) (hashed_actions rest) s (subst (λ z. Contains (hashed z) s) (sym e) h)
+  | inr l ↦ Contains-append_right (hashed x) (hashed_actions rest) s (hashed_from rest a l s h)
+]
+
+hashed_to : (A : List Action) (s : List ℕ) → Contains (hashed_actions A) s → (a : Action) × Contains A a × Contains (hashed a) s
+hashed_to [] s c = absurd (none_in_empty s c)
+hashed_to (x ∷ rest) s c = elim (Contains-append_cases (hashed x) (hashed_actions rest) s c) [
+  | inl l ↦ (x, at_head rest x x refl, l)
+  | inr r ↦ (let a = hashed_to rest s r in (a.0, later x rest a.0 a.1, a.2))
+]
+
+clear_less : (A B : List Action) → Includes A B → AreClear A → AreClear B
+clear_less A B sub h = record {
+  sized = λ a c. h.sized a (sub a c);
+  clear = λ s t c d e. (
+      let a = hashed_to B s c in
+      let b = hashed_to B t d in
+      h.clear s t (hashed_from A a.0 (sub a.0 a.1) s a.2) (hashed_from A b.0 (sub b.0 b.1) t b.2) e);
+}
+
+with_entries : (E N J : List Action) → Includes J N → Includes (E ++ ([] ++ J)) (E ++ (N ++ J))
+with_entries E N J sub x c = elim (Contains-append_cases E (N ++ J) x c) [
+  | inl l ↦ Contains-append_left E ([] ++ J) x l
+  | inr r ↦ Contains-append_right E ([] ++ J) x (elim (Contains-append_cases N J x r) [ inl n ↦ sub x n | inr j ↦ j ])
+]
+
+pub driven_ends : (first now : Seen) → IsDriven first now → ((N : List Action) → CacheStandsFor now.state.added N → ComesToEnds now N) → ComesToEnds now []
+driven_ends first now h ends E rank stands down clear =
+    let among : Includes (actions_of now.opening.jobs) h.entries = subst (λ (o : Opening). Includes (actions_of o.jobs) h.entries) (sym h.opening) h.among in
+    ends h.entries h.stands E rank stands down (clear_less (E ++ ([] ++ actions_of now.opening.jobs)) (E ++ (h.entries ++ actions_of now.opening.jobs)) (with_entries E h.entries (actions_of now.opening.jobs) among) clear)

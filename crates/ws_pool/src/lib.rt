@@ -1,9 +1,14 @@
 //! Who compiles a board's jobs.
 #![tactic(auto)]
 
-ghost use Rattle.std.specs.Prelude.{◌≡◌, IfOk, IfErr, OnOk};
-ghost use Rattle.ws_board.specs.Machine.{running_count, IsRunBy, after_finish};
-ghost use Rattle.ws_pool.specs.Runs.{RunsTo};
+ghost use Rattle.std.specs.Prelude.{◌≡◌, List, [], IfOk, IfErr, OnOk};
+ghost use Rattle.ws_map.specs.Kept.{taken};
+ghost use Rattle.ws_action.specs.Actions.{Action as AnAction, action_id};
+ghost use Rattle.ws_cache.specs.Joined.{lesser};
+ghost use Rattle.ws_board.specs.declared.work.Event.TheVariants as event;
+ghost use Rattle.ws_board.specs.Machine.{IsRunBy};
+ghost use Rattle.ws_board.specs.Calls.{IsFresh, Happens};
+ghost use Rattle.ws_board.specs.Ends.{AreFinished, ComesToEnds};
 
 use std::alloc::AllocError;
 use ws_action::Action;
@@ -51,8 +56,9 @@ impl Gate for Plain {
 
 // Takes one job to its end. Where memory runs out, the job is given back.
 fn run(board: &mut Board, hand: &Hand, task: Task) -> Result<(), AllocError>
-    requires runs { IsRunBy board.old.jobs hand.now task.job task.action }
-    ensures { OnOk result (board.new ≡ after_finish board.old hand.now task.job task.action task.action) }
+    requires runs { IsRunBy board.old.opening.jobs board.old.state.statuses hand.now task.job task.action }
+    ensures step { OnOk result (Happens board.old (event.Finish hand.now task.job) board.new) }
+    ensures added { OnOk result (board.new.state.added ≡ taken lesser board.old.state.added (action_id task.action) task.action) }
 {
     let Ok(action) = task.action() else {
         board.back(hand, task);
@@ -69,10 +75,13 @@ fn run(board: &mut Board, hand: &Hand, task: Task) -> Result<(), AllocError>
     Ok(())
 }
 
-/// Runs all jobs of the board, by one hand. An `Err`, for want of memory, drops the board.
+/// Runs all jobs of the board, by one hand: each job comes to its end. An `Err`, for want of
+/// memory, drops the board.
 pub fn drive(board: Board) -> Result<Built, AllocError>
-    requires { running_count board.jobs ≡ 0 }
-    ensures { IfOk result (λ built. RunsTo board built) }
+    requires { IsFresh board }
+    ensures opening { IfOk result (λ built. built.opening ≡ board.opening) }
+    ensures finished { IfOk result (λ built. (entries : List AnAction) × AreFinished built entries) }
+    ensures ends { IfOk result (λ built. ComesToEnds built []) }
 {
     let hand = Hand::new(0);
     let mut board = board;

@@ -1,36 +1,87 @@
--- Whether a plan's program is held compiled is decided, and it is one.
-use Rattle.std.proofs.Common.{◌≡◌, ℕ, List, [], ◌∷◌, Option, None, Some, Bool, true, false, refl, subst, inl, inr}
-use Rattle.std.specs.Prelude.{◌⊎◌, map, codes, IsSome}
-use Rattle.std.specs.List.{Contains}
+-- Whether a target's program is held compiled is decided, and it is one.
+use Rattle.std.proofs.Common.{◌≡◌, ℕ, zero, suc, List, [], ◌∷◌, Option, None, Some, Bool, true, false, refl, sym, ap, subst, ◌∙◌, inl, inr}
+use Rattle.std.specs.Prelude.{◌⊎◌, map, codes, IsSome, option_map}
+use Rattle.std.specs.List.{slice_get, Contains, AllByRecursion}
+use Rattle.std.specs.List.Sorted.{IsStrictlySortedBy}
+use Rattle.std.specs.declared.cmp.Ordering.TheVariants.{Less, Equal}
 use Rattle.std.specs.Str.{bytes_eq}
+use Rattle.std.proofs.lemmas.Cmp.{tied_itself}
+use Rattle.std.proofs.lemmas.Option.{slice_get-map}
 use Rattle.std.proofs.lemmas.Slice.Eq.{bytes_eq-Decides}
 use Rattle.std.proofs.lemmas.List.Elements.{All-cons, All-nil}
 use Rattle.go_code.specs.declared.ending.Ending.{Ending}
-use Rattle.go_check.specs.Packages.{NamedFile, Answer, IsChecked}
-use Rattle.go_check.specs.Packages as answers
-use Rattle.go_check.specs.Sources.{source_of, AreTreesOf, IsAnswerOf}
-use Rattle.go_check.proofs.Trees.{some_answer_of}
 use Rattle.go_export.specs.Typed.{Typed, Function}
 use Rattle.go_export.specs.WellTyped.{IsWellTyped}
 use Rattle.go_check.specs.Meaning.{IsProgram, SourceMeaning, function_named}
-use Rattle.go_check.proofs.Programs.{checked_known}
 use Rattle.go_check.proofs.Sound.{source_some}
-use Rattle.go_check.proofs.WellTyped.{files_typed}
-use Rattle.go_ast.specs.Parse.{Parsed}
-use Rattle.ws_action.specs.Actions.{Action, action_of}
+use Rattle.ws_version.specs.Writes.{Write, path_cmp}
+use Rattle.ws_version.proofs.Writes.{path_cmp_total}
+use Rattle.ws_action.specs.Actions.{Action}
 use Rattle.ws_action.proofs.Members.{none_in_empty, head_or_later, later, at_head}
+use Rattle.ws_cache.specs.Compiles.{IsTypedOf}
 use Rattle.ws_cache.proofs.Laws.{same_action, same_action-Decides}
-use Rattle.ws_cache.proofs.Outcomes.{one_typed, not_both}
-use Rattle.ws_graph.specs.Plan.{Planned, NoFiles, Faulty, Sound, IsPlan}
-use Rattle.ws_replica.proofs.SomePlan.{trees_of}
-use Rattle.ws_replica.specs.Programs.{IsHeldProgram, IsPlannedProgram}
+use Rattle.ws_graph.specs.BuildPlan.{Directory, paths_of, IsBuildPlanOf}
+use Rattle.ws_replica.specs.ActionPlans.{ActionPlan, IsPlanFor}
+use Rattle.ws_replica.specs.Reports.{Fate, Stopped, Blocked, Came, IsFate, AreFatesOf, AreFates}
+use Rattle.ws_replica.specs.Programs.{AllHeld, IsTargetOf, IsHeldProgram, IsPlannedProgram}
+use Rattle.ws_cache.proofs.Outcomes.{one_typed_of}
+use Rattle.ws_replica.proofs.Compiling.{typed_well}
+use Rattle.ws_replica.proofs.Numbered.{some_same, member_at}
+use Rattle.ws_replica.proofs.OneBuild.{one_fates, fate_at}
+use Rattle.ws_replica.proofs.SomeBuild.{some_fates}
+
+-- ---- the target's action
+
+not_below_itself : (path : List ℕ) → path_cmp path path ≡ Less → ⊥
+not_below_itself path e = let f : Less ≡ Equal = sym e ∙ tied_itself path_cmp_total path in cc
+
+below_each : (first : List ℕ) (paths : List (List ℕ)) → AllByRecursion (λ y. path_cmp first y ≡ Less) paths → (k : ℕ) (path : List ℕ) → slice_get paths k ≡ Some path → path_cmp first path ≡ Less
+below_each first [] h k path e = cc
+below_each first (p ∷ paths) h zero path e = subst (λ z. path_cmp first z ≡ Less) (some_same p path e) h.0
+below_each first (p ∷ paths) h (suc k) path e = below_each first paths h.1 k path e
+
+-- a path of a sorted list stands at one number
+one_number : (paths : List (List ℕ)) → IsStrictlySortedBy path_cmp paths → (path : List ℕ) (j k : ℕ) → slice_get paths j ≡ Some path → slice_get paths k ≡ Some path → j ≡ k
+unfolding IsStrictlySortedBy
+one_number [] h path j k e f = cc
+one_number (p ∷ paths) h path zero zero e f = refl
+one_number (p ∷ paths) h path zero (suc k) e f =
+    absurd (not_below_itself p (below_each p paths h.0 k p (f ∙ sym e)))
+one_number (p ∷ paths) h path (suc j) zero e f =
+    absurd (not_below_itself p (below_each p paths h.0 j p (e ∙ sym f)))
+one_number (p ∷ paths) h path (suc j) (suc k) e f = ap suc (one_number paths h.1 path j k e f)
+
+path_at : (ds : List Directory) (k : ℕ) (d : Directory) (path : List ℕ) → slice_get ds k ≡ Some d → d.path ≡ path → slice_get (paths_of ds) k ≡ Some path
+path_at ds k d path at named = slice_get-map (λ (d : Directory). d.path) ds k ∙ ap (option_map (λ (d : Directory). d.path)) at ∙ ap Some named
+
+option_some : {X : Type 0} (o p : X) → Some o ≡ Some p → o ≡ p
+option_some o p e = cc
+
+pub one_target : (plan : ActionPlan) (target : List ℕ) → IsStrictlySortedBy path_cmp (paths_of plan.directories) → (a b : Action) → IsTargetOf plan target a → IsTargetOf plan target b → a ≡ b
+one_target plan target sorted a b g h =
+    let same : g.number ≡ h.number = one_number (paths_of plan.directories) sorted target g.number h.number (path_at plan.directories g.number g.directory target g.at g.named) (path_at plan.directories h.number h.directory target h.at h.named) in
+    let has : Some (Some a) ≡ Some (Some b) = sym g.has ∙ ap (slice_get plan.actions) same ∙ h.has in
+    some_same a b (option_some (Some a) (Some b) has)
+
+-- a list of directories with that path has one with it
+directory_by : (ds : List Directory) (path : List ℕ) (k : ℕ) (o : Option Directory) → slice_get ds k ≡ o → option_map (λ (d : Directory). d.path) o ≡ Some path → (d : Directory) × (slice_get ds k ≡ Some d) × (d.path ≡ path)
+directory_by ds path k None at e = cc
+directory_by ds path k (Some d) at e = (d, at, some_same d.path path e)
+
+-- the target is among the directories of its plan
+pub target_at : (W : List Write) (target : List ℕ) (ds : List Directory) → IsBuildPlanOf W target ds → (k : ℕ) × (d : Directory) × (slice_get ds k ≡ Some d) × (d.path ≡ target)
+target_at W target ds (sources, are, plan) =
+    let at = member_at (paths_of ds) target ((plan.reached target).1 ([], refl)) in
+    let d = directory_by ds target at.0 (slice_get ds at.0) refl (sym (slice_get-map (λ (d : Directory). d.path) ds at.0) ∙ at.1) in
+    (at.0, d.0, d.1, d.2)
 
 -- ---- one program
 
-pub one_program : (edition : ℕ) (directory : List ℕ) (held : List Action) (planned : Planned) (a b : Typed) → IsPlannedProgram edition directory held planned a → IsPlannedProgram edition directory held planned b → a ≡ b
-one_program edition directory held NoFiles a b g h = absurd g
-one_program edition directory held (Faulty fault) a b g h = absurd g
-one_program edition directory held (Sound parsed) a b g h = one_typed directory (map source_of parsed) a b g.checked h.checked
+pub one_program : (edition : ℕ) (W : List Write) (target : List ℕ) (held : List Action) (plan : Option ActionPlan) (a b : Typed) → IsPlanFor edition W target plan → IsPlannedProgram held plan target a → IsPlannedProgram held plan target b → a ≡ b
+one_program edition W target held None a b h g k = absurd g
+one_program edition W target held (Some plan) a b h g k =
+    let same : g.action ≡ k.action = one_target plan target h.0.2.ascending g.action k.action g.its k.its in
+    one_typed_of k.action a b (subst (λ (z : Action). IsTypedOf z a) same g.checked) k.checked
 
 -- ---- decided
 
@@ -62,41 +113,56 @@ program_by typed false e s = inr (λ p. let t : bytes_eq typed.package (codes "m
 pub program : (typed : Typed) → IsProgram (typed ∷ []) ⊎ (IsProgram (typed ∷ []) → ⊥)
 program typed = program_by typed (bytes_eq typed.package (codes "main")) refl (some_or_none (function_named (codes "main") typed.functions))
 
-checked_by : (path : List ℕ) (files : List (List ℕ × List ℕ)) (answer : Answer) → IsAnswerOf path files answer → Decided (λ typed. IsAnswerOf path files (answers.Good typed))
-checked_by path files (answers.Faulty fault) h = inr (λ typed c. not_both path files fault typed h c)
-checked_by path files (answers.Good typed) h = inl (typed, h)
+all_held_by : (held : List Action) (a : Action) (fates : List Fate) → Contains held a ⊎ (Contains held a → ⊥) → AllHeld held fates ⊎ (AllHeld held fates → ⊥) → AllHeld held (Came a None ∷ fates) ⊎ (AllHeld held (Came a None ∷ fates) → ⊥)
+all_held_by held a fates (inr lacks) rest = inr (λ h. lacks h.0)
+all_held_by held a fates (inl has) (inr bad) = inr (λ h. bad h.1)
+all_held_by held a fates (inl has) (inl rest) = inl (has, rest)
 
--- files that have trees are answered
-checked : (path : List ℕ) (files : List (List ℕ × List ℕ)) (trees : List NamedFile) → AreTreesOf files trees → Decided (λ typed. IsAnswerOf path files (answers.Good typed))
-checked path files trees h = let answer = some_answer_of path files trees h in checked_by path files answer.0 answer.1
+all_held : (held : List Action) (fates : List Fate) → AllHeld held fates ⊎ (AllHeld held fates → ⊥)
+all_held held [] = inl tt
+all_held held (Stopped fault ∷ fates) = inr (λ h. h)
+all_held held (Blocked ∷ fates) = inr (λ h. h)
+all_held held (Came a (Some fault) ∷ fates) = inr (λ h. h)
+all_held held (Came a None ∷ fates) = all_held_by held a fates (among held a) (all_held held fates)
 
-held_by : (edition : ℕ) (directory : List ℕ) (held : List Action) (parsed : List Parsed) → Contains held (action_of edition directory parsed) ⊎ (Contains held (action_of edition directory parsed) → ⊥) → Decided (λ typed. IsAnswerOf directory (map source_of parsed) (answers.Good typed)) → Decided (IsHeldProgram edition directory held parsed)
-held_by edition directory held parsed (inr no_entry) c = inr (λ typed h. no_entry h.compiled)
-held_by edition directory held parsed (inl entry) (inr faulty) = inr (λ typed h. faulty typed h.checked)
-held_by edition directory held parsed (inl entry) (inl (typed, c)) = elim (program typed) [
-  | inl p ↦ inl (typed, record { compiled = entry; checked = c; program = p })
-  | inr no_program ↦ inr (λ other h. no_program (subst (λ (t : Typed). IsProgram (t ∷ [])) (one_typed directory (map source_of parsed) other typed h.checked c) h.program))
-]
+-- one of them came to no fault
+pub came_at : (held : List Action) (fates : List Fate) → AllHeld held fates → (k : ℕ) (fate : Fate) → slice_get fates k ≡ Some fate → (a : Action) × (fate ≡ Came a None) × Contains held a
+came_at held [] h k fate e = cc
+came_at held (Stopped fault ∷ fates) h k fate e = absurd h
+came_at held (Blocked ∷ fates) h k fate e = absurd h
+came_at held (Came a (Some fault) ∷ fates) h k fate e = absurd h
+came_at held (Came a None ∷ fates) h zero fate e = (a, sym (some_same (Came a None) fate e), h.0)
+came_at held (Came a None ∷ fates) h (suc k) fate e = came_at held fates h.1 k fate e
 
-pub program_decided : (edition : ℕ) (directory : List ℕ) (held : List Action) (files : List (List ℕ × List ℕ)) (planned : Planned) → IsPlan files planned → Decided (IsPlannedProgram edition directory held planned)
-program_decided edition directory held files NoFiles plan = inr (λ typed h. h)
-program_decided edition directory held files (Faulty fault) plan = inr (λ typed h. h)
-program_decided edition directory held files (Sound parsed) plan =
-    let trees = trees_of parsed plan.parses.parses in
-    held_by edition directory held parsed (among held (action_of edition directory parsed)) (checked directory (map source_of parsed) trees.0 trees.1)
+module _ (edition : ℕ) (W : List Write) (target : List ℕ) (held : List Action) (plan : ActionPlan) (of : IsPlanFor edition W target (Some plan)) where
+  by_program : (fates : List Fate) → AreFates (Some plan) fates → AllHeld held fates → (a : Action) → IsTargetOf plan target a → (typed : Typed) → IsTypedOf a typed → IsProgram (typed ∷ []) ⊎ (IsProgram (typed ∷ []) → ⊥) → Decided (IsHeldProgram held plan target)
+  by_program fates are all a its typed checked (inl p) = inl (typed, record { fates = fates; are = are; compiled = all; action = a; its = its; checked = checked; program = p })
+  by_program fates are all a its typed checked (inr no_program) = inr (λ other h.
+      let same : h.action ≡ a = one_target plan target of.0.2.ascending h.action a h.its its in
+      let one : other ≡ typed = one_typed_of a other typed (subst (λ (z : Action). IsTypedOf z other) same h.checked) checked in
+      no_program (subst (λ (t : Typed). IsProgram (t ∷ [])) one h.program))
+
+  by_held : (fates : List Fate) → AreFates (Some plan) fates → AllHeld held fates ⊎ (AllHeld held fates → ⊥) → Decided (IsHeldProgram held plan target)
+  by_held fates are (inr lacks) = inr (λ typed h. lacks (subst (AllHeld held) (one_fates edition W target (Some plan) h.fates fates of h.are are) h.compiled))
+  by_held fates are (inl all) =
+      let at = target_at W target plan.directories of.0 in
+      let fate = fate_at fates plan.directories plan.actions fates are at.0 at.1 at.2 in
+      let came = came_at held fates all at.0 fate.fate fate.at in
+      let is : IsFate fates at.1 fate.action (Came came.0 None) = subst (IsFate fates at.1 fate.action) came.1 fate.is in
+      let typed = is.2 in
+      let its : IsTargetOf plan target came.0 = record { number = at.0; directory = at.1; at = at.2; named = at.3; has = fate.has ∙ ap Some is.0 } in
+      by_program fates are all came.0 its typed.0 typed.1 (program typed.0)
+
+pub program_decided : (edition : ℕ) (W : List Write) (target : List ℕ) (held : List Action) (plan : Option ActionPlan) → IsPlanFor edition W target plan → Decided (IsPlannedProgram held plan target)
+program_decided edition W target held None of = inr (λ typed h. h)
+program_decided edition W target held (Some plan) of =
+    let fates = some_fates edition W target (Some plan) of in
+    by_held edition W target held plan of fates.0 fates.1 (all_held held fates.0)
 
 -- ---- its meaning
 
-checked_typed : (path : List ℕ) (files : List NamedFile) (typed : Typed) → IsChecked path files typed → IsWellTyped typed
-checked_typed path files typed c = files_typed files typed.functions (checked_known path files typed c).functions
-
--- a checked package is well typed
-pub answer_typed : (path : List ℕ) (files : List (List ℕ × List ℕ)) (typed : Typed) → IsAnswerOf path files (answers.Good typed) → IsWellTyped typed
-answer_typed path files typed h = checked_typed path h.files typed h.is
-
--- so a program has a meaning
-pub some_meaning : (edition : ℕ) (directory : List ℕ) (held : List Action) (planned : Planned) (typed : Typed) → IsPlannedProgram edition directory held planned typed → (ticks : ℕ) → (ending : Ending) × (output : List ℕ) × SourceMeaning (typed ∷ []) ticks ending output
-some_meaning edition directory held NoFiles typed h ticks = absurd h
-some_meaning edition directory held (Faulty fault) typed h ticks = absurd h
-some_meaning edition directory held (Sound parsed) typed h ticks =
-    source_some (typed ∷ []) ticks (All-cons IsWellTyped typed [] (answer_typed directory (map source_of parsed) typed h.checked) (All-nil IsWellTyped)) h.program
+-- a program has a meaning
+pub some_meaning : (held : List Action) (plan : Option ActionPlan) (target : List ℕ) (typed : Typed) → IsPlannedProgram held plan target typed → (ticks : ℕ) → (ending : Ending) × (output : List ℕ) × SourceMeaning (typed ∷ []) ticks ending output
+some_meaning held None target typed h ticks = absurd h
+some_meaning held (Some plan) target typed h ticks =
+    source_some (typed ∷ []) ticks (All-cons IsWellTyped typed [] (typed_well h.action typed h.checked) (All-nil IsWellTyped)) h.program

@@ -1,53 +1,36 @@
 //! Replicas: what is written and what is compiled, and builds.
 #![tactic(auto)]
 
-ghost use Rattle.std.specs.Prelude.{◌≡◌, ◌≢◌, ℕ, ◌++◌, ◌∷◌, [], List, IfOk, IfErr, IfSome, OnOk, OnErr, Err, None, string_bytes, option_copied};
-ghost use Rattle.go_text.specs.Editions.{edition_number};
+ghost use Rattle.std.specs.Prelude.{◌≡◌, ℕ, ◌++◌, ◌∷◌, [], List, Option, IfOk, IfErr, OnOk, OnErr, None, option_copied, string_bytes};
+ghost use Rattle.ws_map.specs.Kept.{SameMembers};
 ghost use Rattle.ws_version.specs.Writes.{Write as AWrite, held_cmp};
 ghost use Rattle.ws_map.specs.Kept.{StandsAt};
 ghost use Rattle.ws_register.specs.Edits.{top, greatest_at, edit_refusal, removal_refusal, IsRefusal, edited, removed};
 ghost use Rattle.ws_register.specs.Sources.{IsShown, IsSources};
 ghost use Rattle.ws_register.specs.Texted.{texted};
-ghost use Rattle.ws_action.specs.Actions.{Action as AnAction, action_of};
-ghost use Rattle.ws_action.specs.Clash.{AllSized, NoClash, hashed_actions};
-ghost use Rattle.ws_cache.specs.Held.{CacheStandsFor};
-ghost use Rattle.ws_cache.specs.Count.{compiled_count};
-ghost use Rattle.ws_cache.specs.Compiles.{Compiles, compiled_of};
-ghost use Rattle.ws_graph.specs.Plan.{Planned, Sound, NoFiles, IsPlanOf};
-ghost use Rattle.ws_board.specs.Machine.{opening};
-ghost use Rattle.ws_pool.specs.Runs.{RunsTo};
+ghost use Rattle.ws_action.specs.Actions.{Action as AnAction};
 ghost use Rattle.ws_replica.specs.Holdings.{ReplicaStandsFor, both};
 ghost use Rattle.ws_replica.specs.declared.BuildError.TheVariants.{Memory};
-ghost use Rattle.ws_replica.specs.Builds.{IsBuilt, refusal_of};
-ghost use Rattle.ws_replica.specs.Programs.{IsTranslated, IsLinked, IsImageHeld, IsImage, MeansProgram};
-ghost use Rattle.go_export.specs.Typed.{Typed};
-ghost use Rattle.go_export.specs.WellTyped.{IsWellTyped};
-ghost use Rattle.go_check.specs.Meaning.{IsProgram};
-ghost use Rattle.std.specs.Arc.{arc_value};
-ghost use Rattle.ws_replica.specs.Reports.{actions_of, verdict_of, IsReport};
-ghost use Rattle.ws_report.specs.Reports.{Verdict as AVerdict, seen, rows};
+ghost use Rattle.ws_replica.specs.ActionPlans.{ActionPlan, IsPlanFor};
+ghost use Rattle.ws_replica.specs.Reports.{Fate, AreFates};
+ghost use Rattle.ws_replica.specs.Builds.{refusal_of};
 
-use go_ast::parsed::Parsed;
-use go_code::image::Image;
-use go_code::object::Object;
-use go_link::link::{LinkError, link};
-use go_text::edition::Edition;
+pub use building::build;
 use go_text::source::Source;
 use go_text::text::Text;
+pub use linking::image;
 use std::alloc::{AllocError, Global};
 use std::marker::Model;
-use std::sync::Arc;
 use thiserror::Error;
-use ws_action::Action;
-use ws_board::{Board, Built};
-use ws_cache::{Cache, Outcome};
-use ws_graph::{Node, Plan, PlanError, plan};
-use ws_pool::drive;
+use ws_cache::Cache;
+use ws_graph::PlanError;
 use ws_register::{EditError, Registers};
-use ws_report::{Report, Verdict};
 use ws_version::{Held, Join, Write};
 
+mod building;
 pub mod join;
+mod linking;
+mod reached;
 
 /// Why there is no report.
 #[derive(Debug, Drop, Error)]
@@ -206,158 +189,13 @@ impl Join for Replica {
     }
 }
 
-fn verdict_of(outcome: &Outcome) -> Result<Verdict, AllocError>
-    ensures { IfOk result (λ verdict. seen verdict ≡ verdict_of (compiled_of outcome.now)) }
-{
-    match outcome {
-        Outcome::Good(_) => Ok(Verdict::Good),
-        Outcome::Faulty(fault) => Ok(Verdict::Faulty(fault.copy()?)),
-    }
-}
+/// A set of writes has one plan of a target, whose directories come to one thing each.
+pub fn law_one_build()
+    ensures plan { (edition : ℕ) (V W : List AWrite) (target : List ℕ) (p q : Option ActionPlan) → SameMembers V W → IsPlanFor edition V target p → IsPlanFor edition W target q → p ≡ q }
+    ensures fates { (edition : ℕ) (W : List AWrite) (target : List ℕ) (plan : Option ActionPlan) (f g : List Fate) → IsPlanFor edition W target plan → AreFates plan f → AreFates plan g → f ≡ g }
+{}
 
-fn report_of(
-    alloc: Global,
-    directory: String,
-    verdict: Verdict,
-    compiled: u64,
-) -> Result<Report, AllocError>
-    ensures rows { IfOk result (λ report. rows report.directories.items ≡ (string_bytes directory, seen verdict) ∷ []) }
-    ensures compiled { IfOk result (λ report. report.compiled ≡ compiled) }
-{
-    let mut directories = Vec::new(alloc);
-    directories.push((directory, verdict))?;
-    Ok(Report {
-        directories,
-        compiled,
-    })
-}
-
-// Compiles what the cache lacks.
-fn run_action(alloc: Global, action: Action, cache: &Cache) -> Result<Built, AllocError>
-    ensures { IfOk result (λ built. RunsTo (opening cache.now (action ∷ [])) built) }
-{
-    let mut actions = Vec::new(alloc);
-    actions.push(action)?;
-    let board = Board::open(alloc, actions, cache.copy()?)?;
-    let built = drive(board)?;
-    Ok(built)
-}
-
-// The report of a directory all of whose files parse, with the cache that goes with it.
-fn build_sound(
-    alloc: Global,
-    cache: &Cache,
-    directory: String,
-    parsed: Vec<Parsed>,
-    edition: Edition,
-) -> Result<(Report, Cache), AllocError>
-    ensures { IfOk result (λ built. (actions : List AnAction) → CacheStandsFor cache.now actions → AllSized actions → IsBuilt actions (action_of (edition_number edition) (string_bytes directory) parsed.items) (string_bytes directory) built.0 built.1) }
-{
-    let path = directory.clone()?;
-    // The plan's files are in order of their names and have one package name.
-    let Ok(action) = Action::new(alloc, edition, path, parsed) else {
-        return Err(AllocError);
-    };
-    let built = run_action(alloc, action, cache)?;
-    let Some(outcome) = built.result(0) else {
-        unreachable!();
-    };
-    let verdict = verdict_of(outcome)?;
-    let compiled = built.compiled() as u64;
-    let report = report_of(alloc, directory, verdict, compiled)?;
-    Ok((report, built.into_cache()))
-}
-
-/// Builds a directory: the report depends on the replica's sources alone, and what was compiled is
-/// put into its cache. `NoPackage` comes where the directory has no files that belong to a build.
-/// An `Err` changes nothing.
-pub fn build(
-    alloc: Global,
-    replica: &mut Replica,
-    directory: &str,
-    edition: Edition,
-) -> Result<Report, BuildError>
-    ensures ok { IfOk result (λ report. (W : List AWrite) (E : List AnAction) → ReplicaStandsFor replica.old W E → AllSized E → (planned : Planned) × IsPlanOf W directory.now planned × (planned ≢ NoFiles) × AllSized (actions_of (edition_number edition) directory.now planned) × (NoClash (hashed_actions (E ++ actions_of (edition_number edition) directory.now planned)) → IsReport (edition_number edition) directory.now planned (rows report.directories.items) × (report.compiled ≡ compiled_count E (actions_of (edition_number edition) directory.now planned)) × ReplicaStandsFor replica.new W (E ++ actions_of (edition_number edition) directory.now planned))) }
-    ensures registers { replica.new.registers ≡ replica.old.registers }
-    ensures none { result ≡ Err BuildError.NoPackage → (W : List AWrite) (E : List AnAction) → ReplicaStandsFor replica.old W E → IsPlanOf W directory.now NoFiles }
-    ensures err { OnErr result (replica.new ≡ replica.old) }
-{
-    let Plan {
-        directory: path,
-        node,
-    } = plan(alloc, &replica.registers, directory)?;
-    match node {
-        Node::Faulty(fault) => {
-            let report = report_of(alloc, path, Verdict::Faulty(fault), 0)?;
-            Ok(report)
-        }
-        Node::Sound(parsed) => {
-            let (report, cache) = build_sound(alloc, &replica.cache, path, parsed, edition)?;
-            replica.cache = cache;
-            Ok(report)
-        }
-    }
-}
-
-/// The image of an object; none where it is no program's.
-fn linked(alloc: Global, object: &Arc<Object>) -> Result<Option<Image>, AllocError>
-    requires { IsTranslated (arc_value object.now) }
-    ensures { IfOk result (λ image. IsLinked (arc_value object.now) image) }
-{
-    let objects = Vec::from_array(alloc, [object.clone()?])?;
-    match link(alloc, &objects, &[0]) {
-        Ok(image) => Ok(Some(image)),
-        Err(LinkError::NoMain) => Ok(None),
-        Err(LinkError::NameMissing) => unreachable!(),
-        Err(LinkError::Memory) => Err(AllocError),
-    }
-}
-
-/// The image of an action that the cache holds with a good outcome; none where it doesn't, or
-/// where the package is no program.
-fn held_image(alloc: Global, cache: &Cache, action: &Action) -> Result<Option<Image>, AllocError>
-    ensures { IfOk result (λ image. IsImageHeld cache.now action.now image) }
-{
-    let Some(entry) = cache.get(&action.id()?) else {
-        return Ok(None);
-    };
-    match entry.outcome() {
-        Outcome::Good(object) => linked(alloc, object),
-        Outcome::Faulty(_) => Ok(None),
-    }
-}
-
-/// The image of the program in a directory, linked from what the replica holds compiled. None
-/// where the package isn't compiled as it stands, or has a fault, or is no program. `NoPackage`
-/// comes where the directory has no files that belong to a build.
-///
-/// For every number of ticks the image does what the replica's sources mean.
-pub fn image(
-    alloc: Global,
-    replica: &Replica,
-    directory: &str,
-    edition: Edition,
-) -> Result<Option<Image>, BuildError>
-    ensures ok { IfOk result (λ image. (W : List AWrite) (E : List AnAction) → ReplicaStandsFor replica.now W E → AllSized E → IsImage (edition_number edition) W E directory.now image) }
-    ensures program { IfOk result (λ image. IfSome image (λ image. (typed : Typed) × IsWellTyped typed × IsProgram (typed ∷ []) × MeansProgram image typed)) }
-    ensures none { result ≡ Err BuildError.NoPackage → (W : List AWrite) (E : List AnAction) → ReplicaStandsFor replica.now W E → IsPlanOf W directory.now NoFiles }
-{
-    let registers = &replica.registers;
-    let Plan {
-        directory: path,
-        node,
-    } = plan(alloc, registers, directory)?;
-    let Node::Sound(parsed) = node else {
-        return Ok(None);
-    };
-    let Ok(action) = Action::new(alloc, edition, path, parsed) else {
-        return Err(BuildError::Memory);
-    };
-    let image = held_image(alloc, &replica.cache, &action)?;
-    Ok(image)
-}
-
-/// A plan has one report.
-pub fn law_one_report()
-    ensures { (edition : ℕ) (directory : List ℕ) (planned : Planned) (r s : List (List ℕ × AVerdict)) → IsReport edition directory planned r → IsReport edition directory planned s → r ≡ s }
+/// Each set of writes has a plan of each target, whose directories come to something.
+pub fn law_some_build()
+    ensures { (edition : ℕ) (W : List AWrite) (target : List ℕ) → (plan : Option ActionPlan) × IsPlanFor edition W target plan × (fates : List Fate) × AreFates plan fates }
 {}

@@ -1,3 +1,4 @@
+pub mod Fates
 pub mod OneText
 pub mod Tested
 pub mod RunTelling

@@ -27,16 +27,15 @@ meant image typed ticks a b s t means source machine =
     subst (λ e. SourceMeaning (typed ∷ []) ticks e t) same.0 (subst (SourceMeaning (typed ∷ []) ticks a) same.1 source)
 
 pub no_run : (edition : ℕ) (directory : List ℕ) (ticks : ℕ) (W : List Write) (E : List Action) → IsImage edition W E directory None → RunOf edition directory ticks W E None
-no_run edition directory ticks W E i = record { planned = i.planned; plan = i.plan; some = i.some; ran = λ clear. i.right clear }
+no_run edition directory ticks W E i = record { plan = i.plan; planned = i.planned; ran = λ clear. i.right clear }
 
 pub image_runs : (edition : ℕ) (directory : List ℕ) (ticks : ℕ) (W : List Write) (E : List Action) (image : Image) (outcome : Outcome) → IsImage edition W E directory (Some image) → MachineMeaning image ticks (Ends outcome.ending outcome.output) → RunOf edition directory ticks W E (Some outcome)
 image_runs edition directory ticks W E image outcome i machine = record {
-  planned = i.planned;
   plan = i.plan;
-  some = i.some;
+  planned = i.planned;
   ran = λ clear.
       let right = i.right clear in
-      let source = some_meaning edition directory E i.planned right.0 right.1 ticks in
+      let source = some_meaning E (Some i.plan) directory right.0 right.1 ticks in
       (right.0, right.1, meant image right.0 ticks source.0 outcome.ending source.1 outcome.output right.2 source.2 machine);
 }
 

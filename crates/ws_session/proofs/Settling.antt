@@ -14,7 +14,7 @@ use Rattle.ws_command.specs.declared.refusal.Refusal.{Refusal}
 use Rattle.ws_command.specs.declared.refusal.Refusal.TheVariants.{BadCommand, Unknown, Exists, BadPath, CounterFull, BadText}
 use Rattle.ws_command.specs.Commands.{Command, Create, Write, Merge}
 use Rattle.ws_command.specs.Refusals.{first_of}
-use Rattle.ws_session.specs.World.{World, Replica, replica_at, knows, writes_in, writes_of, actions_in, actions_held, number_in, taking, grown, with_replicas, edit_of, refusals, is_text, text_in, is_path_word}
+use Rattle.ws_session.specs.World.{World, Replica, replica_at, or_new, knows, writes_of, actions_held, taking, grown, with_replicas, edit_of, refusals, is_text, text_in, is_path_word}
 use Rattle.ws_session.specs.Standing.{index_of, Stands, AllStand, Settles, ChangedAt, Edited, MergedFrom}
 use Rattle.ws_session.proofs.Standings.{found, not_found, same_length, stands_push}
 
@@ -84,7 +84,7 @@ module _ (name path : List ℕ) (lines : ℕ) (text : Option (List ℕ)) (world 
 
     -- what the definition reads of the replica is what the code keeps
     writes_are : writes_of name world ≡ (found name k ns world.replicas h e).replica.writes
-    writes_are = ap writes_in (found name k ns world.replicas h e).at
+    writes_are = ap (λ o. (or_new o).writes) (found name k ns world.replicas h e).at
 
     pub top_is : (n : ℕ) → ((one : Named) (W : List AWrite) (E : List Action) → one ≡ get_or ns k one → ReplicaStandsFor one.replica W E → n ≡ top W) → n ≡ top (writes_of name world)
     top_is n tops =
@@ -100,11 +100,11 @@ module _ (name path : List ℕ) (lines : ℕ) (text : Option (List ℕ)) (world 
         let w : AWrite = edit_of name path (text_in text) world in
         let same : AWrite = (path, record { counter = top r.writes + 1; number = f.one.number; text = Some bytes }) in
         let texts : bytes ≡ text_in text = ap text_in b in
-        let numbers : f.one.number ≡ number_in (replica_at name world.replicas) = s.number ∙ sym (ap number_in f.at) in
+        let numbers : f.one.number ≡ (or_new (replica_at name world.replicas)).number = s.number ∙ sym (ap (λ o. (or_new o).number) f.at) in
         let is : same ≡ w =
         ap (λ n. let x : AWrite = (path, record { counter = top r.writes + 1; number = n; text = Some bytes }) in x) numbers
-        ∙ ap (λ q. let x : AWrite = (path, record { counter = top r.writes + 1; number = number_in (replica_at name world.replicas); text = Some q }) in x) texts
-        ∙ ap (λ V. let x : AWrite = (path, record { counter = top V + 1; number = number_in (replica_at name world.replicas); text = Some (text_in text) }) in x) (sym writes_are) in
+        ∙ ap (λ q. let x : AWrite = (path, record { counter = top r.writes + 1; number = (or_new (replica_at name world.replicas)).number; text = Some q }) in x) texts
+        ∙ ap (λ V. let x : AWrite = (path, record { counter = top V + 1; number = (or_new (replica_at name world.replicas)).number; text = Some (text_in text) }) in x) (sym writes_are) in
         let stand : Stands change.changed (grown r (w ∷ []) []) = record {
           name = edited.name ∙ s.name;
           number = edited.number ∙ s.number;
@@ -144,8 +144,8 @@ module _ (name other : List ℕ) (text : Option (List ℕ)) (world : World) (ns 
         let s = f.stands f.one f.is in
         let t = g.stands g.one g.is in
         let took = change.so f.one f.is in
-        let writes : g.replica.writes ≡ writes_of other world = sym (ap writes_in g.at) in
-        let actions : g.replica.actions ≡ actions_held other world = sym (ap actions_in g.at) in
+        let writes : g.replica.writes ≡ writes_of other world = sym (ap (λ o. (or_new o).writes) g.at) in
+        let actions : g.replica.actions ≡ actions_held other world = sym (ap (λ o. (or_new o).actions) g.at) in
         let stand : Stands change.changed (grown r (writes_of other world) (actions_held other world)) = record {
           name = took.name ∙ s.name;
           number = took.number ∙ s.number;

@@ -10,7 +10,7 @@ use Rattle.ws_command.specs.declared.refusal.Refusal.TheVariants.{Unknown}
 use Rattle.ws_command.specs.Commands.{Show}
 use Rattle.ws_command.specs.Refusals.{refused, first_of}
 use Rattle.ws_command.specs.ShowPrinting.{show_text}
-use Rattle.ws_session.specs.World.{World, writes_in, writes_of, refusals, AfterBy, After, PrintsBy, Prints}
+use Rattle.ws_session.specs.World.{World, or_new, writes_of, refusals, AfterBy, After, PrintsBy, Prints}
 use Rattle.ws_session.specs.Standing.{index_of, AllStand, Tells}
 use Rattle.ws_session.proofs.Standings.{found}
 use Rattle.ws_session.proofs.Settling.{knows_none, knows_some, refused_settles}
@@ -30,7 +30,7 @@ module _ (name : List ℕ) (text : Option (List ℕ)) (world : World) (ns : List
       let f = found name k ns world.replicas h e in
       let r = f.replica in
       let allowed : first_of (refusals (Show name) text world) ≡ None = show_row _ true (knows_some name k world ns h e) in
-      let shows : IsShown (writes_of name world) writes = subst (λ W. IsShown W writes) (sym (ap writes_in f.at)) (is f.one r.writes r.actions f.is (f.stands f.one f.is).holds) in
+      let shows : IsShown (writes_of name world) writes = subst (λ W. IsShown W writes) (sym (ap (λ o. (or_new o).writes) f.at)) (is f.one r.writes r.actions f.is (f.stands f.one f.is).holds) in
       record {
         next = world;
         after = subst (λ z. AfterBy z (Show name) text world world) (sym allowed) refl;

@@ -1,10 +1,10 @@
 -- Each script has a session text.
-use Rattle.std.proofs.Common.{◌≡◌, ℕ, zero, suc, List, [], ◌∷◌, ◌++◌, Option, None, Some, refl, inl, inr}
-use Rattle.std.specs.Prelude.{◌⊎◌}
+use Rattle.std.proofs.Common.{ℕ, zero, suc, List, [], ◌∷◌, ◌++◌, Option, None, Some, refl, inl, inr}
+use Rattle.ws_version.specs.Writes.{Write as AWrite}
 use Rattle.ws_action.specs.Actions.{Action}
 use Rattle.ws_cache.specs.Count.{compiled_count}
-use Rattle.ws_graph.specs.Plan.{Planned, NoFiles, Faulty, Sound, IsPlan}
-use Rattle.ws_replica.specs.Reports.{actions_of}
+use Rattle.ws_replica.specs.ActionPlans.{ActionPlan, IsPlanFor, actions_in}
+use Rattle.ws_replica.specs.Reports.{Fate, report_of, compiled_actions}
 use Rattle.ws_command.specs.declared.refusal.Refusal.{Refusal}
 use Rattle.ws_command.specs.declared.refusal.Refusal.TheVariants.{NoPackage, NotBuilt}
 use Rattle.ws_command.specs.Commands.{Command, Nothing, Bad, Create, Write, Remove, Apply, Merge, Settle, Build, Run, Show, command_of, text_lines, text_of}
@@ -17,42 +17,33 @@ use Rattle.ws_register.proofs.Exists.{some_contents}
 use Rattle.ws_command.specs.Lines.{lines_of}
 use Rattle.ws_session.specs.World.{World, opening, writes_of, actions_held, taking, with_replicas, seeking, refusals, Accepted, AfterBy, After, Answers, PrintsBy, Prints, Told, Ran, RanOr}
 use Rattle.ws_session.specs.Text.{TextFrom, SessionText}
-use Rattle.ws_replica.proofs.SomePlan.{some_plan_of, some_report}
+use Rattle.ws_replica.proofs.SomeBuild.{some_plan_for, some_fates}
 use Rattle.ws_replica.proofs.OneProgram.{Decided, program_decided, some_meaning}
 use Rattle.ws_replica.specs.Programs.{IsPlannedProgram}
-use Rattle.go_export.specs.Typed.{Typed}
-use Rattle.go_check.specs.Meaning.{SourceMeaning}
-use Rattle.go_code.specs.declared.ending.Ending.{Ending}
 
-some_told : (edition : ℕ) (name directory : List ℕ) (held : List Action) (files : List (List ℕ × List ℕ)) (p : Planned) → IsPlan files p → (told : List ℕ) × Told edition name directory held p told
-some_told edition name directory held files NoFiles h = (refused NoPackage, refl)
-some_told edition name directory held files (Faulty fault) h =
-    let r = some_report edition directory files (Faulty fault) h in
-    (report_text name directory r.0 (compiled_count held (actions_of edition directory (Faulty fault))), (r.0, r.1, refl))
-some_told edition name directory held files (Sound parsed) h =
-    let r = some_report edition directory files (Sound parsed) h in
-    (report_text name directory r.0 (compiled_count held (actions_of edition directory (Sound parsed))), (r.0, r.1, refl))
+some_told : (name directory : List ℕ) (held : List Action) (plan : Option ActionPlan) (fates : List Fate) → (told : List ℕ) × Told name directory held plan fates told
+some_told name directory held None fates = (refused NoPackage, refl)
+some_told name directory held (Some plan) fates = (report_text name directory (report_of plan.directories fates) (compiled_count held (compiled_actions fates)), refl)
 
-ran_by : (edition : ℕ) (name directory : List ℕ) (ticks : ℕ) (held : List Action) (planned : Planned) → Decided (IsPlannedProgram edition directory held planned)
-    → (told : List ℕ) × RanOr edition name directory ticks held planned told
-ran_by edition name directory ticks held planned (inl (typed, program)) =
-    let means = some_meaning edition directory held planned typed program ticks in
+ran_by : (name directory : List ℕ) (ticks : ℕ) (held : List Action) (plan : Option ActionPlan) → Decided (IsPlannedProgram held plan directory) → (told : List ℕ) × RanOr name directory ticks held plan told
+ran_by name directory ticks held plan (inl (typed, program)) =
+    let means = some_meaning held plan directory typed program ticks in
     (run_text name directory means.0 means.1, inl (typed, program, means.0, means.1, means.2, refl))
-ran_by edition name directory ticks held planned (inr no_program) = (refused NotBuilt, inr (no_program, refl))
+ran_by name directory ticks held plan (inr no_program) = (refused NotBuilt, inr (no_program, refl))
 
-some_ran : (edition : ℕ) (name directory : List ℕ) (ticks : ℕ) (held : List Action) (files : List (List ℕ × List ℕ)) (planned : Planned) → IsPlan files planned → (told : List ℕ) × Ran edition name directory ticks held planned told
-some_ran edition name directory ticks held files NoFiles plan = (refused NoPackage, refl)
-some_ran edition name directory ticks held files (Faulty fault) plan = ran_by edition name directory ticks held (Faulty fault) (program_decided edition directory held files (Faulty fault) plan)
-some_ran edition name directory ticks held files (Sound parsed) plan = ran_by edition name directory ticks held (Sound parsed) (program_decided edition directory held files (Sound parsed) plan)
+some_ran : (edition : ℕ) (W : List AWrite) (name directory : List ℕ) (ticks : ℕ) (held : List Action) (plan : Option ActionPlan) → IsPlanFor edition W directory plan → (told : List ℕ) × Ran name directory ticks held plan told
+some_ran edition W name directory ticks held None is = (refused NoPackage, refl)
+some_ran edition W name directory ticks held (Some plan) is = ran_by name directory ticks held (Some plan) (program_decided edition W directory held (Some plan) is)
 
 some_answer : (command : Command) (world : World) → (told : List ℕ) × Answers command world told
 some_answer (Build name directory) world =
-    let p = some_plan_of (writes_of name world) directory in
-    let t = some_told world.edition name directory (actions_held name world) _ p.0 p.1.2 in
-    (t.0, (p.0, p.1, t.1))
+    let p = some_plan_for world.edition (writes_of name world) directory in
+    let f = some_fates world.edition (writes_of name world) directory p.0 p.1 in
+    let t = some_told name directory (actions_held name world) p.0 f.0 in
+    (t.0, (p.0, p.1, f.0, f.1, t.1))
 some_answer (Run name directory ticks) world =
-    let p = some_plan_of (writes_of name world) directory in
-    let t = some_ran world.edition name directory ticks (actions_held name world) _ p.0 p.1.2 in
+    let p = some_plan_for world.edition (writes_of name world) directory in
+    let t = some_ran world.edition (writes_of name world) name directory ticks (actions_held name world) p.0 p.1 in
     (t.0, (p.0, p.1, t.1))
 some_answer Nothing world = ([], refl)
 some_answer Bad world = ([], refl)
@@ -76,11 +67,12 @@ some_print command text world = some_print_by (first_of (refusals command text w
 
 some_accepted : (command : Command) (text : Option (List ℕ)) (world : World) → (next : World) × Accepted command text world next
 some_accepted (Build name directory) text world =
-    let p = some_plan_of (writes_of name world) directory in
-    (with_replicas world (taking name [] (actions_of world.edition directory p.0) world.replicas), (p.0, p.1, refl))
+    let p = some_plan_for world.edition (writes_of name world) directory in
+    let f = some_fates world.edition (writes_of name world) directory p.0 p.1 in
+    (seeking (with_replicas world (taking name [] (compiled_actions f.0) world.replicas)) (actions_in p.0), (p.0, p.1, f.0, f.1, refl))
 some_accepted (Run name directory ticks) text world =
-    let p = some_plan_of (writes_of name world) directory in
-    (seeking world (actions_of world.edition directory p.0), (p.0, p.1, refl))
+    let p = some_plan_for world.edition (writes_of name world) directory in
+    (seeking world (actions_in p.0), (p.0, p.1, refl))
 some_accepted Nothing text world = (world, refl)
 some_accepted Bad text world = (world, refl)
 some_accepted (Create name) text world = (_, refl)

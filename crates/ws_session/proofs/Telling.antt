@@ -1,17 +1,18 @@
 -- What a build tells of the replicas of a session, and of those of the world.
-use Rattle.std.proofs.Common.{◌≡◌, ℕ, zero, suc, List, [], ◌∷◌, ◌++◌, Option, None, Some, true, false, Bool, not, refl, sym, ap, ◌∙◌, cond, subst, get_or, append-nil}
-use Rattle.std.specs.Prelude.{◌≢◌}
+use Rattle.std.proofs.Common.{◌≡◌, ℕ, zero, suc, List, [], ◌∷◌, ◌++◌, Option, None, Some, true, false, Bool, not, refl, sym, ap, ◌∙◌, cond, subst, get_or, append-nil, inl, inr}
+use Rattle.std.specs.Prelude.{◌⊎◌}
 use Rattle.std.specs.List.{flat_map, Contains}
 use Rattle.std.specs.Str.{bytes_eq, is_utf8}
 use Rattle.std.proofs.Math.ListN.{set}
-use Rattle.std.proofs.lemmas.List.Elements.{Contains-append_left, Contains-append_right}
+use Rattle.std.proofs.lemmas.List.Elements.{Contains-append_left, Contains-append_right, Contains-append_cases}
+use Rattle.std.proofs.lemmas.Grind.{flat_map-append}
 use Rattle.ws_version.specs.Writes.{Write as AWrite}
 use Rattle.ws_action.specs.Actions.{Action}
-use Rattle.ws_action.specs.Clash.{NoClash, AllSized, hashed_actions}
+use Rattle.ws_action.specs.Clash.{NoClash, AllSized, hashed_actions, hashed as hashed_action}
 use Rattle.ws_cache.specs.Count.{compiled_count}
-use Rattle.ws_graph.specs.Plan.{Planned, NoFiles, Faulty, Sound, IsPlanOf}
+use Rattle.ws_replica.specs.ActionPlans.{IsPlanFor, actions_in}
 use Rattle.ws_replica.specs.Holdings.{ReplicaStandsFor}
-use Rattle.ws_replica.specs.Reports.{IsReport, actions_of}
+use Rattle.ws_replica.specs.Reports.{report_of, compiled_actions}
 use Rattle.ws_report.specs.Reports.{Verdict}
 use Rattle.ws_session.specs.declared.replicas.Named.{Named}
 use Rattle.ws_command.specs.declared.refusal.Refusal.{Refusal}
@@ -21,9 +22,10 @@ use Rattle.ws_session.specs.declared.replicas.Replicas.{Replicas}
 use Rattle.ws_command.specs.Commands.{Command, Nothing, Bad, Create, Write, Remove, Apply, Merge, Settle, Build}
 use Rattle.ws_command.specs.Refusals.{first_of, refused}
 use Rattle.ws_command.specs.Printing.{report_text}
-use Rattle.ws_session.specs.World.{World, Replica, replica_at, writes_in, writes_of, actions_in, actions_held, taking, grown, with_replicas, refusals, AfterBy, After, PrintsBy, Prints, Told, hashed, texts_of_replica, text_list}
-use Rattle.ws_session.specs.Standing.{StandFor, index_of, Stands, AllStand, Settles, Tells, told_of, ChangedAt, Built, BuildOf}
+use Rattle.ws_session.specs.World.{World, Replica, replica_at, or_new, writes_of, actions_held, taking, grown, with_replicas, seeking, refusals, AfterBy, After, PrintsBy, Prints, hashed, texts_of_replica, text_list}
+use Rattle.ws_session.specs.Standing.{StandFor, index_of, Stands, AllStand, Settles, Tells, told_of, ChangedAt, Built, BuildOf, HasNoPlanAt}
 use Rattle.ws_session.proofs.Standings.{found}
+use Rattle.ws_session.proofs.Fates.{compiled_planned}
 use Rattle.ws_session.proofs.Settling.{knows_none, knows_some, sized_both}
 
 -- what a command that prints no more than its refusal tells
@@ -59,20 +61,34 @@ pub held : (name : List ℕ) (writes : List AWrite) (actions : List Action) (rs 
 held name writes actions [] r e = cc
 held name writes actions (q ∷ rs) r e = held_by_test name writes actions q rs r (bytes_eq q.name name) refl e (held name writes actions rs r)
 
--- so where the world's texts don't clash, no more do those of its actions
-clear_held : (name : List ℕ) (actions : List Action) (world : World) (r : Replica) → replica_at name world.replicas ≡ Some r → NoClash (hashed (with_replicas world (taking name [] actions world.replicas))) → NoClash (hashed_actions (r.actions ++ actions))
+-- what is hashed for actions is hashed for these and more
+hashed_more : (actions more : List Action) (s : List ℕ) → Contains (hashed_actions actions) s → Contains (hashed_actions (actions ++ more)) s
+hashed_more actions more s c = subst (λ z. Contains z s) (sym (flat_map-append hashed_action actions more)) (Contains-append_left (hashed_actions actions) (hashed_actions more) s c)
+
+-- and what a replica took is hashed of the world in which it took more
+held_before : (name : List ℕ) (more : List Action) (rs : List Replica) (r : Replica) → replica_at name rs ≡ Some r → (s : List ℕ) → Contains (hashed_actions r.actions) s → Contains (flat_map texts_of_replica (taking name [] more rs)) s
+held_before name more rs r e s c =
+    held name [] more rs r e s (Contains-append_right (flat_map (λ w. text_list w.1.text) (r.writes ++ [])) (hashed_actions (r.actions ++ more)) s (hashed_more r.actions more s c))
+
+either : (a b : List Action) (s : List ℕ) → Contains (hashed_actions (a ++ b)) s → Contains (hashed_actions a) s ⊎ Contains (hashed_actions b) s
+either a b s c = Contains-append_cases (hashed_actions a) (hashed_actions b) s (subst (λ z. Contains z s) (flat_map-append hashed_action a b) c)
+
+sought_among : (actions sought : List Action) (world : World) (s : List ℕ) → (Contains (hashed_actions actions) s → Contains (flat_map texts_of_replica world.replicas) s)
+    → Contains (hashed_actions actions) s ⊎ Contains (hashed_actions sought) s → Contains (flat_map texts_of_replica world.replicas ++ hashed_actions (world.sought ++ sought)) s
+sought_among actions sought world s held (inl c) = Contains-append_left (flat_map texts_of_replica world.replicas) (hashed_actions (world.sought ++ sought)) s (held c)
+sought_among actions sought world s held (inr c) =
+    Contains-append_right (flat_map texts_of_replica world.replicas) (hashed_actions (world.sought ++ sought)) s
+    (subst (λ z. Contains z s) (sym (flat_map-append hashed_action world.sought sought)) (Contains-append_right (hashed_actions world.sought) (hashed_actions sought) s c))
+
+-- so where the texts of a world that looked for actions don't clash, no more do those of these and of what is held in it
+pub clear_sought : (actions sought : List Action) (world : World) → ((s : List ℕ) → Contains (hashed_actions actions) s → Contains (flat_map texts_of_replica world.replicas) s)
+    → NoClash (hashed (seeking world sought)) → NoClash (hashed_actions (actions ++ sought))
 unfolding hashed
-clear_held name actions world r e clear s t c d q =
-    let at = λ (x : List ℕ) (g : Contains (hashed_actions (r.actions ++ actions)) x). Contains-append_left (flat_map texts_of_replica (taking name [] actions world.replicas)) (hashed_actions world.sought) x (held name [] actions world.replicas r e x (Contains-append_right (flat_map (λ w. text_list w.1.text) (r.writes ++ [])) (hashed_actions (r.actions ++ actions)) x g)) in
-    clear s t (at s c) (at t d) q
+clear_sought actions sought world held clear s t c d q =
+    clear s t (sought_among actions sought world s (held s) (either actions sought s c)) (sought_among actions sought world t (held t) (either actions sought t d)) q
 
 pub build_row : (a b c d : Bool) → a ≡ c → b ≡ d → first_of ((not a, Unknown) ∷ (not b, NoPackage) ∷ []) ≡ cond (not c) (Some Unknown) (cond (not d) (Some NoPackage) None)
 build_row a b c d e f = ap (λ z. cond (not z) (Some Unknown) (cond (not b) (Some NoPackage) None)) e ∙ ap (λ z. cond (not c) (Some Unknown) (cond (not z) (Some NoPackage) None)) f
-
-told_of_plan : (edition : ℕ) (name directory : List ℕ) (actions : List Action) (planned : Planned) (report : List (List ℕ × Verdict)) (told : List ℕ) → planned ≢ NoFiles → IsReport edition directory planned report → told ≡ report_text name directory report (compiled_count actions (actions_of edition directory planned)) → Told edition name directory actions planned told
-told_of_plan edition name directory actions NoFiles report told some r e = absurd (some refl)
-told_of_plan edition name directory actions (Faulty fault) report told some r e = (report, r, e)
-told_of_plan edition name directory actions (Sound parsed) report told some r e = (report, r, e)
 
 module _ (name directory : List ℕ) (text : Option (List ℕ)) (world : World) (ns : List Named) (h : AllStand ns world.replicas) where
   pub build_unknown : (told : List ℕ) → index_of name ns ≡ None → told ≡ refused Unknown → Tells (Build name directory) text world told ns
@@ -85,22 +101,23 @@ module _ (name directory : List ℕ) (text : Option (List ℕ)) (world : World) 
         (record { refuses = build_row _ _ true false (knows_some name k world ns h e) u; next = world; after = refl; edition = refl; stand = h })
 
     writes_are : writes_of name world ≡ (found name k ns world.replicas h e).replica.writes
-    writes_are = ap writes_in (found name k ns world.replicas h e).at
+    writes_are = ap (λ o. (or_new o).writes) (found name k ns world.replicas h e).at
 
     actions_are : actions_held name world ≡ (found name k ns world.replicas h e).replica.actions
-    actions_are = ap actions_in (found name k ns world.replicas h e).at
+    actions_are = ap (λ o. (or_new o).actions) (found name k ns world.replicas h e).at
 
     allowed : is_utf8 directory ≡ true → first_of (refusals (Build name directory) text world) ≡ None
     allowed u = build_row _ _ true true (knows_some name k world ns h e) u
 
     pub build_none : (told : List ℕ) → is_utf8 directory ≡ true → told ≡ refused NoPackage
-        → ((n : Named) (W : List AWrite) (E : List Action) → n ≡ get_or ns k n → ReplicaStandsFor n.replica W E → IsPlanOf W directory NoFiles) → Tells (Build name directory) text world told ns
+        → HasNoPlanAt world.edition directory ns k → Tells (Build name directory) text world told ns
     unfolding After Prints
     build_none told u t plans =
         let f = found name k ns world.replicas h e in
         let r = f.replica in
         let s = f.stands f.one f.is in
-        let plan : IsPlanOf (writes_of name world) directory NoFiles = subst (λ W. IsPlanOf W directory NoFiles) (sym writes_are) (plans f.one r.writes r.actions f.is s.holds) in
+        let plan : IsPlanFor world.edition (writes_of name world) directory None = subst (λ W. IsPlanFor world.edition W directory None) (sym writes_are) (plans f.one r.writes r.actions f.is s.holds) in
+        let next : World = seeking (with_replicas world (taking name [] [] world.replicas)) [] in
         let stand : Stands f.one (grown r [] []) = record {
           name = s.name;
           number = s.number;
@@ -108,11 +125,11 @@ module _ (name directory : List ℕ) (text : Option (List ℕ)) (world : World) 
           sized = subst AllSized (sym (append-nil r.actions)) s.sized;
         } in
         record {
-          next = with_replicas world (taking name [] [] world.replicas);
-          after = subst (λ z. AfterBy z (Build name directory) text world (with_replicas world (taking name [] [] world.replicas))) (sym (allowed u)) (NoFiles, plan, refl);
+          next = next;
+          after = subst (λ z. AfterBy z (Build name directory) text world next) (sym (allowed u)) (None, plan, [], refl, refl);
           edition = refl;
           clear = λ _. (
-            subst (λ z. PrintsBy z (Build name directory) world told) (sym (allowed u)) (NoFiles, plan, t),
+            subst (λ z. PrintsBy z (Build name directory) world told) (sym (allowed u)) (None, plan, [], refl, t),
             subst (λ z. AllStand z (taking name [] [] world.replicas)) (set_same ns k f.one f.is) (f.grows f.one [] [] stand),
           );
         }
@@ -126,23 +143,27 @@ module _ (name directory : List ℕ) (text : Option (List ℕ)) (world : World) 
         let s = f.stands f.one f.is in
         let built = change.so f.one f.is in
         let b = subst (λ n. BuildOf n directory report compiled change.changed r.writes r.actions) same (built.builds r.writes r.actions s.holds s.sized) in
-        let made : List Action = actions_of world.edition directory b.planned in
-        let next : World = with_replicas world (taking name [] made world.replicas) in
-        let plan : IsPlanOf (writes_of name world) directory b.planned = subst (λ W. IsPlanOf W directory b.planned) (sym writes_are) b.plan in
+        let made : List Action = compiled_actions b.fates in
+        let sought : List Action = actions_in (Some b.plan) in
+        let took : World = with_replicas world (taking name [] made world.replicas) in
+        let next : World = seeking took sought in
+        let plan : IsPlanFor world.edition (writes_of name world) directory (Some b.plan) = subst (λ W. IsPlanFor world.edition W directory (Some b.plan)) (sym writes_are) b.planned in
         record {
           next = next;
-          after = subst (λ z. AfterBy z (Build name directory) text world next) (sym (allowed u)) (b.planned, plan, refl);
+          after = subst (λ z. AfterBy z (Build name directory) text world next) (sym (allowed u)) (Some b.plan, plan, b.fates, b.are, refl);
           edition = refl;
           clear = λ clear.
-              let d = b.built (clear_held name made world r f.at clear) in
+              let d = b.built (clear_sought r.actions sought took (held_before name made world.replicas r f.at) clear) in
               let stand : Stands change.changed (grown r [] made) = record {
                 name = built.name ∙ s.name;
                 number = built.number ∙ s.number;
                 holds = subst (λ W. ReplicaStandsFor change.changed.replica W (r.actions ++ made)) (sym (append-nil r.writes)) d.holds;
-                sized = sized_both r.actions made s.sized b.sized;
+                sized = sized_both r.actions made s.sized (λ a c. b.sized a (compiled_planned b.plan b.fates b.are a c));
               } in
-              let counted : compiled ≡ compiled_count (actions_held name world) made = d.counts ∙ ap (λ E. compiled_count E made) (sym actions_are) in (
-                subst (λ z. PrintsBy z (Build name directory) world told) (sym (allowed u)) (b.planned, plan, told_of_plan world.edition name directory (actions_held name world) b.planned report told b.some d.reports (t ∙ ap (report_text name directory report) counted)),
+              let counted : compiled ≡ compiled_count (actions_held name world) made = d.counts ∙ ap (λ E. compiled_count E made) (sym actions_are) in
+              let printed : told ≡ report_text name directory (report_of b.plan.directories b.fates) (compiled_count (actions_held name world) made) =
+              t ∙ ap (λ z. report_text name directory z compiled) d.reports ∙ ap (report_text name directory (report_of b.plan.directories b.fates)) counted in (
+                subst (λ z. PrintsBy z (Build name directory) world told) (sym (allowed u)) (Some b.plan, plan, b.fates, b.are, printed),
                 subst (λ z. AllStand z (taking name [] made world.replicas)) (sym change.is) (f.grows change.changed [] made stand),
               );
         }

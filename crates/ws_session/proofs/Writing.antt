@@ -16,7 +16,7 @@ use Rattle.ws_session.specs.declared.replicas.Named.{Named}
 use Rattle.ws_command.specs.declared.refusal.Refusal.{Refusal}
 use Rattle.ws_command.specs.declared.refusal.Refusal.TheVariants.{Unknown, BadPath, NoFile, CounterFull, BadText}
 use Rattle.ws_command.specs.Commands.{Remove, Apply}
-use Rattle.ws_session.specs.World.{World, Replica, replica_at, knows, writes_in, writes_of, number_in, taking, grown, with_replicas, removal_of, is_path_word, is_content, content_in}
+use Rattle.ws_session.specs.World.{World, Replica, replica_at, or_new, knows, writes_of, taking, grown, with_replicas, removal_of, is_path_word, is_content, content_in}
 use Rattle.ws_session.specs.Standing.{index_of, Stands, AllStand, Settles, ChangedAt, Removed, RemovedOr, Removal, removal_row, Applied}
 use Rattle.ws_session.proofs.Standings.{found}
 use Rattle.ws_session.proofs.Settling.{refused_settles, knows_none, knows_some}
@@ -77,13 +77,13 @@ module _ (name path : List ℕ) (text : Option (List ℕ)) (world : World) (ns :
 
     -- what the definition reads of the replica is what the code keeps
     writes_are : writes_of name world ≡ (found name k ns world.replicas h e).replica.writes
-    writes_are = ap writes_in (found name k ns world.replicas h e).at
+    writes_are = ap (λ o. (or_new o).writes) (found name k ns world.replicas h e).at
 
     removal_is : removed (top (found name k ns world.replicas h e).replica.writes) (found name k ns world.replicas h e).one.number ≡ (removal_of name path world).1
     removal_is =
         let f = found name k ns world.replicas h e in
-        let numbers : f.one.number ≡ number_in (replica_at name world.replicas) = (f.stands f.one f.is).number ∙ sym (ap number_in f.at) in
-        ap (removed (top f.replica.writes)) numbers ∙ ap (λ V. removed (top V) (number_in (replica_at name world.replicas))) (sym writes_are)
+        let numbers : f.one.number ≡ (or_new (replica_at name world.replicas)).number = (f.stands f.one f.is).number ∙ sym (ap (λ o. (or_new o).number) f.at) in
+        ap (removed (top f.replica.writes)) numbers ∙ ap (λ V. removed (top V) (or_new (replica_at name world.replicas)).number) (sym writes_are)
 
     removed_or : (refusal : Option Refusal) (ms : List Named) → is_path_word path ≡ true → removal_row path (writes_of name world) ≡ refusal → RemovedOr path ns k refusal ms → Settles (Remove name path) text world refusal ms
     removed_or None ms p row change =

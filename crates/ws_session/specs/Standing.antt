@@ -1,5 +1,5 @@
 -- What the replicas of a session stand for.
-use Rattle.std.specs.Prelude.{◌≡◌, ◌≢◌, ℕ, ◌+◌, ◌==◌, suc, cond, true, false, is_some, List, [], ◌∷◌, ◌++◌, map, slice_set, slice_index_or, Option, None, Some, Result, Ok, Err, Vec}
+use Rattle.std.specs.Prelude.{◌≡◌, ℕ, ◌+◌, ◌==◌, suc, cond, true, false, List, [], ◌∷◌, ◌++◌, map, slice_set, slice_index_or, Option, None, Some, Result, Ok, Err, Vec}
 use Rattle.std.specs.Global.{Global}
 use Rattle.std.specs.Str.{bytes_eq}
 use Rattle.std.specs.Option.{option_map}
@@ -12,8 +12,8 @@ use Rattle.ws_register.specs.Edits.{greatest_at, is_missing, removed}
 use Rattle.ws_action.specs.Actions.{Action}
 use Rattle.ws_action.specs.Clash.{AllSized, NoClash, hashed_actions}
 use Rattle.ws_cache.specs.Count.{compiled_count}
-use Rattle.ws_graph.specs.Plan.{Planned, NoFiles, IsPlanOf}
-use Rattle.ws_replica.specs.Reports.{IsReport, actions_of}
+use Rattle.ws_replica.specs.ActionPlans.{ActionPlan, IsPlanFor, actions_in}
+use Rattle.ws_replica.specs.Reports.{Fate, AreFates, report_of, compiled_actions}
 use Rattle.ws_report.specs.Reports.{Verdict}
 use Rattle.ws_replica.specs.Holdings as holdings
 use Rattle.ws_replica.specs.Holdings.{ReplicaStandsFor}
@@ -128,18 +128,19 @@ pub record MergedFrom (named : List Named) (theirs : ℕ) (old new : Named) : Ty
       → ReplicaStandsFor old.replica V E → ReplicaStandsFor other.replica W F → ReplicaStandsFor new.replica (V ++ W) (E ++ F)
 
 -- what is known of a build where no two texts clash
-pub record IsBuilt (edition : ℕ) (directory : List ℕ) (report : List (List ℕ × Verdict)) (compiled : ℕ) (new : Named) (W : List Write) (E : List Action) (planned : Planned) : Type 0 where
-  pub reports : IsReport edition directory planned report
-  pub counts : compiled ≡ compiled_count E (actions_of edition directory planned)
-  pub holds : ReplicaStandsFor new.replica W (E ++ actions_of edition directory planned)
+pub record IsBuilt (report : List (List ℕ × Verdict)) (compiled : ℕ) (new : Named) (W : List Write) (E : List Action) (plan : ActionPlan) (fates : List Fate) : Type 0 where
+  pub reports : report ≡ report_of plan.directories fates
+  pub counts : compiled ≡ compiled_count E (compiled_actions fates)
+  pub holds : ReplicaStandsFor new.replica W (E ++ compiled_actions fates)
 
 -- what is known of a build
 pub record BuildOf (edition : ℕ) (directory : List ℕ) (report : List (List ℕ × Verdict)) (compiled : ℕ) (new : Named) (W : List Write) (E : List Action) : Type 0 where
-  pub planned : Planned
-  pub plan : IsPlanOf W directory planned
-  pub some : planned ≢ NoFiles
-  pub sized : AllSized (actions_of edition directory planned)
-  pub built : NoClash (hashed_actions (E ++ actions_of edition directory planned)) → IsBuilt edition directory report compiled new W E planned
+  pub plan : ActionPlan
+  pub planned : IsPlanFor edition W directory (Some plan)
+  pub fates : List Fate
+  pub are : AreFates (Some plan) fates
+  pub sized : AllSized (actions_in (Some plan))
+  pub built : NoClash (hashed_actions (E ++ actions_in (Some plan))) → IsBuilt report compiled new W E plan fates
 
 -- it built a directory, with this report
 pub record Built (edition : ℕ) (directory : List ℕ) (report : List (List ℕ × Verdict)) (compiled : ℕ) (old new : Named) : Type 0 where
@@ -147,18 +148,22 @@ pub record Built (edition : ℕ) (directory : List ℕ) (report : List (List ℕ
   pub number : new.number ≡ old.number
   pub builds : (W : List Write) (E : List Action) → ReplicaStandsFor old.replica W E → AllSized E → BuildOf edition directory report compiled new W E
 
+-- by what the replica at an index took, a directory has no package files
+abbrev pub HasNoPlanAt : ℕ → List ℕ → List Named → ℕ → Type 0
+HasNoPlanAt edition directory named index =
+    (n : Named) (W : List Write) (E : List Action) → n ≡ slice_index_or named index n → ReplicaStandsFor n.replica W E → IsPlanFor edition W directory None
+
 -- what a run came to: an outcome that the sources mean, if there is a compiled program, and none if there is none
-abbrev pub IsOutcome : ℕ → List ℕ → ℕ → List Action → Planned → Option Outcome → Type 0
-IsOutcome edition directory ticks held planned None = (typed : Typed) → IsPlannedProgram edition directory held planned typed → ⊥
-IsOutcome edition directory ticks held planned (Some outcome) =
-    (typed : Typed) × IsPlannedProgram edition directory held planned typed × SourceMeaning (typed ∷ []) ticks outcome.ending outcome.output
+abbrev pub IsOutcome : List ℕ → ℕ → List Action → ActionPlan → Option Outcome → Type 0
+IsOutcome directory ticks held plan None = (typed : Typed) → IsPlannedProgram held (Some plan) directory typed → ⊥
+IsOutcome directory ticks held plan (Some outcome) =
+    (typed : Typed) × IsPlannedProgram held (Some plan) directory typed × SourceMeaning (typed ∷ []) ticks outcome.ending outcome.output
 
 -- what is known of a run
 pub record RunOf (edition : ℕ) (directory : List ℕ) (ticks : ℕ) (W : List Write) (E : List Action) (outcome : Option Outcome) : Type 0 where
-  pub planned : Planned
-  pub plan : IsPlanOf W directory planned
-  pub some : planned ≢ NoFiles
-  pub ran : NoClash (hashed_actions (E ++ actions_of edition directory planned)) → IsOutcome edition directory ticks E planned outcome
+  pub plan : ActionPlan
+  pub planned : IsPlanFor edition W directory (Some plan)
+  pub ran : NoClash (hashed_actions (E ++ actions_in (Some plan))) → IsOutcome directory ticks E plan outcome
 
 -- the replica at an index ran a directory, with this outcome
 abbrev pub RanAt : ℕ → List ℕ → ℕ → List Named → ℕ → Option Outcome → Type 0

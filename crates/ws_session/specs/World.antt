@@ -10,9 +10,8 @@ use Rattle.ws_register.specs.Edits.{edited, removed, greatest_at, is_missing}
 use Rattle.ws_action.specs.Actions.{Action}
 use Rattle.ws_action.specs.Clash.{hashed_actions}
 use Rattle.ws_cache.specs.Count.{compiled_count}
-use Rattle.ws_graph.specs.Plan.{Planned, NoFiles, Faulty, Sound, IsPlanOf}
-use Rattle.ws_replica.specs.Reports.{actions_of, IsReport}
-use Rattle.ws_report.specs.Reports.{Verdict}
+use Rattle.ws_replica.specs.ActionPlans.{ActionPlan, IsPlanFor, actions_in}
+use Rattle.ws_replica.specs.Reports.{Fate, AreFates, report_of, compiled_actions}
 use Rattle.ws_replica.specs.Programs.{IsPlannedProgram}
 use Rattle.go_export.specs.Typed.{Typed}
 use Rattle.go_check.specs.Meaning.{SourceMeaning}
@@ -32,8 +31,8 @@ pub record Replica : Type 0 where
   pub writes : List AWrite
   pub actions : List Action
 
--- The replicas in order of creation, the edition that all is built in, and the actions that runs looked for, which no command
--- reads: their texts are hashed too.
+-- The replicas in order of creation, the edition that all is built in, and the actions that builds and runs looked for, which no
+-- command reads: their texts are hashed too.
 pub record World : Type 0 where
   pub edition : ℕ
   pub replicas : List Replica
@@ -50,20 +49,17 @@ replica_at name (r ∷ rs) = cond (bytes_eq r.name name) (Some r) (replica_at na
 abbrev pub knows : List ℕ → World → Bool
 knows name world = is_some (replica_at name world.replicas)
 
-abbrev pub writes_in : Option Replica → List AWrite
-writes_in None = []
-writes_in (Some r) = r.writes
-
-abbrev pub actions_in : Option Replica → List Action
-actions_in None = []
-actions_in (Some r) = r.actions
+-- one that took nothing stands for none
+abbrev pub or_new : Option Replica → Replica
+or_new None = record { name = []; number = 0; writes = []; actions = [] }
+or_new (Some r) = r
 
 -- what the replica of that name took
 abbrev pub writes_of : List ℕ → World → List AWrite
-writes_of name world = writes_in (replica_at name world.replicas)
+writes_of name world = (or_new (replica_at name world.replicas)).writes
 
 abbrev pub actions_held : List ℕ → World → List Action
-actions_held name world = actions_in (replica_at name world.replicas)
+actions_held name world = (or_new (replica_at name world.replicas)).actions
 
 -- a replica that takes these writes and actions too
 abbrev pub grown : Replica → List AWrite → List Action → Replica
@@ -74,17 +70,13 @@ abbrev pub taking : List ℕ → List AWrite → List Action → List Replica �
 taking name writes actions [] = []
 taking name writes actions (r ∷ rs) = cond (bytes_eq r.name name) (grown r writes actions ∷ rs) (r ∷ taking name writes actions rs)
 
-abbrev pub number_in : Option Replica → ℕ
-number_in None = 0
-number_in (Some r) = r.number
-
 -- An edit by the replica of that name: one more than the greatest counter that it took, and its number.
 abbrev pub edit_of : List ℕ → List ℕ → List ℕ → World → AWrite
-edit_of name path text world = (path, edited (top (writes_of name world)) (number_in (replica_at name world.replicas)) text)
+edit_of name path text world = (path, edited (top (writes_of name world)) (or_new (replica_at name world.replicas)).number text)
 
 -- A removal by the replica of that name: one more than the greatest counter that it took, and its number.
 abbrev pub removal_of : List ℕ → List ℕ → World → AWrite
-removal_of name path world = (path, removed (top (writes_of name world)) (number_in (replica_at name world.replicas)))
+removal_of name path world = (path, removed (top (writes_of name world)) (or_new (replica_at name world.replicas)).number)
 
 -- the replica of that name holds no text at the path
 abbrev pub lacks : List ℕ → List ℕ → World → Bool
@@ -107,7 +99,6 @@ is_path_word word = is_utf8 word && is_path word
 -- For each command its refusals in order of their numbers, and when each holds. A word that isn't UTF-8 is no directory;
 -- whether a directory has package files is a matter of its plan.
 abbrev pub refusals : Command → Option (List ℕ) → World → List (Bool × Refusal)
-refusals Nothing text world = []
 refusals Bad text world = (true, BadCommand) ∷ []
 refusals (Create name) text world = (nat_lt 63 (length world.replicas), BadCommand) ∷ (knows name world, Exists) ∷ []
 refusals (Write name path lines) text world =
@@ -116,11 +107,11 @@ refusals (Remove name path) text world =
     (not (knows name world), Unknown) ∷ (not (is_path_word path), BadPath) ∷ (lacks name path world, NoFile) ∷ (top (writes_of name world) == 18446744073709551615, CounterFull) ∷ []
 refusals (Apply name path counter number lines) text world =
     (not (knows name world), Unknown) ∷ (not (is_path_word path), BadPath) ∷ (not (is_content lines text), BadText) ∷ []
-refusals Settle text world = []
 refusals (Show name) text world = (not (knows name world), Unknown) ∷ []
 refusals (Merge name other) text world = (not (knows name world && knows other world), Unknown) ∷ []
 refusals (Build name directory) text world = (not (knows name world), Unknown) ∷ (not (is_utf8 directory), NoPackage) ∷ []
 refusals (Run name directory ticks) text world = (not (knows name world), Unknown) ∷ (not (is_utf8 directory), NoPackage) ∷ []
+refusals _ text world = []
 
 abbrev pub text_in : Option (List ℕ) → List ℕ
 text_in None = []
@@ -144,8 +135,6 @@ seeking world actions = record { edition = world.edition; replicas = world.repli
 
 -- the world after a command that isn't refused
 abbrev pub Accepted : Command → Option (List ℕ) → World → World → Type 0
-Accepted Nothing text world next = next ≡ world
-Accepted Bad text world next = next ≡ world
 Accepted (Create name) text world next =
     next ≡ with_replicas world (world.replicas ++ record { name = name; number = length world.replicas + 1; writes = []; actions = [] } ∷ [])
 Accepted (Write name path lines) text world next =
@@ -155,14 +144,14 @@ Accepted (Remove name path) text world next =
 Accepted (Apply name path counter number lines) text world next =
     next ≡ with_replicas world (taking name ((path, record { counter = counter; number = number; text = content_in lines text }) ∷ []) [] world.replicas)
 Accepted Settle text world next = next ≡ with_replicas world (settled world.replicas)
-Accepted (Show name) text world next = next ≡ world
 Accepted (Merge name other) text world next =
     next ≡ with_replicas world (taking name (writes_of other world) (actions_held other world) world.replicas)
 Accepted (Build name directory) text world next =
-    (planned : Planned) × IsPlanOf (writes_of name world) directory planned
-    × (next ≡ with_replicas world (taking name [] (actions_of world.edition directory planned) world.replicas))
+    (plan : Option ActionPlan) × IsPlanFor world.edition (writes_of name world) directory plan × (fates : List Fate) × AreFates plan fates
+    × (next ≡ seeking (with_replicas world (taking name [] (compiled_actions fates) world.replicas)) (actions_in plan))
 Accepted (Run name directory ticks) text world next =
-    (planned : Planned) × IsPlanOf (writes_of name world) directory planned × (next ≡ seeking world (actions_of world.edition directory planned))
+    (plan : Option ActionPlan) × IsPlanFor world.edition (writes_of name world) directory plan × (next ≡ seeking world (actions_in plan))
+Accepted _ text world next = next ≡ world
 
 abbrev pub AfterBy : Option Refusal → Command → Option (List ℕ) → World → World → Type 0
 AfterBy None command text world next = Accepted command text world next
@@ -172,41 +161,33 @@ AfterBy (Some refusal) command text world next = next ≡ world
 unfoldable pub After : Command → Option (List ℕ) → World → World → Type 0
 After command text world next = AfterBy (first_of (refusals command text world)) command text world next
 
--- what a plan's report prints
-abbrev pub Told : ℕ → List ℕ → List ℕ → List Action → Planned → List ℕ → Type 0
-Told edition name directory held NoFiles told = told ≡ refused NoPackage
-Told edition name directory held planned told =
-    (report : List (List ℕ × Verdict)) × IsReport edition directory planned report
-    × (told ≡ report_text name directory report (compiled_count held (actions_of edition directory planned)))
+-- what a plan's report prints, where these are its fates
+abbrev pub Told : List ℕ → List ℕ → List Action → Option ActionPlan → List Fate → List ℕ → Type 0
+Told name directory held None fates told = told ≡ refused NoPackage
+Told name directory held (Some plan) fates told =
+    told ≡ report_text name directory (report_of plan.directories fates) (compiled_count held (compiled_actions fates))
 
 -- for so many ticks what the sources mean, if they are a program that the replica holds compiled, and else a refusal
-abbrev pub RanOr : ℕ → List ℕ → List ℕ → ℕ → List Action → Planned → List ℕ → Type 0
-RanOr edition name directory ticks held planned told =
-    ((typed : Typed) × IsPlannedProgram edition directory held planned typed
+abbrev pub RanOr : List ℕ → List ℕ → ℕ → List Action → Option ActionPlan → List ℕ → Type 0
+RanOr name directory ticks held plan told =
+    ((typed : Typed) × IsPlannedProgram held plan directory typed
     × (ending : Ending) × (output : List ℕ) × SourceMeaning (typed ∷ []) ticks ending output × (told ≡ run_text name directory ending output))
-    ⊎ (((typed : Typed) → IsPlannedProgram edition directory held planned typed → ⊥) × (told ≡ refused NotBuilt))
+    ⊎ (((typed : Typed) → IsPlannedProgram held plan directory typed → ⊥) × (told ≡ refused NotBuilt))
 
 -- what a run prints
-abbrev pub Ran : ℕ → List ℕ → List ℕ → ℕ → List Action → Planned → List ℕ → Type 0
-Ran edition name directory ticks held NoFiles told = told ≡ refused NoPackage
-Ran edition name directory ticks held (Faulty fault) told = RanOr edition name directory ticks held (Faulty fault) told
-Ran edition name directory ticks held (Sound parsed) told = RanOr edition name directory ticks held (Sound parsed) told
+abbrev pub Ran : List ℕ → List ℕ → ℕ → List Action → Option ActionPlan → List ℕ → Type 0
+Ran name directory ticks held None told = told ≡ refused NoPackage
+Ran name directory ticks held (Some plan) told = RanOr name directory ticks held (Some plan) told
 
 -- what a command that isn't refused prints
 abbrev pub Answers : Command → World → List ℕ → Type 0
 Answers (Build name directory) world told =
-    (planned : Planned) × IsPlanOf (writes_of name world) directory planned × Told world.edition name directory (actions_held name world) planned told
+    (plan : Option ActionPlan) × IsPlanFor world.edition (writes_of name world) directory plan × (fates : List Fate) × AreFates plan fates
+    × Told name directory (actions_held name world) plan fates told
 Answers (Run name directory ticks) world told =
-    (planned : Planned) × IsPlanOf (writes_of name world) directory planned × Ran world.edition name directory ticks (actions_held name world) planned told
+    (plan : Option ActionPlan) × IsPlanFor world.edition (writes_of name world) directory plan × Ran name directory ticks (actions_held name world) plan told
 Answers (Show name) world told = (shown : List AWrite) × IsShown (writes_of name world) shown × (told ≡ show_text name shown)
-Answers Nothing world told = told ≡ []
-Answers Bad world told = told ≡ []
-Answers (Create name) world told = told ≡ []
-Answers (Write name path lines) world told = told ≡ []
-Answers (Remove name path) world told = told ≡ []
-Answers (Apply name path counter number lines) world told = told ≡ []
-Answers (Merge name other) world told = told ≡ []
-Answers Settle world told = told ≡ []
+Answers _ world told = told ≡ []
 
 abbrev pub PrintsBy : Option Refusal → Command → World → List ℕ → Type 0
 PrintsBy None command world told = Answers command world told
@@ -223,6 +204,6 @@ text_list (Some text) = text ∷ []
 abbrev pub texts_of_replica : Replica → List (List ℕ)
 texts_of_replica r = flat_map (λ w. text_list w.1.text) r.writes ++ hashed_actions r.actions
 
--- The texts that are hashed: of the files written and compiled, and of the actions, also of those that runs looked for.
+-- The texts that are hashed: of the files written and compiled, and of the actions, also of those that builds and runs looked for.
 unfoldable pub hashed : World → List (List ℕ)
 hashed world = flat_map texts_of_replica world.replicas ++ hashed_actions world.sought

@@ -7,12 +7,11 @@ ghost use Rattle.ws_version.specs.Writes.{Write as AWrite};
 ghost use Rattle.ws_register.specs.Sources.{top};
 ghost use Rattle.ws_session.specs.declared.replicas.Named.{Named as ANamed};
 ghost use Rattle.ws_action.specs.Actions.{Action as AnAction};
-ghost use Rattle.ws_graph.specs.Plan.{NoFiles, IsPlanOf};
 ghost use Rattle.ws_replica.specs.Holdings.{ReplicaStandsFor};
 ghost use Rattle.ws_report.specs.Reports.{rows};
 ghost use Rattle.std.specs.Thread.{IsSync};
 ghost use Rattle.ws_path.specs.Paths.{is_path};
-ghost use Rattle.ws_session.specs.Standing.{StandFor, index_of, AllStand, Settles, Tells, told_of, ChangedAt, Edited, Removal, Applied, MergedFrom, Built, RanAt, replicas_of, labels_of, IsContent};
+ghost use Rattle.ws_session.specs.Standing.{StandFor, index_of, AllStand, Settles, Tells, told_of, ChangedAt, Edited, Removal, Applied, MergedFrom, Built, HasNoPlanAt, RanAt, replicas_of, labels_of, IsContent};
 ghost use Rattle.ws_session.specs.World.{World, opening, is_text, is_path_word};
 ghost use Rattle.ws_command.specs.Commands.{Create, Write, Remove, Apply, Merge, Settle, Build, Run, Show};
 
@@ -162,7 +161,8 @@ fn merge_at(
 }
 
 /// The replica at an index builds a directory.
-fn build_at(
+fn build_at<R: Threads + Sync>(
+    rt: &R,
     alloc: Global,
     edition: Edition,
     named: &mut Vec<Named>,
@@ -171,11 +171,11 @@ fn build_at(
 ) -> Result<Report, BuildError>
     requires { index < vec_len named.old }
     ensures ok { IfOk result (λ report. ChangedAt (Built (edition_number edition) directory.now (rows report.directories.items) report.compiled) named.old.items index named.new.items) }
-    ensures none { result ≡ Err BuildError.NoPackage → (n : ANamed) (W : List AWrite) (E : List AnAction) → n ≡ slice_index_or named.old.items index n → ReplicaStandsFor n.replica W E → IsPlanOf W directory.now NoFiles }
+    ensures none { result ≡ Err BuildError.NoPackage → HasNoPlanAt (edition_number edition) directory.now named.old.items index }
     ensures err { OnErr result (named.new.items ≡ named.old.items) }
 {
     let one = &mut named[index];
-    build(alloc, &mut one.replica, directory, edition)
+    build(rt, alloc, &mut one.replica, directory, edition)
 }
 
 /// A write of a text to a path by the replica of that name.
@@ -413,7 +413,8 @@ fn merge(
 }
 
 /// A build of a directory by the replica of that name, and what it prints.
-fn build_target(
+fn build_target<R: Threads + Sync>(
+    rt: &R,
     alloc: Global,
     edition: Edition,
     named: &mut Vec<Named>,
@@ -428,7 +429,7 @@ fn build_target(
     let Ok(directory) = str::from_utf8(word) else {
         return refused(alloc, Refusal::NoPackage);
     };
-    match build_at(alloc, edition, named, index, directory) {
+    match build_at(rt, alloc, edition, named, index, directory) {
         Ok(report) => report_lines(alloc, name, directory, &report),
         Err(BuildError::NoPackage) => refused(alloc, Refusal::NoPackage),
         Err(BuildError::Memory) => Err(AllocError),
@@ -436,7 +437,8 @@ fn build_target(
 }
 
 /// What a run of a directory by the replica at an index comes to; none where no program is built.
-fn run_at(
+fn run_at<R: Threads + Sync>(
+    rt: &R,
     alloc: Global,
     edition: Edition,
     named: &Vec<Named>,
@@ -446,9 +448,9 @@ fn run_at(
 ) -> Result<Option<Outcome>, BuildError>
     requires { index < vec_len named.now }
     ensures ok { IfOk result (λ outcome. RanAt (edition_number edition) directory.now ticks named.now.items index outcome) }
-    ensures none { result ≡ Err BuildError.NoPackage → (n : ANamed) (W : List AWrite) (E : List AnAction) → n ≡ slice_index_or named.now.items index n → ReplicaStandsFor n.replica W E → IsPlanOf W directory.now NoFiles }
+    ensures none { result ≡ Err BuildError.NoPackage → HasNoPlanAt (edition_number edition) directory.now named.now.items index }
 {
-    let Some(image) = image(alloc, &named[index].replica, directory, edition)? else {
+    let Some(image) = image(rt, alloc, &named[index].replica, directory, edition)? else {
         return Ok(None);
     };
     match run(alloc, &image, ticks) {
@@ -459,7 +461,8 @@ fn run_at(
 }
 
 /// A run of a directory by the replica of that name, and what it prints.
-fn run_target(
+fn run_target<R: Threads + Sync>(
+    rt: &R,
     alloc: Global,
     edition: Edition,
     named: &Vec<Named>,
@@ -475,7 +478,7 @@ fn run_target(
     let Ok(directory) = str::from_utf8(word) else {
         return refused(alloc, Refusal::NoPackage);
     };
-    match run_at(alloc, edition, named, index, directory, ticks) {
+    match run_at(rt, alloc, edition, named, index, directory, ticks) {
         Ok(Some(outcome)) => run_lines(alloc, name, directory, outcome.ending(), outcome.output()),
         Ok(None) => refused(alloc, Refusal::NotBuilt),
         Err(BuildError::NoPackage) => refused(alloc, Refusal::NoPackage),
@@ -557,10 +560,18 @@ impl Steps for Replicas {
                 told(alloc, refusal)
             }
             Asked::Build(name, directory) => {
-                build_target(alloc, self.edition, &mut self.named, name, directory)
+                build_target(rt, alloc, self.edition, &mut self.named, name, directory)
             }
             Asked::Run(name, directory, ticks) => {
-                run_target(alloc, self.edition, &self.named, name, directory, *ticks)
+                run_target(
+                    rt,
+                    alloc,
+                    self.edition,
+                    &self.named,
+                    name,
+                    directory,
+                    *ticks,
+                )
             }
         }
     }

@@ -1,4 +1,4 @@
-//! Tests of paths, versions, writes, registers, and of the files of a package.
+//! Tests of paths, versions, writes, registers, the files of a package, and plans of builds.
 #![tactic(auto)]
 
 #[cfg(test)]

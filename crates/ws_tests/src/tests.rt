@@ -2,6 +2,7 @@
 
 mod actions;
 mod boards;
+mod builds;
 mod entries;
 mod fixture;
 mod groupings;

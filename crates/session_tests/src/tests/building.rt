@@ -209,6 +209,118 @@ build a p faults 1 compiled 0
 fault p/x.go:2:1 3 parse
 ";
 
+const IMPORTS: &[u8] = b"Two packages that import each other, below a program
+replica a
+write a app/main.go 3
+package main
+import _ \"p\"
+func main() {}
+write a p/x.go 2
+package p
+import _ \"q\"
+write a q/x.go 2
+package q
+import _ \"p\"
+build a app
+run a app 1
+----
+build a app faults 3 compiled 0
+blocked app
+fault p/x.go:2:8 8 cycle
+fault q/x.go:2:8 8 cycle
+refused 9 notbuilt
+====
+A directory without files is imported below what is built
+replica a
+write a p/x.go 2
+package p
+import _ \"q\"
+write a q/x.go 2
+package q
+import _ \"r\"
+build a p
+build a q
+build a r
+----
+build a p faults 2 compiled 0
+blocked p
+fault q/x.go:2:8 7 noimport
+build a q faults 1 compiled 0
+fault q/x.go:2:8 7 noimport
+refused 8 nopackage
+====
+A program is imported
+replica a
+write a p/x.go 2
+package p
+import _ \"app\"
+write a app/main.go 2
+package main
+func main() {}
+build a p
+run a app 1
+----
+build a p faults 1 compiled 1
+fault p/x.go:2:8 9 program
+run a app ended 0
+====
+An import with a fault of its own, which is held
+replica a
+write a app/main.go 3
+package main
+import _ \"q\"
+func main() {}
+write a q/x.go 2
+package q
+import \"fmt\"
+build a app
+build a app
+run a app 1
+----
+build a app faults 2 compiled 1
+blocked app
+fault q/x.go:2:8 12 unusedimport
+build a app faults 2 compiled 0
+blocked app
+fault q/x.go:2:8 12 unusedimport
+refused 9 notbuilt
+====
+An import that is edited is compiled again, and not what imports it
+replica a
+write a app/main.go 4
+package main
+import _ \"p\"
+import _ \"q\"
+func main() {}
+write a p/x.go 2
+package p
+import _ \"q\"
+write a q/x.go 1
+package q
+run a app 1
+build a app
+build a p
+run a app 1
+write a q/x.go 2
+package q
+// another text
+run a app 1
+build a app
+run a app 1
+write a q/x.go 1
+package r
+build a p
+----
+refused 9 notbuilt
+build a app ok 3 compiled 3
+build a p ok 2 compiled 0
+run a app ended 0
+refused 9 notbuilt
+build a app ok 3 compiled 1
+run a app ended 0
+build a p ok 2 compiled 2
+";
+
 const RUNS: &[u8] = b"Not built, built, cut, and with the most ticks
 replica a
 write a app/main.go 3
@@ -545,6 +657,11 @@ fn builds(rt: HostRuntime) -> Result<(), Fail> {
 #[test]
 fn files(rt: HostRuntime) -> Result<(), Fail> {
     compare(&rt, rt.alloc(), FILES)
+}
+
+#[test]
+fn imports(rt: HostRuntime) -> Result<(), Fail> {
+    compare(&rt, rt.alloc(), IMPORTS)
 }
 
 #[test]

@@ -1,12 +1,10 @@
-use Rattle.std.proofs.Common.{◌≡◌}
-use Rattle.ws_board.specs.Work.{State}
-use Rattle.ws_board.specs.Machine.{running_count}
-use Rattle.ws_pool.specs.Runs.{RunsTo}
-use Rattle.ws_pool.proofs.PoolRuns.{ready_count}
+use Rattle.std.proofs.Common.{count_by}
+use Rattle.ws_board.specs.Machine.{is_open}
+use Rattle.ws_pool.proofs.PoolRuns.{IsDriven}
 use Rattle.ws_pool.proofs.drive.Given as goal
 
 abbrev pub invariant-loop-board : goal.invariant-loop-board
-invariant-loop-board l = (running_count l.board.jobs ≡ 0) × ((new : State) → RunsTo l.board new → RunsTo l.fn.board new)
+invariant-loop-board l = IsDriven l.fn.board l.board
 
 abbrev pub decreases-loop-board : goal.decreases-loop-board
-decreases-loop-board l = ready_count l.board.jobs
+decreases-loop-board l = count_by is_open l.board.state.statuses

@@ -1,4 +1,4 @@
-//! An id that was computed by other means, and what files make no action.
+//! Ids that were computed by other means, and what files and imports make no action.
 use crate::tests::fixture::{action, made};
 use go_text::edition::Edition;
 use std::alloc::Global;
@@ -6,17 +6,33 @@ use std::cmp::Ordering;
 use std::test::Fail;
 use ws_action::ActionError;
 
-// The text was made, and its digest computed, with Python:
+// The texts were made, and their digests computed, with Python:
 //     from hashlib import sha256
 //     be = lambda n: n.to_bytes(8, "big")
 //     field = lambda x: be(len(x)) + x
 //     text = (field(b"goset action") + field(b"1") + field(b"p") + be(1)
 //         + field(b"x.go") + field(sha256(b"package p\n").digest()) + be(0))
 //     print(len(text), sha256(text).hexdigest())
+//     summary = field(b"goset summary") + field(b"lib/q") + field(b"r") + be(0)
+//     file = b'package p\n\nimport _ "lib/q"\n'
+//     text = (field(b"goset action") + field(b"1") + field(b"p") + be(1) + field(b"x.go")
+//         + field(sha256(file).digest()) + be(1) + field(b"lib/q") + field(sha256(summary).digest()))
+//     print(len(text), sha256(text).hexdigest())
 const ID: [u8; 32] = [
     0xf4, 0x1e, 0x71, 0x5d, 0xd7, 0x00, 0xc2, 0x31, 0x21, 0x19, 0x88, 0x9f, 0x8b, 0xb5, 0xb6, 0xb3,
     0x10, 0x65, 0x11, 0x6e, 0x7f, 0xf7, 0x0a, 0xd4, 0xdd, 0xb2, 0xc9, 0xb8, 0x83, 0x6e, 0x71, 0x17,
 ];
+
+const ID_WITH_IMPORT: [u8; 32] = [
+    0x6a, 0x88, 0xd1, 0xa1, 0x8d, 0x97, 0x61, 0xb1, 0x36, 0x42, 0x9e, 0xf9, 0x6b, 0xd5, 0xb5, 0xa5,
+    0x77, 0xfb, 0xbe, 0x29, 0x3b, 0x2a, 0x2d, 0x55, 0x65, 0xec, 0xa8, 0x2b, 0x67, 0x68, 0x0e, 0x41,
+];
+
+/// A file that imports the directories lib/q and lib/r.
+const IMPORTING: (&str, &str) = (
+    "x.go",
+    "package p\n\nimport _ \"lib/q\"\nimport _ \"lib/r\"\n",
+);
 
 #[test]
 fn id_is_a_digest_of_the_text(rt: HostRuntime) -> Result<(), Fail> {
@@ -25,6 +41,22 @@ fn id_is_a_digest_of_the_text(rt: HostRuntime) -> Result<(), Fail> {
     assert!(rt; text.len() == 106);
     let id = action.id()?;
     assert!(rt; id == ID);
+    Ok(())
+}
+
+#[test]
+fn id_tells_imports(rt: HostRuntime) -> Result<(), Fail> {
+    let files = [("x.go", "package p\n\nimport _ \"lib/q\"\n")];
+    let action = made(rt.alloc(), &files, &[("lib/q", "r")])??;
+    let text = action.text()?;
+    assert!(rt; text.len() == 159);
+    let id = action.id()?;
+    assert!(rt; id == ID_WITH_IMPORT);
+    let other = made(rt.alloc(), &files, &[("lib/q", "s")])??;
+    assert!(rt; other.cmp_action(&action) == Ordering::Greater);
+    assert!(rt; action.copy()?.cmp_action(&action) == Ordering::Equal);
+    let imports = other.imports();
+    assert!(rt; imports.len() == 1 && imports[0].path() == "lib/q" && imports[0].package() == "s");
     Ok(())
 }
 
@@ -40,13 +72,18 @@ fn actions_keep_what_they_are_made_of(rt: HostRuntime) -> Result<(), Fail> {
     Ok(())
 }
 
-/// What files make, in a word.
-fn answered(alloc: Global, files: &[(&str, &str)]) -> Result<&'static str, Fail> {
-    Ok(match made(alloc, files)? {
+/// What files and imports make, in a word.
+fn answered(
+    alloc: Global,
+    files: &[(&str, &str)],
+    imports: &[(&str, &str)],
+) -> Result<&'static str, Fail> {
+    Ok(match made(alloc, files, imports)? {
         Ok(_) => "an action",
         Err(ActionError::NoFile) => "no file",
         Err(ActionError::Unordered) => "unordered",
         Err(ActionError::MixedNames) => "mixed names",
+        Err(ActionError::NotImports) => "not the imports",
     })
 }
 
@@ -63,7 +100,37 @@ fn files_are_refused(rt: HostRuntime) -> Result<(), Fail> {
         (&[("a.go", "package p"), ("b.go", "package p")], "an action"),
     ];
     for (files, want) in rows {
-        assert!(rt; answered(rt.alloc(), files)? == want, "{want}");
+        assert!(rt; answered(rt.alloc(), files, &[])? == want, "{want}");
     }
+    Ok(())
+}
+
+#[test]
+fn imports_are_refused(rt: HostRuntime) -> Result<(), Fail> {
+    let rows: [(&[(&str, &str)], &str); 6] = [
+        (&[("lib/q", "q"), ("lib/r", "r")], "an action"),
+        (&[("lib/q", "q")], "not the imports"),
+        (&[("lib/q", "q"), ("lib/s", "r")], "not the imports"),
+        (
+            &[("lib/q", "q"), ("lib/r", "r"), ("lib/s", "s")],
+            "not the imports",
+        ),
+        (&[("lib/r", "r"), ("lib/q", "q")], "unordered"),
+        (&[("lib/q", "q"), ("lib/q", "q")], "unordered"),
+    ];
+    for (imports, want) in rows {
+        assert!(rt;
+            answered(rt.alloc(), &[IMPORTING], imports)? == want,
+            "{want}"
+        );
+    }
+    Ok(())
+}
+
+#[test]
+fn library_has_no_summary(rt: HostRuntime) -> Result<(), Fail> {
+    let files = [("x.go", "package p\n\nimport _ \"fmt\"\n")];
+    assert!(rt; answered(rt.alloc(), &files, &[])? == "an action");
+    assert!(rt; answered(rt.alloc(), &files, &[("fmt", "fmt")])? == "not the imports");
     Ok(())
 }

@@ -1,9 +1,11 @@
 //! What the tests start from.
 use go_ast::parsed::Parsed;
+use go_export::summary::Summary;
 use go_parse::parse_source;
 use go_text::edition::Edition;
 use go_text::source::Source;
 use std::alloc::Global;
+use std::sync::Arc;
 use std::test::Fail;
 use ws_action::{Action, ActionError};
 
@@ -17,18 +19,27 @@ fn parsed(alloc: Global, name: &str, text: &str) -> Result<Parsed, Fail> {
         .ok_or_else(|| Fail::from("the text is not parsed"))
 }
 
-/// The action of the package p with those files, which are names and texts, or its refusal.
-pub fn made(alloc: Global, files: &[(&str, &str)]) -> Result<Result<Action, ActionError>, Fail> {
+/// The action of the package p with those files, which are names and texts, and those imports,
+/// which are paths and packages' names, or its refusal.
+pub fn made(
+    alloc: Global,
+    files: &[(&str, &str)],
+    imports: &[(&str, &str)],
+) -> Result<Result<Action, ActionError>, Fail> {
     let mut list = Vec::new(alloc);
     for (name, text) in files {
         list.push(parsed(alloc, name, text)?)?;
     }
+    let mut summaries = Vec::new(alloc);
+    for (path, name) in imports {
+        summaries.push(Arc::new(alloc, Summary::new(alloc, path, name)?)?)?;
+    }
     let path = String::from_str(alloc, "p")?;
-    Ok(Action::new(alloc, Edition::One, path, list))
+    Ok(Action::new(alloc, Edition::One, path, list, summaries))
 }
 
-/// The action of the package p with those files, which are names and texts.
+/// The action of the package p with those files, which are names and texts, and no imports.
 pub fn action(alloc: Global, files: &[(&str, &str)]) -> Result<Action, Fail> {
-    let action = made(alloc, files)??;
+    let action = made(alloc, files, &[])??;
     Ok(action)
 }

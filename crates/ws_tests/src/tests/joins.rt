@@ -85,9 +85,9 @@ fn replicas_settle_on_what_is_compiled(rt: HostRuntime) -> Result<(), Fail> {
     let mut both = [Replica::new(alloc), Replica::new(alloc)];
     let [first, _] = &mut both;
     take(alloc, first, "p/x.go", 1, Some("package p\n"))?;
-    assert!(rt; built(alloc, first) == ("good", 1));
+    assert!(rt; built(&rt, alloc, first) == ("good", 1));
     settle(&rt, alloc, &mut both)?;
     let [_, second] = &mut both;
-    assert!(rt; built(alloc, second) == ("good", 0));
+    assert!(rt; built(&rt, alloc, second) == ("good", 0));
     Ok(())
 }

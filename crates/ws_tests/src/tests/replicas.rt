@@ -5,6 +5,7 @@ use go_text::text::Text;
 use std::alloc::Global;
 use std::process::Abort;
 use std::test::Fail;
+use std::thread::Threads;
 use ws_register::EditError;
 use ws_replica::{BuildError, Replica, build, image};
 use ws_report::Verdict;
@@ -62,8 +63,12 @@ fn listed(alloc: Global, replica: &Replica) -> Result<String, Fail> {
 }
 
 /// What a build of the directory p says, and how many actions it compiled.
-pub fn built(alloc: Global, replica: &mut Replica) -> (&'static str, u64) {
-    match build(alloc, replica, "p", Edition::One) {
+pub fn built<R: Threads + Sync>(
+    rt: &R,
+    alloc: Global,
+    replica: &mut Replica,
+) -> (&'static str, u64) {
+    match build(rt, alloc, replica, "p", Edition::One) {
         Ok(report) => match report.directories.as_slice() {
             [(_, Verdict::Good)] => ("good", report.compiled),
             [(_, Verdict::Faulty(_))] => ("faulty", report.compiled),
@@ -75,8 +80,8 @@ pub fn built(alloc: Global, replica: &mut Replica) -> (&'static str, u64) {
 }
 
 /// Whether there is an image of the directory p.
-fn linked(alloc: Global, replica: &Replica) -> Option<bool> {
-    match image(alloc, replica, "p", Edition::One) {
+fn linked<R: Threads + Sync>(rt: &R, alloc: Global, replica: &Replica) -> Option<bool> {
+    match image(rt, alloc, replica, "p", Edition::One) {
         Ok(image) => Some(image.is_some()),
         Err(_) => None,
     }
@@ -117,21 +122,22 @@ fn writes_are_held(rt: HostRuntime) -> Result<(), Fail> {
 }
 
 /// Builds of a replica, of its copy, and of the copy edited and merged with it.
-fn shares(
-    rt: &impl Abort,
+fn shares<R: Abort + Threads + Sync>(
+    rt: &R,
     alloc: Global,
     first: &mut Replica,
     second: &mut Replica,
 ) -> Result<(), Fail> {
     edit(alloc, first, "package main\nfunc main() {}\n")?;
-    assert!(rt; linked(alloc, first) == Some(false));
-    assert!(rt; built(alloc, first) == ("good", 1));
+    assert!(rt; linked(rt, alloc, first) == Some(false));
+    assert!(rt; built(rt, alloc, first) == ("good", 1));
     *second = first.copy()?;
-    assert!(rt; built(alloc, second) == ("good", 0));
+    assert!(rt; built(rt, alloc, second) == ("good", 0));
     edit(alloc, second, "package")?;
-    assert!(rt; built(alloc, second) == ("faulty", 0));
+    assert!(rt; built(rt, alloc, second) == ("faulty", 0));
     second.merge(first)?;
-    assert!(rt; linked(alloc, first) == Some(true) && linked(alloc, second) == Some(false));
+    assert!(rt; linked(rt, alloc, first) == Some(true));
+    assert!(rt; linked(rt, alloc, second) == Some(false));
     Ok(())
 }
 
@@ -139,6 +145,6 @@ fn shares(
 fn results_are_shared(rt: HostRuntime) -> Result<(), Fail> {
     let alloc = rt.alloc();
     let (mut first, mut second) = (Replica::new(alloc), Replica::new(alloc));
-    assert!(rt; built(alloc, &mut first) == ("no package", 0));
+    assert!(rt; built(&rt, alloc, &mut first) == ("no package", 0));
     shares(&rt, alloc, &mut first, &mut second)
 }

@@ -8,4 +8,4 @@ use Rattle.go_check.proofs.form.unknown_argument.Goals as goal
 pub returns : goal.returns
 returns c =
     let e = c.args.argument.now in
-    ap Some (sym (expr_place e)) ∙ ap (λ (b : Bool). if b then None else Some (place_of (expr_of e))) c.if-is_literal.ensures
+    ap Some (sym (expr_place e)) ∙ ap (λ (b : Bool). if b then None else Some (place_of (expr_of e))) c.if-is_operand.ensures

@@ -4,4 +4,4 @@ use Rattle.go_check.specs.Forms.{first_in, unknown_declaration}
 use Rattle.go_check.proofs.form.unknown_declared.Given as goal
 
 abbrev pub invariant-loop-declaration : goal.invariant-loop-declaration
-invariant-loop-declaration l = first_in unknown_declaration (map top_of (drop l.declaration-index l.declarations)) ≡ first_in unknown_declaration (map top_of l.declarations)
+invariant-loop-declaration l = first_in (unknown_declaration l.imports) (map top_of (drop l.declaration-index l.declarations)) ≡ first_in (unknown_declaration l.imports) (map top_of l.declarations)

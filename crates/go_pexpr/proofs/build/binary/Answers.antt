@@ -6,7 +6,7 @@ use Rattle.go_ast.proofs.Rows.{binary_seen, placed}
 use Rattle.go_pexpr.proofs.build.binary.Goals as goal
 
 pub invariant_of-result : goal.invariant_of-result
-invariant_of-result c = record { counted = omega (arith, ap height (binary_seen c.args.left.expr.place c.args.operator c.in_ok-left.left c.in_ok-right.right c.args.left.expr c.args.right.expr c.in_ok-left.ensures.ok c.in_ok-right.ensures.ok), c.args.left.counted, c.args.right.counted) }
+invariant_of-result c = record { counted = omega (arith, ap height (binary_seen c.args.left.expr.place c.args.operator c.in_ok-left.left c.in_ok-left.right c.args.left.expr c.args.right.expr c.in_ok-left.ensures.first c.in_ok-left.ensures.second), c.args.left.counted, c.args.right.counted) }
 
 pub returns-clause-expr : goal.returns-clause-expr
-returns-clause-expr c = binary_seen c.args.left.expr.place c.args.operator c.in_ok-left.left c.in_ok-right.right c.args.left.expr c.args.right.expr c.in_ok-left.ensures.ok c.in_ok-right.ensures.ok ∙ ap (λ p. trees.binary p (binary_of c.args.operator) (expr_of c.args.left.expr) (expr_of c.args.right.expr)) (sym (placed c.args.left.expr))
+returns-clause-expr c = binary_seen c.args.left.expr.place c.args.operator c.in_ok-left.left c.in_ok-left.right c.args.left.expr c.args.right.expr c.in_ok-left.ensures.first c.in_ok-left.ensures.second ∙ ap (λ p. trees.binary p (binary_of c.args.operator) (expr_of c.args.left.expr) (expr_of c.args.right.expr)) (sym (placed c.args.left.expr))

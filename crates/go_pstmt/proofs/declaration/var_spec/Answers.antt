@@ -1,4 +1,6 @@
-use Rattle.std.proofs.Common.{◌∙◌}
+use Rattle.std.proofs.Common.{Some, ◌∙◌}
+use Rattle.go_ast.specs.Trees.{Exprs}
+use Rattle.go_ast.specs.Views.{type_of}
 use Rattle.go_pexpr.proofs.Reading.{then_fails}
 use Rattle.go_pstmt.proofs.Reading.{then_reads, went, took, missed}
 use Rattle.go_pstmt.proofs.declaration.var_spec.Goals as goal
@@ -11,15 +13,12 @@ pub returns-in_default-clause-reads : goal.returns-in_default-clause-reads
 returns-in_default-clause-reads c = λ next.
     then_reads (went (c.in_ok-names.ensures.reads _) ∙ missed (c.in_ok-type_expr.ensures.reads _ _) c.in_default.is) (c.untyped_var.ensures.reads next)
 
-pub returns-in_err-accept-clause-reads : goal.returns-in_err-accept-clause-reads
-returns-in_err-accept-clause-reads c = λ next.
-    then_fails (went (c.in_ok-names.ensures.reads _) ∙ took (c.in_ok-type_expr.ensures.reads _ _) c.in-Some.is) (c.in_err-accept.ensures.reads _ _) c.from_residual-in_err-accept.ensures.1
-
 pub returns-in_err-values-clause-reads : goal.returns-in_err-values-clause-reads
 returns-in_err-values-clause-reads c = λ next.
-    then_fails (went (c.in_ok-names.ensures.reads _) ∙ took (c.in_ok-type_expr.ensures.reads _ _) c.in-Some.is ∙ took (c.in_ok-accept.ensures.reads _ _) c.in-Some-2.is) (c.in_err-values.ensures.reads _) c.from_residual-in_err-values.ensures.1
+    let made = λ (es : Exprs). next (record { names = c.in_ok-names.names.items; type = Some (type_of c.in-Some.type_expr); values = es }) in
+    then_fails (went (c.in_ok-names.ensures.reads _) ∙ took (c.in_ok-type_expr.ensures.reads _ _) c.in-Some.is) (c.in_err-values.ensures.reads made) c.from_residual-in_err-values.ensures.1
 
-pub returns-in-Some-2-clause-reads : goal.returns-in-Some-2-clause-reads
-returns-in-Some-2-clause-reads c = λ next. record {
-  by = went (c.in_ok-names.ensures.reads _) ∙ took (c.in_ok-type_expr.ensures.reads _ _) c.in-Some.is ∙ took (c.in_ok-accept.ensures.reads _ _) c.in-Some-2.is ∙ went (c.in_ok-values.ensures.reads _);
-}
+pub returns-clause-reads : goal.returns-clause-reads
+returns-clause-reads c = λ next.
+    let made = λ (es : Exprs). next (record { names = c.in_ok-names.names.items; type = Some (type_of c.in-Some.type_expr); values = es }) in
+    record { by = went (c.in_ok-names.ensures.reads _) ∙ took (c.in_ok-type_expr.ensures.reads _ _) c.in-Some.is ∙ went (c.in_ok-values.ensures.reads made) }

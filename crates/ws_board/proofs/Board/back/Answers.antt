@@ -1,22 +1,31 @@
-use Rattle.std.proofs.Common.{◌≡◌, ◌+◌, ◌≤◌, arith, ap, vec_len, vec_capacity}
+use Rattle.std.proofs.Common.{ℕ, List, ◌∙◌, ◌≡◌, ◌<◌, ◌∷◌, ◌++◌, [], arith, ap, subst, sym, refl, rules, length, count_by}
+use Rattle.std.proofs.Math.ListN.{set, length-set}
+use Rattle.ws_board.specs.declared.work.Status.{Status}
 use Rattle.ws_board.specs.declared.work.Status.TheVariants.{Ready, Running}
-use Rattle.ws_board.specs.Work.{State}
-use Rattle.ws_board.specs.Machine.{IsRunBy, running_count, run}
-use Rattle.ws_board.proofs.BoardJobs.{runs-some}
+use Rattle.ws_board.specs.declared.work.Event.TheVariants.{Back}
+use Rattle.ws_board.specs.Work.{Opening, State, Seen}
+use Rattle.ws_board.specs.Machine.{is_running, IsRunBy, BoardStep}
+use Rattle.ws_board.proofs.Histories.{history_more}
+use Rattle.ws_board.proofs.Runs.{set_runs, inside_of}
 use Rattle.ws_board.proofs.Board.back.Goals as goal
-
-pub push_reserved-requires : goal.push_reserved-requires
-push_reserved-requires c =
-    let jobs : c.self.inside.jobs.items ≡ c.args.self.now.jobs = ap (λ (s : State). s.jobs) c.self.view_is in
-    let runs : IsRunBy c.self.inside.jobs.items c.args.hand.now c.args.task.job c.args.task.action = rw jobs c.requires in
-    let room : vec_len c.self.inside.history + running_count c.self.inside.jobs.items ≤ vec_capacity c.self.inside.history = c.self.invariant in
-    omega (arith, room, runs-some c.self.inside.jobs.items c.args.task.job c.args.hand.now c.args.task.action runs)
 
 pub invariant_of-self : goal.invariant_of-self
 invariant_of-self c =
-    let jobs : c.self.inside.jobs.items ≡ c.args.self.now.jobs = ap (λ (s : State). s.jobs) c.self.view_is in
-    let runs : IsRunBy c.self.inside.jobs.items c.args.hand.now c.spend-job.result c.args.task.action = rw (jobs, c.spend-job.ensures) c.requires in
-    let room : vec_len c.self.inside.history + running_count c.self.inside.jobs.items ≤ vec_capacity c.self.inside.history = c.self.invariant in
-    let fewer : running_count c.stand.new.jobs.items + run (Running c.args.hand.now) ≡ running_count c.self.inside.jobs.items + run Ready = c.stand.ensures.runs c.args.task.action (Running c.args.hand.now) runs in
-    let goal_is : vec_len c.push_reserved.new.self + running_count c.stand.new.jobs.items ≤ vec_capacity c.push_reserved.new.self = omega (arith, room, fewer, c.push_reserved.ensures.len, c.push_reserved.ensures.capacity) in
-    goal_is
+    let b = c.self.inside in
+    let j = c.spend-job.result in
+    let hand = c.args.hand.now in
+    let opening : Opening = record { jobs = b.jobs.items; cache = b.opened } in
+    let now : State = record { statuses = b.statuses.items; added = b.added } in
+    let new : State = record { statuses = c.stand.new.statuses.items; added = b.added } in
+    let given : IsRunBy b.jobs.items b.statuses.items hand c.args.task.job c.args.task.action = subst (λ (v : Seen). IsRunBy v.opening.jobs v.state.statuses hand c.args.task.job c.args.task.action) (sym c.self.view_is) c.requires in
+    let run : IsRunBy b.jobs.items b.statuses.items c.number.result j c.args.task.action = subst (λ (h : ℕ). IsRunBy b.jobs.items b.statuses.items h j c.args.task.action) (sym c.number.ensures) (subst (λ (i : ℕ). IsRunBy b.jobs.items b.statuses.items hand i c.args.task.action) (sym c.spend-job.ensures) given) in
+    let inside : j < length b.statuses.items = inside_of b.statuses.items j (Running c.number.result) run.runs refl in
+    let step : BoardStep opening now (Back c.number.result j) new = (c.args.task.action, run, ap (λ (xs : List Status). let s : State = record { statuses = xs; added = b.added } in s) c.stand.ensures) in
+    let same : length c.stand.new.statuses.items ≡ length b.statuses.items = ap length c.stand.ensures ∙ length-set b.statuses.items j Ready in
+    let fewer = set_runs b.statuses.items j (Running c.number.result) Ready run.runs inside in
+    let count : count_by is_running c.stand.new.statuses.items ≡ count_by is_running (set b.statuses.items j Ready) = ap (count_by is_running) c.stand.ensures in
+    let pushed : c.push_reserved.new.self.items ≡ b.history.items ++ Back c.number.result j ∷ [] = search rules in (
+      history_more opening b.history.items c.push_reserved.new.self.items now (Back c.number.result j) new c.self.invariant.0 step pushed,
+      omega (arith, same, c.self.invariant.1, c.stand.new.statuses.ok.0, b.statuses.ok.0),
+      omega (arith, fewer, count, c.self.invariant.2, c.push_reserved.ensures.len, c.push_reserved.ensures.capacity),
+    )

@@ -1,57 +1,85 @@
-use Rattle.std.proofs.Common.{ℕ, List, ◌∙◌, ◌≡◌, ◌+◌, ◌≤◌, ◌∷◌, ◌++◌, [], false, arith, ap, subst, sym, rules, vec_len, vec_capacity, length}
-use Rattle.std.specs.List.{list_any}
-use Rattle.ws_board.specs.declared.work.Status.TheVariants.{Ready, Running}
-use Rattle.ws_board.specs.declared.work.Event.TheVariants.{Take, Idle}
-use Rattle.std.proofs.lemmas.Option.{get_or_from_slice_get}
+use Rattle.std.proofs.Common.{ℕ, List, ◌∙◌, ◌≡◌, ◌+◌, ◌≤◌, ◌∷◌, ◌++◌, [], false, arith, ap, subst, sym, refl, rules, vec_len, vec_capacity, length, count_by, get_or-set_same}
+use Rattle.std.proofs.Math.ListN.{set, length-set}
+use Rattle.std.proofs.lemmas.List.Sums.{count_by-le-length}
 use Rattle.ws_action.specs.Actions.{Action}
-use Rattle.ws_board.specs.declared.work.Event.{Event}
-use Rattle.ws_board.specs.Work.{State, Job, Task}
-use Rattle.ws_board.specs.Machine.{IsFree, NoneFree, IsIdle, is_job_running, running_count, run, stood, after_take}
-use Rattle.ws_board.proofs.BoardJobs.{no_runs, runs-le-length, idle_is, idle_step, take_step}
+use Rattle.ws_board.specs.declared.work.Status.{Status}
+use Rattle.ws_board.specs.declared.work.Status.TheVariants.{Ready, Running, Blocked}
+use Rattle.ws_board.specs.declared.work.Event.TheVariants.{Take, Idle}
+use Rattle.ws_board.specs.Work.{Job, Task, Opening, State, Seen}
+use Rattle.ws_board.specs.Machine.{status_at, is_running, IsFree, NoneFree, IsIdle, IsRunBy, BoardStep}
+use Rattle.ws_board.specs.Calls.{Happens}
+use Rattle.ws_board.proofs.Histories.{history_more, ready_has}
+use Rattle.ws_board.proofs.Marks.{idle_is}
+use Rattle.ws_board.proofs.Runs.{none_counted, inside_of}
 use Rattle.ws_board.proofs.Board.take.Goals as goal
 
 pub invariant_of-self-in_default : goal.invariant_of-self-in_default
 invariant_of-self-in_default c =
-    let rest : list_any is_job_running c.self.inside.jobs.items ≡ false = search rules in
-    let none : running_count c.self.inside.jobs.items ≡ 0 = no_runs c.self.inside.jobs.items rest in
+    let b = c.self.inside in
+    let opening : Opening = record { jobs = b.jobs.items; cache = b.opened } in
+    let now : State = record { statuses = b.statuses.items; added = b.added } in
+    let free : NoneFree b.jobs.items b.statuses.items = subst (λ (xs : List Status). NoneFree b.jobs.items xs) c.deref-2.ensures.value (subst (λ (js : List Job). NoneFree js c.deref-2.result.now) c.deref.ensures.value c.in_default.ensures.none) in
+    let still : (k : ℕ) → is_running (status_at b.statuses.items k) ≡ false = subst (λ (xs : List Status). (k : ℕ) → is_running (status_at xs k) ≡ false) c.deref-in_default.ensures.value c.if-any_running.ensures.none in
+    let idle : IsIdle b.statuses.items = idle_is b.jobs.items b.statuses.items (ready_has opening b.history.items now c.self.invariant.0) free still in
+    let pushed : c.push.new.self.items ≡ b.history.items ++ Idle c.number.result ∷ [] = search rules in
+    let none : count_by is_running b.statuses.items ≡ 0 = none_counted b.statuses.items still in
     let room : vec_len c.push.new.self ≤ vec_capacity c.push.new.self = search rules in
-    let goal_is : vec_len c.push.new.self + running_count c.self.inside.jobs.items ≤ vec_capacity c.push.new.self = omega (arith, none, room) in
-    goal_is
+    (history_more opening b.history.items c.push.new.self.items now (Idle c.number.result) now c.self.invariant.0 (idle, refl) pushed, c.self.invariant.1, omega (arith, none, room))
 
 pub returns-in_default-clause-step : goal.returns-in_default-clause-step
 returns-in_default-clause-step c =
-    let rest : list_any is_job_running c.self.inside.jobs.items ≡ false = search rules in
-    let free : NoneFree c.self.inside.jobs.items = subst NoneFree c.deref.ensures.value c.in_default.ensures.none in
-    let jobs : c.self.inside.jobs.items ≡ c.args.self.now.jobs = ap (λ (s : State). s.jobs) c.self.view_is in
-    let pushed : c.push.new.self.items ≡ c.self.inside.history.items ++ Idle c.number.result ∷ [] = search rules in
-    (subst IsIdle jobs (idle_is c.self.inside.jobs.items free rest), idle_step c.args.self.now c.self.inside.jobs.items c.self.inside.cache c.self.inside.history.items c.push.new.self.items c.number.result c.args.hand.now c.self.view_is pushed c.number.ensures)
+    let b = c.self.inside in
+    let opening : Opening = record { jobs = b.jobs.items; cache = b.opened } in
+    let now : State = record { statuses = b.statuses.items; added = b.added } in
+    let free : NoneFree b.jobs.items b.statuses.items = subst (λ (xs : List Status). NoneFree b.jobs.items xs) c.deref-2.ensures.value (subst (λ (js : List Job). NoneFree js c.deref-2.result.now) c.deref.ensures.value c.in_default.ensures.none) in
+    let still : (k : ℕ) → is_running (status_at b.statuses.items k) ≡ false = subst (λ (xs : List Status). (k : ℕ) → is_running (status_at xs k) ≡ false) c.deref-in_default.ensures.value c.if-any_running.ensures.none in
+    let idle : IsIdle b.statuses.items = idle_is b.jobs.items b.statuses.items (ready_has opening b.history.items now c.self.invariant.0) free still in
+    let pushed : c.push.new.self.items ≡ b.history.items ++ Idle c.number.result ∷ [] = search rules in
+    rw (← c.self.view_is) (record { step = (idle, refl); history = pushed ∙ ap (λ (h : ℕ). b.history.items ++ Idle h ∷ []) c.number.ensures; opening = refl })
 
 pub invariant_of-self-2 : goal.invariant_of-self-2
 invariant_of-self-2 c =
-    let old = c.self.inside.jobs.items in
-    let a : Action = c.in-Some.ensures.free.0 in
-    let free : IsFree old c.in-Some.k a = subst (λ js. IsFree js c.in-Some.k a) c.deref.ensures.value c.in-Some.ensures.free.1 in
-    let fewer : running_count c.stand.new.jobs.items + run Ready ≡ running_count old + run (Running c.number-2.result) = c.stand.ensures.runs a Ready free.ready in
-    let len : c.len.result ≡ length old = c.len.ensures ∙ c.self.inside.jobs.ok.0 in
-    let room : vec_len c.reserve.new.self + (c.len.result + 2) ≤ vec_capacity c.reserve.new.self = c.in_ok-reserve.ensures.ok in
-    let goal_is : vec_len c.push_reserved.new.self + running_count c.stand.new.jobs.items ≤ vec_capacity c.push_reserved.new.self = omega (arith, fewer, room, len, runs-le-length old, c.push_reserved.ensures.len, c.push_reserved.ensures.capacity) in
-    goal_is
+    let b = c.self.inside in
+    let k = c.in-Some.k in
+    let hand = c.number-3.result in
+    let a : Action = c.in-Some.action.now in
+    let opening : Opening = record { jobs = b.jobs.items; cache = b.opened } in
+    let now : State = record { statuses = b.statuses.items; added = b.added } in
+    let new : State = record { statuses = c.stand.new.statuses.items; added = b.added } in
+    let free : IsFree b.jobs.items b.statuses.items k a = subst (λ (xs : List Status). IsFree b.jobs.items xs k a) c.deref-2.ensures.value (subst (λ (js : List Job). IsFree js c.deref-2.result.now k a) c.deref.ensures.value c.in-Some.ensures.free) in
+    let step : BoardStep opening now (Take hand k) new =
+    (a, free, ap (λ (xs : List Status). let s : State = record { statuses = xs; added = b.added } in s) (c.stand.ensures ∙ ap (λ (h : ℕ). set b.statuses.items k (Running h)) (c.number-2.ensures ∙ sym c.number-3.ensures))) in
+    let pushed : c.push_reserved.new.self.items ≡ b.history.items ++ Take hand k ∷ [] = c.push_reserved.ensures.items ∙ ap (λ l. l ++ Take hand k ∷ []) c.in_ok-reserve.ensures.items in
+    let same : length c.stand.new.statuses.items ≡ length b.statuses.items = ap length c.stand.ensures ∙ length-set b.statuses.items k (Running c.number-2.result) in
+    let few : count_by is_running c.stand.new.statuses.items ≤ length c.stand.new.statuses.items = count_by-le-length is_running c.stand.new.statuses.items in
+    let len : c.len.result ≡ length b.statuses.items = c.len.ensures ∙ b.statuses.ok.0 in
+    let room : vec_len c.reserve.new.self + (c.len.result + 2) ≤ vec_capacity c.reserve.new.self = c.in_ok-reserve.ensures.ok in (
+      history_more opening b.history.items c.push_reserved.new.self.items now (Take hand k) new c.self.invariant.0 step pushed,
+      omega (arith, same, c.self.invariant.1, c.stand.new.statuses.ok.0, b.statuses.ok.0),
+      omega (arith, few, same, len, room, c.push_reserved.ensures.len, c.push_reserved.ensures.capacity),
+    )
 
 pub returns-clause-step : goal.returns-clause-step
 returns-clause-step c =
-    let old = c.self.inside.jobs.items in
-    let a : Action = c.in-Some.ensures.free.0 in
-    let free : IsFree old c.in-Some.k a = subst (λ js. IsFree js c.in-Some.k a) c.deref.ensures.value c.in-Some.ensures.free.1 in
-    let ready : Job = record { action = a; status = Ready } in
-    let item : c.index-job.result.now ≡ ready = c.index-job.ensures ∙ get_or_from_slice_get old c.in-Some.k ready c.index-job.result.now free.ready in
-    let same : c.in_ok-action.action ≡ a = c.in_ok-action.ensures ∙ c.action.ensures ∙ ap (λ (j : Job). j.action) item in
-    let task : Task = record { job = c.in-Some.k; action = a } in
-    let told : c.new.result ≡ task = c.new.ensures ∙ ap (λ (z : Action). let t : Task = record { job = c.in-Some.k; action = z } in t) same in
-    let jobs : old ≡ c.args.self.now.jobs = ap (λ (s : State). s.jobs) c.self.view_is in
-    let pushed : c.push_reserved.new.self.items ≡ c.self.inside.history.items ++ Take c.number-3.result c.in-Some.k ∷ [] = c.push_reserved.ensures.items ∙ ap (λ (l : List Event). l ++ Take c.number-3.result c.in-Some.k ∷ []) c.in_ok-reserve.ensures.items in
-    let numbers : c.number-2.result ≡ c.number-3.result = c.number-2.ensures ∙ sym c.number-3.ensures in
-    let stood_is : c.stand.new.jobs.items ≡ stood old c.in-Some.k a (Running c.number-3.result) = c.stand.ensures.stood a Ready free.ready ∙ ap (λ (m : ℕ). stood old c.in-Some.k a (Running m)) numbers in
-    let new : State = record { jobs = c.stand.new.jobs.items; cache = c.self.inside.cache; history = c.push_reserved.new.self.items } in
-    let step : new ≡ after_take c.args.self.now c.args.hand.now c.in-Some.k a = take_step c.args.self.now old c.stand.new.jobs.items c.self.inside.cache c.self.inside.history.items c.push_reserved.new.self.items c.number-3.result c.args.hand.now c.in-Some.k a c.self.view_is stood_is pushed c.number-3.ensures in
-    subst (λ (t : Task). IsFree c.args.self.now.jobs t.job t.action × (new ≡ after_take c.args.self.now c.args.hand.now t.job t.action)) (sym told)
-    (subst (λ js. IsFree js c.in-Some.k a) jobs free, step)
+    let b = c.self.inside in
+    let k = c.in-Some.k in
+    let hand = c.args.hand.now in
+    let a : Action = c.in-Some.action.now in
+    let opening : Opening = record { jobs = b.jobs.items; cache = b.opened } in
+    let now : State = record { statuses = b.statuses.items; added = b.added } in
+    let new : State = record { statuses = c.stand.new.statuses.items; added = b.added } in
+    let before : Seen = record { opening = opening; state = now; history = b.history.items } in
+    let after : Seen = record { opening = opening; state = new; history = c.push_reserved.new.self.items } in
+    let free : IsFree b.jobs.items b.statuses.items k a = subst (λ (xs : List Status). IsFree b.jobs.items xs k a) c.deref-2.ensures.value (subst (λ (js : List Job). IsFree js c.deref-2.result.now k a) c.deref.ensures.value c.in-Some.ensures.free) in
+    let stood : c.stand.new.statuses.items ≡ set b.statuses.items k (Running hand) = c.stand.ensures ∙ ap (λ (h : ℕ). set b.statuses.items k (Running h)) c.number-2.ensures in
+    let step : BoardStep opening now (Take hand k) new = (a, free, ap (λ (xs : List Status). let s : State = record { statuses = xs; added = b.added } in s) stood) in
+    let pushed : c.push_reserved.new.self.items ≡ b.history.items ++ Take hand k ∷ [] =
+    c.push_reserved.ensures.items ∙ ap (λ l. l ++ Take c.number-3.result k ∷ []) c.in_ok-reserve.ensures.items ∙ ap (λ (h : ℕ). b.history.items ++ Take h k ∷ []) c.number-3.ensures in
+    let run : IsRunBy b.jobs.items c.stand.new.statuses.items hand k a = record {
+      runs = ap (λ xs. status_at xs k) stood ∙ get_or-set_same b.statuses.items k (Running hand) Blocked (inside_of b.statuses.items k Ready free.ready refl);
+      its = free.its;
+    } in
+    let task : Task = record { job = k; action = a } in
+    let told : c.new.result ≡ task = c.new.ensures ∙ ap (λ (z : Action). let t : Task = record { job = k; action = z } in t) c.in_ok-action.ensures in
+    let happens : Happens before (Take hand k) after = record { step = step; history = pushed; opening = refl } in
+    rw (← c.self.view_is) (subst (λ (t : Task). IsRunBy b.jobs.items c.stand.new.statuses.items hand t.job t.action × Happens before (Take hand t.job) after) (sym told) (run, happens))

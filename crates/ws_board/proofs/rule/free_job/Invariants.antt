@@ -1,5 +1,6 @@
-use Rattle.ws_board.proofs.BoardJobs.{NoneFreeBelow}
+use Rattle.std.proofs.Common.{◌<◌, ℕ}
+use Rattle.ws_board.proofs.Marks.{IsTaken}
 use Rattle.ws_board.proofs.rule.free_job.Given as goal
 
 abbrev pub invariant-loop-k : goal.invariant-loop-k
-invariant-loop-k l = NoneFreeBelow l.jobs l.k
+invariant-loop-k l = (i : ℕ) → i < l.k → IsTaken l.jobs l.statuses i

@@ -1,11 +1,18 @@
-use Rattle.std.proofs.Common.{sym, ap, ◌∙◌, ◌<◌, length, arith}
-use Rattle.std.proofs.Math.ListN.{set}
-use Rattle.std.proofs.lemmas.List.Edits.{map_over_more}
-use Rattle.ws_board.specs.Machine.{finished}
+use Rattle.std.proofs.Common.{◌<◌, ◌≤◌, length, ap, ◌∙◌, arith}
+use Rattle.ws_board.specs.Machine.{mark}
+use Rattle.ws_board.proofs.Marks.{marked_start, marked_more, marked_all}
 use Rattle.ws_board.proofs.rule.mark_all.Goals as goal
 
-pub loop-job-preserved : goal.loop-job-preserved
-loop-job-preserved c =
-    let inside : c.loop-job.job-index < length c.deref_mut-job-items.result.now = omega arith in
-    ap (set c.loop-job.job-items c.loop-job.job-index) (c.finish.ensures ∙ ap (finished c.args.id.now) (sym c.job-item.is))
-    ∙ map_over_more (finished c.args.id.now) c.deref_mut-job-items.result.now c.loop-job.job-items c.loop-job.job-index c.job-item.result inside c.loop-job.invariant c.job-item.is
+pub loop-k-init : goal.loop-k-init
+loop-k-init c = marked_start c.args.jobs.now c.args.id.now c.args.good c.args.statuses.now
+
+pub loop-k-preserved : goal.loop-k-preserved
+loop-k-preserved c =
+    let inside : c.loop-k.k < length c.loop-k.statuses = omega arith in
+    marked_more c.args.jobs.now c.args.id.now c.args.good c.args.statuses.now c.loop-k.statuses c.loop-k.k c.marked-now.result inside
+    (c.marked-now.ensures ∙ ap (mark c.args.jobs.now c.args.id.now c.args.good c.loop-k.k) c.status_at.ensures) c.loop-k.invariant
+
+pub returns : goal.returns
+returns c =
+    let past : length c.loop-k.statuses ≤ c.loop-k.k = omega arith in
+    marked_all c.args.jobs.now c.args.id.now c.args.good c.args.statuses.now c.loop-k.statuses c.loop-k.k past c.loop-k.invariant

@@ -1,4 +1,4 @@
-use Rattle.ws_board.proofs.BoardJobs.{same_equal, same_less, same_greater}
+use Rattle.ws_board.proofs.SameActions.{same_equal, same_less, same_greater}
 use Rattle.ws_board.proofs.work.same_action.Goals as goal
 
 pub returns-in-Equal : goal.returns-in-Equal

@@ -1,6 +1,7 @@
 use Rattle.std.proofs.Common.{◌≡◌, drop}
-use Rattle.ws_command.specs.Commands.{all_name_bytes}
+use Rattle.std.specs.List.{list_all}
+use Rattle.ws_command.specs.Commands.{is_name_byte}
 use Rattle.ws_command.proofs.commands.is_name.Given as goal
 
 abbrev pub invariant-loop-byte : goal.invariant-loop-byte
-invariant-loop-byte l = all_name_bytes (drop l.byte-index l.word) ≡ all_name_bytes l.word
+invariant-loop-byte l = list_all is_name_byte (drop l.byte-index l.word) ≡ list_all is_name_byte l.word

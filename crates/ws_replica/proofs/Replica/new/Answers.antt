@@ -1,4 +1,4 @@
-use Rattle.ws_replica.proofs.ReplicaBuilds.{nothing_stands}
+use Rattle.ws_replica.proofs.Opening.{nothing_stands}
 use Rattle.ws_replica.proofs.Replica.new.Goals as goal
 
 pub returns : goal.returns

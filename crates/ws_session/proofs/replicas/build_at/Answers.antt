@@ -7,7 +7,7 @@ use Rattle.ws_session.proofs.Standings.{changed_one, if_ok_map}
 use Rattle.ws_session.proofs.replicas.build_at.Goals as goal
 
 pub returns-clause-ok : goal.returns-clause-ok
-returns-clause-ok c =
+returns-clause-ok g c =
     let old : Named = c.index_mut-one.result.now in
     let new : Named = record { name = old.name; number = old.number; replica = c.build.new.replica } in
     if_ok_map c.build.result (λ report builds.
@@ -17,5 +17,5 @@ returns-clause-ok c =
       number = refl;
       builds = λ W E h s.
           let b = builds W E h s in
-          record { planned = b.0; plan = b.1; some = b.2; sized = b.3; built = λ clear. let d = b.4 clear in record { reports = d.0; counts = d.1; holds = d.2 } };
+          record { plan = b.plan; planned = b.planned; fates = b.fates; are = b.are; sized = b.sized; built = λ clear. let d = b.right clear in record { reports = d.reports; counts = d.counts; holds = d.stands } };
     })) c.build.ensures.ok

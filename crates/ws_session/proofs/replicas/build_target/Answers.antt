@@ -3,9 +3,8 @@ use Rattle.std.proofs.lemmas.Str.{is_utf8-from_IsUtf8}
 use Rattle.go_text.specs.Editions.{edition_number}
 use Rattle.ws_report.specs.Reports.{rows}
 use Rattle.std.specs.Prelude.{Err}
-use Rattle.ws_graph.specs.Plan.{NoFiles, IsPlanOf}
 use Rattle.ws_command.specs.Commands.{Build}
-use Rattle.ws_session.specs.Standing.{index_of, ChangedAt, Built, Tells}
+use Rattle.ws_session.specs.Standing.{index_of, ChangedAt, Built, Tells, HasNoPlanAt}
 use Rattle.ws_command.specs.Printing.{report_text}
 use Rattle.ws_session.proofs.Utf8.{not_utf8}
 use Rattle.ws_session.proofs.Standings.{if_ok_map}
@@ -13,17 +12,17 @@ use Rattle.ws_session.proofs.Telling.{build_unknown, build_word, build_none, bui
 use Rattle.ws_session.proofs.replicas.build_target.Goals as goal
 
 pub returns-in_default : goal.returns-in_default
-returns-in_default c = if_ok_map c.refused.result (λ told t text world same h.
+returns-in_default g c = if_ok_map c.refused.result (λ told t text world same h.
     build_unknown c.args.name.now c.args.word.now text world c.args.named.now.items h told.items (ap (index_of c.args.name.now) (sym c.as_slice.ensures.value) ∙ sym c.in_default.ensures.value) t) c.refused.ensures
 
 pub returns-in_default-from_utf8 : goal.returns-in_default-from_utf8
-returns-in_default-from_utf8 c =
+returns-in_default-from_utf8 g c =
     let e = ap (index_of c.args.name.now) (sym c.as_slice.ensures.value) ∙ sym c.in-Some.ensures.value in
     if_ok_map c.refused-in_default-from_utf8.result (λ told t text world same h.
     build_word c.args.name.now c.args.word.now text world c.args.named.now.items h c.in-Some.index e told.items (not_utf8 c.args.word.now c.in_default-from_utf8.ensures.cases.0) t) c.refused-in_default-from_utf8.ensures
 
 pub returns-in-Ok-build_at : goal.returns-in-Ok-build_at
-returns-in-Ok-build_at c =
+returns-in-Ok-build_at g c =
     let e = ap (index_of c.args.name.now) (sym c.as_slice.ensures.value) ∙ sym c.in-Some.ensures.value in
     let word : c.in-Ok.directory.now ≡ c.args.word.now = c.in-Ok.ensures.cases.0 in
     let report = rows c.in-Ok-build_at.report.directories.items in
@@ -34,11 +33,11 @@ returns-in-Ok-build_at c =
     (subst (λ d. ChangedAt (Built (edition_number c.args.edition) d report c.in-Ok-build_at.report.compiled) c.args.named.now.items c.in-Some.index c.build_at.new.named.items) word c.in-Ok-build_at.ensures.ok)) c.report_lines.ensures
 
 pub returns-in-Err-NoPackage : goal.returns-in-Err-NoPackage
-returns-in-Err-NoPackage c =
+returns-in-Err-NoPackage g c =
     let e = ap (index_of c.args.name.now) (sym c.as_slice.ensures.value) ∙ sym c.in-Some.ensures.value in
     let word : c.in-Ok.directory.now ≡ c.args.word.now = c.in-Ok.ensures.cases.0 in
     let none = c.build_at.ensures.none (c.in-Err-NoPackage.is ∙ ap (λ x. Err x) c.in-Err-NoPackage.field-0-is) in
     if_ok_map c.refused-in-Err-NoPackage.result (λ told t text world same h.
     subst (λ ns. Tells (Build c.args.name.now c.args.word.now) text world told.items ns) (sym c.in-Err-NoPackage.ensures.err)
     (build_none c.args.name.now c.args.word.now text world c.args.named.now.items h c.in-Some.index e told.items (is_utf8-from_IsUtf8 c.args.word.now c.in-Ok.ensures.cases.1) t
-    (λ n W E i g. subst (λ d. IsPlanOf W d NoFiles) word (none n W E i g)))) c.refused-in-Err-NoPackage.ensures
+    (subst (λ k. HasNoPlanAt k c.args.word.now c.args.named.now.items c.in-Some.index) same (subst (λ d. HasNoPlanAt (edition_number c.args.edition) d c.args.named.now.items c.in-Some.index) word none)))) c.refused-in-Err-NoPackage.ensures

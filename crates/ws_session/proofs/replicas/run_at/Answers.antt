@@ -14,14 +14,14 @@ use Rattle.ws_session.proofs.Runs.{no_run, image_runs, no_nonsense}
 use Rattle.ws_session.proofs.replicas.run_at.Goals as goal
 
 pub returns-in_default-clause-ok : goal.returns-in_default-clause-ok
-returns-in_default-clause-ok c n W E e h sized =
+returns-in_default-clause-ok g c n W E e h sized =
     let inside : c.args.index < length c.args.named.now.items = omega (arith, c.requires, c.args.named.now.ok.0) in
     let same : n ≡ c.index.result.now = one_element c.args.named.now.items c.args.index n c.index.result.now inside e c.index.ensures in
     let is : IsImage (edition_number c.args.edition) W E c.args.directory.now c.in_ok-image.field-0 = c.in_ok-image.ensures.ok W E (subst (λ (m : Named). ReplicaStandsFor m.replica W E) same h) sized in
     no_run (edition_number c.args.edition) c.args.directory.now c.args.ticks W E (subst (λ (o : Option Image). IsImage (edition_number c.args.edition) W E c.args.directory.now o) c.in_default.is is)
 
 pub returns-in-Ok-clause-ok : goal.returns-in-Ok-clause-ok
-returns-in-Ok-clause-ok c n W E e h sized =
+returns-in-Ok-clause-ok g c n W E e h sized =
     let inside : c.args.index < length c.args.named.now.items = omega (arith, c.requires, c.args.named.now.ok.0) in
     let same : n ≡ c.index.result.now = one_element c.args.named.now.items c.args.index n c.index.result.now inside e c.index.ensures in
     let is : IsImage (edition_number c.args.edition) W E c.args.directory.now c.in_ok-image.field-0 = c.in_ok-image.ensures.ok W E (subst (λ (m : Named). ReplicaStandsFor m.replica W E) same h) sized in
@@ -29,7 +29,7 @@ returns-in-Ok-clause-ok c n W E e h sized =
     (subst (λ (o : Option Image). IsImage (edition_number c.args.edition) W E c.args.directory.now o) c.in-Some.is is) c.in-Ok.ensures
 
 pub unreachable-requires : goal.unreachable-requires
-unreachable-requires c =
+unreachable-requires g c =
     no_nonsense c.in-Some.image c.args.ticks
     (subst (λ (o : Option Image). IfSome o (λ (image : Image). (typed : Typed) × IsWellTyped typed × IsProgram (typed ∷ []) × MeansProgram image typed)) c.in-Some.is c.in_ok-image.ensures.program)
     (subst (λ error. Answers c.in-Some.image c.args.ticks (Err error)) c.in-Err-BadCode.field-0-is c.in-Err-BadCode.ensures)

@@ -3,26 +3,25 @@ use Rattle.std.proofs.lemmas.Str.{is_utf8-from_IsUtf8}
 use Rattle.std.specs.Prelude.{Err}
 use Rattle.go_text.specs.Editions.{edition_number}
 use Rattle.go_vm.specs.Outcomes.{Outcome}
-use Rattle.ws_graph.specs.Plan.{NoFiles, IsPlanOf}
 use Rattle.ws_command.specs.RunPrinting.{run_text}
-use Rattle.ws_session.specs.Standing.{index_of, RanAt}
+use Rattle.ws_session.specs.Standing.{index_of, HasNoPlanAt, RanAt}
 use Rattle.ws_session.proofs.Utf8.{not_utf8}
 use Rattle.ws_session.proofs.Standings.{if_ok_map}
 use Rattle.ws_session.proofs.RunTelling.{run_unknown, run_word, run_none, run_told}
 use Rattle.ws_session.proofs.replicas.run_target.Goals as goal
 
 pub returns-in_default : goal.returns-in_default
-returns-in_default c = if_ok_map c.refused.result (λ told t text world same h.
+returns-in_default g c = if_ok_map c.refused.result (λ told t text world same h.
     run_unknown c.args.name.now c.args.word.now c.args.ticks text world c.args.named.now.items h told.items (ap (index_of c.args.name.now) (sym c.as_slice.ensures.value) ∙ sym c.in_default.ensures.value) t) c.refused.ensures
 
 pub returns-in_default-from_utf8 : goal.returns-in_default-from_utf8
-returns-in_default-from_utf8 c =
+returns-in_default-from_utf8 g c =
     let e = ap (index_of c.args.name.now) (sym c.as_slice.ensures.value) ∙ sym c.in-Some.ensures.value in
     if_ok_map c.refused-in_default-from_utf8.result (λ told t text world same h.
     run_word c.args.name.now c.args.word.now c.args.ticks text world c.args.named.now.items h c.in-Some.index e told.items (not_utf8 c.args.word.now c.in_default-from_utf8.ensures.cases.0) t) c.refused-in_default-from_utf8.ensures
 
 pub returns-in-Ok-Some : goal.returns-in-Ok-Some
-returns-in-Ok-Some c =
+returns-in-Ok-Some g c =
     let e = ap (index_of c.args.name.now) (sym c.as_slice.ensures.value) ∙ sym c.in-Some.ensures.value in
     let word : c.in-Ok.directory.now ≡ c.args.word.now = c.in-Ok.ensures.cases.0 in
     let outcome : Outcome = c.in-Ok-Some.outcome in
@@ -34,7 +33,7 @@ returns-in-Ok-Some c =
     (subst (λ (o : Option Outcome). RanAt (edition_number c.args.edition) c.in-Ok.directory.now c.args.ticks c.args.named.now.items c.in-Some.index o) c.in-Ok-Some.field-0-is c.in-Ok-Some.ensures.ok))) c.run_lines.ensures
 
 pub returns-in-Ok-None : goal.returns-in-Ok-None
-returns-in-Ok-None c =
+returns-in-Ok-None g c =
     let e = ap (index_of c.args.name.now) (sym c.as_slice.ensures.value) ∙ sym c.in-Some.ensures.value in
     let word : c.in-Ok.directory.now ≡ c.args.word.now = c.in-Ok.ensures.cases.0 in
     if_ok_map c.refused-in-Ok-None.result (λ told t text world same h.
@@ -44,10 +43,10 @@ returns-in-Ok-None c =
     (subst (λ (o : Option Outcome). RanAt (edition_number c.args.edition) c.in-Ok.directory.now c.args.ticks c.args.named.now.items c.in-Some.index o) c.in-Ok-None.field-0-is c.in-Ok-None.ensures.ok))) c.refused-in-Ok-None.ensures
 
 pub returns-in-Err-NoPackage : goal.returns-in-Err-NoPackage
-returns-in-Err-NoPackage c =
+returns-in-Err-NoPackage g c =
     let e = ap (index_of c.args.name.now) (sym c.as_slice.ensures.value) ∙ sym c.in-Some.ensures.value in
     let word : c.in-Ok.directory.now ≡ c.args.word.now = c.in-Ok.ensures.cases.0 in
     let none = c.run_at.ensures.none (c.in-Err-NoPackage.is ∙ ap (λ x. Err x) c.in-Err-NoPackage.field-0-is) in
     if_ok_map c.refused-in-Err-NoPackage.result (λ told t text world same h.
     run_none c.args.name.now c.args.word.now c.args.ticks text world c.args.named.now.items h c.in-Some.index e told.items (is_utf8-from_IsUtf8 c.args.word.now c.in-Ok.ensures.cases.1) t
-    (λ n W E i g. subst (λ d. IsPlanOf W d NoFiles) word (none n W E i g))) c.refused-in-Err-NoPackage.ensures
+    (subst (λ k. HasNoPlanAt k c.args.word.now c.args.named.now.items c.in-Some.index) same (subst (λ d. HasNoPlanAt (edition_number c.args.edition) d c.args.named.now.items c.in-Some.index) word none))) c.refused-in-Err-NoPackage.ensures

@@ -1,4 +1,4 @@
-use Rattle.std.proofs.Common.{◌≡◌, ◌+◌, ◌-◌, false, [], ◌∷◌, ◌++◌, map, Some, refl, sym, ap, ◌∙◌, arith}
+use Rattle.std.proofs.Common.{◌≡◌, ◌+◌, ◌-◌, ◌<◌, ◌≤◌, false, [], ◌∷◌, ◌++◌, map, Some, refl, sym, ap, ◌∙◌, arith}
 use Rattle.std.proofs.lemmas.Result.{IfOk-weaker}
 use Rattle.go_ast.specs.declared.expression.Field.{Field}
 use Rattle.go_pexpr.specs.declared.operators.Beginning.TheVariants as begins
@@ -6,42 +6,44 @@ use Rattle.go_pexpr.proofs.Begins.{begins_as, name_first, integer_first, rune_fi
 use Rattle.go_scan.specs.declared.token.TokenKind.TheVariants as kinds
 use Rattle.go_scan.specs.declared.keyword.Keyword.TheVariants as keywords
 use Rattle.go_ast.specs.Trees as trees
-use Rattle.go_ast.specs.Expected.{an_operand, a_field_end, another, an_index_end, an_element_end}
-use Rattle.go_ast.specs.Grammar.{type_place, opening, closing, opening_bracket, closing_bracket, opening_brace, period}
-use Rattle.go_ast.specs.Machine.{token, expr, suffixes, names, list_start, fields, arguments, elements, keyword, behind_bracket, behind_struct, behind_literal_type, run}
+use Rattle.go_ast.specs.Expected.{an_operand, another, a_type}
+use Rattle.go_ast.specs.Grammar.{type_place, opening, opening_bracket, opening_brace, period}
+use Rattle.go_ast.specs.Machine.{token, expr, suffixes, names, list_start, fields, arguments, elements, keyword, behind_struct, behind_literal_type, run, type}
 use Rattle.go_ast.specs.Views.{unary_of, binary_of, type_of, expr_of, field_of, element_of, value_of, if_some}
 use Rattle.go_pexpr.specs.Tall.{fields_tall, exprs_tall, elements_tall}
 use Rattle.go_pexpr.proofs.SuffixTurns.{as_selector, as_index, as_call, as_literal, suffix_ends, literal_named}
-use Rattle.go_pexpr.specs.Turns.{behind_conversion, behind_paren, behind_selector, behind_index, behind_call, behind_brace, behind_value, behind_first, behind_last}
-use Rattle.go_pexpr.specs.Reads.{left, expected_of}
+use Rattle.go_pexpr.specs.Turns.{behind_selector, behind_index, behind_call, behind_brace, behind_value, behind_first, behind_last, value_at}
+use Rattle.go_pexpr.specs.Reads.{left, size, expected_of}
 use Rattle.go_pexpr.proofs.Pushed.{map_push, fields_push, exprs_push, elements_push}
 use Rattle.go_pexpr.proofs.ElementTurns.{no_colon_ends, key_takes}
-use Rattle.go_pexpr.proofs.Reading.{then_reads, then_fails, then_makes, then_refuses}
+use Rattle.go_pexpr.proofs.Reading.{then_reads, then_fails, then_makes, then_refuses, was_read, was_failing, if_read, on_read}
 use Rattle.go_pexpr.proofs.Steps.{optional_some, optional_none}
 use Rattle.go_pexpr.proofs.Turns.{type_as_name, type_as_array, type_as_struct, type_fails, kind_at, expr_as_name, expr_as_integer, expr_as_rune, expr_as_string, expr_as_paren, expr_as_array, expr_as_struct, expr_fails, sign_first, expr_as_sign}
-use Rattle.go_pexpr.proofs.ListTurns.{list_closes, list_ends, list_goes, list_item}
+use Rattle.go_pexpr.proofs.ListTurns.{list_closes, list_item}
 use Rattle.go_pexpr.proofs.OperatorTurns.{followed, splits_all, operator_first, operator_within, operator_due, operators_end}
-use Rattle.go_pexpr.proofs.TreeStates.{false_true, other_not, either_same, behind_length, close_length, made_struct, open_struct, field_end, field_type, behind_operator, close_paren, behind_sign, typed_elements, typed_brace, typed_value, converted_close, converted_end, converted_value, argument_end, call_end, index_end, element_next, element_end, behind_colon, pushed, value_braces, value_alone, typed_by_brace, typed_by_parenthesis}
+use Rattle.go_pexpr.proofs.TreeStates.{false_true, other_not, made_struct, open_struct, field_end, field_type, behind_sign, typed_elements, elements_due, typed_value, converted_value, argument_end, call_end, index_end, element_next, element_end, pushed, value_braces, value_alone, typed_by_brace, typed_by_parenthesis, item_of}
 use Rattle.go_pexpr.proofs.parser.Parser.+tree.Goals as goal
+
+pub array_type-returns-in_err-place-clause-reads : goal.array_type-returns-in_err-place-clause-reads
+array_type-returns-in_err-place-clause-reads t c = λ next.
+    then_fails refl (c.in_err-place.ensures.reads (item_of c.args.level next)) c.from_residual.ensures.1
 
 pub array_type-returns-in_err-length-clause-reads : goal.array_type-returns-in_err-length-clause-reads
 array_type-returns-in_err-length-clause-reads t c = λ next.
-    then_fails (c.in_ok-bracket.ensures.reads (behind_bracket c.args.level next)).by
-    (c.in_err-length.ensures.reads (close_length c.args.level next c.in_ok-bracket.bracket.place)) c.from_residual-in_err-length.ensures.1
+    let p = c.in_ok-place.place in
+    let e = expr_of c.in_ok-place.length.expr in
+    then_fails (c.in_ok-place.ensures.reads (item_of c.args.level next)).by
+    (was_failing (c.type_at.ensures.reads (λ a. next (trees.array p e a))) c.in_err-length.ensures.err) c.from_residual-in_err-length.ensures.1
 
-pub array_type-returns-in_err-expect-clause-reads : goal.array_type-returns-in_err-expect-clause-reads
-array_type-returns-in_err-expect-clause-reads t c = λ next.
-    let p = c.in_ok-bracket.bracket.place in
-    then_fails ((c.in_ok-bracket.ensures.reads (behind_bracket c.args.level next)).by ∙ (c.in_ok-length.ensures.reads (close_length c.args.level next p)).by)
-    (c.in_err-expect.ensures.reads (behind_length c.args.level next p (expr_of c.in_ok-length.length.expr))) c.from_residual-in_err-expect.ensures.1
-
-pub array_type-returns-in_err-item-clause-reads : goal.array_type-returns-in_err-item-clause-reads
-array_type-returns-in_err-item-clause-reads t c = λ next.
-    let p = c.in_ok-bracket.bracket.place in
-    let e = expr_of c.in_ok-length.length.expr in
-    then_fails ((c.in_ok-bracket.ensures.reads (behind_bracket c.args.level next)).by ∙ (c.in_ok-length.ensures.reads (close_length c.args.level next p)).by
-    ∙ (c.in_ok-expect.ensures.reads (behind_length c.args.level next p e)).by)
-    (c.in_err-item.ensures.reads (λ a. next (trees.array p e a))) c.from_residual-in_err-item.ensures.1
+pub array_type-returns-clause-reads : goal.array_type-returns-clause-reads
+array_type-returns-clause-reads t c = λ next.
+    let p = c.in_ok-place.place in
+    let e = expr_of c.in_ok-place.length.expr in
+    let a = type_of c.in_ok-length.item.type_expr in
+    let same = ap (λ x. expr_of x.expr) c.in_ok-length.ensures.first in
+    then_makes c.array.result (next (trees.array p e a))
+    ((c.in_ok-place.ensures.reads (item_of c.args.level next)).by ∙ was_read (c.type_at.ensures.reads (λ b. next (trees.array p e b))) c.in_ok-length.ensures.read)
+    (IfOk-weaker c.array.result _ _ (λ b h. ap next (h ∙ ap (λ x. trees.array p x a) same)) c.array.ensures.expr) c.array.ensures.err
 
 -- types of structs
 
@@ -73,83 +75,60 @@ fields-returns-in_err-names-clause-reads t c = λ next.
     let front = map field_of c.fields.items.items in
     then_fails (c.fields.invariant.reads next
     ∙ list_item (fields l) front (λ fs _. next fs) (names l (field_type l next front)) (left c.fields.self) (λ u. refl) refl (λ h. false_true (c.fields-test.ensures.1 h)))
-    (c.in_err-names.ensures.reads (field_type l next front)) c.from_residual.ensures.1
+    (c.in_err-names.ensures.reads (field_end l next front)) c.from_residual.ensures.1
 
-pub fields-returns-in_err-item-clause-reads : goal.fields-returns-in_err-item-clause-reads
-fields-returns-in_err-item-clause-reads t c = λ next.
+pub fields-returns-in_err-separate-clause-reads : goal.fields-returns-in_err-separate-clause-reads
+fields-returns-in_err-separate-clause-reads t c = λ next.
     let l = c.args.level in
     let front = map field_of c.fields.items.items in
+    let more = front ++ (c.in_ok-names.names.items, type_of c.in_ok-names.item.type_expr) ∷ [] in
     then_fails (c.fields.invariant.reads next
     ∙ list_item (fields l) front (λ fs _. next fs) (names l (field_type l next front)) (left c.fields.self) (λ u. refl) refl (λ h. false_true (c.fields-test.ensures.1 h))
-    ∙ (c.in_ok-names.ensures.reads (field_type l next front)).by)
-    (c.in_err-item.ensures.reads (field_end l next front c.in_ok-names.names.items)) c.from_residual-in_err-item.ensures.1
-
-pub fields-returns-in_err-expect-clause-reads : goal.fields-returns-in_err-expect-clause-reads
-fields-returns-in_err-expect-clause-reads t c = λ next.
-    let l = c.args.level in
-    let front = map field_of c.fields.items.items in
-    let ns = c.in_ok-names.names.items in
-    let more = front ++ (ns, type_of c.in_ok-item.item.type_expr) ∷ [] in
-    then_fails (c.fields.invariant.reads next
-    ∙ list_item (fields l) front (λ fs _. next fs) (names l (field_type l next front)) (left c.fields.self) (λ u. refl) refl (λ h. false_true (c.fields-test.ensures.1 h))
-    ∙ (c.in_ok-names.ensures.reads (field_type l next front)).by
-    ∙ (c.in_ok-item.ensures.reads (field_end l next front ns)).by
-    ∙ list_goes (fields l) more (λ fs _. next fs) a_field_end (left c.type_at.new.self) (λ h. false_true (c.if-not-is_next.ensures.1 h)))
-    (c.in_err-expect.ensures.reads (λ _. list_start (fields l) more (λ fs _. next fs))) c.from_residual-in_err-expect.ensures.1
-
-pub fields-fields-preserved-in_ok-expect : goal.fields-fields-preserved-in_ok-expect
-fields-fields-preserved-in_ok-expect t c =
-    let l = c.args.level in
-    let front = map field_of c.fields.items.items in
-    let ns = c.in_ok-names.names.items in
-    let f : Field = record { names = c.in_ok-names.names; type_expr = c.in_ok-item.item.type_expr } in
-    let more = front ++ (ns, type_of c.in_ok-item.item.type_expr) ∷ [] in
-    record {
-      reads = λ next.
-          c.fields.invariant.reads next
-          ∙ list_item (fields l) front (λ fs _. next fs) (names l (field_type l next front)) (left c.fields.self) (λ u. refl) refl (λ h. false_true (c.fields-test.ensures.1 h))
-          ∙ (c.in_ok-names.ensures.reads (field_type l next front)).by
-          ∙ (c.in_ok-item.ensures.reads (field_end l next front ns)).by
-          ∙ list_goes (fields l) more (λ fs _. next fs) a_field_end (left c.type_at.new.self) (λ h. false_true (c.if-not-is_next.ensures.1 h))
-          ∙ (c.in_ok-expect.ensures.reads (λ _. list_start (fields l) more (λ fs _. next fs))).by
-          ∙ ap (λ fs. run 250 (list_start (fields l) fs (λ gs _. next gs)) (left c.expect.new.self)) (sym (ap (λ fs. map field_of fs) c.in_ok-push.ensures.items ∙ map_push field_of c.fields.items.items f));
-      counted = omega (arith, ap (λ fs. fields_tall fs) c.in_ok-push.ensures.items, fields_push c.fields.items.items f, c.fields.invariant.counted, c.in_ok-item.item.counted);
-      fits = omega (arith, c.in_ok-item.ensures.fits, c.fields.invariant.fits);
-      shorter = omega (arith, c.fields.invariant.shorter, c.in_ok-names.ensures.shorter, c.in_ok-item.ensures.shorter, c.in_ok-expect.ensures.shorter);
-    }
+    ∙ (c.in_ok-names.ensures.reads (field_end l next front)).by)
+    (c.in_err-separate.ensures.reads (fields l) more (λ fs _. next fs) refl refl) c.from_residual-in_err-separate.ensures.1
 
 pub fields-fields-preserved : goal.fields-fields-preserved
 fields-fields-preserved t c =
     let l = c.args.level in
     let front = map field_of c.fields.items.items in
-    let ns = c.in_ok-names.names.items in
-    let f : Field = record { names = c.in_ok-names.names; type_expr = c.in_ok-item.item.type_expr } in
+    let f : Field = record { names = c.in_ok-names.names; type_expr = c.in_ok-names.item.type_expr } in
+    let more = front ++ (c.in_ok-names.names.items, type_of c.in_ok-names.item.type_expr) ∷ [] in
     record {
       reads = λ next.
           c.fields.invariant.reads next
           ∙ list_item (fields l) front (λ fs _. next fs) (names l (field_type l next front)) (left c.fields.self) (λ u. refl) refl (λ h. false_true (c.fields-test.ensures.1 h))
-          ∙ (c.in_ok-names.ensures.reads (field_type l next front)).by
-          ∙ (c.in_ok-item.ensures.reads (field_end l next front ns)).by
-          ∙ list_ends (fields l) (front ++ (ns, type_of c.in_ok-item.item.type_expr) ∷ []) (λ fs _. next fs) a_field_end (left c.type_at.new.self) (c.if-not-is_next.ensures.0 refl)
-          ∙ ap (λ fs. run 250 (list_start (fields l) fs (λ gs _. next gs)) (left c.type_at.new.self)) (sym (ap (λ fs. map field_of fs) c.in_ok-push.ensures.items ∙ map_push field_of c.fields.items.items f));
-      counted = omega (arith, ap (λ fs. fields_tall fs) c.in_ok-push.ensures.items, fields_push c.fields.items.items f, c.fields.invariant.counted, c.in_ok-item.item.counted);
-      fits = omega (arith, c.in_ok-item.ensures.fits, c.fields.invariant.fits);
-      shorter = omega (arith, c.fields.invariant.shorter, c.in_ok-names.ensures.shorter, c.in_ok-item.ensures.shorter);
+          ∙ (c.in_ok-names.ensures.reads (field_end l next front)).by
+          ∙ (c.in_ok-separate.ensures.reads (fields l) more (λ fs _. next fs) refl refl).by
+          ∙ ap (λ fs. run 250 (list_start (fields l) fs (λ gs _. next gs)) (left c.separate.new.self)) (sym (ap (λ fs. map field_of fs) c.in_ok-push.ensures.items ∙ map_push field_of c.fields.items.items f));
+      counted = omega (arith, ap (λ fs. fields_tall fs) c.in_ok-push.ensures.items, fields_push c.fields.items.items f, c.fields.invariant.counted, c.in_ok-names.item.counted);
+      fits = omega (arith, c.in_ok-names.ensures.fits, c.fields.invariant.fits);
+      shorter = omega (arith, c.fields.invariant.shorter, c.in_ok-names.ensures.shorter, c.in_ok-separate.ensures.no_longer);
     }
 
-pub fields-returns-in_err-expect-2-clause-reads : goal.fields-returns-in_err-expect-2-clause-reads
-fields-returns-in_err-expect-2-clause-reads t c = λ next.
+pub fields-returns-in_err-expect-clause-reads : goal.fields-returns-in_err-expect-clause-reads
+fields-returns-in_err-expect-clause-reads t c = λ next.
     let front = map field_of c.fields.items.items in
     then_fails (c.fields.invariant.reads next ∙ list_closes (fields c.args.level) front (λ fs _. next fs) (left c.fields.self) (c.fields-test.ensures.0 refl))
-    (c.in_err-expect-2.ensures.reads (λ _. next front)) c.from_residual-in_err-expect-2.ensures.1
+    (c.in_err-expect.ensures.reads (λ _. next front)) c.from_residual-in_err-expect.ensures.1
 
 pub fields-returns-clause-reads : goal.fields-returns-clause-reads
 fields-returns-clause-reads t c = λ next.
     let front = map field_of c.fields.items.items in
     record {
       by = c.fields.invariant.reads next ∙ list_closes (fields c.args.level) front (λ fs _. next fs) (left c.fields.self) (c.fields-test.ensures.0 refl)
-          ∙ (c.in_ok-expect-2.ensures.reads (λ _. next front)).by;
+          ∙ (c.in_ok-expect.ensures.reads (λ _. next front)).by;
     }
+
+-- a field
+
+pub field-returns-in_err-item-clause-reads : goal.field-returns-in_err-item-clause-reads
+field-returns-in_err-item-clause-reads t c = λ next.
+    then_fails (c.in_ok-names.ensures.reads (λ ns. type c.args.level a_type (next ns))).by
+    (c.in_err-item.ensures.reads (next c.in_ok-names.names.items)) c.from_residual-in_err-item.ensures.1
+
+pub field-returns-clause-reads : goal.field-returns-clause-reads
+field-returns-clause-reads t c = λ next.
+    record { by = (c.in_ok-names.ensures.reads (λ ns. type c.args.level a_type (next ns))).by ∙ (c.in_ok-item.ensures.reads (next c.in_ok-names.names.items)).by }
 
 -- types
 
@@ -194,8 +173,8 @@ binary-operators-init t c =
       shorter = c.in_ok-left.ensures.shorter;
     }
 
-pub binary-returns-in_err-bump-clause-reads : goal.binary-returns-in_err-bump-clause-reads
-binary-returns-in_err-bump-clause-reads t c = λ next.
+pub binary-returns-in_err-front-clause-reads : goal.binary-returns-in_err-front-clause-reads
+binary-returns-in_err-front-clause-reads t c = λ next.
     let h = c.args.header in
     let l = c.args.level in
     let j = c.tighter-tightest.result in
@@ -203,23 +182,9 @@ binary-returns-in_err-bump-clause-reads t c = λ next.
     let op = binary_of c.in-Some.operator in
     let ts = left c.operators.self in
     let q = sym c.operator.ensures ∙ ap (if_some binary_of) c.in-Some.is in
-    let due = behind_operator j (c.args.limit - j) h l a op next in
     then_fails (c.operators.invariant.reads next ∙ operator_due c.operators.tightest c.args.limit j c.operators.left.height h l a next ts op q c.tighter-tightest.ensures c.operators.left.counted)
-    (c.in_err-bump.ensures.reads (kind_at ts) another due (operator_first c.operators.tightest c.args.limit ts op q)) c.from_residual-in_err-bump.ensures.1
-
-pub binary-returns-in_err-right-clause-reads : goal.binary-returns-in_err-right-clause-reads
-binary-returns-in_err-right-clause-reads t c = λ next.
-    let h = c.args.header in
-    let l = c.args.level in
-    let j = c.tighter-tightest.result in
-    let a = expr_of c.operators.left.expr in
-    let op = binary_of c.in-Some.operator in
-    let ts = left c.operators.self in
-    let q = sym c.operator.ensures ∙ ap (if_some binary_of) c.in-Some.is in
-    let due = behind_operator j (c.args.limit - j) h l a op next in
-    then_fails (c.operators.invariant.reads next ∙ operator_due c.operators.tightest c.args.limit j c.operators.left.height h l a next ts op q c.tighter-tightest.ensures c.operators.left.counted
-    ∙ (c.in_ok-bump.ensures.reads (kind_at ts) another due (operator_first c.operators.tightest c.args.limit ts op q)).by)
-    (c.in_err-right.ensures.reads (λ r. followed j (c.args.limit - j) h l next (trees.binary (trees.place_of a) op a r))) c.from_residual-in_err-right.ensures.1
+    (was_failing (c.right.ensures.reads (kind_at ts) another (λ r. followed j (c.args.limit - j) h l next (trees.binary (trees.place_of a) op a r)) (operator_first c.operators.tightest c.args.limit ts op q)) c.in_err-front.ensures.err)
+    c.from_residual-in_err-front.ensures.1
 
 pub binary-operators-preserved : goal.binary-operators-preserved
 binary-operators-preserved t c =
@@ -232,15 +197,22 @@ binary-operators-preserved t c =
     let q = sym c.operator.ensures ∙ ap (if_some binary_of) c.in-Some.is in
     record {
       reads = λ next.
-          let due = behind_operator j (c.args.limit - j) h l a op next in
           c.operators.invariant.reads next ∙ operator_due c.operators.tightest c.args.limit j c.operators.left.height h l a next ts op q c.tighter-tightest.ensures c.operators.left.counted
-          ∙ (c.in_ok-bump.ensures.reads (kind_at ts) another due (operator_first c.operators.tightest c.args.limit ts op q)).by
-          ∙ (c.in_ok-right.ensures.reads (λ r. followed j (c.args.limit - j) h l next (trees.binary (trees.place_of a) op a r))).by
-          ∙ ap (λ e. run 250 (followed j (c.args.limit - j) h l next e) (left c.binary.new.self)) (sym c.in_ok-left-2.ensures.expr);
+          ∙ was_read (c.right.ensures.reads (kind_at ts) another (λ r. followed j (c.args.limit - j) h l next (trees.binary (trees.place_of a) op a r)) (operator_first c.operators.tightest c.args.limit ts op q)) c.in_ok-front.ensures.read
+          ∙ ap (λ e. run 250 (followed j (c.args.limit - j) h l next e) (left c.right.new.self)) (sym (c.in_ok-left-2.ensures.expr
+          ∙ ap (λ o. trees.binary (trees.place_of (expr_of o.expr)) op (expr_of o.expr) (expr_of c.in_ok-front.right.expr)) c.in_ok-front.ensures.first));
       within = omega (arith, (operator_within c.operators.tightest c.args.limit ts op q).1, c.tighter-tightest.ensures);
-      fits = omega (arith, c.in_ok-bump.ensures.fits, c.in_ok-left-2.ensures.height, c.in_ok-right.ensures.fits);
-      shorter = omega (arith, c.operators.invariant.shorter, c.in_ok-bump.ensures.shorter, c.in_ok-right.ensures.shorter);
+      fits = omega (arith, on_read (l + c.operators.left.height ≤ 250) c.right.ensures.need c.in_ok-front.ensures.read, c.in_ok-left-2.ensures.height, if_read (λ e. l + 1 + e.height ≤ 251) c.right.ensures.fits c.in_ok-front.ensures.read, ap (λ o. o.height) c.in_ok-front.ensures.first);
+      shorter = omega (arith, c.operators.invariant.shorter, on_read (size c.right.new.self < size c.operators.self) c.right.ensures.shorter c.in_ok-front.ensures.read);
     }
+
+pub right-returns-in_err-bump-clause-reads : goal.right-returns-in_err-bump-clause-reads
+right-returns-in_err-bump-clause-reads t c = λ k x next first.
+    then_fails refl (c.in_err-bump.ensures.reads k x (λ _. expr c.args.limit c.args.header c.args.level an_operand next) first) c.from_residual.ensures.1
+
+pub right-returns-clause-reads : goal.right-returns-clause-reads
+right-returns-clause-reads t c = λ k x next first.
+    then_reads c.binary.result (c.in_ok-bump.ensures.reads k x (λ _. expr c.args.limit c.args.header c.args.level an_operand next) first).by (c.binary.ensures.reads next)
 
 pub binary-returns-clause-reads : goal.binary-returns-clause-reads
 binary-returns-clause-reads t c = λ next. record {
@@ -317,16 +289,51 @@ operand-returns-in-Other-clause-reads t c = λ h next.
 
 -- an expression in parentheses
 
-pub parenthesized-returns-in_err-inner-clause-reads : goal.parenthesized-returns-in_err-inner-clause-reads
-parenthesized-returns-in_err-inner-clause-reads t c = λ next.
-    then_fails (c.in_ok-token.ensures.reads (behind_paren c.args.level next)).by
-    (c.in_err-inner.ensures.reads (λ e. token closing 0 another (close_paren next c.in_ok-token.token.place e))) c.from_residual-in_err-inner.ensures.1
+pub parenthesized-returns-in_err-place-clause-reads : goal.parenthesized-returns-in_err-place-clause-reads
+parenthesized-returns-in_err-place-clause-reads t c = λ next.
+    then_fails refl (c.in_err-place.ensures.reads (λ p e. next (trees.parenthesized p e))) c.from_residual.ensures.1
 
-pub parenthesized-returns-in_err-expect-clause-reads : goal.parenthesized-returns-in_err-expect-clause-reads
-parenthesized-returns-in_err-expect-clause-reads t c = λ next.
-    let p = c.in_ok-token.token.place in
-    then_fails ((c.in_ok-token.ensures.reads (behind_paren c.args.level next)).by ∙ (c.in_ok-inner.ensures.reads (λ e. token closing 0 another (close_paren next p e))).by)
-    (c.in_err-expect.ensures.reads (close_paren next p (expr_of c.in_ok-inner.inner.expr))) c.from_residual-in_err-expect.ensures.1
+pub parenthesized-returns-clause-reads : goal.parenthesized-returns-clause-reads
+parenthesized-returns-clause-reads t c = λ next.
+    then_makes c.parenthesized.result (next (trees.parenthesized c.in_ok-place.place (expr_of c.in_ok-place.inner.expr)))
+    (c.in_ok-place.ensures.reads (λ p e. next (trees.parenthesized p e))).by
+    (IfOk-weaker c.parenthesized.result _ _ (λ x h. ap next h) c.parenthesized.ensures.expr) c.parenthesized.ensures.err
+
+-- an expression behind a mark, and between two
+
+pub opened-returns-in_err-inner-clause-reads : goal.opened-returns-in_err-inner-clause-reads
+opened-returns-in_err-inner-clause-reads t c = λ next.
+    then_fails (c.in_ok-token.ensures.reads (λ o. expr 5 false c.args.level (expected_of c.args.expected) (next o.place))).by
+    (c.in_err-inner.ensures.reads (next c.in_ok-token.token.place)) c.from_residual-in_err-inner.ensures.1
+
+pub opened-returns-clause-reads : goal.opened-returns-clause-reads
+opened-returns-clause-reads t c = λ next.
+    record {
+      by = (c.in_ok-token.ensures.reads (λ o. expr 5 false c.args.level (expected_of c.args.expected) (next o.place))).by
+          ∙ (c.in_ok-inner.ensures.reads (next c.in_ok-token.token.place)).by;
+    }
+
+pub enclosed-returns-in_err-front-clause-reads : goal.enclosed-returns-in_err-front-clause-reads
+enclosed-returns-in_err-front-clause-reads t c = λ next.
+    let m = c.args.marks in
+    then_fails refl (c.in_err-front.ensures.reads (λ p e. token m.last 0 (expected_of m.end) (λ _. next p e))) c.from_residual.ensures.1
+
+pub enclosed-returns-in_err-enclosed-clause-reads : goal.enclosed-returns-in_err-enclosed-clause-reads
+enclosed-returns-in_err-enclosed-clause-reads t c = λ next.
+    let m = c.args.marks in
+    let f = c.in_ok-front.front in
+    then_fails (c.in_ok-front.ensures.reads (λ p e. token m.last 0 (expected_of m.end) (λ _. next p e))).by
+    (was_failing (c.expect.ensures.reads (λ _. next f.0 (expr_of f.1.expr))) c.in_err-enclosed.ensures.err) c.from_residual-in_err-enclosed.ensures.1
+
+pub enclosed-returns-clause-reads : goal.enclosed-returns-clause-reads
+enclosed-returns-clause-reads t c = λ next.
+    let m = c.args.marks in
+    let f = c.in_ok-front.front in
+    record {
+      by = (c.in_ok-front.ensures.reads (λ p e. token m.last 0 (expected_of m.end) (λ _. next p e))).by
+          ∙ was_read (c.expect.ensures.reads (λ _. next f.0 (expr_of f.1.expr))) c.in_ok-enclosed.ensures.read
+          ∙ ap (λ r. run 250 (next r.0 (expr_of r.1.expr)) (left c.expect.new.self)) (sym c.in_ok-enclosed.ensures.first);
+    }
 
 -- signs
 
@@ -365,72 +372,72 @@ unary-returns-clause-reads t c = λ next.
 
 -- behind a type
 
-pub typed-returns-in_err-token-clause-reads : goal.typed-returns-in_err-token-clause-reads
-typed-returns-in_err-token-clause-reads t c = λ next.
-    let a = type_of c.args.a.type_expr in
-    then_fails (typed_by_brace c.args.level next a (left c.args.self.now) (c.if-is_next.ensures.0 refl))
-    (c.in_err-token.ensures.reads (typed_brace c.args.level next a)) c.from_residual.ensures.1
-
-pub typed-returns-in_err-elements-clause-reads : goal.typed-returns-in_err-elements-clause-reads
-typed-returns-in_err-elements-clause-reads t c = λ next.
-    let a = type_of c.args.a.type_expr in
-    then_fails (typed_by_brace c.args.level next a (left c.args.self.now) (c.if-is_next.ensures.0 refl)
-    ∙ (c.in_ok-token.ensures.reads (typed_brace c.args.level next a)).by)
-    (c.in_err-elements.ensures.reads (typed_elements c.args.level next a c.in_ok-token.token.place)) c.from_residual-in_err-elements.ensures.1
-
 pub typed-returns-then-is_next-clause-reads : goal.typed-returns-then-is_next-clause-reads
 typed-returns-then-is_next-clause-reads t c = λ next.
-    let a = type_of c.args.a.type_expr in
-    let q = c.in_ok-token.token.place in
-    then_makes c.composite_lit.result (typed_elements c.args.level next a q (map element_of c.in_ok-elements.elements.items.items))
-    (typed_by_brace c.args.level next a (left c.args.self.now) (c.if-is_next.ensures.0 refl)
-    ∙ (c.in_ok-token.ensures.reads (typed_brace c.args.level next a)).by ∙ (c.in_ok-elements.ensures.reads (typed_elements c.args.level next a q)).by)
-    (IfOk-weaker c.composite_lit.result _ _ (λ e h. ap next h) c.composite_lit.ensures.expr) c.composite_lit.ensures.err
+    then_reads c.literal.result (typed_by_brace c.args.level next (type_of c.args.a.type_expr) (left c.args.self.now) (c.if-is_next.ensures.0 refl)) (c.literal.ensures.reads next)
 
-pub typed-returns-in_err-value-clause-reads : goal.typed-returns-in_err-value-clause-reads
-typed-returns-in_err-value-clause-reads t c = λ next.
+pub typed-returns-in_err-a-clause-reads : goal.typed-returns-in_err-a-clause-reads
+typed-returns-in_err-a-clause-reads t c = λ next.
     let a = type_of c.args.a.type_expr in
     then_fails (typed_by_parenthesis c.args.level next a (left c.args.self.now) (λ h. false_true (c.if-is_next.ensures.1 h)))
-    (c.in_err-value.ensures.reads (typed_value next a)) c.from_residual-in_err-value.ensures.1
+    (was_failing (c.converted.ensures.reads (typed_value next a)) c.in_err-a.ensures.err) c.from_residual.ensures.1
 
 pub typed-returns-clause-reads : goal.typed-returns-clause-reads
 typed-returns-clause-reads t c = λ next.
     let a = type_of c.args.a.type_expr in
-    let e = expr_of c.in_ok-value.value.expr in
+    let e = expr_of c.in_ok-a.value.expr in
+    let same = ap (λ b. type_of b.type_expr) c.in_ok-a.ensures.first in
     then_makes c.conversion.result (next (trees.conversion (type_place a) a e))
     (typed_by_parenthesis c.args.level next a (left c.args.self.now) (λ h. false_true (c.if-is_next.ensures.1 h))
-    ∙ (c.in_ok-value.ensures.reads (typed_value next a)).by)
-    (IfOk-weaker c.conversion.result _ _ (λ x h. ap next h) c.conversion.ensures.expr) c.conversion.ensures.err
+    ∙ was_read (c.converted.ensures.reads (typed_value next a)) c.in_ok-a.ensures.read)
+    (IfOk-weaker c.conversion.result _ _ (λ x h. ap next (h ∙ ap (λ b. trees.conversion (type_place b) b e) same)) c.conversion.ensures.expr) c.conversion.ensures.err
+
+-- the elements of a literal
+
+pub literal-returns-in_err-a-clause-reads : goal.literal-returns-in_err-a-clause-reads
+literal-returns-in_err-a-clause-reads t c = λ next.
+    let a = type_of c.args.a.type_expr in
+    then_fails (elements_due c.args.level next a (left c.args.self.now)) (was_failing (c.braced.ensures.reads (typed_elements c.args.level next a)) c.in_err-a.ensures.err) c.from_residual.ensures.1
+
+pub literal-returns-clause-reads : goal.literal-returns-clause-reads
+literal-returns-clause-reads t c = λ next.
+    let a = type_of c.args.a.type_expr in
+    let q = c.in_ok-a.braced.0 in
+    let es = map element_of c.in_ok-a.braced.1.items.items in
+    let same = ap (λ b. type_of b.type_expr) c.in_ok-a.ensures.first in
+    then_makes c.composite_lit.result (typed_elements c.args.level next a q es)
+    (elements_due c.args.level next a (left c.args.self.now) ∙ was_read (c.braced.ensures.reads (typed_elements c.args.level next a)) c.in_ok-a.ensures.read)
+    (IfOk-weaker c.composite_lit.result _ _ (λ e h. ap next (h ∙ ap (λ b. trees.composite_lit (type_place b) b q (trees.pack_elements es)) same)) c.composite_lit.ensures.expr) c.composite_lit.ensures.err
+
+pub braced-returns-in_err-elements-clause-reads : goal.braced-returns-in_err-elements-clause-reads
+braced-returns-in_err-elements-clause-reads t c = λ next.
+    then_fails (c.in_ok-token.ensures.reads (λ o. list_start (elements (c.args.need + 1)) [] (λ es _. next o.place es))).by
+    (c.in_err-elements.ensures.reads (next c.in_ok-token.token.place)) c.from_residual-in_err-elements.ensures.1
+
+pub braced-returns-clause-reads : goal.braced-returns-clause-reads
+braced-returns-clause-reads t c = λ next.
+    record {
+      by = (c.in_ok-token.ensures.reads (λ o. list_start (elements (c.args.need + 1)) [] (λ es _. next o.place es))).by
+          ∙ (c.in_ok-elements.ensures.reads (next c.in_ok-token.token.place)).by;
+    }
 
 -- what is converted
 
+pub converted-returns-in_err-inner-clause-reads : goal.converted-returns-in_err-inner-clause-reads
+converted-returns-in_err-inner-clause-reads t c = λ next.
+    then_fails refl (c.in_err-inner.ensures.reads (λ _. converted_value next)) c.from_residual.ensures.1
+
 pub converted-returns-in_err-value-clause-reads : goal.converted-returns-in_err-value-clause-reads
 converted-returns-in_err-value-clause-reads t c = λ next.
-    then_fails (c.in_ok-expect.ensures.reads (behind_conversion c.args.level next)).by
-    (c.in_err-value.ensures.reads (converted_value next)) c.from_residual-in_err-value.ensures.1
-
-pub converted-returns-in_err-accept-clause-reads : goal.converted-returns-in_err-accept-clause-reads
-converted-returns-in_err-accept-clause-reads t c = λ next.
-    let e = expr_of c.in_ok-value.value.expr in
-    then_fails ((c.in_ok-expect.ensures.reads (behind_conversion c.args.level next)).by ∙ (c.in_ok-value.ensures.reads (converted_value next)).by)
-    (c.in_err-accept.ensures.reads (λ _. converted_end next e) (converted_end next e)) c.from_residual-in_err-accept.ensures.1
-
-pub converted-returns-in_err-expect-2-clause-reads : goal.converted-returns-in_err-expect-2-clause-reads
-converted-returns-in_err-expect-2-clause-reads t c = λ next.
-    let e = expr_of c.in_ok-value.value.expr in
-    then_fails ((c.in_ok-expect.ensures.reads (behind_conversion c.args.level next)).by ∙ (c.in_ok-value.ensures.reads (converted_value next)).by
-    ∙ (c.in_ok-accept.ensures.reads (λ _. converted_end next e) (converted_end next e)).by
-    ∙ ap (λ s. run 250 s (left c.accept.new.self)) (either_same (converted_end next e) c.in_ok-accept.field-0))
-    (c.in_err-expect-2.ensures.reads (converted_close next e)) c.from_residual-in_err-expect-2.ensures.1
+    then_fails (c.in_ok-inner.ensures.reads (λ _. converted_value next)).by
+    (was_failing (c.converted_end.ensures.reads (next (expr_of c.in_ok-inner.inner.expr))) c.in_err-value.ensures.err) c.from_residual-in_err-value.ensures.1
 
 pub converted-returns-clause-reads : goal.converted-returns-clause-reads
 converted-returns-clause-reads t c = λ next.
-    let e = expr_of c.in_ok-value.value.expr in
     record {
-      by = (c.in_ok-expect.ensures.reads (behind_conversion c.args.level next)).by ∙ (c.in_ok-value.ensures.reads (converted_value next)).by
-          ∙ (c.in_ok-accept.ensures.reads (λ _. converted_end next e) (converted_end next e)).by
-          ∙ ap (λ s. run 250 s (left c.accept.new.self)) (either_same (converted_end next e) c.in_ok-accept.field-0)
-          ∙ (c.in_ok-expect-2.ensures.reads (converted_close next e)).by;
+      by = (c.in_ok-inner.ensures.reads (λ _. converted_value next)).by
+          ∙ was_read (c.converted_end.ensures.reads (next (expr_of c.in_ok-inner.inner.expr))) c.in_ok-value.ensures.read
+          ∙ ap (λ v. run 250 (next (expr_of v.expr)) (left c.converted_end.new.self)) (sym c.in_ok-value.ensures.first);
     }
 
 -- arguments
@@ -443,35 +450,15 @@ arguments-returns-in_err-item-clause-reads t c = λ next.
     ∙ list_item (arguments l) front (λ es _. next es) (expr 5 false l an_operand (argument_end l next front)) (left c.arguments.self) (λ u. refl) refl (λ h. false_true (c.arguments-test.ensures.1 h)))
     (c.in_err-item.ensures.reads (argument_end l next front)) c.from_residual.ensures.1
 
-pub arguments-returns-in_err-expect-clause-reads : goal.arguments-returns-in_err-expect-clause-reads
-arguments-returns-in_err-expect-clause-reads t c = λ next.
+pub arguments-returns-in_err-separate-clause-reads : goal.arguments-returns-in_err-separate-clause-reads
+arguments-returns-in_err-separate-clause-reads t c = λ next.
     let l = c.args.level in
     let front = map expr_of c.arguments.items.items in
     let more = front ++ expr_of c.in_ok-item.item.expr ∷ [] in
     then_fails (c.arguments.invariant.reads next
     ∙ list_item (arguments l) front (λ es _. next es) (expr 5 false l an_operand (argument_end l next front)) (left c.arguments.self) (λ u. refl) refl (λ h. false_true (c.arguments-test.ensures.1 h))
-    ∙ (c.in_ok-item.ensures.reads (argument_end l next front)).by
-    ∙ list_goes (arguments l) more (λ es _. next es) another (left c.binary.new.self) (λ h. false_true (c.if-not-is_next.ensures.1 h)))
-    (c.in_err-expect.ensures.reads (λ _. list_start (arguments l) more (λ es _. next es))) c.from_residual-in_err-expect.ensures.1
-
-pub arguments-arguments-preserved-in_ok-expect : goal.arguments-arguments-preserved-in_ok-expect
-arguments-arguments-preserved-in_ok-expect t c =
-    let l = c.args.level in
-    let front = map expr_of c.arguments.items.items in
-    let e = c.in_ok-item.item.expr in
-    let more = front ++ expr_of e ∷ [] in
-    record {
-      reads = λ next.
-          c.arguments.invariant.reads next
-          ∙ list_item (arguments l) front (λ es _. next es) (expr 5 false l an_operand (argument_end l next front)) (left c.arguments.self) (λ u. refl) refl (λ h. false_true (c.arguments-test.ensures.1 h))
-          ∙ (c.in_ok-item.ensures.reads (argument_end l next front)).by
-          ∙ list_goes (arguments l) more (λ es _. next es) another (left c.binary.new.self) (λ h. false_true (c.if-not-is_next.ensures.1 h))
-          ∙ (c.in_ok-expect.ensures.reads (λ _. list_start (arguments l) more (λ es _. next es))).by
-          ∙ ap (λ es. run 250 (list_start (arguments l) es (λ fs _. next fs)) (left c.expect.new.self)) (sym (ap (λ es. map expr_of es) c.in_ok-push.ensures.items ∙ map_push expr_of c.arguments.items.items e));
-      counted = omega (arith, ap (λ es. exprs_tall es) c.in_ok-push.ensures.items, exprs_push c.arguments.items.items e, c.arguments.invariant.counted, c.in_ok-item.item.counted);
-      fits = omega (arith, c.in_ok-item.ensures.fits, c.arguments.invariant.fits);
-      shorter = omega (arith, c.arguments.invariant.shorter, c.in_ok-item.ensures.shorter, c.in_ok-expect.ensures.shorter);
-    }
+    ∙ (c.in_ok-item.ensures.reads (argument_end l next front)).by)
+    (c.in_err-separate.ensures.reads (arguments l) more (λ es _. next es) refl refl) c.from_residual-in_err-separate.ensures.1
 
 pub arguments-arguments-preserved : goal.arguments-arguments-preserved
 arguments-arguments-preserved t c =
@@ -483,53 +470,56 @@ arguments-arguments-preserved t c =
           c.arguments.invariant.reads next
           ∙ list_item (arguments l) front (λ es _. next es) (expr 5 false l an_operand (argument_end l next front)) (left c.arguments.self) (λ u. refl) refl (λ h. false_true (c.arguments-test.ensures.1 h))
           ∙ (c.in_ok-item.ensures.reads (argument_end l next front)).by
-          ∙ list_ends (arguments l) (front ++ expr_of e ∷ []) (λ es _. next es) another (left c.binary.new.self) (c.if-not-is_next.ensures.0 refl)
-          ∙ ap (λ es. run 250 (list_start (arguments l) es (λ fs _. next fs)) (left c.binary.new.self)) (sym (ap (λ es. map expr_of es) c.in_ok-push.ensures.items ∙ map_push expr_of c.arguments.items.items e));
+          ∙ (c.in_ok-separate.ensures.reads (arguments l) (front ++ expr_of e ∷ []) (λ es _. next es) refl refl).by
+          ∙ ap (λ es. run 250 (list_start (arguments l) es (λ fs _. next fs)) (left c.separate.new.self)) (sym (ap (λ es. map expr_of es) c.in_ok-push.ensures.items ∙ map_push expr_of c.arguments.items.items e));
       counted = omega (arith, ap (λ es. exprs_tall es) c.in_ok-push.ensures.items, exprs_push c.arguments.items.items e, c.arguments.invariant.counted, c.in_ok-item.item.counted);
       fits = omega (arith, c.in_ok-item.ensures.fits, c.arguments.invariant.fits);
-      shorter = omega (arith, c.arguments.invariant.shorter, c.in_ok-item.ensures.shorter);
+      shorter = omega (arith, c.arguments.invariant.shorter, c.in_ok-item.ensures.shorter, c.in_ok-separate.ensures.no_longer);
     }
 
-pub arguments-returns-in_err-expect-2-clause-reads : goal.arguments-returns-in_err-expect-2-clause-reads
-arguments-returns-in_err-expect-2-clause-reads t c = λ next.
+pub arguments-returns-in_err-expect-clause-reads : goal.arguments-returns-in_err-expect-clause-reads
+arguments-returns-in_err-expect-clause-reads t c = λ next.
     let front = map expr_of c.arguments.items.items in
     then_fails (c.arguments.invariant.reads next ∙ list_closes (arguments c.args.level) front (λ es _. next es) (left c.arguments.self) (c.arguments-test.ensures.0 refl))
-    (c.in_err-expect-2.ensures.reads (λ _. next front)) c.from_residual-in_err-expect-2.ensures.1
+    (c.in_err-expect.ensures.reads (λ _. next front)) c.from_residual-in_err-expect.ensures.1
 
 pub arguments-returns-clause-reads : goal.arguments-returns-clause-reads
 arguments-returns-clause-reads t c = λ next.
     let front = map expr_of c.arguments.items.items in
     record {
       by = c.arguments.invariant.reads next ∙ list_closes (arguments c.args.level) front (λ es _. next es) (left c.arguments.self) (c.arguments-test.ensures.0 refl)
-          ∙ (c.in_ok-expect-2.ensures.reads (λ _. next front)).by;
+          ∙ (c.in_ok-expect.ensures.reads (λ _. next front)).by;
     }
 
 -- suffixes
 
-pub called-returns-in_err-arguments-clause-reads : goal.called-returns-in_err-arguments-clause-reads
-called-returns-in_err-arguments-clause-reads t c = λ next.
-    let f = expr_of c.args.operand.expr in
-    then_fails (c.in_ok-expect.ensures.reads (behind_call c.args.level f next)).by
-    (c.in_err-arguments.ensures.reads (call_end next f)) c.from_residual-in_err-arguments.ensures.1
+pub called-returns-in_err-operand-clause-reads : goal.called-returns-in_err-operand-clause-reads
+called-returns-in_err-operand-clause-reads t c = λ next.
+    then_fails refl (was_failing (c.passed.ensures.reads (call_end next (expr_of c.args.operand.expr))) c.in_err-operand.ensures.err) c.from_residual.ensures.1
 
 pub called-returns-clause-reads : goal.called-returns-clause-reads
 called-returns-clause-reads t c = λ next.
     let f = expr_of c.args.operand.expr in
-    then_makes c.call.result (call_end next f (map expr_of c.in_ok-arguments.arguments.items.items))
-    ((c.in_ok-expect.ensures.reads (behind_call c.args.level f next)).by ∙ (c.in_ok-arguments.ensures.reads (call_end next f)).by)
-    (IfOk-weaker c.call.result _ _ (λ x h. ap next h) c.call.ensures.expr) c.call.ensures.err
+    let es = map expr_of c.in_ok-operand.arguments.items.items in
+    let same = ap (λ o. expr_of o.expr) c.in_ok-operand.ensures.first in
+    then_makes c.call.result (call_end next f es) (was_read (c.passed.ensures.reads (call_end next f)) c.in_ok-operand.ensures.read)
+    (IfOk-weaker c.call.result _ _ (λ x h. ap next (h ∙ ap (λ g. trees.call (trees.place_of g) g (trees.pack es)) same)) c.call.ensures.expr) c.call.ensures.err
 
-pub indexed-returns-in_err-at-clause-reads : goal.indexed-returns-in_err-at-clause-reads
-indexed-returns-in_err-at-clause-reads t c = λ next.
-    let e = expr_of c.args.operand.expr in
-    then_fails (c.in_ok-expect.ensures.reads (behind_index c.args.level e next)).by
-    (c.in_err-at.ensures.reads (λ i. token closing_bracket 0 an_index_end (index_end next e i))) c.from_residual-in_err-at.ensures.1
+pub passed-returns-clause-reads : goal.passed-returns-clause-reads
+passed-returns-clause-reads t c = λ next.
+    then_reads c.arguments.result (c.in_ok-expect.ensures.reads (λ _. list_start (arguments c.args.level) [] (λ es _. next es))).by (c.arguments.ensures.reads next)
 
-pub indexed-returns-in_err-expect-2-clause-reads : goal.indexed-returns-in_err-expect-2-clause-reads
-indexed-returns-in_err-expect-2-clause-reads t c = λ next.
+pub indexed-returns-in_err-operand-clause-reads : goal.indexed-returns-in_err-operand-clause-reads
+indexed-returns-in_err-operand-clause-reads t c = λ next.
+    then_fails refl (was_failing (c.enclosed-enclosed.ensures.reads (λ _. index_end next (expr_of c.args.operand.expr))) c.in_err-operand.ensures.err) c.from_residual.ensures.1
+
+pub indexed-returns-clause-reads : goal.indexed-returns-clause-reads
+indexed-returns-clause-reads t c = λ next.
     let e = expr_of c.args.operand.expr in
-    then_fails ((c.in_ok-expect.ensures.reads (behind_index c.args.level e next)).by ∙ (c.in_ok-at.ensures.reads (λ i. token closing_bracket 0 an_index_end (index_end next e i))).by)
-    (c.in_err-expect-2.ensures.reads (index_end next e (expr_of c.in_ok-at.at.expr))) c.from_residual-in_err-expect-2.ensures.1
+    let i = expr_of c.in_ok-operand.inside.1.expr in
+    let same = ap (λ o. expr_of o.expr) c.in_ok-operand.ensures.first in
+    then_makes c.index.result (index_end next e i) (was_read (c.enclosed-enclosed.ensures.reads (λ _. index_end next e)) c.in_ok-operand.ensures.read)
+    (IfOk-weaker c.index.result _ _ (λ x h. ap next (h ∙ ap (λ o. trees.index (trees.place_of o) o i) same)) c.index.ensures.expr) c.index.ensures.err
 
 pub suffixes-returns-in_err-front-in-Selector-clause-reads : goal.suffixes-returns-in_err-front-in-Selector-clause-reads
 suffixes-returns-in_err-front-in-Selector-clause-reads t c = λ next.
@@ -637,35 +627,15 @@ elements-returns-in_err-item-clause-reads t c = λ next.
     ∙ list_item (elements l) front (λ es _. next es) (element_next l front next) (left c.elements.self) (λ u. refl) refl (λ h. false_true (c.elements-test.ensures.1 h)))
     (c.in_err-item.ensures.reads front (λ es _. next es)) c.from_residual.ensures.1
 
-pub elements-returns-in_err-expect-clause-reads : goal.elements-returns-in_err-expect-clause-reads
-elements-returns-in_err-expect-clause-reads t c = λ next.
+pub elements-returns-in_err-separate-clause-reads : goal.elements-returns-in_err-separate-clause-reads
+elements-returns-in_err-separate-clause-reads t c = λ next.
     let l = c.args.level in
     let front = map element_of c.elements.items.items in
     let more = front ++ element_of c.in_ok-item.item.element ∷ [] in
     then_fails (c.elements.invariant.reads next
     ∙ list_item (elements l) front (λ es _. next es) (element_next l front next) (left c.elements.self) (λ u. refl) refl (λ h. false_true (c.elements-test.ensures.1 h))
-    ∙ (c.in_ok-item.ensures.reads front (λ es _. next es)).by
-    ∙ list_goes (elements l) more (λ es _. next es) an_element_end (left c.element.new.self) (λ h. false_true (c.if-not-is_next.ensures.1 h)))
-    (c.in_err-expect.ensures.reads (λ _. element_end l more next)) c.from_residual-in_err-expect.ensures.1
-
-pub elements-elements-preserved-in_ok-expect : goal.elements-elements-preserved-in_ok-expect
-elements-elements-preserved-in_ok-expect t c =
-    let l = c.args.level in
-    let front = map element_of c.elements.items.items in
-    let e = c.in_ok-item.item.element in
-    let more = front ++ element_of e ∷ [] in
-    record {
-      reads = λ next.
-          c.elements.invariant.reads next
-          ∙ list_item (elements l) front (λ es _. next es) (element_next l front next) (left c.elements.self) (λ u. refl) refl (λ h. false_true (c.elements-test.ensures.1 h))
-          ∙ (c.in_ok-item.ensures.reads front (λ es _. next es)).by
-          ∙ list_goes (elements l) more (λ es _. next es) an_element_end (left c.element.new.self) (λ h. false_true (c.if-not-is_next.ensures.1 h))
-          ∙ (c.in_ok-expect.ensures.reads (λ _. element_end l more next)).by
-          ∙ ap (λ es. run 250 (element_end l es next) (left c.expect.new.self)) (sym (ap (λ es. map element_of es) c.in_ok-push.ensures.items ∙ map_push element_of c.elements.items.items e));
-      counted = omega (arith, ap (λ es. elements_tall es) c.in_ok-push.ensures.items, elements_push c.elements.items.items e, c.elements.invariant.counted, c.in_ok-item.item.counted);
-      fits = λ h. omega (arith, c.in_ok-item.ensures.fits, c.elements.invariant.fits h);
-      shorter = omega (arith, c.elements.invariant.shorter, c.in_ok-item.ensures.shorter, c.in_ok-expect.ensures.shorter);
-    }
+    ∙ (c.in_ok-item.ensures.reads front (λ es _. next es)).by)
+    (c.in_err-separate.ensures.reads (elements l) more (λ es _. next es) refl refl) c.from_residual-in_err-separate.ensures.1
 
 pub elements-elements-preserved : goal.elements-elements-preserved
 elements-elements-preserved t c =
@@ -677,25 +647,25 @@ elements-elements-preserved t c =
           c.elements.invariant.reads next
           ∙ list_item (elements l) front (λ es _. next es) (element_next l front next) (left c.elements.self) (λ u. refl) refl (λ h. false_true (c.elements-test.ensures.1 h))
           ∙ (c.in_ok-item.ensures.reads front (λ es _. next es)).by
-          ∙ list_ends (elements l) (front ++ element_of e ∷ []) (λ es _. next es) an_element_end (left c.element.new.self) (c.if-not-is_next.ensures.0 refl)
-          ∙ ap (λ es. run 250 (element_end l es next) (left c.element.new.self)) (sym (ap (λ es. map element_of es) c.in_ok-push.ensures.items ∙ map_push element_of c.elements.items.items e));
+          ∙ (c.in_ok-separate.ensures.reads (elements l) (front ++ element_of e ∷ []) (λ es _. next es) refl refl).by
+          ∙ ap (λ es. run 250 (element_end l es next) (left c.separate.new.self)) (sym (ap (λ es. map element_of es) c.in_ok-push.ensures.items ∙ map_push element_of c.elements.items.items e));
       counted = omega (arith, ap (λ es. elements_tall es) c.in_ok-push.ensures.items, elements_push c.elements.items.items e, c.elements.invariant.counted, c.in_ok-item.item.counted);
       fits = λ h. omega (arith, c.in_ok-item.ensures.fits, c.elements.invariant.fits h);
-      shorter = omega (arith, c.elements.invariant.shorter, c.in_ok-item.ensures.shorter);
+      shorter = omega (arith, c.elements.invariant.shorter, c.in_ok-item.ensures.shorter, c.in_ok-separate.ensures.no_longer);
     }
 
-pub elements-returns-in_err-expect-2-clause-reads : goal.elements-returns-in_err-expect-2-clause-reads
-elements-returns-in_err-expect-2-clause-reads t c = λ next.
+pub elements-returns-in_err-expect-clause-reads : goal.elements-returns-in_err-expect-clause-reads
+elements-returns-in_err-expect-clause-reads t c = λ next.
     let front = map element_of c.elements.items.items in
     then_fails (c.elements.invariant.reads next ∙ list_closes (elements c.args.level) front (λ es _. next es) (left c.elements.self) (c.elements-test.ensures.0 refl))
-    (c.in_err-expect-2.ensures.reads (λ _. next front)) c.from_residual-in_err-expect-2.ensures.1
+    (c.in_err-expect.ensures.reads (λ _. next front)) c.from_residual-in_err-expect.ensures.1
 
 pub elements-returns-clause-reads : goal.elements-returns-clause-reads
 elements-returns-clause-reads t c = λ next.
     let front = map element_of c.elements.items.items in
     record {
       by = c.elements.invariant.reads next ∙ list_closes (elements c.args.level) front (λ es _. next es) (left c.elements.self) (c.elements-test.ensures.0 refl)
-          ∙ (c.in_ok-expect-2.ensures.reads (λ _. next front)).by;
+          ∙ (c.in_ok-expect.ensures.reads (λ _. next front)).by;
     }
 
 -- an element
@@ -710,58 +680,46 @@ element-returns-then-not-is_next-clause-reads t c = λ front next.
           ∙ ap (λ e. run 250 (pushed l front next e) ts) (sym c.element.ensures.element);
     }
 
-pub element-returns-in_err-expect-in-Ok-clause-reads : goal.element-returns-in_err-expect-in-Ok-clause-reads
-element-returns-in_err-expect-in-Ok-clause-reads t c = λ front next.
+pub element-returns-in_err-key-in-Ok-clause-reads : goal.element-returns-in_err-key-in-Ok-clause-reads
+element-returns-in_err-key-in-Ok-clause-reads t c = λ front next.
     let l = c.args.level in
     let n = c.in-Ok.key in
     then_fails ((c.in_ok-first.ensures.reads (behind_first l front next)).by
     ∙ key_takes l front next (value_of c.in_ok-first.first.value) n (left c.value.new.self) c.in-Ok.ensures.key (c.if-not-is_next.ensures.0 refl))
-    (c.in_err-expect-in-Ok.ensures.reads (behind_colon l front next n)) c.from_residual-in_err-expect-in-Ok.ensures.1
+    (was_failing (c.keyed.ensures.reads (behind_last l front next (Some n))) c.in_err-key-in-Ok.ensures.err) c.from_residual-in_err-key-in-Ok.ensures.1
 
-pub element-returns-in_err-value-in-Ok-clause-reads : goal.element-returns-in_err-value-in-Ok-clause-reads
-element-returns-in_err-value-in-Ok-clause-reads t c = λ front next.
-    let l = c.args.level in
-    let n = c.in-Ok.key in
-    then_fails ((c.in_ok-first.ensures.reads (behind_first l front next)).by
-    ∙ key_takes l front next (value_of c.in_ok-first.first.value) n (left c.value.new.self) c.in-Ok.ensures.key (c.if-not-is_next.ensures.0 refl)
-    ∙ (c.in_ok-expect-in-Ok.ensures.reads (behind_colon l front next n)).by)
-    (c.in_err-value-in-Ok.ensures.reads (behind_last l front next (Some n))) c.from_residual-in_err-value-in-Ok.ensures.1
-
-pub element-returns-in_ok-value-in-Ok-clause-reads : goal.element-returns-in_ok-value-in-Ok-clause-reads
-element-returns-in_ok-value-in-Ok-clause-reads t c = λ front next.
+pub element-returns-in_ok-key-in-Ok-clause-reads : goal.element-returns-in_ok-key-in-Ok-clause-reads
+element-returns-in_ok-key-in-Ok-clause-reads t c = λ front next.
     let l = c.args.level in
     let n = c.in-Ok.key in
     record {
       by = (c.in_ok-first.ensures.reads (behind_first l front next)).by
           ∙ key_takes l front next (value_of c.in_ok-first.first.value) n (left c.value.new.self) c.in-Ok.ensures.key (c.if-not-is_next.ensures.0 refl)
-          ∙ (c.in_ok-expect-in-Ok.ensures.reads (behind_colon l front next n)).by
-          ∙ (c.in_ok-value-in-Ok.ensures.reads (behind_last l front next (Some n))).by
-          ∙ ap (λ e. run 250 (pushed l front next e) (left c.value-in-Ok.new.self)) (sym c.element-in-Ok.ensures.element);
+          ∙ was_read (c.keyed.ensures.reads (behind_last l front next (Some n))) c.in_ok-key-in-Ok.ensures.read
+          ∙ ap (λ e. run 250 (pushed l front next e) (left c.keyed.new.self)) (sym (c.element-in-Ok.ensures.element ∙ ap (λ k. (Some k, value_of c.in_ok-key-in-Ok.value.value)) c.in_ok-key-in-Ok.ensures.first));
     }
+
+-- the value behind a key
+
+pub keyed-returns-clause-reads : goal.keyed-returns-clause-reads
+keyed-returns-clause-reads t c = λ next.
+    then_reads c.value.result (c.in_ok-expect.ensures.reads (λ _. value_at c.args.level next)).by (c.value.ensures.reads next)
 
 -- the value of an element
 
-pub value-returns-in_err-token-clause-reads : goal.value-returns-in_err-token-clause-reads
-value-returns-in_err-token-clause-reads t c = λ next.
+pub value-returns-in_err-place-clause-reads : goal.value-returns-in_err-place-clause-reads
+value-returns-in_err-place-clause-reads t c = λ next.
     let l = c.args.level in
     then_fails (optional_some opening_brace l another (behind_value l next) (expr 5 false l an_operand (value_alone next)) (left c.args.self.now) (c.if-is_next.ensures.0 refl))
-    (c.in_err-token.ensures.reads (behind_value l next)) c.from_residual.ensures.1
-
-pub value-returns-in_err-elements-clause-reads : goal.value-returns-in_err-elements-clause-reads
-value-returns-in_err-elements-clause-reads t c = λ next.
-    let l = c.args.level in
-    then_fails (optional_some opening_brace l another (behind_value l next) (expr 5 false l an_operand (value_alone next)) (left c.args.self.now) (c.if-is_next.ensures.0 refl)
-    ∙ (c.in_ok-token.ensures.reads (behind_value l next)).by)
-    (c.in_err-elements.ensures.reads (value_braces next c.in_ok-token.token.place)) c.from_residual-in_err-elements.ensures.1
+    (c.in_err-place.ensures.reads (value_braces next)) c.from_residual.ensures.1
 
 pub value-returns-then-is_next-clause-reads : goal.value-returns-then-is_next-clause-reads
 value-returns-then-is_next-clause-reads t c = λ next.
     let l = c.args.level in
     record {
       by = optional_some opening_brace l another (behind_value l next) (expr 5 false l an_operand (value_alone next)) (left c.args.self.now) (c.if-is_next.ensures.0 refl)
-          ∙ (c.in_ok-token.ensures.reads (behind_value l next)).by
-          ∙ (c.in_ok-elements.ensures.reads (value_braces next c.in_ok-token.token.place)).by
-          ∙ ap (λ v. run 250 (next v) (left c.elements.new.self)) (sym c.braced_value.ensures.value);
+          ∙ (c.in_ok-place.ensures.reads (value_braces next)).by
+          ∙ ap (λ v. run 250 (next v) (left c.braced.new.self)) (sym c.braced_value.ensures.value);
     }
 
 pub value-returns-in_err-expr-clause-reads : goal.value-returns-in_err-expr-clause-reads
@@ -781,19 +739,12 @@ value-returns-clause-reads t c = λ next.
 
 -- elements of a literal of a named type
 
-pub named_literal-returns-in_err-elements-clause-reads : goal.named_literal-returns-in_err-elements-clause-reads
-named_literal-returns-in_err-elements-clause-reads t c = λ a next named.
-    let l = c.args.level in
-    then_fails (c.in_ok-token.ensures.reads (behind_brace l a next)).by
-    (c.in_err-elements.ensures.reads (typed_elements l next a c.in_ok-token.token.place)) c.from_residual-in_err-elements.ensures.1
+pub named_literal-literal-requires : goal.named_literal-literal-requires
+named_literal-literal-requires t c = (omega arith, (omega arith, λ h. omega (arith, h, c.in-Some.ensures.height c.in-Some.a refl)))
 
 pub named_literal-returns-in-Some-clause-reads : goal.named_literal-returns-in-Some-clause-reads
 named_literal-returns-in-Some-clause-reads t c = λ a next named.
     let l = c.args.level in
-    let q = c.in_ok-token.token.place in
-    let es = map element_of c.in_ok-elements.elements.items.items in
     let is : Some (type_of c.in-Some.a.type_expr) ≡ Some a = c.in-Some.ensures.expr ∙ named in
     let same : type_of c.in-Some.a.type_expr ≡ a = cc (is) in
-    then_makes c.composite_lit.result (typed_elements l next a q es)
-    ((c.in_ok-token.ensures.reads (behind_brace l a next)).by ∙ (c.in_ok-elements.ensures.reads (typed_elements l next a q)).by)
-    (IfOk-weaker c.composite_lit.result _ _ (λ e h. ap next (h ∙ ap (λ b. trees.composite_lit (type_place b) b q (trees.pack_elements es)) same)) c.composite_lit.ensures.expr) c.composite_lit.ensures.err
+    then_reads c.literal.result (ap (λ b. run 250 (token opening_brace (l + 1) another (behind_brace l b next)) (left c.args.self.now)) (sym same)) (c.literal.ensures.reads next)

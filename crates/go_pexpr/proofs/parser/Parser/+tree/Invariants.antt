@@ -8,34 +8,34 @@ use Rattle.go_pexpr.proofs.OperatorTurns.{followed}
 use Rattle.go_pexpr.proofs.parser.Parser.+tree.Given as goal
 
 abbrev pub decreases-array_type : goal.decreases-array_type
-decreases-array_type l = 16 * size l.self.now
+decreases-array_type l = 16 * size l.self.now + 2
 
 abbrev pub decreases-binary : goal.decreases-binary
-decreases-binary l = 16 * size l.self.now + 3 + l.limit
+decreases-binary l = 16 * size l.self.now + 5 + l.limit
 
 abbrev pub decreases-fields : goal.decreases-fields
-decreases-fields l = 16 * size l.self.now
+decreases-fields l = 16 * size l.self.now + 1
 
 abbrev pub decreases-operand : goal.decreases-operand
-decreases-operand l = 16 * size l.self.now + 1
+decreases-operand l = 16 * size l.self.now + 3
 
 abbrev pub decreases-parenthesized : goal.decreases-parenthesized
-decreases-parenthesized l = 16 * size l.self.now
+decreases-parenthesized l = 16 * size l.self.now + 2
 
 abbrev pub decreases-struct_type : goal.decreases-struct_type
 decreases-struct_type l = 16 * size l.self.now
 
 abbrev pub decreases-type_at : goal.decreases-type_at
-decreases-type_at l = 16 * size l.self.now + 1
+decreases-type_at l = 16 * size l.self.now + 3
 
 abbrev pub decreases-typed : goal.decreases-typed
-decreases-typed l = 16 * size l.self.now + 1
+decreases-typed l = 16 * size l.self.now + 3
 
 abbrev pub decreases-converted : goal.decreases-converted
-decreases-converted l = 16 * size l.self.now
+decreases-converted l = 16 * size l.self.now + 1
 
 abbrev pub decreases-unary : goal.decreases-unary
-decreases-unary l = 16 * size l.self.now + 2
+decreases-unary l = 16 * size l.self.now + 4
 
 abbrev pub invariant-binary-operators : goal.invariant-binary-operators
 invariant-binary-operators l = record {
@@ -61,16 +61,16 @@ abbrev pub decreases-fields-fields : goal.decreases-fields-fields
 decreases-fields-fields l = size l.self
 
 abbrev pub decreases-suffixes : goal.decreases-suffixes
-decreases-suffixes l = 16 * size l.self.now + 1
+decreases-suffixes l = 16 * size l.self.now + 3
 
 abbrev pub decreases-indexed : goal.decreases-indexed
-decreases-indexed l = 16 * size l.self.now
+decreases-indexed l = 16 * size l.self.now + 2
 
 abbrev pub decreases-called : goal.decreases-called
-decreases-called l = 16 * size l.self.now
+decreases-called l = 16 * size l.self.now + 2
 
 abbrev pub decreases-arguments : goal.decreases-arguments
-decreases-arguments l = 16 * size l.self.now + 10
+decreases-arguments l = 16 * size l.self.now + 12
 
 abbrev pub invariant-suffixes-suffixes : goal.invariant-suffixes-suffixes
 invariant-suffixes-suffixes l = record {
@@ -94,16 +94,16 @@ abbrev pub decreases-arguments-arguments : goal.decreases-arguments-arguments
 decreases-arguments-arguments l = size l.self
 
 abbrev pub decreases-named_literal : goal.decreases-named_literal
-decreases-named_literal l = 16 * size l.self.now
+decreases-named_literal l = 16 * size l.self.now + 2
 
 abbrev pub decreases-elements : goal.decreases-elements
-decreases-elements l = 16 * size l.self.now + 11
+decreases-elements l = 16 * size l.self.now + 13
 
 abbrev pub decreases-element : goal.decreases-element
-decreases-element l = 16 * size l.self.now + 10
+decreases-element l = 16 * size l.self.now + 12
 
 abbrev pub decreases-value : goal.decreases-value
-decreases-value l = 16 * size l.self.now + 9
+decreases-value l = 16 * size l.self.now + 11
 
 abbrev pub invariant-elements-elements : goal.invariant-elements-elements
 invariant-elements-elements l = record {
@@ -115,3 +115,27 @@ invariant-elements-elements l = record {
 
 abbrev pub decreases-elements-elements : goal.decreases-elements-elements
 decreases-elements-elements l = size l.self
+
+abbrev pub decreases-field : goal.decreases-field
+decreases-field l = 16 * size l.self.now
+
+abbrev pub decreases-right : goal.decreases-right
+decreases-right l = 16 * size l.self.now
+
+abbrev pub decreases-enclosed : goal.decreases-enclosed
+decreases-enclosed l = 16 * size l.self.now + 1
+
+abbrev pub decreases-opened : goal.decreases-opened
+decreases-opened l = 16 * size l.self.now
+
+abbrev pub decreases-literal : goal.decreases-literal
+decreases-literal l = 16 * size l.self.now + 1
+
+abbrev pub decreases-braced : goal.decreases-braced
+decreases-braced l = 16 * size l.self.now
+
+abbrev pub decreases-passed : goal.decreases-passed
+decreases-passed l = 16 * size l.self.now
+
+abbrev pub decreases-keyed : goal.decreases-keyed
+decreases-keyed l = 16 * size l.self.now

@@ -5,7 +5,7 @@ use Rattle.go_ast.specs.Trees as trees
 use Rattle.go_ast.specs.Grammar.{Lexeme, name_of, period}
 use Rattle.go_ast.specs.Machine.{State, token, behind_name, run}
 use Rattle.go_pexpr.specs.Reads.{left}
-use Rattle.go_pexpr.proofs.Reading.{then_fails}
+use Rattle.go_pexpr.proofs.Reading.{then_fails, was_read, was_failing}
 use Rattle.go_pexpr.proofs.Steps.{optional_some, optional_none}
 use Rattle.go_pexpr.proofs.parser.Parser.named_type.Goals as goal
 
@@ -28,22 +28,13 @@ returns-then-not-is_next-clause-reads c = λ next.
           ∙ ap (λ a. run 250 (next a) (left c.name.new.self)) (sym (c.named.ensures.expr ∙ ap (λ p. trees.named p n) c.place-place.ensures));
     }
 
-pub returns-in_err-expect-clause-reads : goal.returns-in_err-expect-clause-reads
-returns-in_err-expect-clause-reads c = λ next.
+pub returns-in_err-package-clause-reads : goal.returns-in_err-package-clause-reads
+returns-in_err-package-clause-reads c = λ next.
     let n = c.in_ok-name.name in
     then_fails (
     (c.in_ok-name.ensures.reads (behind_name next)).by
     ∙ optional_some period 0 another (behind_period next n) (alone next n) (left c.name.new.self) (c.if-not-is_next.ensures.0 refl))
-    (c.in_err-expect.ensures.reads (behind_period next n)) c.from_residual-in_err-expect.ensures.1
-
-pub returns-in_err-selected-clause-reads : goal.returns-in_err-selected-clause-reads
-returns-in_err-selected-clause-reads c = λ next.
-    let n = c.in_ok-name.name in
-    then_fails (
-    (c.in_ok-name.ensures.reads (behind_name next)).by
-    ∙ optional_some period 0 another (behind_period next n) (alone next n) (left c.name.new.self) (c.if-not-is_next.ensures.0 refl)
-    ∙ (c.in_ok-expect.ensures.reads (behind_period next n)).by)
-    (c.in_err-selected.ensures.reads (λ s. next (trees.qualified n.place n (name_of s)))) c.from_residual-in_err-selected.ensures.1
+    (was_failing (c.selected_name.ensures.reads (λ s. next (trees.qualified n.place n (name_of s)))) c.in_err-package.ensures.err) c.from_residual-in_err-package.ensures.1
 
 pub returns-clause-reads : goal.returns-clause-reads
 returns-clause-reads c = λ next.
@@ -51,7 +42,7 @@ returns-clause-reads c = λ next.
     record {
       by = (c.in_ok-name.ensures.reads (behind_name next)).by
           ∙ optional_some period 0 another (behind_period next n) (alone next n) (left c.name.new.self) (c.if-not-is_next.ensures.0 refl)
-          ∙ (c.in_ok-expect.ensures.reads (behind_period next n)).by
-          ∙ (c.in_ok-selected.ensures.reads (λ s. next (trees.qualified n.place n (name_of s)))).by
-          ∙ ap (λ a. run 250 (next a) (left c.name-3.new.self)) (sym (c.qualified.ensures.expr ∙ ap (λ p. trees.qualified p n c.in_ok-selected.selected) c.place-place.ensures));
+          ∙ was_read (c.selected_name.ensures.reads (λ s. next (trees.qualified n.place n (name_of s)))) c.in_ok-package.ensures.read
+          ∙ ap (λ a. run 250 (next a) (left c.selected_name.new.self)) (sym (c.qualified.ensures.expr
+          ∙ ap (λ m. trees.qualified c.place-place.result m c.in_ok-package.selected) c.in_ok-package.ensures.first ∙ ap (λ p. trees.qualified p n c.in_ok-package.selected) c.place-place.ensures));
     }

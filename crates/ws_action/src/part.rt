@@ -1,0 +1,123 @@
+//! What actions are made of besides the edition and the directory: files and imports, each a text with a name.
+ghost use Rattle.std.specs.Prelude.{◌≡◌, ℕ, List, ◌++◌, ◌<◌, ◌^◌, length, map, OnOk};
+ghost use Rattle.std.specs.List.{All, flat_map};
+ghost use Rattle.std.specs.Cmp.Lexicographic.{slice_cmp};
+ghost use Rattle.ws_action.specs.Actions.{Named, ascends, list_text, AreSized, named_cmp};
+
+use go_ast::parsed::Parsed;
+use go_export::field::{digest, push_field, push_number};
+use go_export::summary::Summary;
+use std::alloc::AllocError;
+use std::cmp::Ordering;
+use std::sync::Arc;
+
+/// A text with a name.
+pub(crate) trait Part {
+    ghost named: { Self → Named };
+
+    /// Its name, or its path.
+    fn part_name(&self) -> &str
+        ensures { result.now ≡ (named self.now).0 };
+
+    /// The bytes of its text.
+    fn part_text(&self) -> &[u8]
+        ensures { result.now ≡ (named self.now).1 };
+}
+
+impl Part for Parsed {
+    ghost use Rattle.ws_action.specs.Actions.{source_of};
+
+    ghost named = { source_of };
+
+    fn part_name(&self) -> &str {
+        self.name()
+    }
+
+    fn part_text(&self) -> &[u8] {
+        self.text().as_str().as_bytes()
+    }
+}
+
+impl Part for Arc<Summary> {
+    ghost use Rattle.std.specs.Arc.{arc_value};
+    ghost use Rattle.ws_action.specs.Actions.{import_of};
+
+    ghost named = { λ s. import_of (arc_value s) };
+
+    fn part_name(&self) -> &str {
+        self.path()
+    }
+
+    fn part_text(&self) -> &[u8] {
+        self.text()
+    }
+}
+
+/// Whether each name is below the next one, by bytes.
+pub(crate) fn ascend<P: Part>(parts: &[P]) -> bool
+    ensures { result ≡ ascends (map P.named parts.now) }
+{
+    let Some((first, rest)) = parts.split_first() else {
+        return true;
+    };
+    let mut last = first;
+    for part in rest {
+        if last.part_name() >= part.part_name() {
+            return false;
+        }
+        last = part;
+    }
+    true
+}
+
+/// Reads how long each name is: that the lengths fit 64 bits is known of what is read.
+pub(crate) fn measure<P: Part>(parts: &[P])
+    ensures { AreSized (map P.named parts.now) }
+{
+    let _ = parts.len();
+    for part in parts {
+        let _ = part.part_name().len();
+    }
+}
+
+/// Appends how many parts there are, and of each the name and the digest of its text.
+pub(crate) fn push_parts<P: Part>(text: &mut Vec<u8>, parts: &[P]) -> Result<(), AllocError>
+    ensures { OnOk result (text.new.items ≡ text.old.items ++ list_text (map P.named parts.now)) }
+{
+    push_number(text, parts.len() as u64)?;
+    for part in parts {
+        push_field(text, part.part_name().as_bytes())?;
+        push_field(text, &digest(part.part_text()))?;
+    }
+    Ok(())
+}
+
+/// By name, then text.
+fn cmp_part<P: Part>(part: &P, other: &P) -> Ordering
+    ensures { result ≡ named_cmp (P.named part.now) (P.named other.now) }
+{
+    match part.part_name().cmp(other.part_name()) {
+        Ordering::Equal => part.part_text().cmp(other.part_text()),
+        unequal => unequal,
+    }
+}
+
+/// As lists, each by name and text.
+pub(crate) fn cmp_parts<P: Part>(parts: &[P], others: &[P]) -> Ordering
+    ensures { result ≡ slice_cmp named_cmp (map P.named parts.now) (map P.named others.now) }
+{
+    for (i, part) in parts.iter().enumerate() {
+        let Some(other) = others.get(i) else {
+            return Ordering::Greater;
+        };
+        match cmp_part(part, other) {
+            Ordering::Equal => {}
+            unequal => return unequal,
+        }
+    }
+    if parts.len() < others.len() {
+        Ordering::Less
+    } else {
+        Ordering::Equal
+    }
+}

@@ -1,0 +1,128 @@
+-- How many jobs run.
+use Rattle.std.proofs.Common.{◌≡◌, ℕ, zero, suc, ◌+◌, ◌<◌, ◌≤◌, Bool, true, false, ◌&&◌, cond, List, [], ◌∷◌, length, get_or, count_by, map, replicate, Option, Some, None, refl, sym, ap, ◌∙◌, inl, inr, arith}
+use Rattle.std.specs.Prelude.{if◌then◌else◌}
+use Rattle.std.specs.List.{slice_get}
+use Rattle.std.proofs.Math.ListN.{set}
+use Rattle.std.proofs.lemmas.List.Sums.{sum_by-cons, sum_by-set}
+use Rattle.std.proofs.lemmas.Bool.{cases_lt}
+use Rattle.std.proofs.lemmas.Slice.Eq.{bytes_eq-Decides}
+use Rattle.ws_action.specs.Actions.{Action, action_id}
+use Rattle.ws_board.specs.declared.work.Status.{Status}
+use Rattle.ws_board.specs.declared.work.Status.TheVariants.{Waiting, Running, Blocked, Done}
+use Rattle.ws_board.specs.Work.{Job}
+use Rattle.ws_board.specs.Machine.{is_open, is_running, is_waiting, is_active, status_at, has_id, has_action_id, Verdict, Wait, Stop, Act, verdict, Follows, IsPlaced, Stands, Carried, mark, IsMarked, IsRunBy}
+use Rattle.ws_board.proofs.Carry.{past_end, waiting_or, carried_agrees}
+
+cond_le : (a b : Bool) → (a ≡ true → b ≡ true) → cond a 1 0 ≤ cond b 1 0
+cond_le true true h = omega arith
+cond_le true false h = absurd (let e : false ≡ true = h refl in cc)
+cond_le false true h = omega arith
+cond_le false false h = omega arith
+
+-- where what passes passed before, no more pass
+pub at_most : (p : Status → Bool) (xs ys : List Status) → length ys ≡ length xs → ((k : ℕ) → p (status_at ys k) ≡ true → p (status_at xs k) ≡ true) → count_by p ys ≤ count_by p xs
+at_most p [] [] len h = omega arith
+at_most p [] (y ∷ ys) len h = absurd (omega (arith, len))
+at_most p (x ∷ xs) [] len h = omega arith
+at_most p (x ∷ xs) (y ∷ ys) len h =
+    omega (arith, sum_by-cons (λ s. cond (p s) 1 0) x xs, sum_by-cons (λ s. cond (p s) 1 0) y ys, cond_le (p y) (p x) (h 0), at_most p xs ys (omega (arith, len)) (λ k. h (suc k)))
+
+-- and less, where one stopped
+pub less : (p : Status → Bool) (xs ys : List Status) (j : ℕ) → length ys ≡ length xs → ((k : ℕ) → p (status_at ys k) ≡ true → p (status_at xs k) ≡ true) → j < length xs → p (status_at xs j) ≡ true → p (status_at ys j) ≡ false → count_by p ys + 1 ≤ count_by p xs
+less p [] ys j len h inside was is = absurd (omega (arith, inside))
+less p (x ∷ xs) [] j len h inside was is = absurd (omega (arith, len))
+less p (x ∷ xs) (y ∷ ys) zero len h inside was is =
+    let a : ◌≡◌ {A = ℕ} (cond (p x) 1 0) 1 = ap (λ b. cond b 1 0) was in
+    let b : ◌≡◌ {A = ℕ} (cond (p y) 1 0) 0 = ap (λ b. cond b 1 0) is in
+    omega (arith, sum_by-cons (λ s. cond (p s) 1 0) x xs, sum_by-cons (λ s. cond (p s) 1 0) y ys, a, b, at_most p xs ys (omega (arith, len)) (λ k. h (suc k)))
+less p (x ∷ xs) (y ∷ ys) (suc j) len h inside was is =
+    omega (arith, sum_by-cons (λ s. cond (p s) 1 0) x xs, sum_by-cons (λ s. cond (p s) 1 0) y ys, cond_le (p y) (p x) (h 0), less p xs ys j (omega (arith, len)) (λ k. h (suc k)) (omega (arith, inside)) was is)
+
+pub inside_of : (xs : List Status) (k : ℕ) (s : Status) → status_at xs k ≡ s → is_active s ≡ true → k < length xs
+inside_of xs k s e a = elim (cases_lt k (length xs)) [
+  | inl lt ↦ lt
+  | inr le ↦ (let c : false ≡ true = ap is_active (sym (past_end xs k le) ∙ e) ∙ a in absurd (cc))
+]
+
+-- ---- what stands so doesn't run
+
+placed_rests : (held : Option Action) (s : Status) → IsPlaced held s → is_running s ≡ false
+placed_rests None s h = ap is_running h
+placed_rests (Some b) s h = ap is_running h.2
+
+follows_rests : (held : List ℕ → Option Action) (v : Verdict) (s : Status) → Follows held v s → is_running s ≡ false
+follows_rests held Wait s h = ap is_running h
+follows_rests held Stop s h = ap is_running h
+follows_rests held (Act a) s h = placed_rests (held (action_id a)) s h
+
+pub stands_rests : (held : List ℕ → Option Action) (f : ℕ → Status) (o : Option Job) (s : Status) → Stands held f o s → is_running s ≡ false
+stands_rests held f None s h = ap is_running h
+stands_rests held f (Some job) s h = follows_rests held (verdict f job) s h
+
+pub carried_ran : (jobs : List Job) (held : List ℕ → Option Action) (old new : List Status) → Carried jobs held old new → (k : ℕ) → is_running (status_at new k) ≡ true → is_running (status_at old k) ≡ true
+carried_ran jobs held old new c k e = elim (waiting_or (status_at old k)) [
+  | inl w ↦ (let x : true ≡ false = sym e ∙ stands_rests held (status_at new) (slice_get jobs k) (status_at new k) (c.waiting k w) in absurd (cc))
+  | inr w ↦ ap is_running (sym (c.others k w)) ∙ e
+]
+
+mark_ran1 : (b : Bool) (good : Bool) (s : Status) → is_running (if b then Done good else s) ≡ true → is_running s ≡ true
+mark_ran1 true good s h = let c : false ≡ true = h in absurd (cc)
+mark_ran1 false good s h = h
+
+pub mark_ran : (jobs : List Job) (id : List ℕ) (good : Bool) (old new : List Status) → IsMarked jobs id good old new → (k : ℕ) → is_running (status_at new k) ≡ true → is_running (status_at old k) ≡ true
+mark_ran jobs id good old new m k e = mark_ran1 (is_active (status_at old k) && has_id jobs id k) good (status_at old k) (ap is_running (sym (m.each k)) ∙ e)
+
+pub has_its_id : (jobs : List Job) (id : List ℕ) (k : ℕ) (a : Action) → Rattle.ws_board.specs.Machine.action_at jobs k ≡ Some a → action_id a ≡ id → has_id jobs id k ≡ true
+has_its_id jobs id k a its same = ap (has_action_id id) its ∙ (bytes_eq-Decides (action_id a) id).1 same
+
+pub marked_done : (jobs : List Job) (id : List ℕ) (good : Bool) (old new : List Status) → IsMarked jobs id good old new → (hand k : ℕ) (a : Action) → IsRunBy jobs old hand k a → action_id a ≡ id → status_at new k ≡ Done good
+marked_done jobs id good old new m hand k a run same =
+    m.each k ∙ ap (mark jobs id good k) run.runs ∙ ap (λ b. if b then Done good else Running hand) (has_its_id jobs id k a run.its same)
+
+pub finished_done : (jobs : List Job) (held : List ℕ → Option Action) (id : List ℕ) (good : Bool) (old mid new : List Status) → IsMarked jobs id good old mid → Carried jobs held mid new → (hand k : ℕ) (a : Action) → IsRunBy jobs old hand k a → action_id a ≡ id → status_at new k ≡ Done good
+finished_done jobs held id good old mid new m c hand k a run same =
+    let done : status_at mid k ≡ Done good = marked_done jobs id good old mid m hand k a run same in
+    carried_agrees jobs held mid new c k (ap is_open done) ∙ done
+
+pub finish_runs : (jobs : List Job) (held : List ℕ → Option Action) (id : List ℕ) (good : Bool) (old mid new : List Status) → IsMarked jobs id good old mid → Carried jobs held mid new → (hand k : ℕ) (a : Action) → IsRunBy jobs old hand k a → action_id a ≡ id → count_by is_running new + 1 ≤ count_by is_running old
+finish_runs jobs held id good old mid new m c hand k a run same =
+    less is_running old new k (c.same_length ∙ m.same_length) (λ i e. mark_ran jobs id good old mid m i (carried_ran jobs held mid new c i e)) (inside_of old k (Running hand) run.runs refl) (ap is_running run.runs)
+    (ap is_running (finished_done jobs held id good old mid new m c hand k a run same))
+
+-- ---- one job is written
+
+pub set_runs : (xs : List Status) (k : ℕ) (was now : Status) → status_at xs k ≡ was → k < length xs → count_by is_running (set xs k now) + cond (is_running was) 1 0 ≡ count_by is_running xs + cond (is_running now) 1 0
+set_runs xs k was now e inside =
+    let s = sum_by-set (λ s. cond (is_running s) 1 0) xs k now Blocked inside in
+    let a : ◌≡◌ {A = ℕ} (cond (is_running (get_or xs k Blocked)) 1 0) (cond (is_running was) 1 0) = ap (λ s. cond (is_running s) 1 0) e in
+    omega (arith, s, a)
+
+-- ---- at first
+
+none_runs : (jobs : List Job) → count_by is_running (map (λ job. Waiting) jobs) ≡ 0
+none_runs [] = refl
+none_runs (x ∷ xs) = omega (arith, sum_by-cons (λ s. cond (is_running s) 1 0) Waiting (map (λ job. Waiting) xs), none_runs xs)
+
+pub all_replicated : (jobs : List Job) → replicate (length jobs) Waiting ≡ map (λ job. Waiting) jobs
+all_replicated [] = refl
+all_replicated (x ∷ xs) = ap (λ (l : List Status). Waiting ∷ l) (all_replicated xs)
+
+pub opening_rests : (jobs : List Job) (held : List ℕ → Option Action) (new : List Status) → Carried jobs held (map (λ job. Waiting) jobs) new → count_by is_running new ≡ 0
+opening_rests jobs held new c =
+    let le = at_most is_running (map (λ job. Waiting) jobs) new c.same_length (carried_ran jobs held (map (λ job. Waiting) jobs) new c) in
+    omega (arith, le, none_runs jobs)
+
+-- where none runs, the count is 0
+pub none_counted : (xs : List Status) → ((k : ℕ) → is_running (status_at xs k) ≡ false) → count_by is_running xs ≡ 0
+none_counted [] h = refl
+none_counted (x ∷ xs) h =
+    let a : ◌≡◌ {A = ℕ} (cond (is_running x) 1 0) 0 = ap (λ b. cond b 1 0) (h 0) in
+    omega (arith, sum_by-cons (λ s. cond (is_running s) 1 0) x xs, a, none_counted xs (λ k. h (suc k)))
+
+-- where the count is 0, none runs
+pub counted_none : (xs : List Status) → count_by is_running xs ≡ 0 → (k : ℕ) → is_running (status_at xs k) ≡ true → ⊥
+counted_none [] h k e = cc
+counted_none (x ∷ xs) h zero e =
+    let a : ◌≡◌ {A = ℕ} (cond (is_running x) 1 0) 1 = ap (λ b. cond b 1 0) e in
+    absurd (omega (arith, sum_by-cons (λ s. cond (is_running s) 1 0) x xs, a, h))
+counted_none (x ∷ xs) h (suc k) e = counted_none xs (omega (arith, sum_by-cons (λ s. cond (is_running s) 1 0) x xs, h)) k e

@@ -1,0 +1,113 @@
+-- Directories and their numbers: what leads from one to another.
+use Rattle.std.proofs.Common.{◌≡◌, ◌⊎◌, ℕ, List, [], ◌∷◌, Option, Some, None, refl, sym, ap, ◌∙◌, subst, inl, inr}
+use Rattle.std.specs.List.{AllZip, Contains, slice_get}
+use Rattle.std.specs.List.Sorted.{IsStrictlySortedBy}
+use Rattle.ws_version.specs.Writes.{path_cmp}
+use Rattle.ws_version.proofs.Writes.{path_cmp_total}
+use Rattle.ws_reach.specs.Reach.{Walks, Reaches}
+use Rattle.ws_reach.proofs.Reached.{reaches_itself, reaches_from, get_contains, contains_get}
+use Rattle.ws_reach.proofs.Closure.{IsOneOf}
+use Rattle.ws_graph.specs.Packages.{package_files}
+use Rattle.ws_graph.specs.Plan.{Planned, NoFiles, Faulty, Sound, IsPlan}
+use Rattle.ws_graph.specs.BuildPlan.{Sources, Import, HasImports, HasImport, HasNoFiles, Imports}
+use Rattle.ws_graph.specs.Discovery.{IsNumber, IsTarget, AreTargets, AreTargetsOf, HasNumber, Leads}
+use Rattle.ws_graph.specs.declared.target.Target.{Target}
+use Rattle.ws_graph.proofs.OnePlan.{one_plan}
+use Rattle.ws_graph.proofs.OneBuildPlan.{same_imports}
+use Rattle.ws_graph.proofs.Sorted.{one_of, contained, one_place}
+
+-- ---- two lists, place by place
+
+pub zip_to : {A B : Type 0} (R : A → B → Type 0) (xs : List A) (ys : List B) → AllZip R xs ys → (x : A) → IsOneOf x xs → (y : B) × IsOneOf y ys × R x y
+zip_to R [] [] z x one = absurd one
+zip_to R [] (y ∷ ys) z x one = absurd one
+zip_to R (x ∷ xs) [] z w one = absurd z
+zip_to R (x ∷ xs) (y ∷ ys) z w (inl e) = (y, inl refl, subst (λ v. R v y) (sym e) z.0)
+zip_to R (x ∷ xs) (y ∷ ys) z w (inr one) = let h = zip_to R xs ys z.1 w one in (h.0, inr h.1, h.2)
+
+pub zip_from : {A B : Type 0} (R : A → B → Type 0) (xs : List A) (ys : List B) → AllZip R xs ys → (y : B) → IsOneOf y ys → (x : A) × IsOneOf x xs × R x y
+zip_from R [] [] z y one = absurd one
+zip_from R [] (y ∷ ys) z w one = absurd z
+zip_from R (x ∷ xs) [] z w one = absurd one
+zip_from R (x ∷ xs) (y ∷ ys) z w (inl e) = (x, inl refl, subst (R x) (sym e) z.0)
+zip_from R (x ∷ xs) (y ∷ ys) z w (inr one) = let h = zip_from R xs ys z.1 w one in (h.0, inr h.1, h.2)
+
+-- ---- walks over numbers and over paths
+
+same_some : {A : Type 0} (x y : A) → Some x ≡ Some y → x ≡ y
+same_some x y e = cc
+
+pub lead_paths : (sources : Sources) (all : List (List ℕ)) (steps : List ℕ) (p q : ℕ) (a b : List ℕ) → Walks (Leads sources all) p steps q → slice_get all p ≡ Some a → slice_get all q ≡ Some b → Reaches (Imports sources) a b
+lead_paths sources all [] p q a b w at_p at_q = ([], same_some a b (sym at_p ∙ ap (slice_get all) w ∙ at_q))
+lead_paths sources all (r ∷ rs) p q a b (first, rest) at_p at_q =
+    let from : first.from ≡ a = same_some first.from a (sym first.at_from ∙ at_p) in
+    reaches_from (Imports sources) a first.to b (subst (λ x. Imports sources x first.to) from first.imports) (lead_paths sources all rs r q first.to b rest first.at_to at_q)
+
+-- what directories of the list import is in the list
+abbrev pub IsClosed : Sources → List (List ℕ) → Type 0
+IsClosed sources all = (a b : List ℕ) → Contains all a → Imports sources a b → Contains all b
+
+pub lead_numbers : (sources : Sources) (all : List (List ℕ)) → IsClosed sources all → (steps : List (List ℕ)) (p : ℕ) (a b : List ℕ) → Walks (Imports sources) a steps b → slice_get all p ≡ Some a → (q : ℕ) × (slice_get all q ≡ Some b) × Reaches (Leads sources all) p q
+lead_numbers sources all closed [] p a b w at_p = (p, at_p ∙ ap Some w, reaches_itself (Leads sources all) p)
+lead_numbers sources all closed (c ∷ cs) p a b (first, rest) at_p =
+    let there = closed a c (get_contains all p a at_p) first in
+    let at_c = contains_get all c there in
+    let more = lead_numbers sources all closed cs there.0 c b rest at_c in
+    let one : Leads sources all p there.0 = record { from = a; to = c; at_from = at_p; at_to = at_c; imports = first } in
+    (more.0, more.1, reaches_from (Leads sources all) p there.0 more.0 one more.2)
+
+-- ---- the numbers of targets
+
+pub number_cases : (all : List (List ℕ)) (path : List ℕ) (number : Option ℕ) → IsNumber all path number → (number ≡ None × ¬ (Contains all path)) ⊎ ((k : ℕ) × (number ≡ Some k) × (slice_get all k ≡ Some path))
+number_cases all path None h = inl (refl, h)
+number_cases all path (Some k) h = inr (k, refl, h)
+
+pub number_at : (all : List (List ℕ)) (path : List ℕ) (number : Option ℕ) (k : ℕ) → IsNumber all path number → number ≡ Some k → slice_get all k ≡ Some path
+number_at all path number k h e = subst (IsNumber all path) e h
+
+-- which of the imported paths are in the list: those that have files
+pub record HasImported (sources : Sources) (all : List (List ℕ)) (p : List ℕ) : Type 0 where
+  pub filed : (q : List ℕ) → HasImport sources p q → Contains all q → ¬ (HasNoFiles sources q)
+  pub listed : (q : List ℕ) → HasImport sources p q → ¬ (HasNoFiles sources q) → Contains all q
+
+abbrev pub ToNumber : Sources → List (List ℕ) → List ℕ → ℕ → Type 0
+ToNumber sources all p k = (q : List ℕ) × (slice_get all k ≡ Some q) × Imports sources p q
+
+pub no_number : (targets : List Target) (k : ℕ) → targets ≡ [] → HasNumber targets k → ⊥
+no_number targets k e (t, c, n) = one_of [] t (subst (λ (l : List Target). Contains l t) e c)
+
+number_to : (sources : Sources) (all : List (List ℕ)) (p : List ℕ) (imports : List Import) (targets : List Target) → HasImports sources p imports → AreTargets all imports targets → HasImported sources all p → (k : ℕ) → HasNumber targets k → ToNumber sources all p k
+number_to sources all p imports targets has zip known k (t, c, n) =
+    let i = zip_from (IsTarget all) imports targets zip t (one_of targets t c) in
+    let at = number_at all i.0.spec.path t.number k i.2.number n in
+    let import : HasImport sources p i.0.spec.path = record { imports = imports; has = has; import = i.0; among = contained imports i.0 i.1; path = refl } in
+    (i.0.spec.path, at, record { import = import; files = known.filed i.0.spec.path import (get_contains all k i.0.spec.path at) })
+
+to_number : (sources : Sources) (all : List (List ℕ)) (p : List ℕ) (imports : List Import) (targets : List Target) → HasImports sources p imports → AreTargets all imports targets → IsStrictlySortedBy path_cmp all → (k : ℕ) → ToNumber sources all p k → HasNumber targets k
+to_number sources all p imports targets has zip sorted k (q, at, imp) =
+    let same = same_imports sources p imp.import.imports imports imp.import.has has in
+    let import = imp.import.import in
+    let t = zip_to (IsTarget all) imports targets zip import (one_of imports import (subst (λ (l : List Import). Contains l import) same imp.import.among)) in
+    elim (number_cases all import.spec.path t.0.number t.2.number) [
+      | inl none ↦ absurd (none.1 (subst (Contains all) (sym imp.import.path) (get_contains all k q at)))
+      | inr some ↦ (
+          let there : slice_get all some.0 ≡ Some q = some.2 ∙ ap Some imp.import.path in
+          let same_place = one_place path_cmp path_cmp_total all sorted q some.0 k there at in
+          (t.0, contained targets t.0 t.1, some.1 ∙ ap Some same_place))
+    ]
+
+pub numbers_lead : (sources : Sources) (all : List (List ℕ)) (p : List ℕ) (planned : Planned) (targets : List Target) → IsPlan (package_files p sources) planned → AreTargetsOf all planned targets → IsStrictlySortedBy path_cmp all → HasImported sources all p
+    → (k : ℕ) → (HasNumber targets k → ToNumber sources all p k) × (ToNumber sources all p k → HasNumber targets k)
+numbers_lead sources all p NoFiles targets plan are sorted known k = (
+  λ h. absurd (no_number targets k are h),
+  λ h. (let imp = h.2.import in let e = one_plan (package_files p sources) NoFiles (Sound imp.has.parsed) plan imp.has.sound in cc (e)),
+)
+numbers_lead sources all p (Faulty f) targets plan are sorted known k = (
+  λ h. absurd (no_number targets k are h),
+  λ h. (let imp = h.2.import in let e = one_plan (package_files p sources) (Faulty f) (Sound imp.has.parsed) plan imp.has.sound in cc (e)),
+)
+numbers_lead sources all p (Sound parsed) targets plan are sorted known k =
+    let has : HasImports sources p are.imports = record { parsed = parsed; sound = plan; are = are.are } in (
+      number_to sources all p are.imports targets has are.targets_are known k,
+      to_number sources all p are.imports targets has are.targets_are sorted k,
+    )

@@ -1,0 +1,149 @@
+-- There is a plan of each directory's files for each set of writes.
+use Rattle.std.proofs.Common.{◌≡◌, ℕ, List, [], ◌∷◌, true, false, Bool, refl, ap, subst, inl, inr}
+use Rattle.std.specs.Prelude.{◌⊎◌}
+use Rattle.std.specs.Str.{bytes_eq}
+use Rattle.std.specs.FinMap.{entries}
+use Rattle.std.proofs.lemmas.Slice.Eq.{bytes_eq-Decides}
+use Rattle.go_text.specs.Faults.{Fault}
+use Rattle.go_text.specs.declared.fault.FaultKind.TheVariants.{PackageName}
+use Rattle.ws_version.specs.Writes.{Write}
+use Rattle.ws_register.proofs.Exists.{some_contents}
+use Rattle.ws_register.specs.Sources.{texts_of, IsSources}
+use Rattle.ws_graph.specs.Packages.{package_files}
+use Rattle.go_ast.specs.Trees.{Name, File}
+use Rattle.go_ast.specs.Parse.{Parse, Derived, Stopped, IsParse, IsPackage, IsNamed, Parsed}
+use Rattle.ws_graph.specs.Plan.{Planned, NoFiles, Faulty, Sound, AllParsed, AreParsed, AllNamed, HasOther, StopsIn, IsPlan, IsPlanOf}
+use Rattle.go_ast.proofs.Exists.{parse_exists}
+
+pub some_sources : (W : List Write) → (S : List (List ℕ × List ℕ)) × IsSources W S
+some_sources W = let g = some_contents W in (texts_of (entries g.0), (g.0, g.1, refl))
+
+-- ---- the plan of some files
+
+abbrev pub Read : List (List ℕ × List ℕ) → Type 0
+Read files = ((parsed : List Parsed) × AreParsed files parsed) ⊎ ((fault : Fault) × StopsIn files fault)
+
+read_one : (name text : List ℕ) (files : List (List ℕ × List ℕ)) (parse : Parse) → IsParse text parse → Read files → Read ((name, text) ∷ files)
+read_one name text files (Derived file) h (inl ps) =
+    let new : Parsed = record { name = name; text = text } in
+    inl (new ∷ ps.0, record { sources = ap (λ (z : List (List ℕ × List ℕ)). (name, text) ∷ z) ps.1.sources; parses = ((file, h), ps.1.parses) })
+read_one name text files (Derived file) h (inr stop) =
+    let new : Parsed = record { name = name; text = text } in
+    let s = stop.1 in
+    inr (
+      stop.0,
+      record {
+        front = new ∷ s.front;
+        name = s.name;
+        text = s.text;
+        rest = s.rest;
+        kind = s.kind;
+        place = s.place;
+        whole = ap (λ (z : List (List ℕ × List ℕ)). (name, text) ∷ z) s.whole;
+        parses = ((file, h), s.parses);
+        stops = s.stops;
+        is = s.is;
+      },
+    )
+read_one name text files (Stopped kind place) h rest =
+    inr (
+      record { file = name; place = place; kind = kind },
+      record {
+        front = [];
+        name = name;
+        text = text;
+        rest = files;
+        kind = kind;
+        place = place;
+        whole = refl;
+        parses = tt;
+        stops = h;
+        is = refl;
+      },
+    )
+
+pub read : (files : List (List ℕ × List ℕ)) → Read files
+read [] = inl ([], record { sources = refl; parses = tt })
+read (file ∷ files) = let p = parse_exists file.1 in read_one file.0 file.1 files p.0 p.1 (read files)
+
+abbrev Named : List ℕ → List Parsed → Type 0
+Named name ps = AllNamed name ps ⊎ ((other : Parsed) × HasOther name ps other)
+
+-- a text that is a file has a package name
+package_of : (text : List ℕ) (file : File) → IsParse text (Derived file) → IsPackage text file.package
+package_of text file h = (file, h, refl)
+
+named_one : (name : List ℕ) (p : Parsed) (ps : List Parsed) (file : File) → IsParse p.text (Derived file) → (b : Bool) → bytes_eq file.package.text name ≡ b → Named name ps → Named name (p ∷ ps)
+named_one name p ps file h true e n =
+    let here : IsNamed name p.text = record { clause = file.package; package_is = package_of p.text file h; same = (bytes_eq-Decides file.package.text name).0 e } in
+    among n here
+  where
+    among : Named name ps → IsNamed name p.text → Named name (p ∷ ps)
+    among (inl n) here = inl (here, n)
+    among (inr o) here = inr (
+      o.0,
+      record {
+        front = p ∷ o.1.front;
+        rest = o.1.rest;
+        whole = ap (λ (z : List Parsed). p ∷ z) o.1.whole;
+        named = (here, o.1.named);
+        differs = o.1.differs;
+      },
+    )
+named_one name p ps file h false e n = inr (
+  p,
+  record {
+    front = [];
+    rest = ps;
+    whole = refl;
+    named = tt;
+    differs = record {
+      clause = file.package;
+      package_is = package_of p.text file h;
+      other = λ q. let t = (bytes_eq-Decides file.package.text name).1 q in cc;
+    };
+  },
+)
+
+names : (name : List ℕ) (ps : List Parsed) → AllParsed ps → Named name ps
+names name [] h = inl tt
+names name (p ∷ ps) h = named_one name p ps h.0.0 h.0.1 (bytes_eq h.0.0.package.text name) refl (names name ps h.1)
+
+plan_named : (files : List (List ℕ × List ℕ)) (first : Parsed) (rest : List Parsed) (clause : Name) → IsPackage first.text clause → AreParsed files (first ∷ rest) → Named clause.text rest → (p : Planned) × IsPlan files p
+plan_named files first rest clause here a (inl n) = (Sound (first ∷ rest), record { first = first; rest = rest; clause = clause; is = refl; parses = a; package_is = here; named = n })
+plan_named files first rest clause here a (inr o) =
+    let h = o.1 in (
+      Faulty (record { file = o.0.name; place = h.differs.clause.place; kind = PackageName }),
+      inr (record {
+        first = first;
+        front = h.front;
+        other = o.0;
+        rest = h.rest;
+        clause = clause;
+        parsed = subst (λ z. AreParsed files (first ∷ z)) h.whole a;
+        package_is = here;
+        named = h.named;
+        differs = h.differs;
+        is = refl;
+      }),
+    )
+
+plan_parsed : (file : List ℕ × List ℕ) (files : List (List ℕ × List ℕ)) (parsed : List Parsed) → AreParsed (file ∷ files) parsed → (p : Planned) × IsPlan (file ∷ files) p
+plan_parsed file files [] a = let none = a.sources in cc
+plan_parsed file files (first ∷ rest) a =
+    let tree = a.parses.0.0 in
+    plan_named (file ∷ files) first rest tree.package (package_of first.text tree a.parses.0.1) a (names tree.package.text rest a.parses.1)
+
+plan_read : (file : List ℕ × List ℕ) (files : List (List ℕ × List ℕ)) → Read (file ∷ files) → (p : Planned) × IsPlan (file ∷ files) p
+plan_read file files (inl ps) = plan_parsed file files ps.0 ps.1
+plan_read file files (inr stop) = (Faulty stop.0, inl stop.1)
+
+pub some_plan : (files : List (List ℕ × List ℕ)) → (p : Planned) × IsPlan files p
+some_plan [] = (NoFiles, refl)
+some_plan (file ∷ files) = plan_read file files (read (file ∷ files))
+
+pub some_plan_of : (W : List Write) (directory : List ℕ) → (p : Planned) × IsPlanOf W directory p
+some_plan_of W directory =
+    let s = some_sources W in
+    let p = some_plan (package_files directory s.0) in
+    (p.0, (s.0, s.1, p.1))

@@ -1,0 +1,153 @@
+-- The plan of a build: each directory that its target reaches by imports, with its files or the fault that stands in the way.
+-- The definitions speak of sources, each a path and a text; the last one of the sources of a set of writes.
+use Rattle.std.specs.Prelude.{◌≡◌, ◌⊎◌, ◌↔◌, ◌<◌, ℕ, Bool, not, List, [], ◌∷◌, ◌++◌, map, Some, codes}
+use Rattle.std.specs.List.{Contains, filter, slice_get}
+use Rattle.std.specs.List.Sorted.{IsStrictlySortedBy, IsStrictlyIncreasing}
+use Rattle.std.specs.Str.{bytes_eq}
+use Rattle.go_text.specs.Faults.{Fault}
+use Rattle.go_text.specs.declared.fault.FaultKind.{FaultKind}
+use Rattle.go_text.specs.declared.fault.FaultKind.TheVariants.{NoImport, Cycle, Program}
+use Rattle.go_ast.specs.Trees.{ImportSpec, File}
+use Rattle.go_ast.specs.Parse.{Parsed, Derived, IsParse, IsNamed}
+use Rattle.ws_reach.specs.Reach as reach
+use Rattle.ws_version.specs.Writes.{Write, path_cmp}
+use Rattle.ws_register.specs.Sources.{IsSources}
+use Rattle.ws_graph.specs.Packages.{package_files}
+use Rattle.ws_graph.specs.Plan.{Planned, NoFiles, Faulty, Sound, AreParsed, IsPlan}
+
+-- path and text of each
+abbrev pub Sources : Type 0
+Sources = List (List ℕ × List ℕ)
+
+-- ---- imports
+
+-- an import, and the name of the file that it is written in
+pub record Import : Type 0 where
+  pub file : List ℕ
+  pub spec : ImportSpec
+
+-- the built-in package `fmt` is no directory
+abbrev pub names_directory : ImportSpec → Bool
+names_directory spec = not (bytes_eq spec.path (codes "fmt"))
+
+-- those of a file's imports that name directories, in the order of its text
+abbrev pub imports_in : List ℕ → List ImportSpec → List Import
+imports_in name specs = map (λ spec. record { file = name; spec = spec }) (filter names_directory specs)
+
+-- the imports of directories in some files, in their order
+abbrev pub AreImports : List Parsed → List Import → Type 0
+AreImports [] imports = imports ≡ []
+AreImports (p ∷ ps) imports = (file : File) × (rest : List Import) × IsParse p.text (Derived file) × AreImports ps rest × (imports ≡ imports_in p.name file.imports ++ rest)
+
+-- the directory's own files have no fault, and these are their imports of directories
+pub record HasImports (sources : Sources) (path : List ℕ) (imports : List Import) : Type 0 where
+  pub parsed : List Parsed
+  pub sound : IsPlan (package_files path sources) (Sound parsed)
+  pub are : AreImports parsed imports
+
+-- one of the imports of the directory p is of the path q
+pub record HasImport (sources : Sources) (p q : List ℕ) : Type 0 where
+  pub imports : List Import
+  pub has : HasImports sources p imports
+  pub import : Import
+  pub among : Contains imports import
+  pub path : import.spec.path ≡ q
+
+-- no file belongs to the package of the directory
+abbrev pub HasNoFiles : Sources → List ℕ → Type 0
+HasNoFiles sources path = package_files path sources ≡ []
+
+-- the directory p imports the directory q, which has files
+pub record Imports (sources : Sources) (p q : List ℕ) : Type 0 where
+  pub import : HasImport sources p q
+  pub files : ¬ (HasNoFiles sources q)
+
+-- q is p, or p imports it, or p imports one that reaches it
+abbrev pub Reaches : Sources → List ℕ → List ℕ → Type 0
+Reaches sources p q = reach.Reaches (Imports sources) p q
+
+-- the files of the directory all parse, and the first one's package is named main
+pub record IsProgram (sources : Sources) (path : List ℕ) : Type 0 where
+  pub first : Parsed
+  pub rest : List Parsed
+  pub parses : AreParsed (package_files path sources) (first ∷ rest)
+  pub named : IsNamed (codes "main") first.text
+
+-- ---- the fault of a directory's imports
+
+-- P holds of no path that is imported
+abbrev pub HasNone : (List ℕ → Type 0) → List Import → Type 0
+HasNone P imports = (import : Import) → Contains imports import → ¬ (P import.spec.path)
+
+-- the fault is of this kind, and stands at the first of the imports of whose path P holds
+pub record IsAtFirst (P : List ℕ → Type 0) (imports : List Import) (kind : FaultKind) (fault : Fault) : Type 0 where
+  pub front : List Import
+  pub import : Import
+  pub rest : List Import
+  pub whole : imports ≡ front ++ import ∷ rest
+  pub before : HasNone P front
+  pub holds : P import.spec.path
+  pub is : fault ≡ record { file = import.file; place = import.spec.place; kind = kind }
+
+-- what is imported reaches the directory that imports it
+abbrev pub LeadsBack : Sources → List ℕ → List ℕ → Type 0
+LeadsBack sources path imported = Reaches sources imported path
+
+-- The fault of a directory with these imports: at the first that has no files; else at the first that leads back; else at the first program.
+pub data IsImportFault (sources : Sources) (path : List ℕ) (imports : List Import) (fault : Fault) : Type 0 where
+  of_missing : IsAtFirst (HasNoFiles sources) imports NoImport fault → IsImportFault sources path imports fault
+  of_cycle : HasNone (HasNoFiles sources) imports → IsAtFirst (LeadsBack sources path) imports Cycle fault → IsImportFault sources path imports fault
+  of_program : HasNone (HasNoFiles sources) imports → HasNone (LeadsBack sources path) imports → IsAtFirst (IsProgram sources) imports Program fault → IsImportFault sources path imports fault
+
+-- the directory's own files are sound, and its imports have this fault
+pub record ImportFault (sources : Sources) (path : List ℕ) (fault : Fault) : Type 0 where
+  pub imports : List Import
+  pub has : HasImports sources path imports
+  pub is : IsImportFault sources path imports fault
+
+-- each of the directory's imports has files, doesn't lead back, and is no program
+pub record ImportsAreSound (sources : Sources) (path : List ℕ) : Type 0 where
+  pub imports : List Import
+  pub has : HasImports sources path imports
+  pub none_missing : HasNone (HasNoFiles sources) imports
+  pub none_leads_back : HasNone (LeadsBack sources path) imports
+  pub none_program : HasNone (IsProgram sources) imports
+
+-- ---- the plan
+
+-- what becomes of a directory: its own fault comes before that of its imports
+abbrev pub IsPlannedAs : Sources → List ℕ → Planned → Type 0
+IsPlannedAs sources path NoFiles = ⊥
+IsPlannedAs sources path (Faulty fault) = IsPlan (package_files path sources) (Faulty fault) ⊎ ImportFault sources path fault
+IsPlannedAs sources path (Sound parsed) = IsPlan (package_files path sources) (Sound parsed) × ImportsAreSound sources path
+
+-- a directory of a plan: what becomes of it, and the numbers of the directories that it imports, in the plan's list
+pub record Directory : Type 0 where
+  pub path : List ℕ
+  pub planned : Planned
+  pub imports : List ℕ
+
+abbrev pub paths_of : List Directory → List (List ℕ)
+paths_of directories = map (λ d. d.path) directories
+
+-- these are the numbers, in a list of paths, of the directories that this one imports
+pub record AreNumbers (sources : Sources) (paths : List (List ℕ)) (path : List ℕ) (numbers : List ℕ) : Type 0 where
+  pub ascending : IsStrictlyIncreasing numbers
+  pub are : (k : ℕ) → Contains numbers k ↔ ((q : List ℕ) × (slice_get paths k ≡ Some q) × Imports sources path q)
+
+-- The plan of a build has each directory that the target reaches, the target too, in the order of paths' bytes. A target without files has none.
+pub record IsBuildPlan (sources : Sources) (target : List ℕ) (directories : List Directory) : Type 0 where
+  pub files : ¬ (HasNoFiles sources target)
+  pub ascending : IsStrictlySortedBy path_cmp (paths_of directories)
+  pub reached : (path : List ℕ) → Contains (paths_of directories) path ↔ Reaches sources target path
+  pub planned : (d : Directory) → Contains directories d → IsPlannedAs sources d.path d.planned
+  pub imports : (d : Directory) → Contains directories d → AreNumbers sources (paths_of directories) d.path d.imports
+
+-- the plan of a build for a set of writes: from the sources alone
+abbrev pub IsBuildPlanOf : List Write → List ℕ → List Directory → Type 0
+IsBuildPlanOf writes target directories = (sources : Sources) × IsSources writes sources × IsBuildPlan sources target directories
+
+-- Ranks of a plan's directories: what a sound directory imports lies lower. So a sound directory lies on no cycle.
+abbrev pub AreRanks : List Directory → (ℕ → ℕ) → Type 0
+AreRanks directories rank =
+    (k j : ℕ) (d : Directory) (parsed : List Parsed) → slice_get directories k ≡ Some d → d.planned ≡ Sound parsed → Contains d.imports j → rank j < rank k

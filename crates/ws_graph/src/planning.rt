@@ -1,0 +1,179 @@
+//! Plans of builds: every directory that a target reaches by imports.
+ghost use Rattle.std.specs.Prelude.{◌≡◌, ◌<◌, ℕ, List, ◌++◌, ◌∷◌, length, map, string_bytes, IfOk, Err, Some, Option};
+ghost use Rattle.ws_graph.specs.declared.wave.Found.{Found as AFound};
+ghost use Rattle.std.specs.List.{slice_get};
+ghost use Rattle.std.specs.List.Sorted.{IsStrictlySortedBy};
+ghost use Rattle.ws_version.specs.Writes.{Write, held_cmp, path_cmp};
+ghost use Rattle.ws_map.specs.Kept.{StandsFor};
+ghost use Rattle.ws_graph.specs.Plan.{NoFiles, IsPlanOf};
+ghost use Rattle.ws_graph.specs.BuildPlan.{Sources, IsBuildPlan, IsBuildPlanOf};
+ghost use Rattle.ws_graph.specs.Node.{planned_of, directory_of};
+ghost use Rattle.ws_graph.specs.Discovery.{texts, kept_paths, kept_founds, planned_with, IsLinkedAt, AreAll};
+
+use crate::directories::{directories, number_of};
+use crate::discovery::discover;
+use crate::link::{Links, import_fault, links_of};
+use crate::planned::{Node, PlanError};
+use crate::target::Target;
+use crate::wave::Found;
+use go_text::fault::Fault;
+use std::alloc::{AllocError, Global};
+use std::thread::Threads;
+use ws_register::Registers;
+
+/// A directory, what becomes of its files and of its imports, and which directories it imports.
+#[derive(Drop)]
+pub struct Directory {
+    /// Its path.
+    pub path: String,
+    /// Its files, or the fault that stands in the way: its own, or that of an import.
+    pub node: Node,
+    /// The numbers of the directories that it imports, ascending, in the list of the plan.
+    pub imports: Vec<usize>,
+}
+
+/// The directories that a target reaches by imports, the target too, in the order of their paths.
+#[derive(Drop)]
+pub struct BuildPlan {
+    pub directories: Vec<Directory>,
+}
+
+/// The plan of a build of a target. `NoPackage` comes where the target has no file that belongs
+/// to a package, and `Memory` for a refused allocation.
+pub fn plan(
+    rt: &(impl Threads + Sync),
+    alloc: Global,
+    registers: &Registers,
+    target: &str,
+) -> Result<BuildPlan, PlanError>
+    ensures ok { (writes : List Write) → StandsFor held_cmp registers.now writes → IfOk result (λ plan. IsBuildPlanOf writes target.now (map directory_of plan.directories.items)) }
+    ensures none { (writes : List Write) → StandsFor held_cmp registers.now writes → result ≡ Err PlanError.NoPackage → IsPlanOf writes target.now NoFiles }
+{
+    let all = directories(alloc, registers)?;
+    let Some(start) = number_of(all.as_slice(), target.as_bytes()) else {
+        return Err(PlanError::NoPackage);
+    };
+    let slots = discover(rt, alloc, registers, all.as_slice(), start)?;
+    let (paths, founds) = reached(alloc, all.as_slice(), slots)?;
+    let directories = linked(alloc, paths.as_slice(), founds)?;
+    Ok(BuildPlan { directories })
+}
+
+// The paths of the directories that were reached, ascending, and what was found there.
+fn reached(
+    alloc: Global,
+    all: &[String],
+    slots: Vec<Option<Found>>,
+) -> Result<(Vec<String>, Vec<Found>), AllocError>
+    ensures paths { IfOk result (λ both. texts both.0.items ≡ kept_paths (texts all.now) slots.items) }
+    ensures founds { IfOk result (λ both. both.1.items ≡ kept_founds (texts all.now) slots.items) }
+{
+    let mut paths = Vec::new(alloc);
+    let mut founds = Vec::new(alloc);
+    let mut left = all;
+    for slot in slots {
+        left = keep(left, slot, &mut paths, &mut founds)?;
+    }
+    Ok((paths, founds))
+}
+
+// The first path is kept with what stands in its slot, if something does. Answers the other paths.
+fn keep<'a>(
+    left: &'a [String],
+    slot: Option<Found>,
+    paths: &mut Vec<String>,
+    founds: &mut Vec<Found>,
+) -> Result<&'a [String], AllocError>
+    ensures paths { IfOk result (λ others. (slots : List (Option AFound)) → texts paths.new.items ++ kept_paths (texts others.now) slots ≡ texts paths.old.items ++ kept_paths (texts left.now) (slot ∷ slots)) }
+    ensures founds { IfOk result (λ others. (slots : List (Option AFound)) → founds.new.items ++ kept_founds (texts others.now) slots ≡ founds.old.items ++ kept_founds (texts left.now) (slot ∷ slots)) }
+{
+    let Some((path, others)) = left.split_first() else {
+        return Ok(left);
+    };
+    if let Some(found) = slot {
+        paths.push(copy_of(path)?)?;
+        founds.push(found)?;
+    }
+    Ok(others)
+}
+
+// The directories with the faults of their imports.
+fn linked(alloc: Global, paths: &[String], founds: Vec<Found>) -> Result<Vec<Directory>, AllocError>
+    requires ascending { IsStrictlySortedBy path_cmp (texts paths.now) }
+    requires length { length paths.now ≡ length founds.items }
+    ensures { IfOk result (λ directories. (sources : Sources) (target : List ℕ) → AreAll sources target (texts paths.now) founds.items → IsBuildPlan sources target (map directory_of directories.items)) }
+{
+    let links = links_of(alloc, paths, founds.as_slice())?;
+    let mut directories = Vec::new(alloc);
+    for found in founds {
+        let here = directories.len();
+        directories.push(linked_at(&links, paths, here, found.node)?)?;
+    }
+    Ok(directories)
+}
+
+fn linked_at(
+    links: &Links,
+    paths: &[String],
+    here: usize,
+    node: Node,
+) -> Result<Directory, AllocError>
+    requires path { here < length paths.now }
+    requires targets { here < length links.now.targets.items }
+    requires rows { here < length links.now.rows.items }
+    ensures { IfOk result (λ directory. IsLinkedAt (texts paths.now) links.now here (planned_of node) (directory_of directory)) }
+{
+    let targets = targets_at(links.targets.as_slice(), here);
+    let fault = import_fault(links, here, targets.as_slice())?;
+    let path = copy_of(path_at(paths, here))?;
+    let imports = numbers_of(numbers_at(links.rows.as_slice(), here))?;
+    Ok(Directory {
+        path,
+        node: with_fault(node, fault),
+        imports,
+    })
+}
+
+fn targets_at(all: &[Vec<Target>], here: usize) -> &Vec<Target>
+    requires { here < length all.now }
+    ensures { slice_get all.now here ≡ Some result.now }
+{
+    &all[here]
+}
+
+fn numbers_at(all: &[Vec<usize>], here: usize) -> &Vec<usize>
+    requires { here < length all.now }
+    ensures { slice_get all.now here ≡ Some result.now }
+{
+    &all[here]
+}
+
+fn path_at(all: &[String], here: usize) -> &String
+    requires { here < length all.now }
+    ensures { slice_get all.now here ≡ Some result.now }
+{
+    &all[here]
+}
+
+fn copy_of(path: &String) -> Result<String, AllocError>
+    ensures { IfOk result (λ copy. string_bytes copy ≡ string_bytes path.now) }
+{
+    let copy = path.clone()?;
+    Ok(copy)
+}
+
+fn numbers_of(row: &Vec<usize>) -> Result<Vec<usize>, AllocError>
+    ensures { IfOk result (λ copy. copy.items ≡ row.now.items) }
+{
+    let copy = row.clone()?;
+    Ok(copy)
+}
+
+fn with_fault(node: Node, fault: Option<Fault>) -> Node
+    ensures { planned_of result ≡ planned_with (planned_of node) fault }
+{
+    match fault {
+        Some(fault) => Node::Faulty(fault),
+        None => node,
+    }
+}

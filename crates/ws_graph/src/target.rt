@@ -1,0 +1,106 @@
+//! What the imports of a directory lead to.
+ghost use Rattle.std.specs.Prelude.{◌≡◌, ◌↔◌, ◌++◌, ℕ, List, [], ◌∷◌, IfOk, IsTrue, map};
+ghost use Rattle.std.specs.List.{Contains};
+ghost use Rattle.std.specs.List.Sorted.{IsStrictlySortedBy, IsStrictlyIncreasing};
+ghost use Rattle.go_ast.specs.Trees.{File as AFile, ImportSpec as AnImportSpec};
+ghost use Rattle.go_ast.specs.Parse.{Parsed as AParsed, Derived, IsParse};
+ghost use Rattle.go_ast.specs.Views.{import_of};
+ghost use Rattle.ws_version.specs.Writes.{path_cmp};
+ghost use Rattle.ws_graph.specs.BuildPlan.{imports_in};
+ghost use Rattle.ws_graph.specs.Node.{planned_of};
+ghost use Rattle.ws_graph.specs.Discovery.{texts, AreTargets, HaveTargets, AreTargetsOf, AddsTargets, HasNumber};
+
+use crate::directories::number_of;
+use crate::planned::Node;
+use go_ast::file::ImportSpec;
+use go_ast::parsed::Parsed;
+use go_text::place::Place;
+use std::alloc::{AllocError, Global};
+
+/// An import of a directory: the name of the file and the place where it is written, and the
+/// number of the directory, if there is one.
+#[derive(Drop)]
+pub struct Target {
+    pub file: String,
+    pub place: Place,
+    pub number: Option<usize>,
+}
+
+/// What the imports of a directory lead to, by the numbers of some paths.
+pub fn targets_of(alloc: Global, all: &[String], node: &Node) -> Result<Vec<Target>, AllocError>
+    requires { IsStrictlySortedBy path_cmp (texts all.now) }
+    ensures { IfOk result (λ targets. AreTargetsOf (texts all.now) (planned_of node.now) targets.items) }
+{
+    match node {
+        Node::Faulty(_) => Ok(Vec::new(alloc)),
+        Node::Sound(parsed) => {
+            let targets = targets_in(alloc, all, parsed.as_slice())?;
+            Ok(targets)
+        }
+    }
+}
+
+fn targets_in(alloc: Global, all: &[String], parsed: &[Parsed]) -> Result<Vec<Target>, AllocError>
+    requires { IsStrictlySortedBy path_cmp (texts all.now) }
+    ensures { IfOk result (λ targets. HaveTargets (texts all.now) parsed.now targets.items) }
+{
+    let mut targets = Vec::new(alloc);
+    for file in parsed {
+        add_file(alloc, all, file, &mut targets)?;
+    }
+    Ok(targets)
+}
+
+fn add_file(
+    alloc: Global,
+    all: &[String],
+    file: &Parsed,
+    targets: &mut Vec<Target>,
+) -> Result<(), AllocError>
+    requires { IsStrictlySortedBy path_cmp (texts all.now) }
+    ensures { IfOk result (λ _. (tree : AFile) × IsParse file.now.text (Derived tree) × AddsTargets (texts all.now) (imports_in file.now.name tree.imports) targets.old.items targets.new.items) }
+{
+    let name = file.name();
+    for spec in &file.file().imports {
+        add_target(alloc, all, name, spec, targets)?;
+    }
+    Ok(())
+}
+
+fn add_target(
+    alloc: Global,
+    all: &[String],
+    file: &str,
+    spec: &ImportSpec,
+    targets: &mut Vec<Target>,
+) -> Result<(), AllocError>
+    requires { IsStrictlySortedBy path_cmp (texts all.now) }
+    ensures { IfOk result (λ _. AddsTargets (texts all.now) (imports_in file.now (import_of spec.now ∷ [])) targets.old.items targets.new.items) }
+{
+    if spec.path.as_slice() == b"fmt".as_slice() {
+        return Ok(());
+    }
+    targets.push(Target {
+        file: String::from_str(alloc, file)?,
+        place: spec.place,
+        number: number_of(all, spec.path.as_slice()),
+    })?;
+    Ok(())
+}
+
+/// The numbers of some targets, ascending.
+pub fn numbers_of(alloc: Global, targets: &[Target]) -> Result<Vec<usize>, AllocError>
+    ensures ascending { IfOk result (λ numbers. IsStrictlyIncreasing numbers.items) }
+    ensures all { IfOk result (λ numbers. (k : ℕ) → Contains numbers.items k ↔ HasNumber targets.now k) }
+{
+    let mut numbers = Vec::new(alloc);
+    for target in targets {
+        match target.number {
+            Some(number) => numbers.push(number)?,
+            None => {}
+        }
+    }
+    numbers.sort_unstable();
+    numbers.dedup();
+    Ok(numbers)
+}

@@ -1,0 +1,4 @@
+pub mod Closure
+pub mod Marks
+pub mod Reached
+pub mod Rows

@@ -1,0 +1,122 @@
+-- The steps from a plan to what is said of its directories.
+use Rattle.std.specs.Prelude.{◌≡◌, ℕ, suc, List, [], ◌∷◌, map, Option, Some, None, IfSome, string_bytes}
+use Rattle.std.specs.List.{slice_get, AllZip, count_by}
+use Rattle.std.specs.FinMap.{FinMap}
+use Rattle.go_text.specs.Faults.{Fault}
+use Rattle.go_ast.specs.Parse.{Parsed}
+use Rattle.go_export.specs.Summaries.{Summary}
+use Rattle.ws_action.specs.Actions.{Action, IsSized, action_of}
+use Rattle.ws_cache.specs.Compiles.{Compiled, Compiles}
+use Rattle.ws_cache.specs.Compiles as compiled
+use Rattle.ws_cache.specs.Held.{id_cmp}
+use Rattle.ws_board.specs.Work.{Job, Seen}
+use Rattle.ws_board.specs.Machine.{is_finish}
+use Rattle.ws_board.specs.Calls.{result_at}
+use Rattle.ws_board.specs.Ends.{ComesToEnds}
+use Rattle.ws_graph.specs.Plan.{Planned, NoFiles, Faulty, Sound}
+use Rattle.ws_graph.specs.BuildPlan.{Directory}
+use Rattle.ws_report.specs.declared.Report.{Report}
+use Rattle.ws_report.specs.Reports.{Verdict, Good, Blocked, Wrong, rows}
+use Rattle.ws_replica.specs.ActionPlans.{IsSummaryOf}
+use Rattle.ws_replica.specs.declared.reached.Place.{Place as RustPlace}
+use Rattle.ws_replica.specs.declared.reached.Reached.{Reached as RustReached}
+
+-- a directory, with the fault of its plan, if it has one
+pub record Place : Type 0 where
+  pub path : List ℕ
+  pub fault : Option Fault
+
+-- the same with its action, if it has one, and the numbers of its imports
+pub record Reached : Type 0 where
+  pub place : Place
+  pub action : Option Action
+  pub imports : List ℕ
+
+-- of what the code keeps
+abbrev pub place_of : RustPlace → Place
+place_of p = record { path = string_bytes p.path; fault = p.fault }
+
+abbrev pub reached_of : RustReached → Reached
+reached_of r = record { place = place_of r.place; action = r.action; imports = r.imports.items }
+
+-- the numbers in its action's text fit, if it has one
+abbrev pub HasSized : RustReached → Type 0
+HasSized r = IfSome r.action IsSized
+
+-- the directory's summary, or it has none
+abbrev pub IsSummaryFor : Directory → Option Summary → Type 0
+IsSummaryFor d None = (summary : Summary) → ¬ (IsSummaryOf d summary)
+IsSummaryFor d (Some summary) = IsSummaryOf d summary
+
+abbrev pub AreSummed : List Directory → List (Option Summary) → Type 0
+AreSummed directories summaries = AllZip IsSummaryFor directories summaries
+
+abbrev pub flat : {X : Type 0} → Option (Option X) → Option X
+flat None = None
+flat (Some x) = x
+
+abbrev pub before : Option Summary → Option (List Summary) → Option (List Summary)
+before None rest = None
+before (Some summary) None = None
+before (Some summary) (Some rest) = Some (summary ∷ rest)
+
+-- the summaries of these numbers, where each has one
+abbrev pub gathered : List (Option Summary) → List ℕ → Option (List Summary)
+gathered summaries [] = Some []
+gathered summaries (k ∷ ks) = before (flat (slice_get summaries k)) (gathered summaries ks)
+
+abbrev pub made : ℕ → List ℕ → Planned → Option (List Summary) → Option Action
+made edition path NoFiles imports = None
+made edition path (Faulty fault) imports = None
+made edition path (Sound parsed) None = None
+made edition path (Sound parsed) (Some summaries) = Some (action_of edition path parsed summaries)
+
+-- the action of a directory, by the summaries of all
+abbrev pub action_by : ℕ → List (Option Summary) → Directory → Option Action
+action_by edition summaries d = made edition d.path d.planned (gathered summaries d.imports)
+
+abbrev pub fault_of : Planned → Option Fault
+fault_of NoFiles = None
+fault_of (Faulty fault) = Some fault
+fault_of (Sound parsed) = None
+
+abbrev pub reached_by : ℕ → List (Option Summary) → Directory → Reached
+reached_by edition summaries d =
+    record { place = record { path = d.path; fault = fault_of d.planned }; action = action_by edition summaries d; imports = d.imports }
+
+abbrev pub job_of : Reached → Job
+job_of r = record { action = r.action; imports = r.imports }
+
+-- the fault in what compiling gives, if there is one
+abbrev pub fault_in : Compiled → Option Fault
+fault_in (compiled.Good object) = None
+fault_in (compiled.Faulty fault) = Some fault
+
+abbrev pub verdict_of : Option Fault → Verdict
+verdict_of None = Good
+verdict_of (Some fault) = Wrong fault
+
+-- what is said of a job's directory that has no fault of its plan, by the job's result
+abbrev pub IsToldOf : Option Action → Verdict → Type 0
+IsToldOf None verdict = verdict ≡ Blocked
+IsToldOf (Some entry) verdict = (result : Compiled) × Compiles entry result × (verdict ≡ verdict_of (fault_in result))
+
+abbrev pub IsTold : Option Fault → Option Action → Verdict → Type 0
+IsTold (Some fault) result verdict = verdict ≡ Wrong fault
+IsTold None result verdict = IsToldOf result verdict
+
+-- what is said of directories, from the number k on, by the results of their jobs
+abbrev pub AreTold : (ℕ → Option Action) → ℕ → List Place → List (List ℕ × Verdict) → Type 0
+AreTold result k [] [] = Unit {0}
+AreTold result k [] (row ∷ rows) = ⊥
+AreTold result k (place ∷ places) [] = ⊥
+AreTold result k (place ∷ places) (row ∷ rows) = (row.0 ≡ place.path) × IsTold place.fault (result k) row.1 × AreTold result (suc k) places rows
+
+-- what a board came to over a cache with the jobs of what was reached, and what was said of it
+pub record IsRun (cache : FinMap id_cmp Action) (reached : List Reached) (report : Report) (added : FinMap id_cmp Action) : Type 0 where
+  pub board : Seen
+  pub opening : board.opening ≡ record { jobs = map job_of reached; cache = cache }
+  pub ends : ComesToEnds board []
+  pub told : AreTold (result_at board) 0 (map (λ r. r.place) reached) (rows report.directories.items)
+  pub counts : report.compiled ≡ count_by is_finish board.history
+  pub added_are : added ≡ board.state.added
