@@ -1,4 +1,4 @@
-//! Tests of what stands above ws_replica: scripts beside what they print, and the ends of a session.
+//! Tests of the ends of a session and of the words of its lines.
 #![tactic(auto)]
 
 #[cfg(test)]

@@ -1,8 +1,4 @@
-//! Whole sessions and their parts.
+//! The ends of a session, and the words of its lines.
 
-mod building;
 mod ends;
-mod refusing;
-mod session;
 mod words;
-mod writing;

@@ -13,7 +13,7 @@ use ws_script::writing::ScriptOut;
 
 /// A reader of some bytes, of which a call gives at most `step`, and call `fails_at` fails.
 #[derive(Drop)]
-pub struct FakeIn<'a> {
+struct FakeIn<'a> {
     rest: &'a [u8],
     step: usize,
     calls: u64,
@@ -23,7 +23,7 @@ pub struct FakeIn<'a> {
 
 impl<'a> FakeIn<'a> {
     /// A reader no call of which fails.
-    pub fn new(script: &'a [u8], step: usize) -> Self
+    fn new(script: &'a [u8], step: usize) -> Self
         ensures { result.failures ≡ 0 }
     {
         FakeIn {
@@ -36,7 +36,7 @@ impl<'a> FakeIn<'a> {
     }
 
     /// A reader of which that call fails, counted from 1.
-    pub fn failing(script: &'a [u8], step: usize, fails_at: u64) -> Self
+    fn failing(script: &'a [u8], step: usize, fails_at: u64) -> Self
         ensures { result.failures ≡ 0 }
     {
         FakeIn {
@@ -76,7 +76,7 @@ impl ScriptIn for FakeIn<'_> {
 
 /// A reader that never ends.
 #[derive(Drop)]
-pub struct Endless;
+struct Endless;
 
 impl ScriptIn for Endless {
     ghost told = { λ _. None };
@@ -95,7 +95,7 @@ impl ScriptIn for Endless {
 /// A writer of which a call takes at most `step` bytes, and call `fails_at` takes none: it answers
 /// an error, or 0 where `takes_none` says so.
 #[derive(Drop)]
-pub struct FakeOut {
+struct FakeOut {
     written: Vec<u8>,
     step: usize,
     calls: u64,
@@ -106,14 +106,14 @@ pub struct FakeOut {
 
 impl FakeOut {
     /// A writer no call of which fails.
-    pub fn new(alloc: Global, step: usize) -> Self
+    fn new(alloc: Global, step: usize) -> Self
         ensures { result.failures ≡ 0 }
     {
         FakeOut::failing(alloc, step, 0, false)
     }
 
     /// A writer of which that call fails, counted from 1.
-    pub fn failing(alloc: Global, step: usize, fails_at: u64, takes_none: bool) -> Self
+    fn failing(alloc: Global, step: usize, fails_at: u64, takes_none: bool) -> Self
         ensures { result.failures ≡ 0 }
     {
         let written = Vec::new(alloc);
@@ -125,11 +125,6 @@ impl FakeOut {
             takes_none,
             failures: 0,
         }
-    }
-
-    /// What was written.
-    pub fn into_written(self) -> Vec<u8> {
-        self.written
     }
 }
 
