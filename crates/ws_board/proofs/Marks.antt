@@ -6,7 +6,7 @@ use Rattle.ws_action.specs.Actions.{Action, action_id}
 use Rattle.ws_board.specs.declared.work.Status.{Status}
 use Rattle.ws_board.specs.declared.work.Status.TheVariants.{Waiting, Ready, Running, Blocked, Done}
 use Rattle.ws_board.specs.Work.{Job}
-use Rattle.ws_board.specs.Machine.{is_running, is_active, status_at, action_at, has_id, mark, IsMarked, is_run_of, NoneFree, IsIdle}
+use Rattle.ws_board.specs.Machine.{is_running, is_active, status_at, action_at, has_id, mark, IsMarked, is_run_of, IsTaken, NoneFree, IsIdle}
 use Rattle.ws_board.proofs.Carry.{past_end}
 
 -- the first n are marked
@@ -53,10 +53,6 @@ pub below_more : (P : ℕ → Type 0) (n : ℕ) → ((k : ℕ) → k < n → P k
 below_more P n h here k lt = elim (cases_eq k n) [ inl e ↦ subst P (sym e) here | inr ne ↦ h k (omega (arith, lt, ne)) ]
 
 -- ---- which are free
-
--- a hand runs the id of the job's action, if the job is ready
-abbrev pub IsTaken : List Job → List Status → ℕ → Type 0
-IsTaken jobs xs job = (action : Action) → status_at xs job ≡ Ready → action_at jobs job ≡ Some action → (k : ℕ) × (is_run_of jobs xs (action_id action) k ≡ true)
 
 pub none_free : (jobs : List Job) (xs : List Status) (n : ℕ) → length xs ≤ n → ((job : ℕ) → job < n → IsTaken jobs xs job) → NoneFree jobs xs
 none_free jobs xs n le h job action ready its = elim (cases_lt job n) [

@@ -147,11 +147,14 @@ pub record IsFree (jobs : List Job) (statuses : List Status) (job : ℕ) (action
   pub its : action_at jobs job ≡ Some action
   pub apart : (k : ℕ) → is_run_of jobs statuses (action_id action) k ≡ false
 
+-- if the job is ready, a hand runs its id
+abbrev pub IsTaken : List Job → List Status → ℕ → Type 0
+IsTaken jobs statuses job =
+    (action : Action) → status_at statuses job ≡ Ready → action_at jobs job ≡ Some action → (k : ℕ) × (is_run_of jobs statuses (action_id action) k ≡ true)
+
 -- no job may be given
 abbrev pub NoneFree : List Job → List Status → Type 0
-NoneFree jobs statuses =
-    (job : ℕ) (action : Action) → status_at statuses job ≡ Ready → action_at jobs job ≡ Some action
-    → (k : ℕ) × (is_run_of jobs statuses (action_id action) k ≡ true)
+NoneFree jobs statuses = (job : ℕ) → IsTaken jobs statuses job
 
 -- nothing is ready, and nothing runs
 abbrev pub IsIdle : List Status → Type 0

@@ -2,9 +2,8 @@
 ghost use Rattle.std.specs.Prelude.{◌≡◌, ◌<◌, ◌+◌, ◌≤◌, ℕ, List, length, map, replicate, true, false, Some, IfOk, IfSome, IfNone, vec_len, option_copied};
 ghost use Rattle.std.specs.Bool.{OnTrue, OnFalse};
 ghost use Rattle.std.specs.List.{list_any, count_by};
-ghost use Rattle.ws_action.specs.Actions.{Action as AnAction, action_id};
 ghost use Rattle.ws_board.specs.declared.work.Status.{Status as AStatus};
-ghost use Rattle.ws_board.specs.Machine.{is_waiting, is_running, is_open, is_bad, status_at, action_at, has_id, held_in, IsGoodness, IsPlaced, Stands, Carried, is_run_of, IsFree, NoneFree, mark, IsMarked, IsRunBy};
+ghost use Rattle.ws_board.specs.Machine.{is_waiting, is_running, is_open, is_bad, status_at, action_at, has_id, held_in, IsGoodness, IsPlaced, Stands, Carried, is_run_of, IsFree, IsTaken, NoneFree, mark, IsMarked, IsRunBy};
 ghost use Rattle.ws_board.specs.Calls.{SomeRuns};
 ghost use Rattle.ws_board.specs.Carrying.{IsUnder, RestsAt, AllRest};
 
@@ -226,7 +225,7 @@ fn is_run(jobs: &[Job], statuses: &[Status], id: &[u8; 32]) -> bool
 /// The job's action, if the job may be given.
 fn free_action<'a>(jobs: &'a [Job], statuses: &[Status], k: usize) -> Option<&'a Identified>
     ensures free { IfSome result (λ action. IsFree jobs.now statuses.now k action.now) }
-    ensures run { IfNone result ((action : AnAction) → status_at statuses.now k ≡ AStatus.Ready → action_at jobs.now k ≡ Some action → (r : ℕ) × (is_run_of jobs.now statuses.now (action_id action) r ≡ true)) }
+    ensures run { IfNone result (IsTaken jobs.now statuses.now k) }
 {
     if !status_at(statuses, k).is_ready() {
         return None;

@@ -1,18 +1,26 @@
 -- The directories of files are those that have files.
 use Rattle.std.proofs.Common.{◌≡◌, ◌⊎◌, ℕ, Bool, true, false, cond, List, [], ◌∷◌, ◌++◌, map, refl, sym, ap, ◌∙◌, subst, inl, inr}
-use Rattle.std.specs.List.{filter}
+use Rattle.std.specs.List.{filter, flat_map}
 use Rattle.std.proofs.lemmas.Slice.Eq.{bytes_eq-Decides}
 use Rattle.ws_path.specs.Paths.{directory, file_name}
 use Rattle.ws_register.specs.Sources.{is_in, named}
 use Rattle.ws_reach.proofs.Closure.{IsOneOf}
-use Rattle.ws_graph.specs.Packages.{is_built, package_files, built_directories}
+use Rattle.ws_graph.specs.Packages.{is_built, package_files}
 use Rattle.ws_graph.specs.BuildPlan.{Sources, HasNoFiles}
 
 abbrev Pair : Type 0
 Pair = List ℕ × List ℕ
 
+-- the directory of a path, if the file there belongs to a package
+abbrev pub built_directory : List ℕ → List (List ℕ)
+built_directory path = cond (is_built (file_name path)) (directory path ∷ []) []
+
+-- the directories of some sources, one for each file that belongs to a package
+abbrev pub built_directories : Sources → List (List ℕ)
+built_directories sources = flat_map (λ (source : Pair). built_directory source.0) sources
+
 -- the files with one more source
-files_step : (q : List ℕ) (s : Pair) (ss : Sources) (b c : Bool) → is_in q s.0 ≡ b → is_built (file_name s.0) ≡ c → package_files q (s ∷ ss) ≡ cond b (cond c (named s ∷ package_files q ss) (package_files q ss)) (package_files q ss)
+pub files_step : (q : List ℕ) (s : Pair) (ss : Sources) (b c : Bool) → is_in q s.0 ≡ b → is_built (file_name s.0) ≡ c → package_files q (s ∷ ss) ≡ cond b (cond c (named s ∷ package_files q ss) (package_files q ss)) (package_files q ss)
 files_step q s ss true c e f =
     ap (λ t. filter (λ (file : Pair). is_built file.0) (map named (cond t (s ∷ filter (λ (source : Pair). is_in q source.0) ss) (filter (λ (source : Pair). is_in q source.0) ss)))) e
     ∙ ap (λ t. cond t (named s ∷ package_files q ss) (package_files q ss)) f
@@ -47,6 +55,10 @@ from_here q s ss false false e f one none more = more (directories_back q s ss f
 pub from_directory : (q : List ℕ) (ss : Sources) → IsOneOf q (built_directories ss) → package_files q ss ≡ [] → ⊥
 from_directory q [] one none = absurd one
 from_directory q (s ∷ ss) one none = from_here q s ss (is_in q s.0) (is_built (file_name s.0)) refl refl one none (from_directory q ss)
+
+-- a source of another directory
+pub files_beside : (q : List ℕ) (s : Pair) (ss : Sources) → is_in q s.0 ≡ false → package_files q (s ∷ ss) ≡ package_files q ss
+files_beside q s ss e = files_step q s ss false (is_built (file_name s.0)) e refl
 
 -- whether a directory has files
 pub has_files : (sources : Sources) (path : List ℕ) → (HasNoFiles sources path) ⊎ (HasNoFiles sources path → ⊥)

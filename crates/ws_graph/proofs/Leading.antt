@@ -7,6 +7,8 @@ use Rattle.ws_version.proofs.Writes.{path_cmp_total}
 use Rattle.ws_reach.specs.Reach.{Walks, Reaches}
 use Rattle.ws_reach.proofs.Reached.{reaches_itself, reaches_from, get_contains, contains_get}
 use Rattle.ws_reach.proofs.Closure.{IsOneOf}
+use Rattle.go_text.specs.Faults.{Fault}
+use Rattle.go_ast.specs.Parse.{Parsed}
 use Rattle.ws_graph.specs.Packages.{package_files}
 use Rattle.ws_graph.specs.Plan.{Planned, NoFiles, Faulty, Sound, IsPlan}
 use Rattle.ws_graph.specs.BuildPlan.{Sources, Import, HasImports, HasImport, HasNoFiles, Imports}
@@ -96,15 +98,21 @@ to_number sources all p imports targets has zip sorted k (q, at, imp) =
           (t.0, contained targets t.0 t.1, some.1 ∙ ap Some same_place))
     ]
 
+pub none_not_sound : (parsed : List Parsed) → NoFiles ≡ Sound parsed → ⊥
+none_not_sound parsed e = cc (e)
+
+pub fault_not_sound : (fault : Fault) (parsed : List Parsed) → Faulty fault ≡ Sound parsed → ⊥
+fault_not_sound fault parsed e = cc (e)
+
 pub numbers_lead : (sources : Sources) (all : List (List ℕ)) (p : List ℕ) (planned : Planned) (targets : List Target) → IsPlan (package_files p sources) planned → AreTargetsOf all planned targets → IsStrictlySortedBy path_cmp all → HasImported sources all p
     → (k : ℕ) → (HasNumber targets k → ToNumber sources all p k) × (ToNumber sources all p k → HasNumber targets k)
 numbers_lead sources all p NoFiles targets plan are sorted known k = (
   λ h. absurd (no_number targets k are h),
-  λ h. (let imp = h.2.import in let e = one_plan (package_files p sources) NoFiles (Sound imp.has.parsed) plan imp.has.sound in cc (e)),
+  λ h. (let imp = h.2.import in absurd (none_not_sound imp.has.parsed (one_plan (package_files p sources) NoFiles (Sound imp.has.parsed) plan imp.has.sound))),
 )
 numbers_lead sources all p (Faulty f) targets plan are sorted known k = (
   λ h. absurd (no_number targets k are h),
-  λ h. (let imp = h.2.import in let e = one_plan (package_files p sources) (Faulty f) (Sound imp.has.parsed) plan imp.has.sound in cc (e)),
+  λ h. (let imp = h.2.import in absurd (fault_not_sound f imp.has.parsed (one_plan (package_files p sources) (Faulty f) (Sound imp.has.parsed) plan imp.has.sound))),
 )
 numbers_lead sources all p (Sound parsed) targets plan are sorted known k =
     let has : HasImports sources p are.imports = record { parsed = parsed; sound = plan; are = are.are } in (

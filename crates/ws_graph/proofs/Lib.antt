@@ -1,21 +1,25 @@
 pub mod Adding
+pub mod Bounded
 mod Built
 pub mod Faults
 pub mod Filed
+pub mod Imported
+pub mod Inserted
 pub mod Judging
-pub mod Kept
 pub mod Leading
 pub mod Linked
 pub mod Mains
 pub mod Named
+pub mod Next
 pub mod OneBuildPlan
 pub mod OnePlan
 pub mod Places
 pub mod PlanFiles
 pub mod RankedPlan
+pub mod Reading
 pub mod Searching
 pub mod SomeBuildPlan
 pub mod SomePlan
 pub mod Sorted
-pub mod Taking
+pub mod Walking
 pub mod Within

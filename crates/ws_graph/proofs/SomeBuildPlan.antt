@@ -21,13 +21,13 @@ use Rattle.ws_version.proofs.Writes.{path_cmp_total, path_cmp-IsAntisymmetric}
 use Rattle.ws_reach.specs.Reach.{Reaches}
 use Rattle.ws_reach.proofs.Reached.{reaches_stay}
 use Rattle.ws_reach.proofs.Closure.{IsOneOf, reach, reach_sound, reach_complete}
-use Rattle.ws_graph.specs.Packages.{package_files, built_directories}
+use Rattle.ws_graph.specs.Packages.{package_files}
 use Rattle.ws_graph.specs.Plan.{Planned, NoFiles, Faulty, Sound, AllParsed, AreParsed, IsPlan, IsPlanOf}
 use Rattle.ws_graph.specs.BuildPlan as plan
 use Rattle.ws_graph.specs.BuildPlan.{Sources, Import, imports_in, AreImports, HasImports, HasImport, HasNone, IsAtFirst, HasNoFiles, Imports, LeadsBack, IsProgram, IsImportFault, of_missing, of_cycle, of_program, ImportFault, ImportsAreSound, IsPlannedAs, Directory, paths_of, AreNumbers, IsBuildPlan, IsBuildPlanOf}
 use Rattle.ws_graph.proofs.OnePlan.{one_plan, one_parsed, one_package, stops_or_parses}
 use Rattle.ws_graph.proofs.OneBuildPlan.{same_imports}
-use Rattle.ws_graph.proofs.Filed.{to_directory, has_files}
+use Rattle.ws_graph.proofs.Filed.{built_directories, to_directory, has_files}
 use Rattle.ws_graph.proofs.SomePlan.{some_sources, some_plan, Read, read}
 use Rattle.ws_graph.proofs.Sorted.{one_of, contained}
 

@@ -19,13 +19,13 @@ contained [] x h = absurd h
 contained (y ∷ ys) x (inl e) = (0, omega arith, sym e)
 contained (y ∷ ys) x (inr h) = (let c = contained ys x h in let lt = c.1 in (suc c.0, omega (arith, lt), c.2))
 
-among_all : {A : Type 0} (P : A → Type 0) (xs : List A) (x : A) → AllByRecursion P xs → IsOneOf x xs → P x
+pub among_all : {A : Type 0} (P : A → Type 0) (xs : List A) (x : A) → AllByRecursion P xs → IsOneOf x xs → P x
 among_all P [] x all h = absurd h
 among_all P (y ∷ ys) x all (inl e) = subst P (sym e) all.0
 among_all P (y ∷ ys) x all (inr h) = among_all P ys x all.1 h
 
 module _ {A : Type 0} (R : A → A → Ordering) (o : IsTotalOrder R) where
-  not_both : (x y : A) → R x y ≡ Less → R y x ≡ Less → ⊥
+  pub not_both : (x y : A) → R x y ≡ Less → R y x ≡ Less → ⊥
   not_both x y g h = let e : Less ≡ Greater = sym g ∙ o.antisymm x y ∙ ap ordering_reverse h in cc (e)
 
   -- the heads are one

@@ -1,25 +1,33 @@
 -- What stands between the files of directories and the plan of a build: directories by number, and the imports that lead to them.
-use Rattle.std.specs.Prelude.{◌≡◌, ◌↔◌, ◌<◌, ℕ, Bool, true, IsTrue, List, [], ◌∷◌, ◌++◌, map, length, Option, Some, None, MatchOption, codes, String, string_bytes}
-use Rattle.std.specs.List.{AllZip, Contains, slice_get}
+use Rattle.std.specs.Prelude.{◌≡◌, ◌⊎◌, ◌↔◌, ℕ, Bool, true, IsTrue, List, [], ◌∷◌, ◌++◌, map, Option, Some, None, MatchOption, Result, IfOk, Err, codes, String, string_bytes}
+use Rattle.std.specs.List.{AllByRecursion, AllZip, Contains, slice_get}
 use Rattle.std.specs.List.Sorted.{IsStrictlySortedBy, IsStrictlyIncreasing}
 use Rattle.std.specs.Global.{Global, Vec}
+use Rattle.std.specs.declared.alloc.AllocError.{AllocError}
 use Rattle.std.specs.FinMap.{entries}
+use Rattle.std.specs.Map.{keys_of}
 use Rattle.go_text.specs.Faults.{Fault}
 use Rattle.go_text.specs.declared.fault.FaultKind.{FaultKind}
 use Rattle.go_text.specs.declared.fault.FaultKind.TheVariants as kinds
-use Rattle.go_ast.specs.Parse.{Parsed, IsNamed}
+use Rattle.go_text.specs.Named.{Source}
+use Rattle.go_text.specs.declared.place.Place.{Place}
+use Rattle.go_ast.specs.Trees.{File}
+use Rattle.go_ast.specs.Parse as parse
+use Rattle.go_ast.specs.Parse.{Parsed, Derived, IsParse, IsNamed}
 use Rattle.ws_reach.specs.Reach as reach
-use Rattle.ws_reach.specs.Reach.{Edge, Reaches, Walked, rows_of}
-use Rattle.ws_reach.specs.Worklist.{Noted}
-use Rattle.ws_version.specs.Writes.{path_cmp}
+use Rattle.ws_reach.specs.Reach.{Edge, Reaches, rows_of}
+use Rattle.ws_version.specs.Writes.{Write, path_cmp}
 use Rattle.ws_register.specs.Edits.{Contents}
-use Rattle.ws_register.specs.Sources.{texts_of}
+use Rattle.ws_register.specs.Sources.{texts_of, pair_of, IsSources}
 use Rattle.ws_graph.specs.Packages.{package_files}
-use Rattle.ws_graph.specs.Plan.{Planned, NoFiles, Faulty, Sound, IsPlan}
-use Rattle.ws_graph.specs.BuildPlan.{Sources, Import, AreImports, Directory, HasNoFiles, IsProgram, Imports}
+use Rattle.ws_graph.specs.Plan.{Planned, NoFiles, Faulty, Sound, IsPlan, source_of}
+use Rattle.ws_graph.specs.BuildPlan.{Sources, Import, imports_in, AreImports, IsBuildPlan, Directory, HasImport, HasNoFiles, IsProgram, Imports}
 use Rattle.ws_graph.specs.Node.{planned_of}
 use Rattle.ws_graph.specs.declared.target.Target.{Target}
 use Rattle.ws_graph.specs.declared.wave.Found.{Found}
+use Rattle.ws_graph.specs.declared.waiting.Waiting.{Waiting}
+use Rattle.ws_graph.specs.declared.FileError.{FileError}
+use Rattle.ws_graph.specs.declared.FileError.TheVariants.{Stopped}
 use Rattle.ws_graph.specs.declared.link.Links.{Links}
 
 -- the sources that are held
@@ -29,11 +37,6 @@ held_sources m = texts_of (entries m)
 abbrev pub texts : List (String Global) → List (List ℕ)
 texts = map string_bytes
 
--- the directories that have files, ascending
-pub record AreDirectories (sources : Sources) (all : List (List ℕ)) : Type 0 where
-  pub ascending : IsStrictlySortedBy path_cmp all
-  pub have : (path : List ℕ) → Contains all path ↔ ¬ (HasNoFiles sources path)
-
 -- the number of a path among some
 abbrev pub IsNumber : List (List ℕ) → List ℕ → Option ℕ → Type 0
 IsNumber all path number = MatchOption number (¬ (Contains all path)) (λ k. slice_get all k ≡ Some path)
@@ -42,6 +45,7 @@ IsNumber all path number = MatchOption number (¬ (Contains all path)) (λ k. sl
 pub record IsTarget (all : List (List ℕ)) (import : Import) (target : Target) : Type 0 where
   pub file : string_bytes target.file ≡ import.file
   pub place : target.place ≡ import.spec.place
+  pub path : target.path.items ≡ import.spec.path
   pub number : IsNumber all import.spec.path target.number
 
 -- the same of each, in order
@@ -69,12 +73,6 @@ pub record IsFound (sources : Sources) (path : List ℕ) (found : Found) : Type 
   pub plan : IsPlan (package_files path sources) (planned_of found.node)
   pub program : IsTrue found.program ↔ IsProgram sources path
 
--- a directory by its number
-pub record IsFoundAt (sources : Sources) (all : List (List ℕ)) (number : ℕ) (found : Found) : Type 0 where
-  pub path : List ℕ
-  pub at : slice_get all number ≡ Some path
-  pub is : IsFound sources path found
-
 -- an import leads from one number to another
 pub record Leads (sources : Sources) (all : List (List ℕ)) (p q : ℕ) : Type 0 where
   pub from : List ℕ
@@ -86,10 +84,6 @@ pub record Leads (sources : Sources) (all : List (List ℕ)) (p q : ℕ) : Type 
 -- the first of some files has a package named main
 abbrev pub IsFirstMain : List Parsed → Type 0
 IsFirstMain parsed = (first : Parsed) × (rest : List Parsed) × (parsed ≡ first ∷ rest) × IsNamed (codes "main") first.text
-
--- the directories of some numbers, in their order
-abbrev pub AreFoundAt : Sources → List (List ℕ) → List ℕ → List Found → Type 0
-AreFoundAt sources all = AllZip (IsFoundAt sources all)
 
 -- an import has a fault of this kind: it leads nowhere, closes a cycle, or leads to a program
 abbrev pub HasFault : List (List ℕ) → List Bool → ℕ → FaultKind → Option ℕ → Type 0
@@ -118,35 +112,115 @@ AddsTargets all imports old new = (more : List Target) × (new ≡ old ++ more) 
 
 -- ---- discovery
 
--- A walk over directories under way: those that were looked at have their slots, and no others.
-pub record Walking (sources : Sources) (all : List (List ℕ)) (start next : ℕ) (met : Noted) (slots : List (Option Found)) : Type 0 where
-  pub directories : AreDirectories sources all
-  pub walked : Walked (Leads sources all) start next met.found
-  pub met_size : met.size ≡ length all
-  pub size : length slots ≡ length all
-  pub here : (i k : ℕ) → i < next → slice_get met.found i ≡ Some k → (found : Found) × (slice_get slots k ≡ Some (Some found))
-  pub right : (k : ℕ) (found : Found) → slice_get slots k ≡ Some (Some found) → Contains met.found k × IsFoundAt sources all k found
+-- a source is parsed to this
+abbrev pub IsFileOf : Source → Parsed → Type 0
+IsFileOf source p = (source_of p ≡ pair_of source) × ((file : File) × IsParse p.text (Derived file))
 
--- each directory that is reached has its slot, and no other has one
-pub record AreReached (sources : Sources) (all : List (List ℕ)) (start : ℕ) (slots : List (Option Found)) : Type 0 where
-  pub size : length slots ≡ length all
-  pub here : (k : ℕ) → Reaches (Leads sources all) start k → (found : Found) × (slice_get slots k ≡ Some (Some found))
-  pub right : (k : ℕ) (found : Found) → slice_get slots k ≡ Some (Some found) → Reaches (Leads sources all) start k × IsFoundAt sources all k found
+-- a source stops being a file at the fault's place
+abbrev pub StopsAs : Source → Fault → Type 0
+StopsAs source fault = (kind : FaultKind) × (place : Place) × IsParse source.text (parse.Stopped kind place) × (fault ≡ record { file = source.name; place = place; kind = kind })
 
--- those of some paths that have a slot, with what stands there
-abbrev pub kept : List (List ℕ) → List (Option Found) → List (List ℕ × Found)
-kept [] slots = []
-kept (p ∷ ps) [] = []
-kept (p ∷ ps) (None ∷ slots) = kept ps slots
-kept (p ∷ ps) (Some found ∷ slots) = (p, found) ∷ kept ps slots
+-- what a source comes to
+pub record ComesTo (source : Source) (result : Result Parsed FileError) : Type 0 where
+  pub parsed : IfOk result (IsFileOf source)
+  pub stopped : (fault : Fault) → result ≡ Err (Stopped fault) → StopsAs source fault
 
-abbrev pub kept_paths : List (List ℕ) → List (Option Found) → List (List ℕ)
-kept_paths all slots = map (λ k. k.0) (kept all slots)
+-- a directory has files, and waits with them
+pub record IsWaiting (sources : Sources) (waiting : Waiting) : Type 0 where
+  pub files : map pair_of waiting.files.items ≡ package_files (string_bytes waiting.path) sources
+  pub some : ¬ (HasNoFiles sources (string_bytes waiting.path))
 
-abbrev pub kept_founds : List (List ℕ) → List (Option Found) → List Found
-kept_founds all slots = map (λ k. k.1) (kept all slots)
+abbrev pub AreWaiting : Sources → List Waiting → Type 0
+AreWaiting sources = AllByRecursion (IsWaiting sources)
+
+abbrev pub IsWaitingAt : Sources → List ℕ → Waiting → Type 0
+IsWaitingAt sources path waiting = (string_bytes waiting.path ≡ path) × IsWaiting sources waiting
+
+-- where the directory has no files none waits
+abbrev pub WaitsIfFilled : Sources → List ℕ → Option Waiting → Type 0
+WaitsIfFilled sources path waiting = MatchOption waiting (HasNoFiles sources path) (IsWaitingAt sources path)
+
+-- where a path has no text its directory has no files
+abbrev pub IsTextOf : Sources → List ℕ → Option (String Global) → Type 0
+IsTextOf sources path text = MatchOption text (HasNoFiles sources path) (λ t. string_bytes t ≡ path)
+
+abbrev pub waiting_paths : List Waiting → List (List ℕ)
+waiting_paths = map (λ w. string_bytes w.path)
+
+-- a directory that waited, read
+abbrev pub IsReadAs : Sources → Waiting → String Global × Found → Type 0
+IsReadAs sources waiting read = (string_bytes read.0 ≡ string_bytes waiting.path) × IsFound sources (string_bytes waiting.path) read.1
+
+-- of those of a wave, in their order
+abbrev pub AreRead : Sources → List Waiting → List (Result (String Global × Found) AllocError) → Type 0
+AreRead sources = AllZip (λ waiting read. IfOk read (IsReadAs sources waiting))
+
+-- those that were met, by their paths
+abbrev pub Met : Type 0
+Met = List (String Global × Found)
+
+abbrev pub met_paths : Met → List (List ℕ)
+met_paths met = texts (keys_of met)
+
+-- A walk under way: directories were read, others wait, and further paths are imported by those that were read.
+pub record Walking (sources : Sources) (target : List ℕ) (met : Met) (waiting imported : List (List ℕ)) : Type 0 where
+  pub first : Contains (met_paths met) target ⊎ Contains waiting target
+  pub reached : (path : List ℕ) → Contains (met_paths met) path ⊎ Contains waiting path → reach.Reaches (Imports sources) target path
+  pub from : (path : List ℕ) → Contains imported path → (p : List ℕ) × reach.Reaches (Imports sources) target p × HasImport sources p path
+  pub closed : (p q : List ℕ) → Contains (met_paths met) p → Imports sources p q → Contains (met_paths met) q ⊎ (Contains waiting q ⊎ Contains imported q)
+  pub founds : (e : String Global × Found) → Contains met e → IsFound sources (string_bytes e.0) e.1
+
+-- a whole wave is taken in
+pub record TakesWave (sources : Sources) (target : List ℕ) (wave : List Waiting) (old new : Met) (imported : List (List ℕ)) : Type 0 where
+  pub walking : Walking sources target new [] imported
+  pub kept : (path : List ℕ) → Contains (met_paths old) path ⊎ Contains (waiting_paths wave) path → Contains (met_paths new) path
+
+-- the same of any wave that was read so
+abbrev pub TakesAll : Sources → List (Result (String Global × Found) AllocError) → Met → Met → List (List ℕ) → Type 0
+TakesAll sources read old new imported =
+    (target : List ℕ) (wave : List Waiting) → AreRead sources wave read → Walking sources target old (waiting_paths wave) [] → TakesWave sources target wave old new imported
+
+-- the paths that a directory's files import are added, those at least that have files
+pub record AddsImported (sources : Sources) (planned : Planned) (old new : List (List ℕ)) : Type 0 where
+  pub more : List (List ℕ)
+  pub is : new ≡ old ++ more
+  pub from : (p q : List ℕ) → IsPlan (package_files p sources) planned → Contains more q → HasImport sources p q
+  pub all : (p q : List ℕ) → IsPlan (package_files p sources) planned → Imports sources p q → Contains more q
+
+-- a path is added, at least if its directory has files
+abbrev pub AddsPath : Sources → List ℕ → List (List ℕ) → List (List ℕ) → Type 0
+AddsPath sources path old new = (new ≡ old ++ path ∷ []) ⊎ (HasNoFiles sources path × (new ≡ old))
+
+-- the same of the paths of some targets
+pub record AddsPaths (sources : Sources) (targets : List Target) (old new : List (List ℕ)) : Type 0 where
+  pub more : List (List ℕ)
+  pub is : new ≡ old ++ more
+  pub from : (path : List ℕ) → Contains more path → (t : Target) × Contains targets t × (t.path.items ≡ path)
+  pub all : (t : Target) → Contains targets t → HasNoFiles sources t.path.items ⊎ Contains more t.path.items
+
+-- the directory of a path has files and wasn't met: it is added
+abbrev pub AddsWaiting : Sources → List (List ℕ) → List ℕ → List Waiting → List Waiting → Type 0
+AddsWaiting sources met path old new = (w : Waiting) × IsWaitingAt sources path w × ¬ (Contains met path) × (new ≡ old ++ w ∷ [])
+
+-- it is added, or has no files, or was met
+abbrev pub AddsUnmet : Sources → List (List ℕ) → List ℕ → List Waiting → List Waiting → Type 0
+AddsUnmet sources met path old new = AddsWaiting sources met path old new ⊎ ((HasNoFiles sources path ⊎ Contains met path) × (new ≡ old))
+
+-- those of some paths wait that have files and weren't met
+pub record IsNextWave (sources : Sources) (met imported : List (List ℕ)) (wave : List Waiting) : Type 0 where
+  pub waiting : AreWaiting sources wave
+  pub from : (path : List ℕ) → Contains (waiting_paths wave) path → Contains imported path × ¬ (Contains met path)
+  pub all : (path : List ℕ) → Contains imported path → HasNoFiles sources path ⊎ (Contains met path ⊎ Contains (waiting_paths wave) path)
 
 -- ---- links
+
+-- the imports of a file lead to these targets, which are added
+abbrev pub AddsFile : List (List ℕ) → Parsed → List Target → List Target → Type 0
+AddsFile all file old new = (tree : File) × IsParse file.text (Derived tree) × AddsTargets all (imports_in file.name tree.imports) old new
+
+-- the files of a directory's package, for a set of writes
+abbrev pub AreFilesOf : List Write → List ℕ → Sources → Type 0
+AreFilesOf writes directory files = (sources : Sources) × IsSources writes sources × (files ≡ package_files directory sources)
 
 -- the paths are those of the directories that the target reaches, each with what was found
 pub record AreAll (sources : Sources) (target : List ℕ) (paths : List (List ℕ)) (founds : List Found) : Type 0 where
@@ -154,6 +228,10 @@ pub record AreAll (sources : Sources) (target : List ℕ) (paths : List (List �
   pub ascending : IsStrictlySortedBy path_cmp paths
   pub reached : (path : List ℕ) → Contains paths path ↔ reach.Reaches (Imports sources) target path
   pub founds_are : AllZip (IsFound sources) paths founds
+
+-- where paths and what was found are those of a target, this is the plan of its build
+abbrev pub ArePlanned : List (List ℕ) → List Found → List Directory → Type 0
+ArePlanned paths founds directories = (sources : Sources) (target : List ℕ) → AreAll sources target paths founds → IsBuildPlan sources target directories
 
 -- the numbers of some targets, ascending
 pub record AreNumbersOf (targets : Vec Target) (numbers : Vec ℕ) : Type 0 where

@@ -1,7 +1,6 @@
 -- The files of a directory's package.
-use Rattle.std.specs.Prelude.{ℕ, Bool, not, cond, ◌&&◌, eqb, List, [], ◌∷◌, codes}
-use Rattle.std.specs.List.{filter, flat_map, starts_with, ends_with}
-use Rattle.ws_path.specs.Paths.{directory, file_name}
+use Rattle.std.specs.Prelude.{ℕ, Bool, not, ◌&&◌, eqb, List, codes}
+use Rattle.std.specs.List.{filter, starts_with, ends_with}
 use Rattle.ws_register.specs.Sources.{files_in}
 
 -- files whose name begins with `.` or `_`, or ends in `_test.go`, aren't part of a build
@@ -11,11 +10,3 @@ is_built name = not (starts_with eqb name (codes ".")) && (not (starts_with eqb 
 -- those of a directory's files that are part of a build, name and text, in the order of the sources
 abbrev pub package_files : List ℕ → List (List ℕ × List ℕ) → List (List ℕ × List ℕ)
 package_files dir sources = filter (λ file. is_built file.0) (files_in dir sources)
-
--- the directory of a path, if the file there belongs to a package
-abbrev pub built_directory : List ℕ → List (List ℕ)
-built_directory path = cond (is_built (file_name path)) (directory path ∷ []) []
-
--- the directories of some sources, one for each file that belongs to a package
-abbrev pub built_directories : List (List ℕ × List ℕ) → List (List ℕ)
-built_directories sources = flat_map (λ source. built_directory source.0) sources

@@ -1,119 +1,139 @@
 //! The directories that a target reaches, found wave by wave.
-ghost use Rattle.std.specs.Prelude.{◌≡◌, ◌<◌, ◌≤◌, ◌+◌, ℕ, List, length, drop, slice_set, IfOk, Some, None, vec_len};
-ghost use Rattle.std.specs.List.{slice_get};
-ghost use Rattle.std.specs.List.Sorted.{IsStrictlySortedBy};
-ghost use Rattle.ws_version.specs.Writes.{path_cmp};
-ghost use Rattle.ws_reach.specs.Worklist.{Grows};
-ghost use Rattle.ws_graph.specs.BuildPlan.{Sources};
-ghost use Rattle.ws_graph.specs.declared.wave.Found.{Found as AFound};
-ghost use Rattle.ws_graph.specs.Discovery.{held_sources, texts, AreDirectories, IsFoundAt, AreFoundAt, AreReached, Walking};
+ghost use Rattle.std.specs.Prelude.{IfOk, OnOk, string_bytes, string_cmp};
+ghost use Rattle.std.specs.BTreeMap.{IsOrdered, values};
+ghost use Rattle.ws_graph.specs.Node.{planned_of};
+ghost use Rattle.ws_graph.specs.Discovery.{held_sources, texts, met_paths, AreAll, IsWaiting, TakesAll, AddsPath, AddsPaths, AddsImported, AddsUnmet, IsNextWave};
 
-use crate::target::{numbers_of, targets_of};
+use crate::planned::Node;
+use crate::target::{Target, targets_of};
+use crate::waiting::{Waiting, text_of, waiting_at};
 use crate::wave::{Found, read_all};
 use std::alloc::{AllocError, Global};
+use std::collections::BTreeMap;
 use std::thread::Threads;
-use ws_reach::{Worklist, begun, node_at};
 use ws_register::Registers;
 
-/// What becomes of each directory that one reaches, by number; none of those that it doesn't
-/// reach. The directories of a wave are those that the wave before imports, and that weren't met
-/// yet: they are read at once.
+/// What becomes of each directory that one reaches, by its path. The directories of a wave are
+/// those that the wave before imports, and that weren't met yet: they are read at once.
 pub fn discover(
     rt: &(impl Threads + Sync),
     alloc: Global,
     registers: &Registers,
-    all: &[String],
-    start: usize,
-) -> Result<Vec<Option<Found>>, AllocError>
-    requires start { start < length all.now }
-    requires all { AreDirectories (held_sources registers.now) (texts all.now) }
-    ensures { IfOk result (λ slots. AreReached (held_sources registers.now) (texts all.now) start slots.items) }
+    first: Waiting,
+) -> Result<BTreeMap<String, Found>, AllocError>
+    requires { IsWaiting (held_sources registers.now) first }
+    ensures { IfOk result (λ met. AreAll (held_sources registers.now) (string_bytes first.path) (met_paths met.entries) (values met)) }
 {
-    let mut slots = empty_slots(alloc, all.len())?;
-    let mut met = begun(alloc, all.len(), start)?;
-    let mut next = 0;
-    while next < met.found().len() {
-        let wave = read_all(rt, alloc, registers, all, after(met.found(), next))?;
-        let count = wave.len();
-        take_wave(alloc, all, wave, next, &mut met, &mut slots)?;
-        next += count;
+    let mut met = BTreeMap::new(alloc);
+    let mut wave = Vec::new(alloc);
+    wave.push(first)?;
+    while !wave.is_empty() {
+        let read = read_all(rt, alloc, wave)?;
+        let imported = take_all(alloc, registers, read, &mut met)?;
+        wave = next_wave(alloc, registers, &met, imported)?;
     }
-    Ok(slots)
+    Ok(met)
 }
 
-fn empty_slots(alloc: Global, size: usize) -> Result<Vec<Option<Found>>, AllocError>
-    ensures size { IfOk result (λ slots. vec_len slots ≡ size) }
-    ensures none { IfOk result (λ slots. (k : ℕ) (found : AFound) → slice_get slots.items k ≡ Some (Some found) → ⊥) }
-{
-    let mut slots = Vec::new(alloc);
-    for _ in 0..size {
-        slots.push(None)?;
-    }
-    Ok(slots)
-}
-
-fn after(nodes: &[usize], place: usize) -> &[usize]
-    requires { place < length nodes.now }
-    ensures { result.now ≡ drop place nodes.now }
-{
-    &nodes[place..]
-}
-
-// The directories of a wave take their slots, and what they import is met.
-fn take_wave(
+// Takes in the directories of a wave. Answers the paths that they import.
+fn take_all(
     alloc: Global,
-    all: &[String],
-    wave: Vec<Found>,
-    start: usize,
-    met: &mut Worklist,
-    slots: &mut Vec<Option<Found>>,
-) -> Result<(), AllocError>
-    requires inside { start + length wave.items ≤ length met.old.found }
-    requires met { met.old.size ≡ length all.now }
-    requires slots { length slots.old.items ≡ length all.now }
-    requires ascending { IsStrictlySortedBy path_cmp (texts all.now) }
-    ensures { IfOk result (λ _. (sources : Sources) (first : ℕ) → Walking sources (texts all.now) first start met.old slots.old.items
-        → AreFoundAt sources (texts all.now) (drop start met.old.found) wave.items → Walking sources (texts all.now) first (start + length wave.items) met.new slots.new.items) }
+    registers: &Registers,
+    read: Vec<Result<(String, Found), AllocError>>,
+    met: &mut BTreeMap<String, Found>,
+) -> Result<Vec<String>, AllocError>
+    requires { IsOrdered string_cmp met.old }
+    ensures ordered { OnOk result (IsOrdered string_cmp met.new) }
+    ensures takes { IfOk result (λ imported. TakesAll (held_sources registers.now) read.items met.old.entries met.new.entries (texts imported.items)) }
 {
-    let known = met.found().len();
-    let mut next = start;
-    for found in wave {
-        let inside = next < known;
-        prove!(inside);
-        take_in(alloc, all, found, next, met, slots)?;
-        next += 1;
+    let mut imported = Vec::new(alloc);
+    for directory in read {
+        let (path, found) = directory?;
+        add_imported(alloc, registers, &found.node, &mut imported)?;
+        met.insert(path, found)?;
+    }
+    Ok(imported)
+}
+
+// Adds the paths that the files of a directory import.
+fn add_imported(
+    alloc: Global,
+    registers: &Registers,
+    node: &Node,
+    imported: &mut Vec<String>,
+) -> Result<(), AllocError>
+    ensures { IfOk result (λ _. AddsImported (held_sources registers.now) (planned_of node.now) (texts imported.old.items) (texts imported.new.items)) }
+{
+    // The paths alone are wanted, so that no directory has a number.
+    let numbered = Vec::new(alloc);
+    let targets = targets_of(alloc, numbered.as_slice(), node)?;
+    add_paths(alloc, registers, targets.as_slice(), imported)?;
+    Ok(())
+}
+
+fn add_paths(
+    alloc: Global,
+    registers: &Registers,
+    targets: &[Target],
+    imported: &mut Vec<String>,
+) -> Result<(), AllocError>
+    ensures { IfOk result (λ _. AddsPaths (held_sources registers.now) targets.now (texts imported.old.items) (texts imported.new.items)) }
+{
+    for target in targets {
+        add_path(alloc, registers, target.path.as_slice(), imported)?;
     }
     Ok(())
 }
 
-fn take_in(
+fn add_path(
     alloc: Global,
-    all: &[String],
-    found: Found,
-    next: usize,
-    met: &mut Worklist,
-    slots: &mut Vec<Option<Found>>,
+    registers: &Registers,
+    path: &[u8],
+    imported: &mut Vec<String>,
 ) -> Result<(), AllocError>
-    requires next { next < length met.old.found }
-    requires met { met.old.size ≡ length all.now }
-    requires slots { length slots.old.items ≡ length all.now }
-    requires ascending { IsStrictlySortedBy path_cmp (texts all.now) }
-    ensures size { IfOk result (λ _. (met.new.size ≡ met.old.size) × (length slots.new.items ≡ length slots.old.items)) }
-    ensures grows { IfOk result (λ _. Grows met.old.found met.new.found) }
-    ensures step { IfOk result (λ _. (sources : Sources) (first here : ℕ) → Walking sources (texts all.now) first next met.old slots.old.items
-        → slice_get met.old.found next ≡ Some here → IsFoundAt sources (texts all.now) here found → Walking sources (texts all.now) first (next + 1) met.new slots.new.items) }
+    ensures { IfOk result (λ _. AddsPath (held_sources registers.now) path.now (texts imported.old.items) (texts imported.new.items)) }
 {
-    let here = node_at(met.found(), next);
-    let targets = targets_of(alloc, all, &found.node)?;
-    let numbers = numbers_of(alloc, targets.as_slice())?;
-    met.add_all(numbers.as_slice())?;
-    put(slots, here, found);
+    let Some(text) = text_of(alloc, registers, path)? else {
+        return Ok(());
+    };
+    imported.push(text)?;
     Ok(())
 }
 
-fn put(slots: &mut Vec<Option<Found>>, number: usize, found: Found)
-    requires { number < length slots.old.items }
-    ensures { slots.new.items ≡ slice_set slots.old.items number (Some found) }
+// The directories of some paths that have files and weren't met yet, in the order of their paths.
+fn next_wave(
+    alloc: Global,
+    registers: &Registers,
+    met: &BTreeMap<String, Found>,
+    imported: Vec<String>,
+) -> Result<Vec<Waiting>, AllocError>
+    ensures { IfOk result (λ wave. IsNextWave (held_sources registers.now) (met_paths met.now.entries) (texts imported.items) wave.items) }
 {
-    slots[number] = Some(found);
+    let mut paths = imported;
+    paths.sort()?;
+    paths.dedup();
+    let mut wave = Vec::new(alloc);
+    for path in paths {
+        add_unmet(alloc, registers, met, path.as_str(), &mut wave)?;
+    }
+    Ok(wave)
+}
+
+fn add_unmet(
+    alloc: Global,
+    registers: &Registers,
+    met: &BTreeMap<String, Found>,
+    path: &str,
+    wave: &mut Vec<Waiting>,
+) -> Result<(), AllocError>
+    ensures { IfOk result (λ _. AddsUnmet (held_sources registers.now) (met_paths met.now.entries) path.now wave.old.items wave.new.items) }
+{
+    if met.contains_key(path) {
+        return Ok(());
+    }
+    let Some(waiting) = waiting_at(alloc, registers, path)? else {
+        return Ok(());
+    };
+    wave.push(waiting)?;
+    Ok(())
 }

@@ -1,18 +1,17 @@
 //! Plans: what becomes of the files of a directory before anything is compiled.
 #![tactic(auto)]
 
-ghost use Rattle.std.specs.Prelude.{◌≡◌, ◌≢◌, ℕ, List, [], IfOk, IfSome, IfNone, Ok, Err, string_bytes, map};
+ghost use Rattle.std.specs.Prelude.{◌≡◌, ◌≢◌, ℕ, List, [], IfOk, IfSome, IfNone, Err, map};
 ghost use Rattle.std.specs.Bool.{OnTrue, OnFalse};
+ghost use Rattle.std.specs.List.{AllZip};
 ghost use Rattle.go_text.specs.Faults.{Fault as AFault};
-ghost use Rattle.go_text.specs.declared.place.Place.{Place as APlace};
-ghost use Rattle.go_text.specs.declared.fault.FaultKind.{FaultKind as AKind};
-ghost use Rattle.go_ast.specs.Trees.{File as AFile};
-ghost use Rattle.ws_version.specs.Writes.{Write, held_cmp};
-ghost use Rattle.ws_map.specs.Kept.{StandsFor, SameMembers};
+ghost use Rattle.ws_version.specs.Writes.{Write};
+ghost use Rattle.ws_map.specs.Kept.{SameMembers};
 ghost use Rattle.ws_register.specs.Sources.{pair_of};
-ghost use Rattle.go_ast.specs.Parse.{Derived, Stopped, IsParse, IsNamed, IsOther};
-ghost use Rattle.ws_graph.specs.Plan.{Planned, NoFiles, source_of, AreParsed, AllNamed, HasOther, StopsIn, IsPlan, IsPlanOf};
+ghost use Rattle.go_ast.specs.Parse.{IsNamed, IsOther};
+ghost use Rattle.ws_graph.specs.Plan.{Planned, NoFiles, AreParsed, AllNamed, HasOther, StopsIn, IsPlan, IsPlanOf};
 ghost use Rattle.ws_graph.specs.Node.{planned_of};
+ghost use Rattle.ws_graph.specs.Discovery.{ComesTo};
 ghost use Rattle.ws_graph.specs.declared.FileError.TheVariants.{Memory};
 
 use go_ast::parsed::Parsed;
@@ -21,11 +20,11 @@ use go_text::fault::{Fault, FaultKind};
 use go_text::source::Source;
 pub use law::{law_build_plan_is_ranked, law_one_build_plan, law_some_build_plan};
 pub use packages::package_files;
-pub use planned::{Node, Plan, PlanError};
+pub use planned::{Node, PlanError};
+use rayon::prelude::*;
 use std::alloc::{AllocError, AllocFailed, Global};
-use ws_register::Registers;
+use std::thread::Threads;
 
-mod directories;
 mod discovery;
 pub mod law;
 mod link;
@@ -33,7 +32,11 @@ mod packages;
 mod planned;
 pub mod planning;
 mod target;
+mod waiting;
 mod wave;
+
+// How many files are worth a thread.
+const FILES_A_THREAD: usize = 16;
 
 // Why a file wasn't parsed.
 #[derive(Drop)]
@@ -59,8 +62,7 @@ impl<T: Drop> From<AllocFailed<T>> for FileError {
 }
 
 fn parsed_file(alloc: Global, source: Source) -> Result<Parsed, FileError>
-    ensures ok { IfOk result (λ p. (source_of p ≡ pair_of source) × ((file : AFile) × IsParse p.text (Derived file))) }
-    ensures stopped { (fault : AFault) → result ≡ Err (FileError.Stopped fault) → (kind : AKind) × (place : APlace) × IsParse source.text (Stopped kind place) × (fault ≡ record { file = source.name; place = place; kind = kind }) }
+    ensures { ComesTo source result }
 {
     let name = String::from_str(alloc, source.name())?;
     match parse_source(alloc, source) {
@@ -76,16 +78,39 @@ fn parsed_file(alloc: Global, source: Source) -> Result<Parsed, FileError>
     }
 }
 
-fn parsed_files(alloc: Global, files: Vec<Source>) -> Result<Vec<Parsed>, FileError>
+fn parsed_files(
+    rt: &(impl Threads + Sync),
+    alloc: Global,
+    files: Vec<Source>,
+) -> Result<Vec<Parsed>, FileError>
     ensures ok { IfOk result (λ parsed. AreParsed (map pair_of files.items) parsed.items) }
     ensures stopped { (fault : AFault) → result ≡ Err (FileError.Stopped fault) → StopsIn (map pair_of files.items) fault }
 {
     let mut all = Vec::new(alloc);
-    for source in files {
-        let parsed = parsed_file(alloc, source)?;
-        all.push(parsed)?;
+    for parsed in each_parsed(rt, alloc, files)? {
+        all.push(parsed?)?;
     }
     Ok(all)
+}
+
+// The files, each parsed by itself, in their order. They are parsed by as many threads as there are
+// processors, where they are many.
+fn each_parsed(
+    rt: &(impl Threads + Sync),
+    alloc: Global,
+    files: Vec<Source>,
+) -> Result<Vec<Result<Parsed, FileError>>, AllocError>
+    ensures { IfOk result (λ each. AllZip ComesTo files.items each.items) }
+{
+    files
+        .into_par_iter()
+        .with_min_len(FILES_A_THREAD)
+        .map(
+            |source: Source| -> Result<Parsed, FileError>
+                ensures { ComesTo source result }
+            { parsed_file(alloc, source) },
+        )
+        .collect(rt, alloc)
 }
 
 fn is_named(name: &str, parsed: &Parsed) -> bool
@@ -121,28 +146,6 @@ fn judged(alloc: Global, parsed: Vec<Parsed>) -> Result<Node, PlanError>
     let file = String::from_str(alloc, other.name())?;
     let place = other.package().place();
     Ok(Node::Faulty(Fault::new(file, place, FaultKind::PackageName)))
-}
-
-/// What becomes of the directory's files that belong to a build: in order of their names, all of
-/// them parsed, or the fault of the first that doesn't parse, or that of the first whose package
-/// has another name than the first file's.
-/// `NoPackage` comes where the directory has no such file, and `Memory` for a refused allocation.
-pub fn plan(alloc: Global, registers: &Registers, directory: &str) -> Result<Plan, PlanError>
-    ensures directory { IfOk result (λ plan. string_bytes plan.directory ≡ directory.now) }
-    ensures ok { (writes : List Write) → StandsFor held_cmp registers.now writes → IfOk result (λ plan. IsPlanOf writes directory.now (planned_of plan.node) × (planned_of plan.node ≢ NoFiles)) }
-    ensures none { (writes : List Write) → StandsFor held_cmp registers.now writes → result ≡ Err PlanError.NoPackage → IsPlanOf writes directory.now NoFiles }
-{
-    let name = String::from_str(alloc, directory)?;
-    let files = package_files(registers, directory)?;
-    let node = match parsed_files(alloc, files) {
-        Ok(parsed) => judged(alloc, parsed)?,
-        Err(FileError::Stopped(fault)) => Node::Faulty(fault),
-        Err(FileError::Memory) => return Err(PlanError::Memory),
-    };
-    Ok(Plan {
-        directory: name,
-        node,
-    })
 }
 
 /// The plan of a directory depends on the members of the set of writes alone.

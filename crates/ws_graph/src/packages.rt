@@ -1,11 +1,12 @@
 //! Which files of a directory are its package's.
-ghost use Rattle.std.specs.Prelude.{◌≡◌, ℕ, List, IfOk, map};
+ghost use Rattle.std.specs.Prelude.{◌≡◌, List, IfOk, map};
 ghost use Rattle.std.specs.List.{filter};
 ghost use Rattle.std.specs.FinMap.{entries};
 ghost use Rattle.ws_map.specs.Kept.{StandsFor};
 ghost use Rattle.ws_version.specs.Writes.{Write, held_cmp};
-ghost use Rattle.ws_register.specs.Sources.{pair_of, texts_of, IsSources};
+ghost use Rattle.ws_register.specs.Sources.{pair_of, texts_of};
 ghost use Rattle.ws_graph.specs.Packages.{is_built, package_files};
+ghost use Rattle.ws_graph.specs.Discovery.{AreFilesOf};
 
 use go_text::source::Source;
 use std::alloc::AllocError;
@@ -15,7 +16,7 @@ use ws_register::Registers;
 /// with `.` or `_`, and none that ends in `_test.go`. An `Err` is for want of memory.
 pub fn package_files(registers: &Registers, directory: &str) -> Result<Vec<Source>, AllocError>
     ensures exact { IfOk result (λ files. map pair_of files.items ≡ package_files directory.now (texts_of (entries registers.now))) }
-    ensures stands { IfOk result (λ files. (W : List Write) → StandsFor held_cmp registers.now W → (S : List (List ℕ × List ℕ)) × IsSources W S × (map pair_of files.items ≡ package_files directory.now S)) }
+    ensures stands { IfOk result (λ files. (W : List Write) → StandsFor held_cmp registers.now W → AreFilesOf W directory.now (map pair_of files.items)) }
 {
     let mut files = registers.files(directory)?;
     keep_built(&mut files);

@@ -32,12 +32,3 @@ pub enum Node {
     Faulty(Fault),
     Sound(Vec<Parsed>),
 }
-
-/// A directory and what becomes of its files.
-#[derive(Drop)]
-pub struct Plan {
-    /// The directory that was asked for.
-    pub directory: String,
-    /// What becomes of its files.
-    pub node: Node,
-}

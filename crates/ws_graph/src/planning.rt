@@ -1,23 +1,24 @@
 //! Plans of builds: every directory that a target reaches by imports.
-ghost use Rattle.std.specs.Prelude.{◌≡◌, ◌<◌, ℕ, List, ◌++◌, ◌∷◌, length, map, string_bytes, IfOk, Err, Some, Option};
-ghost use Rattle.ws_graph.specs.declared.wave.Found.{Found as AFound};
+ghost use Rattle.std.specs.Prelude.{◌≡◌, ◌<◌, List, length, map, string_bytes, IfOk, Err, Some};
+ghost use Rattle.std.specs.BTreeMap.{keys, values};
 ghost use Rattle.std.specs.List.{slice_get};
 ghost use Rattle.std.specs.List.Sorted.{IsStrictlySortedBy};
 ghost use Rattle.ws_version.specs.Writes.{Write, held_cmp, path_cmp};
 ghost use Rattle.ws_map.specs.Kept.{StandsFor};
 ghost use Rattle.ws_graph.specs.Plan.{NoFiles, IsPlanOf};
-ghost use Rattle.ws_graph.specs.BuildPlan.{Sources, IsBuildPlan, IsBuildPlanOf};
+ghost use Rattle.ws_graph.specs.BuildPlan.{IsBuildPlanOf};
 ghost use Rattle.ws_graph.specs.Node.{planned_of, directory_of};
-ghost use Rattle.ws_graph.specs.Discovery.{texts, kept_paths, kept_founds, planned_with, IsLinkedAt, AreAll};
+ghost use Rattle.ws_graph.specs.Discovery.{texts, planned_with, IsLinkedAt, ArePlanned};
 
-use crate::directories::{directories, number_of};
 use crate::discovery::discover;
 use crate::link::{Links, import_fault, links_of};
 use crate::planned::{Node, PlanError};
 use crate::target::Target;
+use crate::waiting::waiting_at;
 use crate::wave::Found;
 use go_text::fault::Fault;
 use std::alloc::{AllocError, Global};
+use std::collections::BTreeMap;
 use std::thread::Threads;
 use ws_register::Registers;
 
@@ -46,62 +47,40 @@ pub fn plan(
     registers: &Registers,
     target: &str,
 ) -> Result<BuildPlan, PlanError>
-    ensures ok { (writes : List Write) → StandsFor held_cmp registers.now writes → IfOk result (λ plan. IsBuildPlanOf writes target.now (map directory_of plan.directories.items)) }
-    ensures none { (writes : List Write) → StandsFor held_cmp registers.now writes → result ≡ Err PlanError.NoPackage → IsPlanOf writes target.now NoFiles }
+    ensures ok { (W : List Write) → StandsFor held_cmp registers.now W → IfOk result (λ plan. IsBuildPlanOf W target.now (map directory_of plan.directories.items)) }
+    ensures none { (W : List Write) → StandsFor held_cmp registers.now W → result ≡ Err PlanError.NoPackage → IsPlanOf W target.now NoFiles }
 {
-    let all = directories(alloc, registers)?;
-    let Some(start) = number_of(all.as_slice(), target.as_bytes()) else {
+    let Some(first) = waiting_at(alloc, registers, target)? else {
         return Err(PlanError::NoPackage);
     };
-    let slots = discover(rt, alloc, registers, all.as_slice(), start)?;
-    let (paths, founds) = reached(alloc, all.as_slice(), slots)?;
+    let met = discover(rt, alloc, registers, first)?;
+    let (paths, founds) = parted(alloc, met)?;
     let directories = linked(alloc, paths.as_slice(), founds)?;
     Ok(BuildPlan { directories })
 }
 
-// The paths of the directories that were reached, ascending, and what was found there.
-fn reached(
+// The paths of the directories that were met, ascending, and what was found there.
+fn parted(
     alloc: Global,
-    all: &[String],
-    slots: Vec<Option<Found>>,
+    met: BTreeMap<String, Found>,
 ) -> Result<(Vec<String>, Vec<Found>), AllocError>
-    ensures paths { IfOk result (λ both. texts both.0.items ≡ kept_paths (texts all.now) slots.items) }
-    ensures founds { IfOk result (λ both. both.1.items ≡ kept_founds (texts all.now) slots.items) }
+    ensures paths { IfOk result (λ both. both.0.items ≡ keys met) }
+    ensures founds { IfOk result (λ both. both.1.items ≡ values met) }
 {
     let mut paths = Vec::new(alloc);
     let mut founds = Vec::new(alloc);
-    let mut left = all;
-    for slot in slots {
-        left = keep(left, slot, &mut paths, &mut founds)?;
-    }
-    Ok((paths, founds))
-}
-
-// The first path is kept with what stands in its slot, if something does. Answers the other paths.
-fn keep<'a>(
-    left: &'a [String],
-    slot: Option<Found>,
-    paths: &mut Vec<String>,
-    founds: &mut Vec<Found>,
-) -> Result<&'a [String], AllocError>
-    ensures paths { IfOk result (λ others. (slots : List (Option AFound)) → texts paths.new.items ++ kept_paths (texts others.now) slots ≡ texts paths.old.items ++ kept_paths (texts left.now) (slot ∷ slots)) }
-    ensures founds { IfOk result (λ others. (slots : List (Option AFound)) → founds.new.items ++ kept_founds (texts others.now) slots ≡ founds.old.items ++ kept_founds (texts left.now) (slot ∷ slots)) }
-{
-    let Some((path, others)) = left.split_first() else {
-        return Ok(left);
-    };
-    if let Some(found) = slot {
-        paths.push(copy_of(path)?)?;
+    for (path, found) in met {
+        paths.push(path)?;
         founds.push(found)?;
     }
-    Ok(others)
+    Ok((paths, founds))
 }
 
 // The directories with the faults of their imports.
 fn linked(alloc: Global, paths: &[String], founds: Vec<Found>) -> Result<Vec<Directory>, AllocError>
     requires ascending { IsStrictlySortedBy path_cmp (texts paths.now) }
     requires length { length paths.now ≡ length founds.items }
-    ensures { IfOk result (λ directories. (sources : Sources) (target : List ℕ) → AreAll sources target (texts paths.now) founds.items → IsBuildPlan sources target (map directory_of directories.items)) }
+    ensures { IfOk result (λ directories. ArePlanned (texts paths.now) founds.items (map directory_of directories.items)) }
 {
     let links = links_of(alloc, paths, founds.as_slice())?;
     let mut directories = Vec::new(alloc);

@@ -1,28 +1,27 @@
 //! What the imports of a directory lead to.
-ghost use Rattle.std.specs.Prelude.{◌≡◌, ◌↔◌, ◌++◌, ℕ, List, [], ◌∷◌, IfOk, IsTrue, map};
+ghost use Rattle.std.specs.Prelude.{◌≡◌, ◌↔◌, ◌++◌, ℕ, List, [], ◌∷◌, IfOk, string_bytes};
 ghost use Rattle.std.specs.List.{Contains};
 ghost use Rattle.std.specs.List.Sorted.{IsStrictlySortedBy, IsStrictlyIncreasing};
-ghost use Rattle.go_ast.specs.Trees.{File as AFile, ImportSpec as AnImportSpec};
-ghost use Rattle.go_ast.specs.Parse.{Parsed as AParsed, Derived, IsParse};
 ghost use Rattle.go_ast.specs.Views.{import_of};
 ghost use Rattle.ws_version.specs.Writes.{path_cmp};
 ghost use Rattle.ws_graph.specs.BuildPlan.{imports_in};
 ghost use Rattle.ws_graph.specs.Node.{planned_of};
-ghost use Rattle.ws_graph.specs.Discovery.{texts, AreTargets, HaveTargets, AreTargetsOf, AddsTargets, HasNumber};
+ghost use Rattle.ws_graph.specs.Discovery.{texts, IsNumber, HaveTargets, AreTargetsOf, AddsTargets, AddsFile, HasNumber};
 
-use crate::directories::number_of;
 use crate::planned::Node;
 use go_ast::file::ImportSpec;
 use go_ast::parsed::Parsed;
 use go_text::place::Place;
 use std::alloc::{AllocError, Global};
+use std::cmp::Ordering;
 
-/// An import of a directory: the name of the file and the place where it is written, and the
-/// number of the directory, if there is one.
+/// An import of a directory: the name of the file and the place where it is written, the path of
+/// the directory, and its number, if it is among those that have one.
 #[derive(Drop)]
 pub struct Target {
     pub file: String,
     pub place: Place,
+    pub path: Vec<u8>,
     pub number: Option<usize>,
 }
 
@@ -58,7 +57,7 @@ fn add_file(
     targets: &mut Vec<Target>,
 ) -> Result<(), AllocError>
     requires { IsStrictlySortedBy path_cmp (texts all.now) }
-    ensures { IfOk result (λ _. (tree : AFile) × IsParse file.now.text (Derived tree) × AddsTargets (texts all.now) (imports_in file.now.name tree.imports) targets.old.items targets.new.items) }
+    ensures { IfOk result (λ _. AddsFile (texts all.now) file.now targets.old.items targets.new.items) }
 {
     let name = file.name();
     for spec in &file.file().imports {
@@ -83,9 +82,32 @@ fn add_target(
     targets.push(Target {
         file: String::from_str(alloc, file)?,
         place: spec.place,
+        path: spec.path.clone()?,
         number: number_of(all, spec.path.as_slice()),
     })?;
     Ok(())
+}
+
+// The number of a path among some that ascend.
+fn number_of(all: &[String], path: &[u8]) -> Option<usize>
+    requires { IsStrictlySortedBy path_cmp (texts all.now) }
+    ensures { IsNumber (texts all.now) path.now result }
+{
+    let found = all.binary_search_by(
+        |other: &String| -> Ordering
+            ensures { result ≡ path_cmp (string_bytes other.now) path.entry.now }
+        { compared(other, path) },
+    );
+    match found {
+        Ok(number) => Some(number),
+        Err(_) => None,
+    }
+}
+
+fn compared(other: &String, path: &[u8]) -> Ordering
+    ensures { result ≡ path_cmp (string_bytes other.now) path.now }
+{
+    other.as_bytes().cmp(path)
 }
 
 /// The numbers of some targets, ascending.

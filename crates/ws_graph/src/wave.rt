@@ -1,20 +1,21 @@
 //! Directories that are read at once.
-ghost use Rattle.std.specs.Prelude.{◌≡◌, ◌↔◌, ◌<◌, ℕ, List, length, IfOk, IsTrue, false};
-ghost use Rattle.std.specs.List.{AllZip};
-ghost use Rattle.ws_reach.specs.Worklist.{AllBelow};
+ghost use Rattle.std.specs.Prelude.{◌≡◌, ◌↔◌, ℕ, List, IfOk, IsTrue, false, map};
 ghost use Rattle.go_text.specs.Faults.{Fault as AFault};
+ghost use Rattle.ws_register.specs.Sources.{pair_of};
+ghost use Rattle.ws_graph.specs.Packages.{package_files};
 ghost use Rattle.ws_graph.specs.Plan.{Faulty};
+ghost use Rattle.ws_graph.specs.BuildPlan.{Sources};
 ghost use Rattle.ws_graph.specs.Node.{planned_of};
-ghost use Rattle.ws_graph.specs.Discovery.{held_sources, texts, IsFirstMain, IsFound, IsFoundAt, AreFoundAt};
+ghost use Rattle.ws_graph.specs.Discovery.{IsFirstMain, IsFound, IsWaiting, AreWaiting, IsReadAs, AreRead};
 
-use crate::packages::package_files;
 use crate::planned::Node;
-use crate::{FileError, is_named, judged, parsed_files};
+use crate::waiting::Waiting;
+use crate::{FILES_A_THREAD, FileError, is_named, judged, parsed_files};
 use go_ast::parsed::Parsed;
+use go_text::source::Source;
 use rayon::prelude::*;
 use std::alloc::{AllocError, Global};
 use std::thread::Threads;
-use ws_register::Registers;
 
 /// What becomes of a directory's own files, and whether it is a program: whether its files all
 /// parse, and the first one's package is named main.
@@ -24,70 +25,58 @@ pub struct Found {
     pub program: bool,
 }
 
-/// What becomes of the files of the directories of some numbers, in that order. They are read by
-/// as many threads as there are processors.
+/// The directories of a wave, each with what becomes of its files, in their order. They are read
+/// by as many threads as there are processors, where they have files enough.
 pub fn read_all(
     rt: &(impl Threads + Sync),
     alloc: Global,
-    registers: &Registers,
-    all: &[String],
-    numbers: &[usize],
-) -> Result<Vec<Found>, AllocError>
-    requires { AllBelow (length all.now) numbers.now }
-    ensures { IfOk result (λ founds. AreFoundAt (held_sources registers.now) (texts all.now) numbers.now founds.items) }
+    wave: Vec<Waiting>,
+) -> Result<Vec<Result<(String, Found), AllocError>>, AllocError>
+    ensures { (sources : Sources) → AreWaiting sources wave.items → IfOk result (λ read. AreRead sources wave.items read.items) }
 {
-    let results = results_of(rt, alloc, registers, all, numbers)?;
-    let mut founds = Vec::new(alloc);
-    for result in results {
-        founds.push(result?)?;
-    }
-    Ok(founds)
-}
-
-fn results_of(
-    rt: &(impl Threads + Sync),
-    alloc: Global,
-    registers: &Registers,
-    all: &[String],
-    numbers: &[usize],
-) -> Result<Vec<Result<Found, AllocError>>, AllocError>
-    requires { AllBelow (length all.now) numbers.now }
-    ensures { IfOk result (λ results. AllZip (λ k r. IfOk r (IsFoundAt (held_sources registers.now) (texts all.now) k)) numbers.now results.items) }
-{
-    numbers
-        .par_iter()
-        .with_min_len(1)
+    let least = least_piece(wave.as_slice());
+    wave.into_par_iter()
+        .with_min_len(least)
         .map(
-            |number: &usize| -> Result<Found, AllocError>
-                ensures { IfOk result (IsFoundAt (held_sources registers.entry.now) (texts all.entry.now) number.now) }
-            { found_at(alloc, registers, all, *number) },
+            |waiting: Waiting| -> Result<(String, Found), AllocError>
+                ensures { (sources : Sources) → IsWaiting sources waiting → IfOk result (IsReadAs sources waiting) }
+            { read(rt, alloc, waiting) },
         )
         .collect(rt, alloc)
 }
 
-fn found_at(
-    alloc: Global,
-    registers: &Registers,
-    all: &[String],
-    number: usize,
-) -> Result<Found, AllocError>
-    ensures { IfOk result (IsFoundAt (held_sources registers.now) (texts all.now) number) }
-{
-    let Some(path) = all.get(number) else {
-        return Err(AllocError);
-    };
-    let found = found_in(alloc, registers, path.as_str())?;
-    Ok(found)
+// How many directories are worth a thread, by the files that one has on average.
+fn least_piece(wave: &[Waiting]) -> usize {
+    let mut files: usize = 0;
+    for waiting in wave {
+        files = files.saturating_add(waiting.files.len());
+    }
+    wave.len().saturating_mul(FILES_A_THREAD) / files.max(1)
 }
 
-fn found_in(alloc: Global, registers: &Registers, path: &str) -> Result<Found, AllocError>
-    ensures { IfOk result (IsFound (held_sources registers.now) path.now) }
+fn read(
+    rt: &(impl Threads + Sync),
+    alloc: Global,
+    waiting: Waiting,
+) -> Result<(String, Found), AllocError>
+    ensures { (sources : Sources) → IsWaiting sources waiting → IfOk result (IsReadAs sources waiting) }
 {
-    let files = package_files(registers, path)?;
-    match parsed_files(alloc, files) {
+    let Waiting { path, files } = waiting;
+    let found = found_in(rt, alloc, files)?;
+    Ok((path, found))
+}
+
+fn found_in(
+    rt: &(impl Threads + Sync),
+    alloc: Global,
+    files: Vec<Source>,
+) -> Result<Found, AllocError>
+    ensures { (sources : Sources) (path : List ℕ) → map pair_of files.items ≡ package_files path sources → IfOk result (IsFound sources path) }
+{
+    match parsed_files(rt, alloc, files) {
         Ok(parsed) => {
             let program = is_first_main(parsed.as_slice());
-            // A directory among those that have files has a package.
+            // A directory that waits has a package.
             let Ok(node) = judged(alloc, parsed) else {
                 return Err(AllocError);
             };

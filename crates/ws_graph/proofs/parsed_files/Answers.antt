@@ -1,9 +1,24 @@
-use Rattle.std.proofs.Common.{rules, ◌≡◌, ◌++◌, ◌∷◌, []}
-use Rattle.ws_graph.proofs.PlanFiles.{parsed_next}
+use Rattle.std.proofs.lemmas.List.{nil_from_length}
+use Rattle.std.proofs.lemmas.Grind.{common_steps}
+use Rattle.std.proofs.Common.{rules, ◌≡◌, ◌∷◌, [], length, arith}
+use Rattle.ws_graph.proofs.Reading.{parsed_begun, one_parsed_more, all_parsed, one_stops}
 use Rattle.ws_graph.proofs.parsed_files.Goals as goal
 
-pub loop-source-preserved : goal.loop-source-preserved
-loop-source-preserved c =
-    let pushed : c.push.new.self.items ≡ c.loop-source.all.items ++ c.in_ok-parsed.parsed ∷ [] = search rules in
-    let taken : c.loop-source.source-iterator.rest.items ≡ c.in-Some.source ∷ c.next.new.self.rest.items = search rules in
-    parsed_next c.loop-source.all.items c.push.new.self.items c.in_ok-parsed.parsed c.in-Some.source c.loop-source.source-iterator.rest.items c.next.new.self.rest.items c.args.files.items pushed taken c.in_ok-parsed.ensures.ok.0 c.in_ok-parsed.ensures.ok.1 c.loop-source.invariant
+pub loop-parsed-init : goal.loop-parsed-init
+loop-parsed-init g c = parsed_begun c.args.files.items c.new-all.result.items c.in_ok-parsed-items.parsed-items.items c.into_iter-parsed-iterator.result.rest.items c.new-all.ensures.items c.into_iter-parsed-iterator.ensures.into_iter_gives.0 c.in_ok-parsed-items.ensures
+
+pub loop-parsed-preserved : goal.loop-parsed-preserved
+loop-parsed-preserved g c =
+    let rest : c.loop-parsed.parsed-iterator.rest.items ≡ c.in-Some.parsed ∷ c.next.new.self.rest.items = search rules in
+    one_parsed_more c.args.files.items c.loop-parsed.all.items c.push.new.self.items c.in_ok-parsed.field-0 c.loop-parsed.parsed-iterator.rest.items c.next.new.self.rest.items c.in-Some.parsed c.in_ok-push.ensures.items rest (search rules) c.loop-parsed.invariant
+
+pub returns-clause-ok : goal.returns-clause-ok
+returns-clause-ok g c =
+    let rest = c.loop-parsed.parsed-iterator.rest.items in
+    let none : rest ≡ [] = (let long : length rest ≡ 0 = first_of (omega (arith, c.in-None.ensures.steps.0, c.loop-parsed.parsed-iterator.rest.ok), grind (arith, common_steps, c.in-None.ensures.steps.0, c.loop-parsed.parsed-iterator.rest.ok), search rules) in nil_from_length rest long) in
+    all_parsed c.args.files.items c.loop-parsed.all.items rest none c.loop-parsed.invariant
+
+pub returns-in_err-parsed-clause-stopped : goal.returns-in_err-parsed-clause-stopped
+returns-in_err-parsed-clause-stopped g c = λ fault is.
+    let rest : c.loop-parsed.parsed-iterator.rest.items ≡ c.in-Some.parsed ∷ c.next.new.self.rest.items = search rules in
+    one_stops c.args.files.items c.loop-parsed.all.items c.loop-parsed.parsed-iterator.rest.items c.next.new.self.rest.items c.in-Some.parsed fault rest (search rules) c.loop-parsed.invariant

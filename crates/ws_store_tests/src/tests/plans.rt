@@ -84,6 +84,41 @@ a/y_test.go package a|import \"z\"
 b/x.go package b
 b/_x.go package main
 plan a -> a [1];b [];
+new many files in one directory, of which two stop
+m/x00.go package m
+m/x01.go package m
+m/x02.go package m
+m/x03.go package m
+m/x04.go package m
+m/x05.go package m
+m/x06.go package m
+m/x07.go package m|)
+m/x08.go package m
+m/x09.go package m
+m/x10.go package m
+m/x11.go package m
+m/x12.go package m
+m/x13.go package m
+m/x14.go package m
+m/x15.go package m
+m/x16.go package m
+m/x17.go package m
+m/x18.go package m
+m/x19.go package m
+m/x20.go package m|)
+m/x21.go package m
+m/x22.go package m
+m/x23.go package m
+m/x24.go package m
+m/x25.go package m
+m/x26.go package m
+m/x27.go package m
+m/x28.go package m
+m/x29.go package m
+m/x30.go package m
+m/x31.go package m
+m/x32.go package m
+plan m -> m x07.go:2:1 3 [];
 new paths that are no text
 a/x.go package a|import \"\\xff\"
 plan a -> a x.go:2:8 7 [];

@@ -1,5 +1,5 @@
 use Rattle.std.proofs.Common.{◌<◌, ℕ}
-use Rattle.ws_board.proofs.Marks.{IsTaken}
+use Rattle.ws_board.specs.Machine.{IsTaken}
 use Rattle.ws_board.proofs.rule.free_job.Given as goal
 
 abbrev pub invariant-loop-k : goal.invariant-loop-k

@@ -1,44 +1,36 @@
-use Rattle.std.proofs.Common.{◌≡◌, ◌≤◌, ◌+◌, ℕ, List, length, drop, ap, ◌∙◌, subst, arith}
-use Rattle.ws_graph.specs.Discovery.{held_sources, texts, Walking, AreFoundAt}
-use Rattle.ws_graph.proofs.Within.{length-texts}
-use Rattle.std.proofs.Common.{length-drop}
-use Rattle.std.specs.List.{Contains}
-use Rattle.ws_graph.specs.Discovery.{IsFoundAt}
-use Rattle.ws_graph.proofs.Linked.{zip_length}
-use Rattle.ws_graph.proofs.Taking.{none_taken, all_reached, in_rest}
+use Rattle.std.proofs.lemmas.List.{nil_from_length}
+use Rattle.std.proofs.Common.{rules, ◌≡◌, length, false, arith, string_bytes}
+use Rattle.ws_graph.specs.Discovery.{held_sources, texts}
+use Rattle.ws_graph.proofs.Walking.{begun, not_empty, next_head, grows, all_met}
 use Rattle.ws_graph.proofs.discovery.discover.Goals as goal
 
-pub loop-next-init : goal.loop-next-init
-loop-next-init g c = none_taken (held_sources c.args.registers.now) (texts c.args.all.now) c.args.start c.in_ok-met.met c.in_ok-slots.slots.items c.requires.all
-    (omega (arith, c.in_ok-met.ensures.size, length-texts c.args.all.now)) (omega (arith, c.in_ok-slots.ensures.size, length-texts c.args.all.now)) c.in_ok-met.ensures.only c.in_ok-slots.ensures.none
+pub loop-alloc-init : goal.loop-alloc-init
+loop-alloc-init g c = begun (held_sources c.args.registers.now) c.args.first c.new-met.result.entries c.push.new.self.items (search rules) (search rules) c.requires
+
+pub loop-alloc-preserved : goal.loop-alloc-preserved
+loop-alloc-preserved g c =
+    let sources = held_sources c.args.registers.now in
+    let target = string_bytes c.args.first.path in
+    let at = c.loop-alloc.invariant in
+    let takes = c.in_ok-imported.ensures.takes target c.loop-alloc.wave.items (c.in_ok-read.ensures sources at.waiting) at.walking in
+    next_head sources target c.loop-alloc.wave.items c.in_ok-wave.wave.items c.loop-alloc.met.entries c.take_all.new.met.entries (texts c.in_ok-imported.imported.items) takes c.in_ok-imported.ensures.ordered c.in_ok-wave.ensures
+
+pub loop-alloc-smaller : goal.loop-alloc-smaller
+loop-alloc-smaller g c =
+    let sources = held_sources c.args.registers.now in
+    let target = string_bytes c.args.first.path in
+    let at = c.loop-alloc.invariant in
+    let wave = c.loop-alloc.wave.items in
+    let takes = c.in_ok-imported.ensures.takes target wave (c.in_ok-read.ensures sources at.waiting) at.walking in
+    let filled : c.is_empty.result ≡ false = search rules in
+    let some = not_empty wave c.is_empty.result c.loop-alloc.wave.len (omega (arith, c.loop-alloc.wave.ok)) c.is_empty.ensures filled in
+    let both = grows sources target wave c.loop-alloc.met.entries c.take_all.new.met.entries (texts c.in_ok-imported.imported.items) c.requires.some at some c.in_ok-imported.ensures.ordered takes in
+    let more = both.0 in
+    let few = both.1 in
+    omega (arith, more, few)
 
 pub returns : goal.returns
 returns g c =
-    let end : length c.loop-next.met.found ≤ c.loop-next.next = (let e : length c.found.result.now ≡ length c.loop-next.met.found = ap length c.found.ensures.value in omega (arith, e, c.loop-next-test.false)) in
-    all_reached (held_sources c.args.registers.now) (texts c.args.all.now) c.args.start c.loop-next.next c.loop-next.met c.loop-next.slots.items c.loop-next.invariant end
-
-pub loop-next-preserved : goal.loop-next-preserved
-loop-next-preserved g c =
-    let sources = held_sources c.args.registers.now in
-    let shown : c.after.result.now ≡ drop c.loop-next.next c.loop-next.met.found = c.after.ensures ∙ ap (drop c.loop-next.next) c.found-in-loop-next.ensures.value in
-    let read : AreFoundAt sources (texts c.args.all.now) (drop c.loop-next.next c.loop-next.met.found) c.in_ok-wave.wave.items = subst (λ l. AreFoundAt sources (texts c.args.all.now) l c.in_ok-wave.wave.items) shown c.in_ok-wave.ensures in
-    let count : c.loop-next.next + length c.in_ok-wave.wave.items ≡ c.loop-next.next + c.len-count.result = omega (arith, c.len-count.ensures) in
-    subst (λ n. Walking sources (texts c.args.all.now) c.args.start n c.take_wave.new.met c.take_wave.new.slots.items) count (c.in_ok-take_wave.ensures sources c.args.start c.loop-next.invariant read)
-
-pub read_all-requires-after_bounds : goal.read_all-requires-after_bounds
-read_all-requires-after_bounds g c = λ κs within q k.
-    let below = c.found-in-loop-next.ensures.below q (in_rest c.found-in-loop-next.result.now c.loop-next.next q (subst (λ (l : List ℕ). Contains l q) c.after.ensures k)) in
-    omega (arith, below, c.loop-next.invariant.met_size, length-texts c.args.all.now)
-
-pub take_wave-requires-clause-inside : goal.take_wave-requires-clause-inside
-take_wave-requires-clause-inside g c =
-    let long : length c.after.result.now ≡ length (drop c.loop-next.next c.found-in-loop-next.result.now) = ap length c.after.ensures in
-    let all : length c.found-in-loop-next.result.now ≡ length c.loop-next.met.found = ap length c.found-in-loop-next.ensures.value in
-    let same = zip_length (IsFoundAt (held_sources c.args.registers.now) (texts c.args.all.now)) c.after.result.now c.in_ok-wave.wave.items c.in_ok-wave.ensures in
-    omega (arith, long, all, same, length-drop c.loop-next.next c.found-in-loop-next.result.now, c.loop-next.invariant.walked.inside)
-
-pub loop-next-smaller : goal.loop-next-smaller
-loop-next-smaller g c =
-    let long : length c.after.result.now ≡ length (drop c.loop-next.next c.found-in-loop-next.result.now) = ap length c.after.ensures in
-    let same = zip_length (IsFoundAt (held_sources c.args.registers.now) (texts c.args.all.now)) c.after.result.now c.in_ok-wave.wave.items c.in_ok-wave.ensures in
-    omega (arith, long, same, length-drop c.loop-next.next c.found-in-loop-next.result.now, c.len-count.ensures, c.found-in-loop-next.ensures.few, c.found.ensures.few, c.loop-next.invariant.met_size, length-texts c.args.all.now, ap length c.found.ensures.value, ap length c.found-in-loop-next.ensures.value, c.loop-next-test.true)
+    let wave = c.loop-alloc.wave.items in
+    let long : length wave ≡ 0 = search rules in
+    all_met (held_sources c.args.registers.now) (string_bytes c.args.first.path) c.loop-alloc.met.entries wave c.requires.some c.loop-alloc.invariant (nil_from_length wave long)

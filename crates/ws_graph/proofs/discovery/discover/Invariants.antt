@@ -1,9 +1,12 @@
 use Rattle.std.proofs.Common.{◌-◌, length}
-use Rattle.ws_graph.specs.Discovery.{Walking, held_sources, texts}
+use Rattle.std.specs.Prelude.{string_bytes}
+use Rattle.ws_graph.specs.Discovery.{held_sources}
+use Rattle.ws_graph.proofs.Filed.{built_directories}
+use Rattle.ws_graph.proofs.Walking.{AtWave}
 use Rattle.ws_graph.proofs.discovery.discover.Given as goal
 
-abbrev pub invariant-loop-next : goal.invariant-loop-next
-invariant-loop-next g l = Walking (held_sources l.registers) (texts l.all) l.start l.next l.met l.slots.items
+abbrev pub invariant-loop-alloc : goal.invariant-loop-alloc
+invariant-loop-alloc g l = AtWave (held_sources l.registers) (string_bytes l.fn.first.path) l.met.entries l.wave.items
 
-abbrev pub decreases-loop-next : goal.decreases-loop-next
-decreases-loop-next g l = length l.all - l.next
+abbrev pub decreases-loop-alloc : goal.decreases-loop-alloc
+decreases-loop-alloc g l = length (built_directories (held_sources l.registers)) - length l.met.entries

@@ -3,17 +3,13 @@ use Rattle.ws_register.specs.Sources.{pair_of}
 use Rattle.ws_graph.specs.Packages.{package_files}
 use Rattle.ws_graph.specs.Plan.{AreParsed, IsPlan, StopsIn}
 use Rattle.ws_graph.specs.Node.{planned_of}
-use Rattle.ws_graph.specs.Discovery.{held_sources}
 use Rattle.ws_graph.proofs.OnePlan.{stops_or_parses}
 use Rattle.ws_graph.proofs.Mains.{program_iff}
 use Rattle.ws_graph.proofs.wave.found_in.Goals as goal
 
 pub returns-in-Ok-judged : goal.returns-in-Ok-judged
-returns-in-Ok-judged c =
-    let sources = held_sources c.args.registers.now in
-    let path = c.args.path.now in
-    let exact = c.in_ok-files.ensures.exact in
-    let parsed : AreParsed (map pair_of c.in_ok-files.files.items) c.in-Ok.parsed.items = search rules in
+returns-in-Ok-judged g c = λ sources path exact.
+    let parsed : AreParsed (map pair_of c.args.files.items) c.in-Ok.parsed.items = search rules in
     let here : AreParsed (package_files path sources) c.in-Ok.parsed.items = subst (λ fs. AreParsed fs c.in-Ok.parsed.items) exact parsed in
     let plan : IsPlan (package_files path sources) (planned_of c.in-Ok-judged.node) = (c.in-Ok-judged.ensures.ok (package_files path sources) here).0 in
     let both = program_iff sources path c.in-Ok.parsed.items here in
@@ -24,12 +20,9 @@ returns-in-Ok-judged c =
     }
 
 pub returns-in_ok-found-in-Err : goal.returns-in_ok-found-in-Err
-returns-in_ok-found-in-Err c =
-    let sources = held_sources c.args.registers.now in
-    let path = c.args.path.now in
-    let exact = c.in_ok-files.ensures.exact in
+returns-in_ok-found-in-Err g c = λ sources path exact.
     let s = c.in_ok-found-in-Err.ensures in
-    let stops : StopsIn (map pair_of c.in_ok-files.files.items) s.0 = c.parsed_files.ensures.stopped s.0 (c.in-Err.is ∙ ap Err s.1) in
+    let stops : StopsIn (map pair_of c.args.files.items) s.0 = c.parsed_files.ensures.stopped s.0 (c.in-Err.is ∙ ap Err s.1) in
     let here : StopsIn (package_files path sources) s.0 = subst (λ fs. StopsIn fs s.0) exact stops in
     record {
       plan = subst (IsPlan (package_files path sources)) (sym s.2) (inl here);

@@ -1,19 +1,30 @@
-use Rattle.std.proofs.lemmas.List.{nil_from_length}
-use Rattle.std.proofs.lemmas.Grind.{common_steps}
-use Rattle.std.proofs.Common.{rules, ◌≡◌, ◌∷◌, [], length, arith}
-use Rattle.ws_graph.specs.Discovery.{IsFoundAt, held_sources, texts}
-use Rattle.ws_graph.proofs.Places.{one_read, none_left}
+use Rattle.std.proofs.Common.{◌≡◌, ap, ◌∙◌, subst, IfOk}
+use denote.Param.Send.{sendable}
+use Rattle.std.specs.List.{AllZip}
+use Rattle.std.proofs.Crossing.{crosses}
+use Rattle.rayon.specs.Lists.{vec_items}
+use Rattle.rayon.proofs.ListFacts.{IfOk-then}
+use Rattle.go_text.proofs.fault.Fault.TheSendSync as faults
+use Rattle.go_text.proofs.source.Source.TheSendSync as texts
+use Rattle.go_ast.proofs.Crossing.{parsed_send}
+use Rattle.ws_graph.specs.BuildPlan.{Sources}
+use Rattle.ws_graph.specs.Discovery.{IsWaiting, IsReadAs}
+use Rattle.ws_graph.proofs.Reading.{are_read}
 use Rattle.ws_graph.proofs.wave.read_all.Goals as goal
 
-pub loop-result-preserved : goal.loop-result-preserved
-loop-result-preserved g c =
-    let rest : c.loop-result.result-iterator.rest.items ≡ c.in-Some.result ∷ c.next.new.self.rest.items = search rules in
-    let inv = c.loop-result.invariant in
-    one_read (IsFoundAt (held_sources c.args.registers.now) (texts c.args.all.now)) c.args.numbers.now inv.0 inv.1 c.loop-result.founds.items c.push.new.self.items c.loop-result.result-iterator.rest.items c.next.new.self.rest.items c.in-Some.result c.in_ok-result.field-0
-    inv.2 rest (search rules) c.in_ok-push.ensures.items inv.3 inv.4
+pub map-requires-send-U : goal.map-requires-send-U
+map-requires-send-U g c κs = search (parsed_send, faults.the_send, texts.the_send, crosses, sendable) depth 30
+
+pub collect-requires-send-Self-Item : goal.collect-requires-send-Self-Item
+collect-requires-send-Self-Item g c κs within = search (parsed_send, faults.the_send, texts.the_send, crosses, sendable) depth 30
+
+pub collect-requires-send-C : goal.collect-requires-send-C
+collect-requires-send-C g c κs within = search (parsed_send, faults.the_send, texts.the_send, crosses, sendable) depth 30
 
 pub returns : goal.returns
-returns g c =
-    let rest : c.loop-result.result-iterator.rest.items ≡ [] = (let long : length c.loop-result.result-iterator.rest.items ≡ 0 = first_of (omega (arith, c.in-None.ensures.steps.0, c.loop-result.result-iterator.rest.ok), grind (arith, common_steps, c.in-None.ensures.steps.0, c.loop-result.result-iterator.rest.ok), search rules) in nil_from_length c.loop-result.result-iterator.rest.items long) in
-    let inv = c.loop-result.invariant in
-    none_left (IsFoundAt (held_sources c.args.registers.now) (texts c.args.all.now)) c.args.numbers.now inv.0 inv.1 c.loop-result.founds.items c.loop-result.result-iterator.rest.items inv.2 rest inv.3 inv.4
+returns g c = λ sources are.
+    let items = ap (λ it. vec_items it.base) c.map.ensures.base ∙ ap (λ it. vec_items it) c.with_min_len.ensures.base ∙ c.into_par_iter.ensures in
+    IfOk-then c.collect.result _ _ c.collect.ensures (λ v h.
+    let chain = h.1 in
+    let base : chain.0 ≡ c.args.wave.items = chain.1 ∙ items in
+    are_read sources c.args.wave.items v.items (rw h.2 (subst (λ l. AllZip (λ w r. (sources : Sources) → IsWaiting sources w → IfOk r (IsReadAs sources w)) l h.0) base (rw c.map.ensures.f at chain.2))) are)

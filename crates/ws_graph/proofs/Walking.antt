@@ -1,0 +1,261 @@
+-- Steps of a walk over directories.
+use Rattle.std.proofs.Common.{◌≡◌, ◌⊎◌, ◌≤◌, ◌==◌, ℕ, suc, Bool, false, List, [], ◌∷◌, length, IfOk, Result, Ok, refl, sym, ap, ◌∙◌, subst, inl, inr, arith}
+use Rattle.std.specs.Prelude.{String, string_bytes, string_cmp}
+use Rattle.std.specs.Global.{Global}
+use Rattle.std.specs.declared.alloc.AllocError.{AllocError}
+use Rattle.std.specs.List.{AllZip, Contains}
+use Rattle.std.specs.List.Sorted.{IsStrictlySortedBy}
+use Rattle.std.specs.BTreeMap.{insert_entry}
+use Rattle.std.specs.Map.{keys_of, values_of}
+use Rattle.std.proofs.lemmas.List.Elements.{Contains-append_left, Contains-append_right, Contains-append_cases}
+use Rattle.ws_reach.specs.Reach.{Walks, Reaches}
+use Rattle.ws_reach.proofs.Reached.{reaches_itself, reaches_more}
+use Rattle.ws_reach.proofs.Closure.{IsOneOf}
+use Rattle.ws_graph.specs.BuildPlan.{Sources, HasNoFiles, Imports}
+use Rattle.ws_graph.specs.Node.{planned_of}
+use Rattle.ws_graph.specs.Discovery.{Met, met_paths, waiting_paths, IsWaiting, AreWaiting, IsReadAs, AreRead, IsFound, Walking, TakesWave, AddsImported, IsNextWave, AreAll}
+use Rattle.ws_graph.specs.declared.wave.Found.{Found}
+use Rattle.ws_graph.specs.declared.waiting.Waiting.{Waiting}
+use Rattle.ws_graph.proofs.Bounded.{one_more, few_directories, reached_files}
+use Rattle.ws_graph.proofs.Filed.{built_directories}
+use Rattle.ws_graph.proofs.Inserted.{to_path, from_path, to_entry}
+use Rattle.ws_graph.proofs.Named.{texts_sorted}
+use Rattle.ws_graph.proofs.Sorted.{one_of, contained}
+
+abbrev Path : Type 0
+Path = List ℕ
+
+abbrev Text : Type 0
+Text = String Global
+
+-- the first that waits is read
+pub taken : (sources : Sources) (target : Path) (old new : Met) (path : Text) (found : Found) (waiting imported more : List Path) → Walking sources target old (string_bytes path ∷ waiting) imported → IsFound sources (string_bytes path) found
+    → new ≡ insert_entry string_cmp old path found → AddsImported sources (planned_of found.node) imported more → Walking sources target new waiting more
+taken sources target old new path found waiting imported more w is put adds = record {
+  first = elim w.first [
+    | inl m ↦ inl (stays target m)
+    | inr c ↦ from_waiting target c
+  ];
+  reached = λ q h. elim h [
+    | inl m ↦ elim (to q m) [
+      | inl same ↦ subst (Reaches (Imports sources) target) (sym same) here
+      | inr o ↦ w.reached q (inl o)
+    ]
+    | inr c ↦ w.reached q (inr (contained (string_bytes path ∷ waiting) q (inr (one_of waiting q c))))
+  ];
+  from = λ q c. elim (Contains-append_cases imported adds.more q (subst (λ (l : List Path). Contains l q) adds.is c)) [
+    | inl o ↦ w.from q o
+    | inr n ↦ (string_bytes path, here, adds.from (string_bytes path) q is.plan n)
+  ];
+  closed = λ p q c i. elim (to p c) [
+    | inl same ↦ inr (inr (subst (λ (l : List Path). Contains l q) (sym adds.is) (Contains-append_right imported adds.more q (adds.all (string_bytes path) q is.plan (subst (λ x. Imports sources x q) same i)))))
+    | inr o ↦ elim (w.closed p q o i) [
+      | inl m ↦ inl (stays q m)
+      | inr (inl c) ↦ elim (from_waiting q c) [
+        | inl m ↦ inl m
+        | inr later ↦ inr (inl later)
+      ]
+      | inr (inr n) ↦ inr (inr (subst (λ (l : List Path). Contains l q) (sym adds.is) (Contains-append_left imported adds.more q n)))
+    ]
+  ];
+  founds = λ e c. elim (to_entry e path found old (subst (λ (l : Met). IsOneOf e l) put (one_of new e c))) [
+    | inl both ↦ subst (λ p. IsFound sources p e.1) (sym both.0) (subst (IsFound sources (string_bytes path)) (sym both.1) is)
+    | inr o ↦ w.founds e (contained old e o)
+  ];
+}
+  where
+    here : Reaches (Imports sources) target (string_bytes path)
+    here = w.reached (string_bytes path) (inr (contained (string_bytes path ∷ waiting) (string_bytes path) (inl refl)))
+
+    to : (q : Path) → Contains (met_paths new) q → (q ≡ string_bytes path) ⊎ Contains (met_paths old) q
+    to q c = elim (to_path q path found old (subst (λ (l : Met). IsOneOf q (met_paths l)) put (one_of (met_paths new) q c))) [
+      | inl same ↦ inl same
+      | inr o ↦ inr (contained (met_paths old) q o)
+    ]
+
+    from : (q : Path) → (q ≡ string_bytes path) ⊎ IsOneOf q (met_paths old) → Contains (met_paths new) q
+    from q h = contained (met_paths new) q (subst (λ (l : Met). IsOneOf q (met_paths l)) (sym put) (from_path q path found old h))
+
+    stays : (q : Path) → Contains (met_paths old) q → Contains (met_paths new) q
+    stays q c = from q (inr (one_of (met_paths old) q c))
+
+    from_waiting : (q : Path) → Contains (string_bytes path ∷ waiting) q → Contains (met_paths new) q ⊎ Contains waiting q
+    from_waiting q c = elim (one_of (string_bytes path ∷ waiting) q c) [
+      | inl same ↦ inl (from q (inl same))
+      | inr o ↦ inr (contained waiting q o)
+    ]
+
+-- ---- a wave
+
+-- those of a wave that are left to take in, and what holds by then
+pub record Taking (sources : Sources) (target : Path) (wave : List Waiting) (old met : Met) (imported : List Path) (rest : List (Result (Text × Found) AllocError)) : Type 0 where
+  pub left : List Waiting
+  pub read : AreRead sources left rest
+  pub walking : Walking sources target met (waiting_paths left) imported
+  pub kept : (path : Path) → Contains (met_paths old) path ⊎ Contains (waiting_paths wave) path → Contains (met_paths met) path ⊎ Contains (waiting_paths left) path
+
+pub none_taken : (sources : Sources) (target : Path) (wave : List Waiting) (old : Met) (imported : List Path) (read : List (Result (Text × Found) AllocError)) → imported ≡ [] → AreRead sources wave read → Walking sources target old (waiting_paths wave) [] → Taking sources target wave old old imported read
+none_taken sources target wave old imported read none are w = record {
+  left = wave;
+  read = are;
+  walking = subst (Walking sources target old (waiting_paths wave)) (sym none) w;
+  kept = λ path h. h;
+}
+
+pub one_taken : (sources : Sources) (target : Path) (wave : List Waiting) (old met new : Met) (imported more : List Path) (results rest : List (Result (Text × Found) AllocError)) (r : Result (Text × Found) AllocError) (path : Text) (found : Found)
+    → results ≡ r ∷ rest → r ≡ Ok (path, found) → new ≡ insert_entry string_cmp met path found → AddsImported sources (planned_of found.node) imported more → Taking sources target wave old met imported results → Taking sources target wave old new more rest
+one_taken sources target wave old met new imported more results rest r path found taken_from is put adds t = by_left t.left refl
+  where
+    by_left : (left : List Waiting) → t.left ≡ left → Taking sources target wave old new more rest
+    by_left [] e = absurd (subst (AreRead sources []) taken_from (subst (λ l. AreRead sources l results) e t.read))
+    by_left (w ∷ left) e =
+        let both = subst (AreRead sources (w ∷ left)) taken_from (subst (λ l. AreRead sources l results) e t.read) in
+        let here : IsReadAs sources w (path, found) = subst (λ o. IfOk o (IsReadAs sources w)) is both.0 in
+        let same : string_bytes path ≡ string_bytes w.path = here.0 in
+        let walking : Walking sources target met (string_bytes path ∷ waiting_paths left) imported = subst (λ p. Walking sources target met (p ∷ waiting_paths left) imported) (sym same) (subst (λ l. Walking sources target met (waiting_paths l) imported) e t.walking) in
+        let inserted = λ (q : Path) (h : (q ≡ string_bytes path) ⊎ IsOneOf q (met_paths met)). contained (met_paths new) q (subst (λ (l : Met). IsOneOf q (met_paths l)) (sym put) (from_path q path found met h)) in
+        record {
+          left = left;
+          read = both.1;
+          walking = taken sources target met new path found (waiting_paths left) imported more walking (subst (λ p. IsFound sources p found) (sym same) here.1) put adds;
+          kept = λ q h. elim (t.kept q h) [
+            | inl m ↦ inl (inserted q (inr (one_of (met_paths met) q m)))
+            | inr c ↦ elim (one_of (waiting_paths (w ∷ left)) q (subst (λ l. Contains (waiting_paths l) q) e c)) [
+              | inl first ↦ inl (inserted q (inl (first ∙ sym same)))
+              | inr o ↦ inr (contained (waiting_paths left) q o)
+            ]
+          ];
+        }
+
+pub all_taken : (sources : Sources) (target : Path) (wave : List Waiting) (old met : Met) (imported : List Path) (rest : List (Result (Text × Found) AllocError)) → rest ≡ [] → Taking sources target wave old met imported rest → TakesWave sources target wave old met imported
+all_taken sources target wave old met imported rest none t = by_left t.left refl
+  where
+    by_left : (left : List Waiting) → t.left ≡ left → TakesWave sources target wave old met imported
+    by_left (w ∷ left) e = absurd (subst (AreRead sources (w ∷ left)) none (subst (λ l. AreRead sources l rest) e t.read))
+    by_left [] e = record {
+      walking = subst (λ l. Walking sources target met (waiting_paths l) imported) e t.walking;
+      kept = λ q h. elim (t.kept q h) [
+        | inl m ↦ m
+        | inr c ↦ absurd (one_of [] q (subst (λ l. Contains (waiting_paths l) q) e c))
+      ];
+    }
+
+-- ---- the whole walk
+
+-- at the head of a wave: those that wait have files, and weren't met
+pub record AtWave (sources : Sources) (target : Path) (met : Met) (wave : List Waiting) : Type 0 where
+  pub walking : Walking sources target met (waiting_paths wave) []
+  pub waiting : AreWaiting sources wave
+  pub fresh : (path : Path) → Contains (waiting_paths wave) path → Contains (met_paths met) path → ⊥
+  pub ordered : IsStrictlySortedBy string_cmp (keys_of met)
+
+pub begun : (sources : Sources) (first : Waiting) (met : Met) (wave : List Waiting) → met ≡ [] → wave ≡ first ∷ [] → IsWaiting sources first → AtWave sources (string_bytes first.path) met wave
+unfolding IsStrictlySortedBy
+begun sources first met wave none one is = subst (λ m. AtWave sources (string_bytes first.path) m wave) (sym none) (subst (AtWave sources (string_bytes first.path) []) (sym one) (record {
+  walking = record {
+    first = inr (contained (string_bytes first.path ∷ []) (string_bytes first.path) (inl refl));
+    reached = λ q h. elim h [
+      | inl m ↦ absurd (one_of [] q m)
+      | inr c ↦ elim (one_of (string_bytes first.path ∷ []) q c) [
+        | inl same ↦ subst (Reaches (Imports sources) (string_bytes first.path)) (sym same) (reaches_itself (Imports sources) (string_bytes first.path))
+        | inr o ↦ absurd o
+      ]
+    ];
+    from = λ q c. absurd (one_of [] q c);
+    closed = λ p q c. absurd (one_of [] p c);
+    founds = λ e c. absurd (one_of [] e c);
+  };
+  waiting = (is, tt);
+  fresh = λ q c m. absurd (one_of [] q m);
+  ordered = tt;
+}))
+
+waits_with_files : (sources : Sources) (wave : List Waiting) (q : Path) → AreWaiting sources wave → IsOneOf q (waiting_paths wave) → HasNoFiles sources q → ⊥
+waits_with_files sources [] q are o = absurd o
+waits_with_files sources (w ∷ ws) q are (inl same) = λ none. are.0.some (subst (HasNoFiles sources) same none)
+waits_with_files sources (w ∷ ws) q are (inr o) = waits_with_files sources ws q are.1 o
+
+pub next_head : (sources : Sources) (target : Path) (wave next : List Waiting) (old met : Met) (imported : List Path) → TakesWave sources target wave old met imported → IsStrictlySortedBy string_cmp (keys_of met) → IsNextWave sources (met_paths met) imported next → AtWave sources target met next
+next_head sources target wave next old met imported t ordered n = record {
+  walking = record {
+    first = elim w.first [
+      | inl m ↦ inl m
+      | inr c ↦ absurd (one_of [] target c)
+    ];
+    reached = λ q h. elim h [
+      | inl m ↦ w.reached q (inl m)
+      | inr c ↦ (
+          let i = w.from q (n.from q c).0 in
+          reaches_more (Imports sources) target i.0 q i.1 (record { import = i.2; files = waits_with_files sources next q n.waiting (one_of (waiting_paths next) q c) }))
+    ];
+    from = λ q c. absurd (one_of [] q c);
+    closed = λ p q c i. elim (w.closed p q c i) [
+      | inl m ↦ inl m
+      | inr (inl c) ↦ absurd (one_of [] q c)
+      | inr (inr c) ↦ elim (n.all q c) [
+        | inl none ↦ absurd (i.files none)
+        | inr (inl m) ↦ inl m
+        | inr (inr later) ↦ inr (inl later)
+      ]
+    ];
+    founds = w.founds;
+  };
+  waiting = n.waiting;
+  fresh = λ q c. (n.from q c).1;
+  ordered = ordered;
+}
+  where
+    w : Walking sources target met [] imported
+    w = t.walking
+
+pub not_empty : (wave : List Waiting) (b : Bool) (n : ℕ) → n ≡ length wave → b ≡ (n == 0) → b ≡ false → wave ≡ [] → ⊥
+not_empty wave b n long is out none =
+    let short : n ≡ 0 = long ∙ ap length none in
+    let wrong : false ≡ (0 == 0) = subst (λ (n : ℕ). false ≡ (n == 0)) short (sym out ∙ is) in cc (wrong)
+
+length-paths : (met : Met) → length (met_paths met) ≡ length met
+length-paths [] = refl
+length-paths (e ∷ es) = ap suc (length-paths es)
+
+-- a wave grows what was met, which stays among the directories that there are
+pub grows : (sources : Sources) (target : Path) (wave : List Waiting) (old met : Met) (imported : List Path) → (HasNoFiles sources target → ⊥) → AtWave sources target old wave → (wave ≡ [] → ⊥) → IsStrictlySortedBy string_cmp (keys_of met) → TakesWave sources target wave old met imported
+    → (suc (length old) ≤ length met) × (length met ≤ length (built_directories sources))
+grows sources target [] old met imported files at some ordered t = absurd (some refl)
+grows sources target (w ∷ ws) old met imported files at some ordered t = (
+  (let more = one_more (string_bytes w.path) (met_paths old) (met_paths met) (texts_sorted (keys_of old) at.ordered) (at.fresh (string_bytes w.path) (contained (waiting_paths (w ∷ ws)) (string_bytes w.path) (inl refl))) (λ z h. one_of (met_paths met) z (t.kept z (elim h [
+    | inl same ↦ inr (contained (waiting_paths (w ∷ ws)) z (inl same))
+    | inr o ↦ inl (contained (met_paths old) z o)
+  ]))) in omega (arith, more, length-paths old, length-paths met)),
+  (let few = few_directories sources (met_paths met) (texts_sorted (keys_of met) ordered) (λ p one. reached_files sources target p files (t.walking.reached p (inl (contained (met_paths met) p one)))) in omega (arith, few, length-paths met)),
+)
+
+-- ---- the end
+
+zip_founds : (sources : Sources) (met : Met) → ((e : Text × Found) → IsOneOf e met → IsFound sources (string_bytes e.0) e.1) → AllZip (IsFound sources) (met_paths met) (values_of met)
+zip_founds sources [] h = tt
+zip_founds sources (e ∷ es) h = (h e (inl refl), zip_founds sources es (λ x o. h x (inr o)))
+
+pub all_met : (sources : Sources) (target : Path) (met : Met) (wave : List Waiting) → (HasNoFiles sources target → ⊥) → AtWave sources target met wave → wave ≡ [] → AreAll sources target (met_paths met) (values_of met)
+all_met sources target met wave files at none = record {
+  files = files;
+  ascending = texts_sorted (keys_of met) at.ordered;
+  reached = λ path. (λ c. at.walking.reached path (inl c), λ way. walk way.0 target path start way.1);
+  founds_are = zip_founds sources met (λ e o. at.walking.founds e (contained met e o));
+}
+  where
+    nothing : (q : Path) → Contains (waiting_paths wave) q → ⊥
+    nothing q c = one_of [] q (subst (λ l. Contains (waiting_paths l) q) none c)
+
+    start : Contains (met_paths met) target
+    start = elim at.walking.first [
+      | inl m ↦ m
+      | inr c ↦ absurd (nothing target c)
+    ]
+
+    walk : (steps : List Path) (p q : Path) → Contains (met_paths met) p → Walks (Imports sources) p steps q → Contains (met_paths met) q
+    walk [] p q c w = subst (Contains (met_paths met)) w c
+    walk (r ∷ rs) p q c w = walk rs r q (elim (at.walking.closed p r c w.0) [
+      | inl m ↦ m
+      | inr (inl c) ↦ absurd (nothing r c)
+      | inr (inr c) ↦ absurd (one_of [] r c)
+    ]) w.1
