@@ -1,0 +1,5 @@
+//! Tests of constants.
+#![tactic(auto)]
+
+#[cfg(test)]
+mod tests;

@@ -1,0 +1,4 @@
+pub mod Laws
+pub mod Lookups
+pub mod Orders
+pub mod Uses

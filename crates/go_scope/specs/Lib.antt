@@ -1,0 +1,5 @@
+pub mod Blocks
+pub mod Names
+pub mod Order
+pub mod Placing
+pub mod Scopes

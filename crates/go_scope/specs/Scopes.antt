@@ -1,0 +1,35 @@
+-- What names stand for.
+use Rattle.std.specs.Prelude.{ℕ, Bool, List, [], ◌∷◌, ◌++◌, Option, codes, is_some, if◌then◌else◌}
+use Rattle.std.specs.List.{flat_map}
+use Rattle.std.specs.Map.{lookup}
+use Rattle.std.specs.Str.{bytes_eq}
+
+-- the names of a block, with what they stand for, in order of declaration
+abbrev pub Block : Type 0 → Type 0
+Block T = List (List ℕ × T)
+
+-- the innermost block, those round it from the inside out, and the number of the next variable
+pub record Env (T : Type 0) : Type 0 where
+  pub inner : Block T
+  pub outer : List (Block T)
+  pub next : ℕ
+
+-- https://go.dev/ref/spec#Declarations_and_scope
+-- what a name stands for: a block hides the names of those round it
+abbrev pub look_up : {T : Type 0} → Env T → List ℕ → Option T
+look_up env x = lookup (bytes_eq x) (flat_map (λ block. block) (env.inner ∷ env.outer))
+
+-- the innermost block has the name
+abbrev pub is_own : {T : Type 0} → Env T → List ℕ → Bool
+is_own env x = is_some (lookup (bytes_eq x) env.inner)
+
+-- a name more in the innermost block; the blank one declares nothing
+abbrev pub declare : {T : Type 0} → Env T → List ℕ → T → Env T
+declare env x t = if bytes_eq x (codes "_") then env else record { inner = env.inner ++ (x, t) ∷ []; outer = env.outer; next = env.next }
+
+-- into a block, and out of it again
+abbrev pub enter : {T : Type 0} → Env T → Env T
+enter env = record { inner = []; outer = env.inner ∷ env.outer; next = env.next }
+
+abbrev pub leave : {T : Type 0} → Env T → Env T
+leave env = elim env.outer [ [] ↦ env | block ∷ blocks ↦ record { inner = block; outer = blocks; next = env.next } ]

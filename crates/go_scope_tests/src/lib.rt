@@ -1,0 +1,3 @@
+//! Tests of declarations: their order, scopes, free names.
+#[cfg(test)]
+mod tests;

@@ -1,0 +1,3 @@
+//! What names stand for, and which names a form uses.
+mod names;
+mod scopes;

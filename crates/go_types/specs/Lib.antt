@@ -1,0 +1,5 @@
+pub mod Relations
+pub mod Sizes
+pub mod Texts
+pub mod Types
+pub mod Views

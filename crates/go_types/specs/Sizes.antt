@@ -1,0 +1,27 @@
+-- How large types are.
+use Rattle.std.specs.Prelude.{ℕ, ◌+◌, ◌*◌}
+use Rattle.go_types.specs.Types.{Type', basic, array, struct, named, Fields, no_fields, field}
+
+-- how many cells a value of the type has
+abbrev mutual
+  pub cells : Type' → ℕ
+  cells (basic b) = 1
+  cells (array n t) = n * cells t
+  cells (struct fields) = cells_of fields
+  cells (named path name t) = cells t
+
+  pub cells_of : Fields → ℕ
+  cells_of no_fields = 0
+  cells_of (field path name t fields) = cells t + cells_of fields
+
+-- how many nodes the type's tree has
+abbrev mutual
+  pub nodes : Type' → ℕ
+  nodes (basic b) = 1
+  nodes (array n t) = 1 + nodes t
+  nodes (struct fields) = 1 + nodes_of fields
+  nodes (named path name t) = 1 + nodes t
+
+  pub nodes_of : Fields → ℕ
+  nodes_of no_fields = 0
+  nodes_of (field path name t fields) = nodes t + nodes_of fields

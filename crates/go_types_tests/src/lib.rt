@@ -1,0 +1,3 @@
+//! Tests of types: which are identical, what may be assigned and converted, sizes, texts.
+#[cfg(test)]
+mod tests;
