@@ -1,3 +1,3 @@
-//! Tests of declarations: their order, scopes, free names.
+//! Tests of scopes, and of the names that forms use.
 #[cfg(test)]
 mod tests;
