@@ -24,6 +24,7 @@ kind_of n =
     else (if nat_eq n 2 then faults.LeftOut
     else (if nat_eq n 3 then faults.Parse
     else (if nat_eq n 4 then faults.Deep
+    else (if nat_eq n 5 then faults.Size
     else (if nat_eq n 6 then faults.PackageName
     else (if nat_eq n 7 then faults.NoImport
     else (if nat_eq n 8 then faults.Cycle
@@ -31,10 +32,15 @@ kind_of n =
     else (if nat_eq n 10 then faults.Redeclared
     else (if nat_eq n 11 then faults.Undeclared
     else (if nat_eq n 12 then faults.UnusedImport
+    else (if nat_eq n 13 then faults.Mismatch
     else (if nat_eq n 14 then faults.Range
     else (if nat_eq n 15 then faults.Constant
+    else (if nat_eq n 16 then faults.DivideByZero
+    else (if nat_eq n 19 then faults.Assign
+    else (if nat_eq n 20 then faults.Count
+    else (if nat_eq n 21 then faults.Recursive
     else (if nat_eq n 23 then faults.Main
-    else faults.Unexported)))))))))))))
+    else faults.Unexported)))))))))))))))))))
 
 kind_again : (k : FaultKind) → kind_of (fault_number k) ≡ k
 unfolding kind_of
@@ -42,6 +48,7 @@ kind_again faults.Scan = refl
 kind_again faults.LeftOut = refl
 kind_again faults.Parse = refl
 kind_again faults.Deep = refl
+kind_again faults.Size = refl
 kind_again faults.PackageName = refl
 kind_again faults.NoImport = refl
 kind_again faults.Cycle = refl
@@ -49,8 +56,13 @@ kind_again faults.Program = refl
 kind_again faults.Redeclared = refl
 kind_again faults.Undeclared = refl
 kind_again faults.UnusedImport = refl
+kind_again faults.Mismatch = refl
 kind_again faults.Range = refl
 kind_again faults.Constant = refl
+kind_again faults.DivideByZero = refl
+kind_again faults.Assign = refl
+kind_again faults.Count = refl
+kind_again faults.Recursive = refl
 kind_again faults.Main = refl
 kind_again faults.Unexported = refl
 

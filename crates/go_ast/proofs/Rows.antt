@@ -12,7 +12,7 @@ use Rattle.go_ast.specs.declared.expression.Expr.{Expr}
 use Rattle.go_ast.specs.declared.expression.ExprKind.{ExprKind, Name, Integer, Rune, String, Parenthesized, CompositeLit, Conversion, Selector, Index, Call, Call', Unary, Binary, Row_of-Expr, end_of-Expr, more_of-Expr, items-the_row-Expr, items_hidden-the_row-Expr-1}
 use Rattle.go_ast.specs.declared.expression.Element.{Element}
 use Rattle.go_ast.specs.declared.expression.ElementValue.{ElementValue, Expression, Value, Value', Row_of-Element, end_of-Element, more_of-Element, items-the_row-Element, items_hidden-the_row-Element-0}
-use Rattle.go_ast.specs.Views.{unary_of, binary_of, type_at, expr_at, fields_of, exprs_of, elements_of, element_value_of, type_of, expr_of, value_of, element_of, field_of, exprs_in}
+use Rattle.go_ast.specs.Views.{type_at, expr_at, fields_of, exprs_of, elements_of, element_value_of, type_of, expr_of, value_of, element_of, field_of, exprs_in}
 
 field_items : (n : _) (row : Row_of-Field n) → fields_of row ≡ trees.pack_fields (map field_of (items-the_row-Field n row))
 unfolding type_of
@@ -119,15 +119,15 @@ call_seen p function es f i =
     ∙ ap (λ x. trees.call p (expr_of x) (exprs_in es.items)) i
 
 pub unary_seen : (p : Place) (op : UnaryOperator) (operand : Box Expr Global) (e : Expr) → operand.value ≡ e →
-    expr_of (record { place = p; kind = Unary op operand }) ≡ trees.unary p (unary_of op) (expr_of e)
+    expr_of (record { place = p; kind = Unary op operand }) ≡ trees.unary p op (expr_of e)
 unfolding expr_of
-unary_seen p op operand e o = ap (λ x. trees.unary p (unary_of op) (expr_of x)) o
+unary_seen p op operand e o = ap (λ x. trees.unary p op (expr_of x)) o
 
 pub binary_seen : (p : Place) (op : BinaryOperator) (left right : Box Expr Global) (a b : Expr) → left.value ≡ a → right.value ≡ b →
-    expr_of (record { place = p; kind = Binary op left right }) ≡ trees.binary p (binary_of op) (expr_of a) (expr_of b)
+    expr_of (record { place = p; kind = Binary op left right }) ≡ trees.binary p op (expr_of a) (expr_of b)
 unfolding expr_of
 binary_seen p op left right a b l r =
-    ap (λ x. trees.binary p (binary_of op) (expr_of x) (expr_of right.value)) l ∙ ap (λ x. trees.binary p (binary_of op) (expr_of a) (expr_of x)) r
+    ap (λ x. trees.binary p op (expr_of x) (expr_of right.value)) l ∙ ap (λ x. trees.binary p op (expr_of a) (expr_of x)) r
 
 -- elements
 

@@ -2,40 +2,15 @@
 -- token.
 use Rattle.std.specs.Prelude.{ℕ, List, [], ◌∷◌, Option}
 use Rattle.go_text.specs.declared.place.Place.{Place}
+pub use Rattle.go_ast.specs.declared.expression.UnaryOperator.{UnaryOperator}
+pub use Rattle.go_ast.specs.declared.expression.UnaryOperator.TheVariants.{Positive as positive, Negative as negative, Negation as negation, Complement as complement}
+pub use Rattle.go_ast.specs.declared.expression.BinaryOperator.{BinaryOperator}
+pub use Rattle.go_ast.specs.declared.expression.BinaryOperator.TheVariants.{Multiply as multiply, Divide as divide, Remainder as remainder, ShiftLeft as shift_left, ShiftRight as shift_right, BitAnd as bit_and, AndNot as and_not, Add as add, Subtract as subtract, BitOr as bit_or, BitXor as bit_xor, Equal as equal, NotEqual as not_equal, Less as less, LessOrEqual as less_or_equal, Greater as greater, GreaterOrEqual as greater_or_equal, LogicalAnd as logical_and, LogicalOr as logical_or}
 
 -- a name, where it is written
 pub record Name : Type 0 where
   pub text : List ℕ
   pub place : Place
-
--- + - ! ^
-pub data UnaryOperator : Type 0 where
-  positive : UnaryOperator
-  negative : UnaryOperator
-  negation : UnaryOperator
-  complement : UnaryOperator
-
--- the binary operators, from the tightest level to the loosest
-pub data BinaryOperator : Type 0 where
-  multiply : BinaryOperator
-  divide : BinaryOperator
-  remainder : BinaryOperator
-  shift_left : BinaryOperator
-  shift_right : BinaryOperator
-  bit_and : BinaryOperator
-  and_not : BinaryOperator
-  add : BinaryOperator
-  subtract : BinaryOperator
-  bit_or : BinaryOperator
-  bit_xor : BinaryOperator
-  equal : BinaryOperator
-  not_equal : BinaryOperator
-  less : BinaryOperator
-  less_or_equal : BinaryOperator
-  greater : BinaryOperator
-  greater_or_equal : BinaryOperator
-  logical_and : BinaryOperator
-  logical_or : BinaryOperator
 
 mutual
   pub data TypeExpr : Type 0 where

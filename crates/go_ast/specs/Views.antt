@@ -3,10 +3,6 @@ use Rattle.std.specs.Prelude.{List, map, Option, Some, None, Box, Vec}
 use Rattle.std.specs.Global.{Global}
 use Rattle.go_text.specs.declared.place.Place.{Place}
 use Rattle.go_ast.specs.Trees as trees
-use Rattle.go_ast.specs.declared.expression.UnaryOperator.{UnaryOperator}
-use Rattle.go_ast.specs.declared.expression.UnaryOperator.TheVariants as unary
-use Rattle.go_ast.specs.declared.expression.BinaryOperator.{BinaryOperator}
-use Rattle.go_ast.specs.declared.expression.BinaryOperator.TheVariants as binary
 use Rattle.go_ast.specs.declared.expression.TypeExpr.{TypeExpr}
 use Rattle.go_ast.specs.declared.expression.TypeKind.{TypeKind, Named, Qualified, Array', Struct', Row_of-Field, end_of-Field, more_of-Field}
 use Rattle.go_ast.specs.declared.expression.Field.{Field}
@@ -35,33 +31,6 @@ use Rattle.go_ast.specs.declared.file.TopLevel.TheVariants as tops
 use Rattle.go_ast.specs.declared.file.ImportSpec.{ImportSpec}
 use Rattle.go_ast.specs.declared.file.File.{File}
 
-abbrev pub unary_of : UnaryOperator → trees.UnaryOperator
-unary_of unary.Positive = trees.positive
-unary_of unary.Negative = trees.negative
-unary_of unary.Negation = trees.negation
-unary_of unary.Complement = trees.complement
-
-abbrev pub binary_of : BinaryOperator → trees.BinaryOperator
-binary_of binary.Multiply = trees.multiply
-binary_of binary.Divide = trees.divide
-binary_of binary.Remainder = trees.remainder
-binary_of binary.ShiftLeft = trees.shift_left
-binary_of binary.ShiftRight = trees.shift_right
-binary_of binary.BitAnd = trees.bit_and
-binary_of binary.AndNot = trees.and_not
-binary_of binary.Add = trees.add
-binary_of binary.Subtract = trees.subtract
-binary_of binary.BitOr = trees.bit_or
-binary_of binary.BitXor = trees.bit_xor
-binary_of binary.Equal = trees.equal
-binary_of binary.NotEqual = trees.not_equal
-binary_of binary.Less = trees.less
-binary_of binary.LessOrEqual = trees.less_or_equal
-binary_of binary.Greater = trees.greater
-binary_of binary.GreaterOrEqual = trees.greater_or_equal
-binary_of binary.LogicalAnd = trees.logical_and
-binary_of binary.LogicalOr = trees.logical_or
-
 -- types and expressions of a kind at a place, and rows of them
 abbrev mutual
   pub type_at : TypeKind → Place → trees.TypeExpr
@@ -85,8 +54,8 @@ abbrev mutual
   expr_at (Selector' x q e n) p = trees.selector p (expr_at e q) n
   expr_at (Index' x q e y r i) p = trees.index p (expr_at e q) (expr_at i r)
   expr_at (Call' x q f n row) p = trees.call p (expr_at f q) (exprs_of row)
-  expr_at (Unary' op x q e) p = trees.unary p (unary_of op) (expr_at e q)
-  expr_at (Binary' op x q a y r b) p = trees.binary p (binary_of op) (expr_at a q) (expr_at b r)
+  expr_at (Unary' op x q e) p = trees.unary p op (expr_at e q)
+  expr_at (Binary' op x q a y r b) p = trees.binary p op (expr_at a q) (expr_at b r)
 
   pub exprs_of : {m : _} → Row_of-Expr m → trees.Exprs
   exprs_of end_of-Expr = trees.no_exprs
@@ -152,7 +121,7 @@ simple_of (simples.Call e) = trees.call_statement (expr_of e)
 simple_of (simples.Increment e) = trees.increment (expr_of e)
 simple_of (simples.Decrement e) = trees.decrement (expr_of e)
 simple_of (simples.Assignment ls rs) = trees.assignment (exprs_in ls.items) (exprs_in rs.items)
-simple_of (simples.OperatorAssignment op l r) = trees.operator_assignment (binary_of op) (expr_of l) (expr_of r)
+simple_of (simples.OperatorAssignment op l r) = trees.operator_assignment op (expr_of l) (expr_of r)
 simple_of (simples.ShortVarDecl ns rs) = trees.short_var_decl ns.items (exprs_in rs.items)
 
 abbrev mutual

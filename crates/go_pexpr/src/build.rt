@@ -2,7 +2,7 @@
 ghost use Rattle.std.specs.Prelude.{◌≡◌, ℕ, ◌+◌, ◌<◌, max, map, IfOk, IfErr, Ok, Err, Option, Some, None};
 ghost use Rattle.go_ast.specs.Trees as trees;
 ghost use Rattle.go_ast.specs.Grammar.{type_place};
-ghost use Rattle.go_ast.specs.Views.{unary_of, binary_of, type_of, expr_of, exprs_in, element_of, field_of, value_of, if_some};
+ghost use Rattle.go_ast.specs.Views.{type_of, expr_of, exprs_in, element_of, field_of, value_of, if_some};
 ghost use Rattle.go_ast.specs.Machine.{literal_type, name_if};
 ghost use Rattle.go_pexpr.specs.Turns.{key_in};
 ghost use Rattle.go_pexpr.specs.Tall.{tall, type_tall, exprs_tall, value_tall, element_tall, elements_tall, fields_tall};
@@ -347,7 +347,7 @@ pub(crate) fn unary(
     operand: Tall,
 ) -> Result<Tall, Refusal>
     requires { operand.height < 1000 }
-    ensures expr { IfOk result (λ t. expr_of t.expr ≡ trees.unary place (unary_of operator) (expr_of operand.expr)) }
+    ensures expr { IfOk result (λ t. expr_of t.expr ≡ trees.unary place operator (expr_of operand.expr)) }
     ensures height { IfOk result (λ t. t.height ≡ operand.height + 1) }
     ensures err { IfErr result (λ e. e ≡ Refusal.Memory) }
 {
@@ -370,7 +370,7 @@ pub(crate) fn binary(
     right: Tall,
 ) -> Result<Tall, Refusal>
     requires { (left.height < 1000) × (right.height < 1000) }
-    ensures expr { IfOk result (λ t. expr_of t.expr ≡ trees.binary (trees.place_of (expr_of left.expr)) (binary_of operator) (expr_of left.expr) (expr_of right.expr)) }
+    ensures expr { IfOk result (λ t. expr_of t.expr ≡ trees.binary (trees.place_of (expr_of left.expr)) operator (expr_of left.expr) (expr_of right.expr)) }
     ensures height { IfOk result (λ t. t.height ≡ max left.height right.height + 1) }
     ensures err { IfErr result (λ e. e ≡ Refusal.Memory) }
 {

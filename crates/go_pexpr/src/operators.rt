@@ -2,7 +2,7 @@
 ghost use Rattle.std.specs.Prelude.{◌≡◌, Option, Some, None};
 ghost use Rattle.go_ast.specs.Operators as operators;
 ghost use Rattle.go_ast.specs.Machine.{literal_type, is_some, begins_type, begins_expr};
-ghost use Rattle.go_ast.specs.Views.{unary_of, binary_of, expr_of, if_some};
+ghost use Rattle.go_ast.specs.Views.{expr_of};
 ghost use Rattle.go_pexpr.specs.Reads.{left};
 ghost use Rattle.go_pexpr.specs.Next.{sign_at, operator_at, suffix_at, beginning_of, beginning_at, type_begins, expr_begins};
 
@@ -86,7 +86,7 @@ fn begins_expr(kind: TokenKind) -> bool
 
 /// The operator in front of an operand that a token of a kind is.
 fn unary_operator(kind: TokenKind) -> Option<UnaryOperator>
-    ensures { if_some unary_of result ≡ operators.unary_of kind }
+    ensures { result ≡ operators.unary_of kind }
 {
     match kind {
         TokenKind::Punctuation(Punctuation::Plus) => Some(UnaryOperator::Positive),
@@ -99,7 +99,7 @@ fn unary_operator(kind: TokenKind) -> Option<UnaryOperator>
 
 /// The operator between two operands that a token of a kind is.
 fn binary_operator(kind: TokenKind) -> Option<BinaryOperator>
-    ensures { if_some binary_of result ≡ operators.binary_of kind }
+    ensures { result ≡ operators.binary_of kind }
 {
     match kind {
         TokenKind::Punctuation(Punctuation::Star) => Some(BinaryOperator::Multiply),
@@ -127,7 +127,7 @@ fn binary_operator(kind: TokenKind) -> Option<BinaryOperator>
 
 /// How many levels of operators bind tighter.
 pub(crate) fn tighter(operator: BinaryOperator) -> u8
-    ensures { result ≡ operators.tighter (binary_of operator) }
+    ensures { result ≡ operators.tighter operator }
 {
     match operator {
         BinaryOperator::Multiply
@@ -205,7 +205,7 @@ impl<'a> Parser<'a> {
 
     /// The operator in front of an operand that is next.
     pub(crate) fn sign(&self) -> Option<UnaryOperator>
-        ensures { if_some unary_of result ≡ sign_at (left self.now) }
+        ensures { result ≡ sign_at (left self.now) }
     {
         match self.tokens {
             [token, ..] => unary_operator(token.kind),
@@ -215,7 +215,7 @@ impl<'a> Parser<'a> {
 
     /// The operator of a level from `tightest` on and below `levels` that is next.
     pub(crate) fn operator(&self, tightest: u8, levels: u8) -> Option<BinaryOperator>
-        ensures { if_some binary_of result ≡ operator_at tightest levels (left self.now) }
+        ensures { result ≡ operator_at tightest levels (left self.now) }
     {
         match self.tokens {
             [token, ..] => match binary_operator(token.kind) {

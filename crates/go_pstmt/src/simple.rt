@@ -9,7 +9,7 @@ ghost use Rattle.go_ast.specs.Expected.{a_value, an_operand, another};
 ghost use Rattle.go_ast.specs.Grammar.{Lexeme, assign, comma, define, opening_brace, is_call, simple_place};
 ghost use Rattle.go_ast.specs.Machine as machine;
 ghost use Rattle.go_ast.specs.Machine.{State, token, expr, more_exprs, keyword, name_if, names_if, may_define, behind_define, behind_left, is_header, list_lefts};
-ghost use Rattle.go_ast.specs.Views.{if_some, expr_of, exprs_in, simple_of, binary_of};
+ghost use Rattle.go_ast.specs.Views.{if_some, expr_of, exprs_in, simple_of};
 ghost use Rattle.go_pexpr.specs.Reads.{Reads, First, left, size, expected_of, first_kind};
 ghost use Rattle.go_pstmt.specs.Statements.{position_of, is_bare, beginning, by_header, assigned, Does, on_one, on_alone, at_one};
 
@@ -75,7 +75,7 @@ fn may_define(position: Position) -> bool
 
 /// The operator of an assignment such as `+=`.
 fn assigned(kind: Option<TokenKind>) -> Option<BinaryOperator>
-    ensures { if_some binary_of result ≡ assigned kind }
+    ensures { result ≡ assigned kind }
 {
     let Some(TokenKind::Punctuation(mark)) = kind else {
         return None;

@@ -17,6 +17,8 @@ pub enum FaultKind {
     Parse,
     /// A node that lies too deep.
     Deep,
+    /// A type that is too large.
+    Size,
     /// A package name that differs from that of the package's first file.
     PackageName,
     /// An import of a directory that has no files of a package.
@@ -31,10 +33,20 @@ pub enum FaultKind {
     Undeclared,
     /// An import that its file doesn't use.
     UnusedImport,
+    /// A name, an operand or a type of another kind than is due.
+    Mismatch,
     /// A constant outside its type.
     Range,
     /// A constant of no type that lies outside 128 bits.
     Constant,
+    /// A constant division by zero.
+    DivideByZero,
+    /// A value that isn't assignable to the type that is due.
+    Assign,
+    /// Another number of operands or values than is due.
+    Count,
+    /// A declaration that depends on itself.
+    Recursive,
     /// A program with no function main.
     Main,
     /// A name that its package doesn't export.
@@ -51,6 +63,7 @@ impl FaultKind {
             FaultKind::LeftOut => 2,
             FaultKind::Parse => 3,
             FaultKind::Deep => 4,
+            FaultKind::Size => 5,
             FaultKind::PackageName => 6,
             FaultKind::NoImport => 7,
             FaultKind::Cycle => 8,
@@ -58,8 +71,13 @@ impl FaultKind {
             FaultKind::Redeclared => 10,
             FaultKind::Undeclared => 11,
             FaultKind::UnusedImport => 12,
+            FaultKind::Mismatch => 13,
             FaultKind::Range => 14,
             FaultKind::Constant => 15,
+            FaultKind::DivideByZero => 16,
+            FaultKind::Assign => 19,
+            FaultKind::Count => 20,
+            FaultKind::Recursive => 21,
             FaultKind::Main => 23,
             FaultKind::Unexported => 25,
         }
@@ -74,6 +92,7 @@ impl FaultKind {
             FaultKind::LeftOut => "leftout",
             FaultKind::Parse => "parse",
             FaultKind::Deep => "deep",
+            FaultKind::Size => "size",
             FaultKind::PackageName => "packagename",
             FaultKind::NoImport => "noimport",
             FaultKind::Cycle => "cycle",
@@ -81,8 +100,13 @@ impl FaultKind {
             FaultKind::Redeclared => "redeclared",
             FaultKind::Undeclared => "undeclared",
             FaultKind::UnusedImport => "unusedimport",
+            FaultKind::Mismatch => "mismatch",
             FaultKind::Range => "range",
             FaultKind::Constant => "constant",
+            FaultKind::DivideByZero => "zero",
+            FaultKind::Assign => "assign",
+            FaultKind::Count => "count",
+            FaultKind::Recursive => "recursive",
             FaultKind::Main => "main",
             FaultKind::Unexported => "unexported",
         }

@@ -5,11 +5,11 @@ use Rattle.go_ast.specs.declared.expression.Expr.{Expr}
 use Rattle.go_ast.specs.Trees as trees
 use Rattle.go_ast.specs.Expected.{another, an_operand}
 use Rattle.go_ast.specs.Machine.{expr, token, run}
-use Rattle.go_ast.specs.Views.{expr_of, binary_of}
+use Rattle.go_ast.specs.Views.{expr_of}
 use Rattle.go_pexpr.specs.Reads.{left}
 use Rattle.go_pexpr.proofs.Reading.{then_fails, then_makes}
 use Rattle.go_pstmt.specs.Statements.{position_of, is_bare, assigned, Does, on_one, on_alone, at_one}
-use Rattle.go_pstmt.proofs.Lefts.{does_at, same_only, by_operator, by_none, if_none, false_true}
+use Rattle.go_pstmt.proofs.Lefts.{does_at, same_only, by_operator, by_none, false_true}
 use Rattle.go_pstmt.proofs.simple.behind_one.Goals as goal
 
 pub returns-in_err-expect-clause-reads : goal.returns-in_err-expect-clause-reads
@@ -52,7 +52,7 @@ pub returns-in_err-bump-clause-reads : goal.returns-in_err-bump-clause-reads
 returns-in_err-bump-clause-reads c = λ side before next alone range one does.
     let m = position_of c.args.position in
     let h = is_bare c.args.position in
-    let op = binary_of c.in-Some.operator in
+    let op = c.in-Some.operator in
     let e = expr_of side in
     let b = by_operator m h c.args.level e next alone before op (left c.args.parser.now) does (λ f. false_true (c.if-is_next.ensures.1 f)) (λ f. false_true (c.if-is_next-2.ensures.1 f)) (ap assigned (sym c.kind.ensures) ∙ sym c.in-Some.ensures) in
     let behind = λ (r : trees.Expr). next (trees.operator_assignment op e r) in
@@ -62,7 +62,7 @@ pub returns-in_err-value-clause-reads : goal.returns-in_err-value-clause-reads
 returns-in_err-value-clause-reads c = λ side before next alone range one does.
     let m = position_of c.args.position in
     let h = is_bare c.args.position in
-    let op = binary_of c.in-Some.operator in
+    let op = c.in-Some.operator in
     let e = expr_of side in
     let b = by_operator m h c.args.level e next alone before op (left c.args.parser.now) does (λ f. false_true (c.if-is_next.ensures.1 f)) (λ f. false_true (c.if-is_next-2.ensures.1 f)) (ap assigned (sym c.kind.ensures) ∙ sym c.in-Some.ensures) in
     let behind = λ (r : trees.Expr). next (trees.operator_assignment op e r) in
@@ -75,7 +75,7 @@ pub returns-in-Some-clause-reads : goal.returns-in-Some-clause-reads
 returns-in-Some-clause-reads c = λ side before next alone range one does.
     let m = position_of c.args.position in
     let h = is_bare c.args.position in
-    let op = binary_of c.in-Some.operator in
+    let op = c.in-Some.operator in
     let e = expr_of side in
     let b = by_operator m h c.args.level e next alone before op (left c.args.parser.now) does (λ f. false_true (c.if-is_next.ensures.1 f)) (λ f. false_true (c.if-is_next-2.ensures.1 f)) (ap assigned (sym c.kind.ensures) ∙ sym c.in-Some.ensures) in
     let behind = λ (r : trees.Expr). next (trees.operator_assignment op e r) in
@@ -91,7 +91,7 @@ returns-clause-reads c = λ side before next alone range one does.
     let m = position_of c.args.position in
     let h = is_bare c.args.position in
     let ts = left c.args.parser.now in
-    let none = ap assigned (sym c.kind.ensures) ∙ if_none binary_of c.assigned.result _ c.assigned.ensures c.in_default.is in
+    let none = ap assigned (sym c.kind.ensures) ∙ sym c.assigned.ensures ∙ c.in_default.is in
     c.alone.ensures.reads before next alone range
     (subst (λ (x : Expr). Does before (on_alone m (expr_of x) next alone) (at_one (expr_of x) next) ts) (same_only c.args.sides.items side c.sole-2.result one c.sole-2.ensures)
     (by_none m h c.args.level (expr_of side) next alone before ts does (λ f. false_true (c.if-is_next.ensures.1 f)) (λ f. false_true (c.if-is_next-2.ensures.1 f)) none))

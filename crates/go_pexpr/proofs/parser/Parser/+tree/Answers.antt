@@ -9,7 +9,7 @@ use Rattle.go_ast.specs.Trees as trees
 use Rattle.go_ast.specs.Expected.{an_operand, another, a_type}
 use Rattle.go_ast.specs.Grammar.{type_place, opening, opening_bracket, opening_brace, period}
 use Rattle.go_ast.specs.Machine.{token, expr, suffixes, names, list_start, fields, arguments, elements, keyword, behind_struct, behind_literal_type, run, type}
-use Rattle.go_ast.specs.Views.{unary_of, binary_of, type_of, expr_of, field_of, element_of, value_of, if_some}
+use Rattle.go_ast.specs.Views.{type_of, expr_of, field_of, element_of, value_of, if_some}
 use Rattle.go_pexpr.specs.Tall.{fields_tall, exprs_tall, elements_tall}
 use Rattle.go_pexpr.proofs.SuffixTurns.{as_selector, as_index, as_call, as_literal, suffix_ends, literal_named}
 use Rattle.go_pexpr.specs.Turns.{behind_selector, behind_index, behind_call, behind_brace, behind_value, behind_first, behind_last, value_at}
@@ -179,9 +179,9 @@ binary-returns-in_err-front-clause-reads t c = λ next.
     let l = c.args.level in
     let j = c.tighter-tightest.result in
     let a = expr_of c.operators.left.expr in
-    let op = binary_of c.in-Some.operator in
+    let op = c.in-Some.operator in
     let ts = left c.operators.self in
-    let q = sym c.operator.ensures ∙ ap (if_some binary_of) c.in-Some.is in
+    let q = sym c.operator.ensures ∙ c.in-Some.is in
     then_fails (c.operators.invariant.reads next ∙ operator_due c.operators.tightest c.args.limit j c.operators.left.height h l a next ts op q c.tighter-tightest.ensures c.operators.left.counted)
     (was_failing (c.right.ensures.reads (kind_at ts) another (λ r. followed j (c.args.limit - j) h l next (trees.binary (trees.place_of a) op a r)) (operator_first c.operators.tightest c.args.limit ts op q)) c.in_err-front.ensures.err)
     c.from_residual-in_err-front.ensures.1
@@ -192,9 +192,9 @@ binary-operators-preserved t c =
     let l = c.args.level in
     let j = c.tighter-tightest.result in
     let a = expr_of c.operators.left.expr in
-    let op = binary_of c.in-Some.operator in
+    let op = c.in-Some.operator in
     let ts = left c.operators.self in
-    let q = sym c.operator.ensures ∙ ap (if_some binary_of) c.in-Some.is in
+    let q = sym c.operator.ensures ∙ c.in-Some.is in
     record {
       reads = λ next.
           c.operators.invariant.reads next ∙ operator_due c.operators.tightest c.args.limit j c.operators.left.height h l a next ts op q c.tighter-tightest.ensures c.operators.left.counted
@@ -218,7 +218,7 @@ pub binary-returns-clause-reads : goal.binary-returns-clause-reads
 binary-returns-clause-reads t c = λ next. record {
   by = c.operators.invariant.reads next
       ∙ operators_end c.operators.tightest c.args.limit c.args.header c.args.level (expr_of c.operators.left.expr) next (left c.operators.self) c.operators.invariant.within
-      (sym c.operator.ensures ∙ ap (if_some binary_of) c.in_default.is);
+      (sym c.operator.ensures ∙ c.in_default.is);
 }
 
 -- operands
@@ -343,27 +343,27 @@ unary-returns-in_default-clause-reads t c = λ next.
 
 pub unary-returns-in_err-token-clause-reads : goal.unary-returns-in_err-token-clause-reads
 unary-returns-in_err-token-clause-reads t c = λ next.
-    let op = unary_of c.in-Some.operator in
+    let op = c.in-Some.operator in
     let ts = left c.args.self.now in
-    let q = sym c.sign.ensures ∙ ap (if_some unary_of) c.in-Some.is in
+    let q = sym c.sign.ensures ∙ c.in-Some.is in
     then_fails (expr_as_sign c.args.header c.args.level (expected_of c.args.expected) next ts op q)
     (c.in_err-token.ensures.reads (kind_at ts) another (behind_sign c.args.header c.args.level op next) (sign_first ts op q)) c.from_residual-in_err-token.ensures.1
 
 pub unary-returns-in_err-operand-2-clause-reads : goal.unary-returns-in_err-operand-2-clause-reads
 unary-returns-in_err-operand-2-clause-reads t c = λ next.
-    let op = unary_of c.in-Some.operator in
+    let op = c.in-Some.operator in
     let ts = left c.args.self.now in
-    let q = sym c.sign.ensures ∙ ap (if_some unary_of) c.in-Some.is in
+    let q = sym c.sign.ensures ∙ c.in-Some.is in
     then_fails (expr_as_sign c.args.header c.args.level (expected_of c.args.expected) next ts op q
     ∙ (c.in_ok-token.ensures.reads (kind_at ts) another (behind_sign c.args.header c.args.level op next) (sign_first ts op q)).by)
     (c.in_err-operand-2.ensures.reads (λ e. next (trees.unary c.in_ok-token.token.place op e))) c.from_residual-in_err-operand-2.ensures.1
 
 pub unary-returns-clause-reads : goal.unary-returns-clause-reads
 unary-returns-clause-reads t c = λ next.
-    let op = unary_of c.in-Some.operator in
+    let op = c.in-Some.operator in
     let ts = left c.args.self.now in
     let p = c.in_ok-token.token.place in
-    let q = sym c.sign.ensures ∙ ap (if_some unary_of) c.in-Some.is in
+    let q = sym c.sign.ensures ∙ c.in-Some.is in
     then_makes c.unary-2.result (next (trees.unary p op (expr_of c.in_ok-operand-2.operand.expr)))
     (expr_as_sign c.args.header c.args.level (expected_of c.args.expected) next ts op q
     ∙ (c.in_ok-token.ensures.reads (kind_at ts) another (behind_sign c.args.header c.args.level op next) (sign_first ts op q)).by
