@@ -4,7 +4,8 @@ use Rattle.std.specs.Prelude.{nat_eq, nat_le, nat_lt}
 use Rattle.std.proofs.lemmas.Bool.{eqb-true, eqb-false, eq-eqb, leb-true, le-leb}
 use Rattle.go_ast.specs.Expected.{Expected, an_operand, another}
 use Rattle.go_ast.specs.Operators.{binary_of, tighter}
-use Rattle.go_ast.specs.Trees.{Expr, binary, place_of, BinaryOperator}
+use Rattle.go_ast.specs.Trees.{Expr, binary, place_of}
+use Rattle.go_ast.specs.declared.expression.BinaryOperator.{BinaryOperator}
 use Rattle.go_ast.specs.Heights.{height}
 use Rattle.go_ast.specs.Grammar.{Lexeme}
 use Rattle.go_ast.specs.Machine.{State, Move, Take, Fail, token, expr, operators, on_operator, step, cond, run}

@@ -3,6 +3,7 @@ use Rattle.std.proofs.Common.{◌≡◌, ℕ, ◌+◌, Bool, true, false, List, 
 use Rattle.go_text.specs.declared.place.Place.{Place}
 use Rattle.go_pexpr.specs.declared.operators.Beginning.{Beginning}
 use Rattle.go_pexpr.specs.declared.operators.Beginning.TheVariants as begins
+use Rattle.go_ast.specs.declared.expression.UnaryOperator.{UnaryOperator}
 use Rattle.go_ast.specs.Trees as trees
 use Rattle.go_ast.specs.Expected.{an_operand, a_type, a_field_end, another, an_element_end}
 use Rattle.go_ast.specs.Grammar.{Lexeme, type_place, comma, opening, closing, opening_brace}
@@ -47,7 +48,7 @@ field_type l next front ns = type l a_type (field_end l next front ns)
 
 -- signs
 
-abbrev pub behind_sign : Bool → ℕ → trees.UnaryOperator → (trees.Expr → State) → Lexeme → State
+abbrev pub behind_sign : Bool → ℕ → UnaryOperator → (trees.Expr → State) → Lexeme → State
 behind_sign h l op next t = expr 0 h (l + 1) an_operand (λ e. next (trees.unary t.place op e))
 
 -- behind a type

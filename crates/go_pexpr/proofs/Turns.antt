@@ -7,7 +7,8 @@ use Rattle.go_ast.specs.Kinds.{same}
 use Rattle.go_ast.specs.Expected.{Expected, an_operand, another}
 use Rattle.go_ast.specs.Literals.{string_value, rune_value}
 use Rattle.go_ast.specs.Operators.{unary_of}
-use Rattle.go_ast.specs.Trees.{Name, TypeExpr, Expr, name, integer, rune, string, unary, UnaryOperator}
+use Rattle.go_ast.specs.Trees.{Name, TypeExpr, Expr, name, integer, rune, string, unary}
+use Rattle.go_ast.specs.declared.expression.UnaryOperator.{UnaryOperator}
 use Rattle.go_ast.specs.Grammar.{Lexeme, name_of, comma, opening, opening_bracket}
 use Rattle.go_ast.specs.Machine.{State, Move, Take, Fail, token, type, expr, suffixes, operators, more_names, more_exprs, behind_name, behind_bracket, behind_struct, on_unary, keyword, behind_literal_type, behind_operand, behind_opening, step, cond, Refused, run}
 use Rattle.go_pexpr.specs.Reads.{First, fault_of}

@@ -5,7 +5,8 @@ use Rattle.go_scan.specs.declared.token.TokenKind.TheVariants as kinds
 use Rattle.go_scan.specs.declared.keyword.Keyword.TheVariants as keywords
 use Rattle.go_scan.specs.declared.punctuation.Punctuation.TheVariants as marks
 use Rattle.go_ast.specs.Operators.{unary_of, binary_of, tighter}
-use Rattle.go_ast.specs.Trees.{UnaryOperator, BinaryOperator}
+use Rattle.go_ast.specs.declared.expression.UnaryOperator.{UnaryOperator}
+use Rattle.go_ast.specs.declared.expression.BinaryOperator.{BinaryOperator}
 use Rattle.go_ast.specs.Grammar.{Lexeme}
 use Rattle.go_ast.specs.Expected.{Expected, is_left_out_at}
 use Rattle.go_ast.specs.Machine.{begins_type, begins_expr}

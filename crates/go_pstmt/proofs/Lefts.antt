@@ -5,6 +5,7 @@ use Rattle.go_scan.specs.declared.token.TokenKind.TheVariants as kinds
 use Rattle.go_scan.specs.declared.punctuation.Punctuation.TheVariants as marks
 use Rattle.go_scan.specs.declared.keyword.Keyword.TheVariants as keywords
 use Rattle.go_text.specs.declared.place.Place.{Place}
+use Rattle.go_ast.specs.declared.expression.BinaryOperator.{BinaryOperator}
 use Rattle.go_ast.specs.declared.expression.Expr.{Expr}
 use Rattle.go_ast.specs.Kinds.{same}
 use Rattle.go_ast.proofs.Same.{are_same}
@@ -129,7 +130,7 @@ module _ (l : ℕ) (next : trees.Simple → State) (range : trees.Name → trees
 -- behind one left side
 module _ (m : machine.Position) (h : Bool) (l : ℕ) (e : trees.Expr) (next : trees.Simple → State) (alone : trees.Expr → State) (before : State) where
   -- an assignment by an operator
-  pub by_operator : (op : trees.BinaryOperator) (ts : List Lexeme) → Does before (on_one m h l e next alone) (at_one e next) ts →
+  pub by_operator : (op : BinaryOperator) (ts : List Lexeme) → Does before (on_one m h l e next alone) (at_one e next) ts →
       (First (Kind (kinds.Punctuation marks.Increment)) ts → ⊥) → (First (Kind (kinds.Punctuation marks.Decrement)) ts → ⊥) → assigned (first_kind ts) ≡ Some op →
       (k : TokenKind) × First (Kind k) ts × (run 250 before ts ≡ run 250 (token k 0 another (λ _. expr 5 h l an_operand (λ r. next (trees.operator_assignment op e r)))) ts)
   by_operator op [] does i d q = absurd (none_some q)

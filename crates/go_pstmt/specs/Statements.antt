@@ -2,6 +2,7 @@
 use Rattle.std.specs.Prelude.{◌≡◌, ℕ, ◌+◌, Bool, true, false, ◌&&◌, List, [], ◌∷◌, Option, Some, None}
 use Rattle.go_scan.specs.declared.token.TokenKind.{TokenKind}
 use Rattle.go_scan.specs.declared.keyword.Keyword.TheVariants as keywords
+use Rattle.go_ast.specs.declared.expression.BinaryOperator.{BinaryOperator}
 use Rattle.go_ast.specs.Trees as trees
 use Rattle.go_ast.specs.Kinds.{same}
 use Rattle.go_ast.specs.Operators.{assignment_of}
@@ -41,7 +42,7 @@ by_header next alone range (header.Alone e) = alone (expr_of e.value)
 by_header next alone range (header.Range n e) = range n (expr_of e.value)
 
 -- the operator of an assignment such as `+=`, if its token comes
-abbrev pub assigned : Option TokenKind → Option trees.BinaryOperator
+abbrev pub assigned : Option TokenKind → Option BinaryOperator
 assigned None = None
 assigned (Some k) = assignment_of k
 
