@@ -8,12 +8,13 @@ use Rattle.std.specs.Map.{lookup, keys_of}
 use Rattle.std.specs.BTreeMap.{BTreeMap, is_at, insert_entry}
 use Rattle.std.specs.Ordering.{is_lt, is_eq, match_ordering}
 use Rattle.std.specs.Cmp.{IsTotalOrder}
-use Rattle.std.specs.FinMap.{empty, get, find, insert, from_entries, entries, is_sorted, IsAntisymmetric, nat_cmp-IsAntisymmetric, slice_cmp-IsAntisymmetric, get-from_entries, get-insert, same_map}
+use Rattle.std.specs.FinMap.{FinMap, empty, get, find, insert, from_entries, entries, is_sorted, IsAntisymmetric, nat_cmp-IsAntisymmetric, slice_cmp-IsAntisymmetric, get-from_entries, get-insert, same_map}
 use Rattle.std.proofs.lemmas.Cmp.{tied_itself, nat_list_cmp_total}
 use Rattle.std.proofs.lemmas.Map.Keys.{sorted_head, sorted_tail}
 use Rattle.std.proofs.Common.{sym, ap, subst, ◌∙◌, inl, inr, arith}
 use Rattle.ws_map.specs.Keyed.{bytes_cmp, keyed, by_key, Stands}
-use Rattle.ws_map.proofs.Gathered.{entries-from_entries}
+use Rattle.ws_map.specs.Kept.{joined, gathered}
+use Rattle.ws_map.proofs.Gathered.{entries-from_entries, gathered_entries}
 use Rattle.ws_map.proofs.Itself.{Contains-cons_cases, Contains-first, Contains-later, get-contained}
 
 pub bytes_cmp_total : IsTotalOrder bytes_cmp
@@ -129,6 +130,10 @@ module _ {K : Type 0} (cmp : K → K → Ordering) (bytes : K → List ℕ) (by_
 
     pub entries-by_key : (es : List (K × X)) → IsStrictlySortedBy cmp (keys_of es) → entries (by_key bytes es) ≡ keyed bytes es
     entries-by_key es h = entries-from_entries bytes_cmp_total bytes_cmp-IsAntisymmetric (keyed bytes es) (sorted-keyed es h)
+
+    -- to take each of the entries in turn is to join their map
+    pub gathered-keyed : (f : X → X → X) (m : FinMap bytes_cmp X) (es : List (K × X)) → IsStrictlySortedBy cmp (keys_of es) → gathered f m (keyed bytes es) ≡ joined f m (by_key bytes es)
+    gathered-keyed f m es h = ap (gathered f m) (sym (entries-by_key es h)) ∙ gathered_entries bytes_cmp_total bytes_cmp-IsAntisymmetric f m (by_key bytes es)
 
     -- what stands among the entries is found there
     pub found : (es : List (K × X)) (at : List ℕ) (x : X) → IsStrictlySortedBy cmp (keys_of es) → Stands bytes es at x → get (by_key bytes es) at ≡ Some x

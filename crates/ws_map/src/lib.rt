@@ -1,7 +1,7 @@
 //! Maps that keep the greatest value of each key, and that copies share.
 #![tactic(auto)]
 
-ghost use Rattle.std.specs.Prelude.{◌≡◌, ℕ, List, OnOk, OnErr, IfOk, IfErr, IfSome, MatchOption, option_copied, true};
+ghost use Rattle.std.specs.Prelude.{◌≡◌, ℕ, List, map as mapped, OnOk, OnErr, IfOk, IfErr, IfSome, MatchOption, option_copied, true};
 ghost use Rattle.std.specs.declared.cmp.Ordering.{Ordering as AnOrdering};
 ghost use Rattle.std.specs.Arc.{arc_value};
 ghost use Rattle.std.specs.FinMap as map;
@@ -13,6 +13,7 @@ ghost use Rattle.std.specs.BTreeMap.{IsOrdered};
 ghost use Rattle.ws_map.specs.Greater.{greater};
 ghost use Rattle.ws_map.specs.Kept.{joined, taken, is_news, gathered};
 ghost use Rattle.ws_map.specs.Keyed.{bytes_cmp, keyed, by_key, Stands};
+ghost use Rattle.ws_map.specs.Undone.{put_back, undone};
 
 use std::alloc::{AllocError, Global};
 use std::cmp::Ordering;
@@ -149,27 +150,22 @@ impl<K: Key, V: Ranked> SharedMap<K, V> {
         ensures ok { OnOk result (self.new ≡ joined (greater V.rank) self.old other.now) }
         ensures err { OnErr result (self.new ≡ self.old) }
     {
-        // What brings no news changes nothing, and what is all news is shared: neither costs a clone.
-        if self.knows(other) {
+        let Some(others) = &other.shared else {
             return Ok(());
+        };
+        match &mut self.shared {
+            Some(shared) => merge_shared(self.alloc, shared, others),
+            None => {
+                self.shared = Some(Arc::try_clone(others)?);
+                Ok(())
+            }
         }
-        if other.knows(self) {
-            *self = other.copy()?;
-            return Ok(());
-        }
-        let mut both = self.copy()?;
-        both.take_all(other)?;
-        *self = both;
-        Ok(())
     }
 
     fn is_news(&self, key: &K, value: &V) -> bool
         ensures { result ≡ is_news V.rank (map.get self.now (K.bytes key.now)) value.now }
     {
-        match self.get(key) {
-            None => true,
-            Some(old) => old.is_below(value),
-        }
+        is_above(self.get(key), value)
     }
 
     // In the place of what was held at the key.
@@ -186,38 +182,15 @@ impl<K: Key, V: Ranked> SharedMap<K, V> {
             }
         }
     }
+}
 
-    fn insert_copy(&mut self, key: &K, value: &V) -> Result<(), AllocError>
-        ensures { OnOk result (self.new ≡ map.insert self.old (K.bytes key.now) value.now) }
-    {
-        match self.insert(key.clone()?, value.clone()?) {
-            Ok(()) => Ok(()),
-            Err(_) => Err(AllocError),
-        }
-    }
-
-    // Takes copies of what the other holds. After an `Err` some may be taken, and some not.
-    fn take_all(&mut self, other: &SharedMap<K, V>) -> Result<(), AllocError>
-        ensures { OnOk result (self.new ≡ joined (greater V.rank) self.old other.now) }
-    {
-        let Some(entries) = other.map() else {
-            return Ok(());
-        };
-        take_entries(self, entries)?;
-        Ok(())
-    }
-
-    // Whether the other holds nothing that is news.
-    fn knows(&self, other: &SharedMap<K, V>) -> bool
-        ensures { result ≡ true → joined (greater V.rank) self.now other.now ≡ self.now }
-    {
-        let Some(others) = other.map() else {
-            return true;
-        };
-        let Some(mine) = self.map() else {
-            return false;
-        };
-        are_known(mine, others)
+// Whether a value is above what is held.
+fn is_above<V: Ranked>(held: Option<&V>, value: &V) -> bool
+    ensures { result ≡ is_news V.rank (option_copied held.entry) value.now }
+{
+    match held {
+        None => true,
+        Some(old) => old.is_below(value),
     }
 }
 
@@ -260,19 +233,110 @@ fn insert_shared<K: Key, V: Ranked>(
     }
 }
 
-fn take_entries<K: Key, V: Ranked>(
-    all: &mut SharedMap<K, V>,
+// Takes all that the others hold. An `Err`, for want of memory, changes nothing.
+fn merge_shared<K: Key, V: Ranked>(
+    alloc: Global,
+    shared: &mut Arc<BTreeMap<K, V>>,
+    others: &Arc<BTreeMap<K, V>>,
+) -> Result<(), AllocError>
+    ensures ok { OnOk result (by_key K.bytes (arc_value shared.new).entries ≡ joined (greater V.rank) (by_key K.bytes (arc_value shared.old).entries) (by_key K.bytes (arc_value others.now).entries)) }
+    ensures err { OnErr result (by_key K.bytes (arc_value shared.new).entries ≡ by_key K.bytes (arc_value shared.old).entries) }
+{
+    // What brings no news changes nothing, and what is all news is shared: neither costs a clone.
+    if are_known(shared, others) {
+        return Ok(());
+    }
+    if are_known(others, shared) {
+        *shared = Arc::try_clone(others)?;
+        return Ok(());
+    }
+    merge_entries(alloc, Arc::make_mut(shared)?, others)
+}
+
+// Takes copies of what is news among the entries. An `Err`, for want of memory, changes nothing.
+fn merge_entries<K: Key, V: Ranked>(
+    alloc: Global,
+    mine: &mut BTreeMap<K, V>,
     entries: &BTreeMap<K, V>,
 ) -> Result<(), AllocError>
-    ensures ok { OnOk result (all.new ≡ gathered (greater V.rank) all.old (keyed K.bytes entries.now.entries)) }
+    ensures ok { OnOk result (by_key K.bytes mine.new.entries ≡ joined (greater V.rank) (by_key K.bytes mine.old.entries) (by_key K.bytes entries.now.entries)) }
+    ensures err { OnErr result (mine.new.entries ≡ mine.old.entries) }
+{
+    let mut done = Vec::new(alloc);
+    match take_entries(mine, entries, &mut done) {
+        Ok(()) => Ok(()),
+        Err(refused) => {
+            undo(mine, done);
+            Err(refused)
+        }
+    }
+}
+
+// A key at which a value was put, and what was held there before.
+#[derive(Drop)]
+struct Put<'a, K, V> {
+    key: &'a K,
+    before: Option<V>,
+}
+
+// Takes copies of what is news among the entries, and adds what was done to the list. After an
+// `Err` some may be taken, and some not.
+fn take_entries<'a, K: Key, V: Ranked>(
+    mine: &mut BTreeMap<K, V>,
+    entries: &'a BTreeMap<K, V>,
+    done: &mut Vec<Put<'a, K, V>>,
+) -> Result<(), AllocError>
+    ensures ok { OnOk result (by_key K.bytes mine.new.entries ≡ gathered (greater V.rank) (by_key K.bytes mine.old.entries) (keyed K.bytes entries.now.entries)) }
     ensures ordered { IsOrdered K.cmp entries.now }
+    ensures undone { undone K.cmp (mapped (λ put. (put.key.now, put.before)) done.new.items) mine.new.entries ≡ undone K.cmp (mapped (λ put. (put.key.now, put.before)) done.old.items) mine.old.entries }
 {
     for (key, value) in entries {
-        if all.is_news(key, value) {
-            all.insert_copy(key, value)?;
+        if is_above(mine.get(key), value) {
+            put_copy(mine, key, value, done)?;
         }
     }
     Ok(())
+}
+
+// Puts a copy of a value at a key, and adds what was done to the list.
+fn put_copy<'a, K: Key, V: Ranked>(
+    mine: &mut BTreeMap<K, V>,
+    key: &'a K,
+    value: &V,
+    done: &mut Vec<Put<'a, K, V>>,
+) -> Result<(), AllocError>
+    ensures ok { OnOk result (by_key K.bytes mine.new.entries ≡ map.insert (by_key K.bytes mine.old.entries) (K.bytes key.now) value.now) }
+    ensures undone { undone K.cmp (mapped (λ put. (put.key.now, put.before)) done.new.items) mine.new.entries ≡ undone K.cmp (mapped (λ put. (put.key.now, put.before)) done.old.items) mine.old.entries }
+{
+    // The list has room first, so that nothing is done that it doesn't tell.
+    done.reserve(1)?;
+    let before = mine.insert(key.clone()?, value.clone()?)?;
+    done.push(Put { key, before })?;
+    Ok(())
+}
+
+// Takes back what was done, the last first.
+fn undo<K: Key, V: Ranked>(mine: &mut BTreeMap<K, V>, done: Vec<Put<'_, K, V>>)
+    ensures { mine.new.entries ≡ undone K.cmp (mapped (λ put. (put.key.now, put.before)) done.entry.items) mine.old.entries }
+{
+    let mut rest = done;
+    while let Some(put) = rest.pop() {
+        put_back(mine, put);
+    }
+}
+
+// Puts back what was held at the key.
+fn put_back<K: Key, V: Ranked>(mine: &mut BTreeMap<K, V>, put: Put<'_, K, V>)
+    ensures { mine.new.entries ≡ put_back K.cmp put.entry.key.now put.entry.before mine.old.entries }
+{
+    let Put { key, before } = put;
+    let Some(value) = before else {
+        mine.remove(key);
+        return;
+    };
+    if let Some(place) = mine.get_mut(key) {
+        *place = value;
+    }
 }
 
 // What the next of the entries holds that stands at a key; those before it are passed over.
@@ -289,8 +353,38 @@ fn next_at<'a, K: Key, V: Ranked>(rest: &mut Iter<'a, K, V>, key: &K) -> Option<
     None
 }
 
-// Whether none of the entries is news to others. Both are in order, so that one walk does.
+// How many times the others are more where a look-up of each entry beats a walk.
+const FEW: usize = 16;
+
+// Whether none of the entries is news to others. It may answer no where one is not there.
 fn are_known<K: Key, V: Ranked>(others: &BTreeMap<K, V>, entries: &BTreeMap<K, V>) -> bool
+    ensures { result ≡ true → joined (greater V.rank) (by_key K.bytes others.now.entries) (by_key K.bytes entries.now.entries) ≡ by_key K.bytes others.now.entries }
+{
+    // Fewer can't hold all the keys.
+    if others.len() < entries.len() {
+        return false;
+    }
+    if entries.len() < others.len() / FEW {
+        return are_found(others, entries);
+    }
+    are_passed(others, entries)
+}
+
+// Whether none of the entries is news to others, by a look-up of each.
+fn are_found<K: Key, V: Ranked>(others: &BTreeMap<K, V>, entries: &BTreeMap<K, V>) -> bool
+    ensures known { result ≡ true → gathered (greater V.rank) (by_key K.bytes others.now.entries) (keyed K.bytes entries.now.entries) ≡ by_key K.bytes others.now.entries }
+    ensures ordered { IsOrdered K.cmp entries.now }
+{
+    for (key, value) in entries {
+        if is_above(others.get(key), value) {
+            return false;
+        }
+    }
+    true
+}
+
+// Whether none of the entries is news to others. Both are in order, so that one walk does.
+fn are_passed<K: Key, V: Ranked>(others: &BTreeMap<K, V>, entries: &BTreeMap<K, V>) -> bool
     ensures known { result ≡ true → gathered (greater V.rank) (by_key K.bytes others.now.entries) (keyed K.bytes entries.now.entries) ≡ by_key K.bytes others.now.entries }
     ensures ordered { IsOrdered K.cmp entries.now }
 {
