@@ -119,8 +119,6 @@ pub fn build<R: Threads + Sync>(
     let plan = plan(rt, alloc, &replica.registers, directory)?;
     let reached = all_reached(alloc, edition, plan.directories)?;
     let (report, added) = run(alloc, &replica.cache, reached)?;
-    let mut cache = replica.cache.copy()?;
-    cache.merge(&added)?;
-    replica.cache = cache;
+    replica.cache.merge(&added)?;
     Ok(report)
 }

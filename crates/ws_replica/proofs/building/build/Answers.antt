@@ -25,8 +25,7 @@ returns-clause-ok g c W E h sized =
     let of : IsBuildPlanOf W target ds = c.in_ok-plan.ensures.ok W (subst (λ (m : Contents). StandsFor held_cmp m W) (sym registers) h.registers) in
     let reached : List Reached = map reached_of c.in_ok-reached.reached.items in
     let run : IsRun old.cache reached c.in_ok-report.report c.in_ok-report.added = subst (λ (m : FinMap id_cmp Action). IsRun m reached c.in_ok-report.report c.in_ok-report.added) cache c.in_ok-report.ensures in
-    let copied : c.in_ok-cache.cache ≡ c.replica.inside.cache = search rules in
-    let taken : c.merge.new.self ≡ joined lesser c.in_ok-cache.cache c.in_ok-report.added = search rules in
-    let merged : c.merge.new.self ≡ joined lesser old.cache c.in_ok-report.added = taken ∙ ap (λ (m : FinMap id_cmp Action). joined lesser m c.in_ok-report.added) (copied ∙ cache) in
+    let taken : c.merge.new.self ≡ joined lesser c.replica.inside.cache c.in_ok-report.added = search rules in
+    let merged : c.merge.new.self ≡ joined lesser old.cache c.in_ok-report.added = taken ∙ ap (λ (m : FinMap id_cmp Action). joined lesser m c.in_ok-report.added) cache in
     is_build (edition_number c.args.edition) W E target ds c.in_ok-reached.ensures.is.0 reached old new c.in_ok-report.report c.in_ok-report.added of c.in_ok-reached.ensures.is.1 c.in_ok-reached.ensures.is.2
     (all_fit c.in_ok-reached.reached.items c.in_ok-reached.ensures.sized) run h sized registers merged
