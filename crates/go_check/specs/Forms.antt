@@ -11,8 +11,7 @@ use Rattle.go_check.specs.Verdicts.{is_name, place_of_statement}
 
 -- the first of two, where there is one
 abbrev pub or_else : Option Place → Option Place → Option Place
-or_else None other = other
-or_else (Some p) other = Some p
+or_else o other = elim o [ None ↦ other | Some p ↦ Some p ]
 
 -- the first in some nodes
 abbrev pub first_in : {A : Type 0} → (A → Option Place) → List A → Option Place
@@ -23,13 +22,11 @@ first_in unknown (x ∷ xs) = or_else (unknown x) (first_in unknown xs)
 
 -- what the name before a dot finds
 abbrev pub finds : List Import → Expr → Option Imported
-finds imports (name p x) = found x imports
-finds imports _ = None
+finds imports e = elim e [ name p x ↦ found x imports | _ ↦ None ]
 
 -- it is a package other than the library
 abbrev pub is_another : Option Imported → Bool
-is_another (Some Another) = true
-is_another _ = false
+is_another o = elim o [ Some Another ↦ true | _ ↦ false ]
 
 -- ---- arguments: decimal and string literals, and names of other packages
 
@@ -54,21 +51,17 @@ selects (Some Another) operand field = true
 selects None operand field = is_name (codes "fmt") operand && bytes_eq field (codes "Println")
 
 abbrev pub is_callee : List Import → Expr → Bool
-is_callee imports (selector p operand field) = selects (finds imports operand) operand field.text
-is_callee imports _ = false
+is_callee imports e = elim e [ selector p operand field ↦ selects (finds imports operand) operand field.text | _ ↦ false ]
 
 abbrev pub unknown_call : List Import → Place → Expr → Option Place
 unknown_call imports p (call q callee arguments) = if is_callee imports callee then unknown_arguments imports arguments else Some p
 unknown_call imports p _ = Some p
 
 abbrev pub unknown_simple : List Import → Place → Simple → Option Place
-unknown_simple imports p (call_statement e) = unknown_call imports p e
-unknown_simple imports p _ = Some p
+unknown_simple imports p s = elim s [ call_statement e ↦ unknown_call imports p e | _ ↦ Some p ]
 
 abbrev pub unknown_statement : List Import → Stmt → Option Place
-unknown_statement imports (empty p) = None
-unknown_statement imports (simple p c) = unknown_simple imports p c
-unknown_statement imports st = Some (place_of_statement st)
+unknown_statement imports s = elim s [ empty p ↦ None | simple p c ↦ unknown_simple imports p c | st ↦ Some (place_of_statement st) ]
 
 abbrev pub unknown_statements : List Import → Stmts → Option Place
 unknown_statements imports no_stmts = None
@@ -77,8 +70,7 @@ unknown_statements imports (some_stmts st sts) = or_else (unknown_statement impo
 -- ---- declarations: functions main without parameters and results
 
 abbrev pub is_nil : {A : Type 0} → List A → Bool
-is_nil [] = true
-is_nil (x ∷ xs) = false
+is_nil list = elim list [ [] ↦ true | x ∷ xs ↦ false ]
 
 abbrev pub is_plain_main : Function → Bool
 is_plain_main f = bytes_eq f.name.text (codes "main") && (is_nil f.parameters && is_nil f.results)
@@ -90,13 +82,10 @@ abbrev pub unknown_function : List Import → Function → Option Place
 unknown_function imports f = if is_plain_main f then unknown_block imports f.body else Some f.place
 
 abbrev pub place_of_declaration : Decl → Place
-place_of_declaration (constants p specs) = p
-place_of_declaration (variables p specs) = p
-place_of_declaration (types p specs) = p
+place_of_declaration d = elim d [ constants p specs ↦ p | variables p specs ↦ p | types p specs ↦ p ]
 
 abbrev pub unknown_declaration : List Import → TopLevel → Option Place
-unknown_declaration imports (declared d) = Some (place_of_declaration d)
-unknown_declaration imports (function f) = unknown_function imports f
+unknown_declaration imports top = elim top [ declared d ↦ Some (place_of_declaration d) | function f ↦ unknown_function imports f ]
 
 -- ---- files: each import has a rule
 

@@ -12,8 +12,7 @@ use Rattle.go_check.specs.declared.import.Imported.TheVariants.{Library, Another
 -- https://go.dev/ref/spec#Exported_identifiers
 -- a name is exported if its first character is an upper-case letter
 abbrev pub begins_upper : List ℕ → Bool
-begins_upper [] = false
-begins_upper (c ∷ cs) = general_category_eq (general_category c) UppercaseLetter
+begins_upper xs = elim xs [ [] ↦ false | c ∷ cs ↦ general_category_eq (general_category c) UppercaseLetter ]
 
 abbrev pub is_exported : List ℕ → Bool
 is_exported name = begins_upper (chars name)
@@ -38,8 +37,7 @@ package_at summaries path =
 -- https://go.dev/ref/spec#Import_declarations
 -- the name of an import is the given one, else that in the package's clauses
 abbrev pub import_name : Option Name → List ℕ → List ℕ
-import_name None clause = clause
-import_name (Some given) clause = given.text
+import_name o clause = elim o [ None ↦ clause | Some given ↦ given.text ]
 
 -- the name is declared unless it is _
 abbrev pub unless_blank : Import → Option Import
@@ -47,16 +45,14 @@ unless_blank import = if bytes_eq import.name (codes "_") then None else Some im
 
 -- what an import of a package declares; one of a path without a package declares nothing
 abbrev pub declares : ImportSpec → Option (List ℕ × Imported) → Option Import
-declares spec None = None
-declares spec (Some of) = unless_blank (record { place = spec.place; name = import_name spec.name of.0; finds = of.1 })
+declares spec o = elim o [ None ↦ None | Some of ↦ unless_blank (record { place = spec.place; name = import_name spec.name of.0; finds = of.1 }) ]
 
 abbrev pub declared_by : List Summary → ImportSpec → Option Import
 declared_by summaries spec = declares spec (package_at summaries spec.path)
 
 -- what the imports of a file declare, in their order
 abbrev pub with_import : Option Import → List Import → List Import
-with_import None others = others
-with_import (Some import) others = import ∷ others
+with_import o others = elim o [ None ↦ others | Some import ↦ import ∷ others ]
 
 abbrev pub imports_of : List Summary → List ImportSpec → List Import
 imports_of summaries [] = []

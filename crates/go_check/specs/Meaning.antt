@@ -20,9 +20,7 @@ pub data Value : Type 0 where
 -- https://go.dev/ref/spec#The_zero_value
 -- the zero value of a type
 abbrev pub zero_of : Type' → Value
-zero_of int = basic (integer (pos 0))
-zero_of string = basic (text [])
-zero_of bool = basic (truth false)
+zero_of t = elim t [ int ↦ basic (integer (pos 0)) | string ↦ basic (text []) | bool ↦ basic (truth false) ]
 
 -- a package variable, and the value that it holds
 pub record Stored : Type 0 where
@@ -55,14 +53,11 @@ pub data Flow : Type 0 where
 
 -- one thing and then, where that gives an answer, another
 abbrev pub and_then : {A B : Type 0} → Outcome A → (A → World → Outcome B) → Outcome B
-and_then (Gives a w) next = next a w
-and_then (Ends ending output) next = Ends ending output
-and_then Stuck next = Stuck
+and_then outcome next = elim outcome [ Gives a w ↦ next a w | Ends ending output ↦ Ends ending output | Stuck ↦ Stuck ]
 
 -- goes on behind a statement that leaves off for the next one
 abbrev pub if_normal : (Locals → World → Outcome Flow) → Flow → World → Outcome Flow
-if_normal next (Normal locals) w = next locals w
-if_normal next other w = Gives other w
+if_normal next flow w = elim flow [ Normal locals ↦ next locals w | other ↦ Gives other w ]
 
 -- takes a tick; none left: the program is cut
 abbrev pub with_tick : {A : Type 0} → World → (World → Outcome A) → Outcome A
@@ -91,14 +86,11 @@ abbrev mutual
 -- ---- statements
 
 abbrev pub truth_text : Bool → List ℕ
-truth_text true = codes "true"
-truth_text false = codes "false"
+truth_text b = elim b [ true ↦ codes "true" | false ↦ codes "false" ]
 
 -- what a value is printed as: a number in decimal, a string as it is
 abbrev pub value_text : Value → List ℕ
-value_text (basic (integer z)) = signed_decimal z
-value_text (basic (text t)) = t
-value_text (basic (truth b)) = truth_text b
+value_text v = elim v [ basic (integer z) ↦ signed_decimal z | basic (text t) ↦ t | basic (truth b) ↦ truth_text b ]
 
 -- the values with a space between each two, and a newline at the end
 abbrev pub line_text : List Value → List ℕ
@@ -116,14 +108,11 @@ abbrev mutual
 
 -- what a function's body gives its caller; no break or continue leaves a body
 abbrev pub results_of : Flow → World → Outcome (List Value)
-results_of (Normal locals) w = Gives [] w
-results_of (Returns results) w = Gives results w
-results_of _ w = Stuck
+results_of flow w = elim flow [ Normal locals ↦ Gives [] w | Returns results ↦ Gives results w | _ ↦ Stuck ]
 
 -- enters a function with an argument for each parameter: that takes a tick
 abbrev pub enter : Option Function → List Value → World → (Function → World → Outcome (List Value)) → Outcome (List Value)
-enter None arguments w run = Stuck
-enter (Some f) arguments w run = if nat_eq (length arguments) (length f.parameters) then with_tick w (run f) else Stuck
+enter o arguments w run = elim o [ None ↦ Stuck | Some f ↦ (if nat_eq (length arguments) (length f.parameters) then with_tick w (run f) else Stuck) ]
 
 -- the local variables of a function that is entered: the arguments, and the others, none of which is declared yet
 abbrev pub first_locals : Function → List Value → Locals
@@ -172,8 +161,7 @@ function_named name functions = find (λ f. bytes_eq name f.name) functions
 
 -- the package is named main and has a function main
 abbrev pub HasMain : Option Typed → Type 0
-HasMain None = ⊥
-HasMain (Some typed) = (typed.package ≡ codes "main") × IsSome (function_named (codes "main") typed.functions)
+HasMain o = elim o [ None ↦ ⊥ | Some typed ↦ (typed.package ≡ codes "main") × IsSome (function_named (codes "main") typed.functions) ]
 
 -- packages are a program by the last of them
 abbrev pub IsProgram : List Typed → Type 0
@@ -193,8 +181,7 @@ abbrev pub package_steps : Typed → List Step
 package_steps typed = map (λ f. calls (symbol_of typed f.name)) (filter is_init typed.functions)
 
 abbrev pub main_steps : Option Typed → List Step
-main_steps None = []
-main_steps (Some typed) = calls (symbol_of typed (codes "main")) ∷ []
+main_steps o = elim o [ None ↦ [] | Some typed ↦ calls (symbol_of typed (codes "main")) ∷ [] ]
 
 -- the start of a program: package by package, and at last the function main of the last
 abbrev pub start_steps : List Typed → List Step
@@ -218,9 +205,7 @@ first_world packages ticks = record { ticks = ticks; variables = flat_map first_
 
 -- the program is over so where its start comes to this
 abbrev pub IsOver : Outcome ⊤ → Ending → List ℕ → Type 0
-IsOver (Gives done w) ending output = (ending ≡ Ended) × (output ≡ w.output)
-IsOver (Ends e o) ending output = (ending ≡ e) × (output ≡ o)
-IsOver Stuck ending output = ⊥
+IsOver outcome ending output = elim outcome [ Gives done w ↦ (ending ≡ Ended) × (output ≡ w.output) | Ends e o ↦ (ending ≡ e) × (output ≡ o) | Stuck ↦ ⊥ ]
 
 -- what a program comes to that is given so many ticks
 abbrev pub run : List Typed → ℕ → Outcome ⊤

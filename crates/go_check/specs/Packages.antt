@@ -26,8 +26,7 @@ abbrev pub scope_of : NamedFile → Scope
 scope_of file = record { file = file.name; imports = file.imports }
 
 abbrev pub declaration_refers : List ℕ → TopLevel → Bool
-declaration_refers x (function f) = list_any (statement_refers x) (body_of f.body)
-declaration_refers x (trees.declared d) = false
+declaration_refers x top = elim top [ function f ↦ list_any (statement_refers x) (body_of f.body) | trees.declared d ↦ false ]
 
 -- the file refers to a name
 abbrev pub refers_to : List ℕ → File → Bool
@@ -36,8 +35,7 @@ refers_to x file = list_any (declaration_refers x) file.declarations
 -- https://go.dev/ref/spec#Declarations_and_scope
 -- a file declares a name in the package's block: that of a function which isn't init; other declarations are passed over
 abbrev pub declares : List ℕ → TopLevel → Bool
-declares x (function f) = bytes_eq f.name.text x && not (bytes_eq x (codes "init"))
-declares x (trees.declared d) = false
+declares x top = elim top [ function f ↦ bytes_eq f.name.text x && not (bytes_eq x (codes "init")) | trees.declared d ↦ false ]
 
 abbrev pub file_declares : List ℕ → NamedFile → Bool
 file_declares x file = list_any (declares x) file.tree.declarations
@@ -57,16 +55,14 @@ imports_faults whole file before (import ∷ imports) =
 
 -- what a function is named; other declarations are passed over
 abbrev pub declared_name : TopLevel → List ℕ
-declared_name (function f) = f.name.text
-declared_name (trees.declared d) = []
+declared_name top = elim top [ function f ↦ f.name.text | trees.declared d ↦ [] ]
 
 -- the faults of a declaration behind these names; its name comes before its body
 abbrev pub function_faults : List (List ℕ) → Scope → trees.Function → List Fault
 function_faults before s f = broken s f.name.place (declared before f.name.text) ++ body_faults s (body_of f.body)
 
 abbrev pub declaration_faults : List (List ℕ) → Scope → TopLevel → List Fault
-declaration_faults before s (function f) = function_faults before s f
-declaration_faults before s (trees.declared d) = []
+declaration_faults before s top = elim top [ function f ↦ function_faults before s f | trees.declared d ↦ [] ]
 
 -- a function without parameters, by its name and its body's statements
 abbrev pub plain_function : List ℕ → List Stmt → Function
@@ -77,8 +73,7 @@ abbrev pub function_known : Scope → trees.Function → Option Function
 function_known s f = if is_plain_main f then option_map (plain_function f.name.text) (body_known s (body_of f.body)) else None
 
 abbrev pub declaration_known : Scope → TopLevel → Option Function
-declaration_known s (function f) = function_known s f
-declaration_known s (trees.declared d) = None
+declaration_known s top = elim top [ function f ↦ function_known s f | trees.declared d ↦ None ]
 
 -- the faults of declarations, each behind the names of those before it
 abbrev pub declarations_faults : List (List ℕ) → Scope → List TopLevel → List Fault
@@ -107,8 +102,7 @@ file_known file = map (declaration_known (scope_of file)) file.tree.declarations
 
 -- a package is named by its first file's clause
 abbrev pub package_name : List NamedFile → List ℕ
-package_name [] = []
-package_name (first ∷ rest) = first.tree.package.text
+package_name xs = elim xs [ [] ↦ [] | first ∷ rest ↦ first.tree.package.text ]
 
 -- https://go.dev/ref/spec#Program_execution
 -- a package named main has a function main
@@ -154,8 +148,7 @@ IsAnswer path files PassedOver = (package_faults files ≡ []) × (package_known
 
 -- the fault of the first of them in a file, or else in the files behind it
 abbrev pub left_out_in : Scope → Option Place → Option Fault → Option Fault
-left_out_in s (Some p) behind = Some (fault_at s p LeftOut)
-left_out_in s None behind = behind
+left_out_in s o behind = elim o [ Some p ↦ Some (fault_at s p LeftOut) | None ↦ behind ]
 
 -- the fault of the first of them in files
 abbrev pub first_left_out : List NamedFile → Option Fault

@@ -34,8 +34,7 @@ pub data Known : Type 0 where
 -- https://go.dev/ref/spec#Integer_literals
 -- a decimal literal: digits, the first of which is 0 only where it stands alone
 abbrev pub is_decimal : List ℕ → Bool
-is_decimal [] = false
-is_decimal (b ∷ bs) = list_all is_ascii_digit (b ∷ bs) && (not (nat_eq b 48) || nat_eq (length bs) 0)
+is_decimal xs = elim xs [ [] ↦ false | b ∷ bs ↦ list_all is_ascii_digit (b ∷ bs) && (not (nat_eq b 48) || nat_eq (length bs) 0) ]
 
 -- https://go.dev/ref/spec#Constants
 -- the value of an integer literal, which is below 2^127 where it has no type; literals of other bases are passed over
@@ -47,9 +46,7 @@ literal digits =
 
 -- as what is known of it
 abbrev pub integer_constant : Verdict ℤ → Verdict Known
-integer_constant (Fine z) = Fine (untyped (integer z))
-integer_constant (Breaks kind) = Breaks kind
-integer_constant Passed = Passed
+integer_constant v = elim v [ Fine z ↦ Fine (untyped (integer z)) | Breaks kind ↦ Breaks kind | Passed ↦ Passed ]
 
 -- https://go.dev/ref/spec#Qualified_identifiers
 -- a name that an import declares finds its package; of the others fmt isn't declared, and the rest are passed over
@@ -68,15 +65,12 @@ selected field _ = Passed
 -- https://go.dev/ref/spec#Operands
 -- where a value is due, what is known of it is a constant; others are passed over
 abbrev pub value : Known → Verdict Constant
-value (untyped c) = Fine c
-value _ = Passed
+value k = elim k [ untyped c ↦ Fine c | _ ↦ Passed ]
 
 -- https://go.dev/ref/spec#Constants
 -- the type that a constant takes where none is due
 abbrev pub default_type : Constant → Type'
-default_type (integer z) = int
-default_type (text bytes) = string
-default_type (truth b) = bool
+default_type c = elim c [ integer z ↦ int | text bytes ↦ string | truth b ↦ bool ]
 
 -- https://go.dev/ref/spec#Representability
 -- it is a value of that type
@@ -96,8 +90,7 @@ called _ arguments = Passed
 -- https://go.dev/ref/spec#Expression_statements
 -- an expression that stands as a statement is a call; others are passed over
 abbrev pub stated : Known → Verdict Stmt
-stated (printed operands) = Fine (print (pack_exprs operands))
-stated _ = Passed
+stated k = elim k [ printed operands ↦ Fine (print (pack_exprs operands)) | _ ↦ Passed ]
 
 -- https://go.dev/ref/spec#Import_declarations
 -- the name of an import isn't taken, and is referred to

@@ -40,5 +40,4 @@ pub record IsLeftOutOf (sources : List (List ℕ × List ℕ)) (summaries : List
 
 -- what is answered where there is no fault
 abbrev pub answer_of : Checked → Answer
-answer_of (checked.Good typed) = Good (typed_of typed)
-answer_of checked.PassedOver = PassedOver
+answer_of answer = elim answer [ checked.Good typed ↦ Good (typed_of typed) | checked.PassedOver ↦ PassedOver ]

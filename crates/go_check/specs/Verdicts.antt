@@ -11,13 +11,11 @@ use Rattle.go_check.specs.Imports.{Import, found}
 use Rattle.go_check.specs.Rules.{Verdict, Fine, Breaks, Passed, Known, untyped, literal, integer_constant, named, selected, value, called, stated}
 
 abbrev pub fine : {A : Type 0} → Verdict A → Option A
-fine (Fine x) = Some x
-fine _ = None
+fine v = elim v [ Fine x ↦ Some x | _ ↦ None ]
 
 -- a rule over parts, which is asked where they are fine
 abbrev pub asked : {A B : Type 0} → (A → Verdict B) → Option A → Verdict B
-asked rule None = Passed
-asked rule (Some x) = rule x
+asked rule v = elim v [ None ↦ Passed | Some x ↦ rule x ]
 
 abbrev pub both : {A B : Type 0} → Option A → Option B → Option (A × B)
 both (Some x) (Some y) = Some (x, y)
@@ -59,8 +57,7 @@ fault_at s p kind = record { file = s.file; place = p; kind = kind }
 
 -- the fault of a node at a place, if it breaks a rule
 abbrev pub broken : {A : Type 0} → Scope → Place → Verdict A → List Fault
-broken s p (Breaks kind) = fault_at s p kind ∷ []
-broken s p _ = []
+broken s p v = elim v [ Breaks kind ↦ fault_at s p kind ∷ [] | _ ↦ [] ]
 
 -- the faults of an expression's nodes: parts first, left to right; a value is due of an argument
 abbrev mutual
@@ -100,25 +97,20 @@ place_of_statement (switch_statement p start e cs) = p
 
 -- a call that stands as a statement; other forms are passed over
 abbrev pub simple_verdict : Scope → Simple → Verdict typed.Stmt
-simple_verdict s (call_statement e) = asked stated (fine (verdict s e))
-simple_verdict s _ = Passed
+simple_verdict s c = elim c [ call_statement e ↦ asked stated (fine (verdict s e)) | _ ↦ Passed ]
 
 abbrev pub statement_verdict : Scope → Stmt → Verdict typed.Stmt
-statement_verdict s (simple p c) = simple_verdict s c
-statement_verdict s _ = Passed
+statement_verdict s st = elim st [ simple p c ↦ simple_verdict s c | _ ↦ Passed ]
 
 abbrev pub simple_faults : Scope → Place → Simple → List Fault
-simple_faults s p (call_statement e) = faults s e ++ broken s p (asked stated (fine (verdict s e)))
-simple_faults s p _ = []
+simple_faults s p c = elim c [ call_statement e ↦ faults s e ++ broken s p (asked stated (fine (verdict s e))) | _ ↦ [] ]
 
 abbrev pub statement_faults : Scope → Stmt → List Fault
-statement_faults s (simple p c) = simple_faults s p c
-statement_faults s _ = []
+statement_faults s st = elim st [ simple p c ↦ simple_faults s p c | _ ↦ [] ]
 
 -- the statements that aren't empty: an empty one means nothing
 abbrev pub with_full : Stmt → List Stmt → List Stmt
-with_full (empty p) others = others
-with_full st others = st ∷ others
+with_full s others = elim s [ empty p ↦ others | st ↦ st ∷ others ]
 
 abbrev pub full : Stmts → List Stmt
 full no_stmts = []
@@ -138,8 +130,7 @@ body_faults s statements = flat_map (statement_faults s) statements
 
 -- a name is written before a dot of an expression, whether or not that breaks a rule
 abbrev pub is_name : List ℕ → Expr → Bool
-is_name x (name p y) = bytes_eq y x
-is_name x _ = false
+is_name x e = elim e [ name p y ↦ bytes_eq y x | _ ↦ false ]
 
 abbrev mutual
   pub refers : List ℕ → Expr → Bool
@@ -152,9 +143,7 @@ abbrev mutual
   one_refers x (some_exprs e es) = refers x e || one_refers x es
 
 abbrev pub simple_refers : List ℕ → Simple → Bool
-simple_refers x (call_statement e) = refers x e
-simple_refers x _ = false
+simple_refers x s = elim s [ call_statement e ↦ refers x e | _ ↦ false ]
 
 abbrev pub statement_refers : List ℕ → Stmt → Bool
-statement_refers x (simple p c) = simple_refers x c
-statement_refers x _ = false
+statement_refers x s = elim s [ simple p c ↦ simple_refers x c | _ ↦ false ]

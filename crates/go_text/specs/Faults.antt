@@ -12,13 +12,27 @@ pub record Fault : Type 0 where
 
 -- the number and the word of a kind in reports
 abbrev pub fault_code : FaultKind → ℕ × List ℕ
-fault_code kind = elim kind [
-  | Scan ↦ (1, codes "scan") | LeftOut ↦ (2, codes "leftout") | Parse ↦ (3, codes "parse") | Deep ↦ (4, codes "deep") | Size ↦ (5, codes "size")
-  | PackageName ↦ (6, codes "packagename") | NoImport ↦ (7, codes "noimport") | Cycle ↦ (8, codes "cycle") | Program ↦ (9, codes "program")
-  | Redeclared ↦ (10, codes "redeclared") | Undeclared ↦ (11, codes "undeclared") | UnusedImport ↦ (12, codes "unusedimport")
-  | Mismatch ↦ (13, codes "mismatch") | Range ↦ (14, codes "range") | Constant ↦ (15, codes "constant") | DivideByZero ↦ (16, codes "zero")
-  | Assign ↦ (19, codes "assign") | Count ↦ (20, codes "count") | Recursive ↦ (21, codes "recursive") | Main ↦ (23, codes "main")
-  | Unexported ↦ (25, codes "unexported") ]
+fault_code Scan = (1, codes "scan")
+fault_code LeftOut = (2, codes "leftout")
+fault_code Parse = (3, codes "parse")
+fault_code Deep = (4, codes "deep")
+fault_code Size = (5, codes "size")
+fault_code PackageName = (6, codes "packagename")
+fault_code NoImport = (7, codes "noimport")
+fault_code Cycle = (8, codes "cycle")
+fault_code Program = (9, codes "program")
+fault_code Redeclared = (10, codes "redeclared")
+fault_code Undeclared = (11, codes "undeclared")
+fault_code UnusedImport = (12, codes "unusedimport")
+fault_code Mismatch = (13, codes "mismatch")
+fault_code Range = (14, codes "range")
+fault_code Constant = (15, codes "constant")
+fault_code DivideByZero = (16, codes "zero")
+fault_code Assign = (19, codes "assign")
+fault_code Count = (20, codes "count")
+fault_code Recursive = (21, codes "recursive")
+fault_code Main = (23, codes "main")
+fault_code Unexported = (25, codes "unexported")
 
 abbrev pub fault_number : FaultKind → ℕ
 fault_number kind = (fault_code kind).0
