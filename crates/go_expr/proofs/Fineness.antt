@@ -1,0 +1,121 @@
+-- What is known has no fault.
+use Rattle.std.proofs.Common.{◌≡◌, ◌≢◌, Option, Some, None, List, [], ◌∷◌, ◌++◌, refl, ap, ◌∙◌}
+use Rattle.std.specs.Prelude.{option_map, map}
+use Rattle.go_text.specs.declared.place.Place.{Place}
+use Rattle.go_text.specs.declared.fault.FaultKind.{FaultKind}
+use Rattle.go_ast.specs.Trees.{TypeExpr, named, qualified, array, struct, Fields, no_fields, field, Expr, name, integer, rune, string, parenthesized, composite_lit, conversion, selector, index, call, unary, binary, Exprs, no_exprs, some_exprs, place_of}
+use Rattle.go_expr.specs.Known.{Verdict, Fine, Breaks, Passed, Scope, look_up}
+use Rattle.go_expr.specs.Rules.{type_due, array_of, declared_field, struct_of, value, unpackaged, literal, selected, binary_of, unary_of, converted, called}
+use Rattle.go_expr.specs.Verdicts.{fine, asked, both, joined, qualified_known, operand, callee, verdict, operands, type_verdict, fields_known, broken, operand_broken, callee_broken, struct_place, faults, operands_faults, type_faults, fields_faults}
+
+abbrev IsKnown : {A : Type 0} → Option A → Type 0
+IsKnown {A} o = (x : A) × (o ≡ Some x)
+
+own : {A : Type 0} (p : Place) (v : Verdict A) → IsKnown (fine v) → broken p v ≡ []
+own p (Fine x) k = refl
+own p (Breaks kind) k = cc
+own p Passed k = cc
+
+part : {A B : Type 0} (rule : A → Verdict B) (o : Option A) → IsKnown (fine (asked rule o)) → IsKnown o
+part rule None k = cc
+part rule (Some x) k = (x, refl)
+
+parts : {A B : Type 0} (a : Option A) (b : Option B) → IsKnown (both a b) → IsKnown a × IsKnown b
+parts None b k = cc
+parts (Some x) None k = cc
+parts (Some x) (Some y) k = ((x, refl), (y, refl))
+
+joined_parts : {A : Type 0} (xs ys : Option (List A)) → IsKnown (joined xs ys) → IsKnown xs × IsKnown ys
+joined_parts None ys k = cc
+joined_parts (Some xs) None k = cc
+joined_parts (Some xs) (Some ys) k = ((xs, refl), (ys, refl))
+
+mapped : {A B : Type 0} (f : A → B) (o : Option A) → IsKnown (option_map f o) → IsKnown o
+mapped f None k = cc
+mapped f (Some x) k = (x, refl)
+
+none : (xs ys : List (Place × FaultKind)) → xs ≡ [] → ys ≡ [] → xs ++ ys ≡ []
+none xs ys e f = ap (λ l. l ++ ys) e ∙ f
+
+none_of_three : (xs ys zs : List (Place × FaultKind)) → xs ≡ [] → ys ≡ [] → zs ≡ [] → xs ++ ys ++ zs ≡ []
+none_of_three xs ys zs e f g = none (xs ++ ys) zs (none xs ys e f) g
+
+none_of_four : (ws xs ys zs : List (Place × FaultKind)) → ws ≡ [] → xs ≡ [] → ys ≡ [] → zs ≡ [] → ws ++ xs ++ ys ++ zs ≡ []
+none_of_four ws xs ys zs d e f g = none (ws ++ xs ++ ys) zs (none_of_three ws xs ys d e f) g
+
+none_of_five : (vs ws xs ys zs : List (Place × FaultKind)) → vs ≡ [] → ws ≡ [] → xs ≡ [] → ys ≡ [] → zs ≡ [] → vs ++ ws ++ xs ++ ys ++ zs ≡ []
+none_of_five vs ws xs ys zs c d e f g = none (vs ++ ws ++ xs ++ ys) zs (none_of_four vs ws xs ys c d e f) g
+
+-- where a value is due, and where anything but a package is
+value_unbroken : (s : Scope) (e : Expr) → IsKnown (operand (verdict s e)) → operand_broken e (verdict s e) ≡ []
+value_unbroken s e k = own (place_of e) (asked value (fine (verdict s e))) k
+
+valued : (s : Scope) (e : Expr) → IsKnown (operand (verdict s e)) → IsKnown (fine (verdict s e))
+valued s e k = part value (fine (verdict s e)) k
+
+callee_unbroken : (s : Scope) (e : Expr) → IsKnown (fine (callee (verdict s e))) → callee_broken e (verdict s e) ≡ []
+callee_unbroken s e k = own (place_of e) (callee (verdict s e)) k
+
+called_on : (s : Scope) (e : Expr) → IsKnown (fine (callee (verdict s e))) → IsKnown (fine (verdict s e))
+called_on s e k = part unpackaged (fine (verdict s e)) k
+
+mutual
+  clean : (s : Scope) (e : Expr) → IsKnown (fine (verdict s e)) → faults s e ≡ []
+  clean s (name p x) k = own p (look_up x s.names) k
+  clean s (integer p text) k = own p (literal text) k
+  clean s (rune p z) k = refl
+  clean s (string p bytes) k = refl
+  clean s (parenthesized p e) k = none (faults s e) (callee_broken e (verdict s e)) (clean s e (called_on s e k)) (callee_unbroken s e k)
+  clean s (composite_lit p t q es) k = refl
+  clean s (conversion p t e) k =
+      let ks = parts (fine (type_verdict s t)) (operand (verdict s e)) (part (λ k. converted k.0 k.1) (both (fine (type_verdict s t)) (operand (verdict s e))) k) in
+      none_of_four (type_faults s t) (faults s e) (operand_broken e (verdict s e)) _ (type_clean s t ks.0) (clean s e (valued s e ks.1)) (value_unbroken s e ks.1) (own p (verdict s (conversion p t e)) k)
+  clean s (selector p e x) k = none (faults s e) _ (clean s e (part (selected x.text) (fine (verdict s e)) k)) (own p (verdict s (selector p e x)) k)
+  clean s (index p e i) k = refl
+  clean s (call p f es) k =
+      let ks = parts (fine (callee (verdict s f))) (operands s es) (part (λ k. called k.0 k.1) (both (fine (callee (verdict s f))) (operands s es)) k) in
+      none_of_four (faults s f) (callee_broken f (verdict s f)) (operands_faults s es) _ (clean s f (called_on s f ks.0)) (callee_unbroken s f ks.0) (operands_clean s es ks.1) (own p (verdict s (call p f es)) k)
+  clean s (unary p op e) k =
+      let known = part (unary_of op) (operand (verdict s e)) k in
+      none_of_three (faults s e) (operand_broken e (verdict s e)) _ (clean s e (valued s e known)) (value_unbroken s e known) (own p (verdict s (unary p op e)) k)
+  clean s (binary p op a b) k =
+      let ks = parts (operand (verdict s a)) (operand (verdict s b)) (part (λ k. binary_of op k.0 k.1) (both (operand (verdict s a)) (operand (verdict s b))) k) in
+      none_of_five (faults s a) (operand_broken a (verdict s a)) (faults s b) (operand_broken b (verdict s b)) _
+      (clean s a (valued s a ks.0)) (value_unbroken s a ks.0) (clean s b (valued s b ks.1)) (value_unbroken s b ks.1) (own p (verdict s (binary p op a b)) k)
+
+  operands_clean : (s : Scope) (es : Exprs) → IsKnown (operands s es) → operands_faults s es ≡ []
+  operands_clean s no_exprs k = refl
+  operands_clean s (some_exprs e es) k =
+      let ks = joined_parts (option_map (λ v. v ∷ []) (operand (verdict s e))) (operands s es) k in
+      let known = mapped (λ v. v ∷ []) (operand (verdict s e)) ks.0 in
+      none_of_three (faults s e) (operand_broken e (verdict s e)) (operands_faults s es) (clean s e (valued s e known)) (value_unbroken s e known) (operands_clean s es ks.1)
+
+  type_clean : (s : Scope) (t : TypeExpr) → IsKnown (fine (type_verdict s t)) → type_faults s t ≡ []
+  type_clean s (named p x) k =
+      none (broken p (look_up x.text s.names)) _ (own p (look_up x.text s.names) (part type_due (fine (look_up x.text s.names)) k)) (own p (type_verdict s (named p x)) k)
+  type_clean s (qualified p m n) k =
+      let known = part type_due (fine (qualified_known s m n)) k in
+      none_of_three (broken p (look_up m.text s.names)) (broken p (qualified_known s m n)) _ (own p (look_up m.text s.names) (part (selected n.text) (fine (look_up m.text s.names)) known))
+      (own p (qualified_known s m n) known) (own p (type_verdict s (qualified p m n)) k)
+  type_clean s (array p e t) k =
+      let ks = parts (operand (verdict s e)) (fine (type_verdict s t)) (part (λ k. array_of k.0 k.1) (both (operand (verdict s e)) (fine (type_verdict s t))) k) in
+      none_of_four (faults s e) (operand_broken e (verdict s e)) (type_faults s t) _ (clean s e (valued s e ks.0)) (value_unbroken s e ks.0) (type_clean s t ks.1) (own p (type_verdict s (array p e t)) k)
+  type_clean s (struct p fs) k =
+      none (fields_faults s fs) _ (fields_clean s fs (part struct_of (fields_known s fs) k)) (own (struct_place p fs) (type_verdict s (struct p fs)) k)
+
+  fields_clean : (s : Scope) (fs : Fields) → IsKnown (fields_known s fs) → fields_faults s fs ≡ []
+  fields_clean s no_fields k = refl
+  fields_clean s (field names t fs) k =
+      let ks = joined_parts (option_map (λ k. map (declared_field s.path k) names) (fine (type_verdict s t))) (fields_known s fs) k in
+      none (type_faults s t) (fields_faults s fs) (type_clean s t (mapped (λ k. map (declared_field s.path k) names) (fine (type_verdict s t)) ks.0)) (fields_clean s fs ks.1)
+
+unknown : {A : Type 0} (o : Option A) (fs : List (Place × FaultKind)) → (IsKnown o → fs ≡ []) → fs ≢ [] → o ≡ None
+unknown None fs clean some = refl
+unknown (Some x) fs clean some = absurd (some (clean (x, refl)))
+
+-- nothing is known of what has a fault
+pub faulty_unknown : (s : Scope) (e : Expr) → faults s e ≢ [] → fine (verdict s e) ≡ None
+faulty_unknown s e some = unknown (fine (verdict s e)) (faults s e) (clean s e) some
+
+pub faulty_type_unknown : (s : Scope) (t : TypeExpr) → type_faults s t ≢ [] → fine (type_verdict s t) ≡ None
+faulty_type_unknown s t some = unknown (fine (type_verdict s t)) (type_faults s t) (type_clean s t) some

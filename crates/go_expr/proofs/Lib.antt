@@ -1,0 +1,5 @@
+pub mod Digits
+pub mod Fineness
+pub mod Lists
+pub mod Lookups
+pub mod Nodes

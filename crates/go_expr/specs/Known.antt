@@ -1,0 +1,77 @@
+-- What is known of expressions, and of names where they stand.
+use Rattle.std.specs.Prelude.{ℕ, Bool, true, false, List, [], ◌∷◌, ◌++◌, map, Option, Some, None, unwrap_or, bytes_eq, codes}
+use Rattle.std.specs.Map.{lookup}
+use Rattle.go_text.specs.declared.fault.FaultKind.{FaultKind}
+use Rattle.go_text.specs.declared.fault.FaultKind.TheVariants.{Undeclared, LeftOut}
+use Rattle.go_const.specs.declared.constant.Const.{Const}
+use Rattle.go_const.specs.declared.constant.Const.TheVariants.{Bool as Truth}
+use Rattle.go_types.specs.declared.types.Basic.{Basic}
+use Rattle.go_types.specs.declared.types.Basic.TheVariants as basics
+use Rattle.go_types.specs.declared.types.Integer.TheVariants as integers
+use Rattle.go_types.specs.declared.types.Untyped.TheVariants as kinds
+use Rattle.go_types.specs.Texts.{basic_text}
+use Rattle.go_types.specs.Types.{Type', basic}
+
+-- what a name declares: a constant of a type, which is an untyped one where it has none yet; a type; or the functions Println of the library, len and panic
+pub data Declared : Type 0 where
+  constant : Type' → Const → Declared
+  type' : Type' → Declared
+  println : Declared
+  length' : Declared
+  panic' : Declared
+
+-- names of a package, each with what it declares where that is known
+abbrev pub Names : Type 0
+Names = List (List ℕ × Option Declared)
+
+pub data Known : Type 0 where
+  declared : Declared → Known
+  -- an imported package, by the names that it exports
+  package' : Names → Known
+  -- a call of Println with operands
+  printed : List (Type' × Const) → Known
+
+-- Of a node: it is fine, and this is known of it; it breaks a rule; or it is passed over, since a part of it isn't fine or no rule is known of its form.
+pub data Verdict (A : Type 0) : Type 0 where
+  Fine : A → Verdict A
+  Breaks : FaultKind → Verdict A
+  Passed : Verdict A
+
+-- where an expression stands: the path of its package, and what each name finds there, of several the first
+pub record Scope : Type 0 where
+  pub path : List ℕ
+  pub names : List (List ℕ × Verdict Known)
+
+-- https://go.dev/ref/spec#Declarations_and_scope
+abbrev pub look_up : List ℕ → List (List ℕ × Verdict Known) → Verdict Known
+look_up x names = unwrap_or (lookup (bytes_eq x) names) (Breaks Undeclared)
+
+-- what a name of a package finds
+abbrev pub named : Option Declared → Verdict Known
+named o = elim o [ None ↦ Passed | Some d ↦ Fine (declared d) ]
+
+-- what fmt exports
+abbrev pub library : Names
+library = (codes "Println", Some println) ∷ []
+
+-- https://go.dev/ref/spec#Predeclared_identifiers
+abbrev pub basic_types : List (List ℕ × Basic)
+basic_types =
+    map (λ b. (basic_text b, b)) (basics.Bool ∷ basics.String ∷ map basics.Integer (integers.Int ∷ integers.Int8 ∷ integers.Int16 ∷ integers.Int32 ∷ integers.Int64
+    ∷ integers.Uint ∷ integers.Uint8 ∷ integers.Uint16 ∷ integers.Uint32 ∷ integers.Uint64 ∷ []))
+    ++ (codes "byte", basics.Integer integers.Uint8) ∷ (codes "rune", basics.Integer integers.Int32) ∷ []
+
+abbrev pub left_out : List (List ℕ)
+left_out =
+    codes "any" ∷ codes "append" ∷ codes "cap" ∷ codes "clear" ∷ codes "close" ∷ codes "comparable" ∷ codes "complex" ∷ codes "complex64" ∷ codes "complex128"
+    ∷ codes "copy" ∷ codes "delete" ∷ codes "error" ∷ codes "float32" ∷ codes "float64" ∷ codes "imag" ∷ codes "make" ∷ codes "max" ∷ codes "min" ∷ codes "new"
+    ∷ codes "nil" ∷ codes "print" ∷ codes "println" ∷ codes "real" ∷ codes "recover" ∷ codes "uintptr" ∷ []
+
+abbrev pub truth : Bool → Verdict Known
+truth b = Fine (declared (constant (basic (basics.Untyped kinds.Bool)) (Truth b)))
+
+abbrev pub others : List (List ℕ × Verdict Known)
+others = (codes "true", truth true) ∷ (codes "false", truth false) ∷ (codes "len", Fine (declared length')) ∷ (codes "panic", Fine (declared panic')) ∷ []
+
+unfoldable pub universe : List (List ℕ × Verdict Known)
+universe = map (λ t. (t.0, Fine (declared (type' (basic t.1))))) basic_types ++ map (λ x. (x, Breaks LeftOut)) left_out ++ others

@@ -1,0 +1,4 @@
+pub mod Known
+pub mod Rules
+pub mod Seen
+pub mod Verdicts

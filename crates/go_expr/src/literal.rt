@@ -1,0 +1,76 @@
+//! Literals. [Integer literals](https://go.dev/ref/spec#Integer_literals)
+ghost use Rattle.std.specs.Prelude.{◌≡◌, ◌≤◌, ◌<◌, ◌^◌, pos, SomeIff, Some, []};
+ghost use Rattle.go_const.specs.declared.constant.Const.TheVariants.{Text as AText};
+ghost use Rattle.go_types.specs.declared.types.Basic.TheVariants as basics;
+ghost use Rattle.go_types.specs.declared.types.Untyped.TheVariants as kinds;
+ghost use Rattle.go_types.specs.Types.{basic};
+ghost use Rattle.go_expr.specs.Known as known;
+ghost use Rattle.go_expr.specs.Rules.{numeral, number_of, literal};
+ghost use Rattle.go_expr.specs.Seen.{known_of, Answers, AnswersAt};
+
+use crate::error::ExprError;
+use crate::known::{Declared, Known};
+use go_const::constant::{Const, Text};
+use go_text::fault::FaultKind;
+use go_text::place::Place;
+use go_types::types::{Basic, GoType, Untyped};
+use std::alloc::Global;
+
+/// The base of an integer literal, and its digits with underscores among them.
+fn numeral(text: &[u8]) -> (u32, &[u8])
+    ensures parts { (result.0, result.1.now) ≡ numeral text.now }
+    ensures least { 2 ≤ result.0 }
+    ensures most { result.0 ≤ 16 }
+{
+    match text {
+        [b'0', b'b' | b'B', digits @ ..] => (2, digits),
+        [b'0', b'x' | b'X', digits @ ..] => (16, digits),
+        [b'0', b'o' | b'O', digits @ ..] => (8, digits),
+        [b'0', _, ..] => (8, &text[1..]),
+        _ => (10, text),
+    }
+}
+
+/// The number that digits of a base write, if it is below 2^127.
+fn number_of(base: u32, digits: &[u8]) -> Option<i128>
+    requires least { 2 ≤ base }
+    requires most { base ≤ 16 }
+    ensures { SomeIff result (number_of base digits.now < 2 ^ 127) (pos (number_of base digits.now)) }
+{
+    let mut number: u128 = 0;
+    for byte in digits {
+        if let Some(digit) = (*byte as char).to_digit(base) {
+            number = number
+                .checked_mul(u128::from(base))?
+                .checked_add(u128::from(digit))?;
+        }
+    }
+    i128::try_from(number).ok()
+}
+
+/// A constant that has no type, of a kind.
+pub(crate) fn untyped<'a>(kind: Untyped, constant: Const) -> Known<'a>
+    ensures { known_of result ≡ known.declared (known.constant (basic (basics.Untyped kind)) constant) }
+{
+    Known::Declared(Declared::Constant(GoType::Basic(Basic::Untyped(kind)), constant))
+}
+
+/// What an integer literal at a place is, or its fault.
+pub(crate) fn literal<'a>(place: Place, text: &str) -> Result<Option<Known<'a>>, ExprError>
+    ensures { AnswersAt known_of result place (literal text.now) }
+{
+    let (base, digits) = numeral(text.as_bytes());
+    match number_of(base, digits) {
+        Some(number) => Ok(Some(untyped(Untyped::Int, Const::Integer(number)))),
+        None => Err(ExprError::Faulty(place, FaultKind::Constant)),
+    }
+}
+
+/// What a string literal is. An `Err` only where memory ran out.
+/// [String literals](https://go.dev/ref/spec#String_literals)
+pub(crate) fn text_constant<'a>(alloc: Global, bytes: &[u8]) -> Result<Option<Known<'a>>, ExprError>
+    ensures { Answers known_of result [] (Some (known.declared (known.constant (basic (basics.Untyped kinds.String)) (AText bytes.now)))) }
+{
+    let text = Text::new(Vec::from_slice(alloc, bytes)?)?;
+    Ok(Some(untyped(Untyped::String, Const::Text(text))))
+}

@@ -1,0 +1,125 @@
+//! Where an expression stands.
+ghost use Rattle.std.specs.Prelude.{◌≡◌, ◌++◌, bytes_eq, map};
+ghost use Rattle.std.specs.Map.{lookup};
+ghost use Rattle.std.specs.Option.{option_map};
+ghost use Rattle.go_expr.specs.Known.{Fine, look_up, universe};
+ghost use Rattle.go_expr.specs.Seen.{known_of, import_of, names_in, scope_of, package_names, iota_of, counted, AnswersAt};
+
+use crate::error::ExprError;
+use crate::known::{Declared, Known, Names, named};
+use crate::universe::predeclared;
+use go_const::constant::Const;
+use go_text::place::Place;
+use go_types::types::{Basic, GoType, Untyped};
+
+/// A name that an import declares in its file.
+#[derive(Clone, Copy)]
+pub struct Import<'a> {
+    /// The name.
+    pub name: &'a str,
+    /// What the imported package exports.
+    pub exports: &'a Names,
+}
+
+/// Where an expression stands: in a package, in a file with its imports, and in a group of
+/// constants or not.
+#[derive(Drop)]
+pub struct Scope<'a> {
+    path: &'a str,
+    imports: &'a [Import<'a>],
+    declared: &'a Names,
+    iota: Option<u64>,
+}
+
+/// What an import's name finds among imports.
+fn imported<'a>(imports: &'a [Import<'a>], name: &str) -> Option<Known<'a>>
+    ensures { option_map (λ k. Fine (known_of k)) result ≡ lookup (bytes_eq name.now) (map import_of imports.now) }
+{
+    for import in imports {
+        if name == import.name {
+            return Some(Known::Package(import.exports));
+        }
+    }
+    None
+}
+
+impl<'a> Scope<'a> {
+    /// The scope of a file of the package at a path, by what its imports declare and what the
+    /// package declares; in a group of constants with the value of iota.
+    #[tactic(auto, unfolding(crate::specs::Seen::scope_of))]
+    pub fn new(
+        path: &'a str,
+        imports: &'a [Import<'a>],
+        declared: &'a Names,
+        iota: Option<u64>,
+    ) -> Scope<'a>
+        ensures { scope_of result ≡ record { path = path.now; names = names_in imports.now declared.now iota } }
+    {
+        Scope {
+            path,
+            imports,
+            declared,
+            iota,
+        }
+    }
+
+    /// The path of the package.
+    #[tactic(auto, unfolding(crate::specs::Seen::scope_of))]
+    pub(crate) fn path(&self) -> &str
+        ensures { result.now ≡ (scope_of self.now).path }
+    {
+        self.path
+    }
+
+    /// What a name at a place finds, or its fault.
+    /// [Declarations and scope](https://go.dev/ref/spec#Declarations_and_scope)
+    pub(crate) fn look_up(&self, place: Place, name: &str) -> Result<Option<Known<'a>>, ExprError>
+        ensures { AnswersAt known_of result place (look_up name.now (scope_of self.now).names) }
+    {
+        match imported(self.imports, name) {
+            Some(known) => Ok(Some(known)),
+            None => declared_or_other(place, self.declared, self.iota, name),
+        }
+    }
+}
+
+/// A number as a constant that has no type.
+fn number<'a>(number: u64) -> Known<'a>
+    ensures { Fine (known_of result) ≡ counted number }
+{
+    let of = GoType::Basic(Basic::Untyped(Untyped::Int));
+    Known::Declared(Declared::Constant(of, Const::Integer(i128::from(number))))
+}
+
+/// What a name at a place finds that no import declares, or its fault.
+fn declared_or_other<'a>(
+    place: Place,
+    declared: &Names,
+    iota: Option<u64>,
+    name: &str,
+) -> Result<Option<Known<'a>>, ExprError>
+    ensures { AnswersAt known_of result place (look_up name.now (package_names declared.now ++ (iota_of iota ++ universe))) }
+{
+    match declared.get(name) {
+        Some(declared) => named(place, declared),
+        None => iota_or_other(place, iota, name),
+    }
+}
+
+/// What a name at a place finds that no declaration declares, or its fault.
+/// [Iota](https://go.dev/ref/spec#Iota)
+fn iota_or_other<'a>(
+    place: Place,
+    iota: Option<u64>,
+    name: &str,
+) -> Result<Option<Known<'a>>, ExprError>
+    ensures { AnswersAt known_of result place (look_up name.now (iota_of iota ++ universe)) }
+{
+    let Some(iota) = iota else {
+        return predeclared(place, name);
+    };
+    if name != "iota" {
+        return predeclared(place, name);
+    }
+    Ok(Some(number(iota)))
+}

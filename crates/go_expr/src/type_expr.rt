@@ -1,0 +1,205 @@
+//! Types. [Types](https://go.dev/ref/spec#Types)
+ghost use Rattle.std.specs.Prelude.{◌≡◌, IfOk, map, bytes_eq};
+ghost use Rattle.std.specs.List.{list_any};
+ghost use Rattle.std.specs.Option.{option_map};
+ghost use Rattle.go_ast.specs.Trees.{pack_fields};
+ghost use Rattle.go_ast.specs.Views.{field_of as field_tree};
+ghost use Rattle.go_types.specs.Types.{struct};
+ghost use Rattle.go_types.specs.Views.{type_of};
+ghost use Rattle.go_expr.specs.Rules.{type_due, is_small, array_of, declared_field, field_names, packed, differ, struct_of};
+ghost use Rattle.go_expr.specs.Verdicts.{asked, both, joined, first_blank, struct_place};
+ghost use Rattle.go_expr.specs.Seen.{known_of, value_of, field_of, all_of, AnswersAt};
+
+use crate::error::ExprError;
+use crate::known::{Declared, Known, Value};
+use crate::selector::is_exported;
+use go_ast::expression::Field as FieldExpr;
+use go_ast::name::Name;
+use go_const::constant::Const;
+use go_text::fault::FaultKind;
+use go_text::place::Place;
+use go_types::sizes::{cells, nodes};
+use go_types::types::{Field, GoType};
+use std::alloc::{AllocError, Global};
+use std::sync::Arc;
+
+/// The type that is known at a place where a type is due.
+pub(crate) fn type_due(place: Place, known: Option<Known<'_>>) -> Result<Option<GoType>, ExprError>
+    ensures { AnswersAt type_of result place (asked type_due (option_map known_of known.entry)) }
+{
+    let Some(known) = known else {
+        return Ok(None);
+    };
+    match known {
+        Known::Declared(Declared::Type(of)) => Ok(Some(of)),
+        _ => Err(ExprError::Faulty(place, FaultKind::Mismatch)),
+    }
+}
+
+/// Whether a type and its values have no more parts than they may.
+fn is_small(of: &GoType) -> bool
+    ensures { result ≡ is_small (type_of of.now) }
+{
+    nodes(of).is_ok() && cells(of).is_ok()
+}
+
+/// Arrays at a place of a constant length, of elements of a type.
+fn array_of(
+    alloc: Global,
+    place: Place,
+    length: &Value,
+    of: GoType,
+) -> Result<Option<GoType>, ExprError>
+    ensures { AnswersAt type_of result place (array_of (value_of length.now) (type_of of)) }
+{
+    let Const::Integer(length) = length.constant else {
+        return Err(ExprError::Faulty(place, FaultKind::Mismatch));
+    };
+    if length < 0 {
+        return Err(ExprError::Faulty(place, FaultKind::Range));
+    }
+    if length > 65_536 {
+        return Err(ExprError::Faulty(place, FaultKind::Size));
+    }
+    let array = GoType::Array(length as u32, Arc::new(alloc, of)?);
+    if !is_small(&array) {
+        return Err(ExprError::Faulty(place, FaultKind::Size));
+    }
+    Ok(Some(array))
+}
+
+/// An array type at a place, where its length and its elements' type are known.
+/// [Array types](https://go.dev/ref/spec#Array_types)
+pub(crate) fn array_type(
+    alloc: Global,
+    place: Place,
+    length: Option<Value>,
+    of: Option<GoType>,
+) -> Result<Option<GoType>, ExprError>
+    ensures { AnswersAt type_of result place (asked (λ k. array_of k.0 k.1) (both (option_map value_of length) (option_map type_of of))) }
+{
+    match (length, of) {
+        (Some(length), Some(of)) => array_of(alloc, place, &length, of),
+        _ => Ok(None),
+    }
+}
+
+/// A field of a struct of the package at a path.
+fn field_of(alloc: Global, path: &str, name: &Name, of: &GoType) -> Result<Field, AllocError>
+    ensures { IfOk result (λ f. field_of f ≡ declared_field path.now (type_of of.now) name.now) }
+{
+    let text = name.text();
+    let package = if is_exported(text) {
+        None
+    } else {
+        Some(String::from_str(alloc, path)?)
+    };
+    Ok(Field {
+        package,
+        name: String::from_str(alloc, text)?,
+        of: of.copy()?,
+    })
+}
+
+/// Adds fields of some names and one type behind others, where all are known.
+pub(crate) fn with_fields(
+    alloc: Global,
+    path: &str,
+    all: Option<Vec<Field>>,
+    names: &[Name],
+    of: Option<GoType>,
+) -> Result<Option<Vec<Field>>, AllocError>
+    ensures { IfOk result (λ more. option_map (all_of field_of) more ≡ joined (option_map (all_of field_of) all) (option_map (λ t. map (declared_field path.now t) names.now) (option_map type_of of))) }
+{
+    let (Some(mut all), Some(of)) = (all, of) else {
+        return Ok(None);
+    };
+    for name in names {
+        all.push(field_of(alloc, path, name, &of)?)?;
+    }
+    Ok(Some(all))
+}
+
+/// The place of the first of some names that is blank.
+fn first_blank(names: &[Name]) -> Option<Place>
+    ensures { result ≡ first_blank names.now }
+{
+    for name in names {
+        if name.text() == "_" {
+            return Some(name.place());
+        }
+    }
+    None
+}
+
+/// Where the fault of a struct at a place stands: at the first of its fields that is blank, if
+/// one is.
+pub(crate) fn struct_place(place: Place, fields: &[FieldExpr]) -> Place
+    ensures { result ≡ struct_place place (pack_fields (map field_tree fields.now)) }
+{
+    for field in fields {
+        if let Some(blank) = first_blank(&field.names) {
+            return blank;
+        }
+    }
+    place
+}
+
+/// Whether one of some fields has a name.
+fn has_name(fields: &[Field], name: &str) -> bool
+    ensures { result ≡ list_any (bytes_eq name.now) (field_names (map field_of fields.now)) }
+{
+    for field in fields {
+        if name == field.name.as_str() {
+            return true;
+        }
+    }
+    false
+}
+
+/// Whether the names of fields differ.
+fn differ(fields: &[Field]) -> bool
+    ensures { result ≡ differ (field_names (map field_of fields.now)) }
+{
+    let mut rest = fields;
+    while let [field, others @ ..] = rest {
+        if has_name(others, field.name.as_str()) {
+            return false;
+        }
+        rest = others;
+    }
+    true
+}
+
+/// The struct of some fields.
+fn struct_of(alloc: Global, fields: Vec<Field>) -> Result<GoType, AllocError>
+    ensures { IfOk result (λ of. type_of of ≡ struct (packed (map field_of fields.items))) }
+{
+    Ok(GoType::Struct(Arc::new(alloc, fields)?))
+}
+
+/// A struct type at a place, where its fields are known.
+/// [Struct types](https://go.dev/ref/spec#Struct_types)
+pub(crate) fn struct_type(
+    alloc: Global,
+    place: Place,
+    fields: Option<Vec<Field>>,
+) -> Result<Option<GoType>, ExprError>
+    ensures { AnswersAt type_of result place (asked struct_of (option_map (all_of field_of) fields)) }
+{
+    let Some(fields) = fields else {
+        return Ok(None);
+    };
+    if has_name(&fields, "_") {
+        return Err(ExprError::Faulty(place, FaultKind::LeftOut));
+    }
+    let differs = differ(&fields);
+    let of = struct_of(alloc, fields)?;
+    if !is_small(&of) {
+        return Err(ExprError::Faulty(place, FaultKind::Size));
+    }
+    if !differs {
+        return Err(ExprError::Faulty(place, FaultKind::Redeclared));
+    }
+    Ok(Some(of))
+}
