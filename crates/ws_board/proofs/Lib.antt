@@ -1,5 +1,6 @@
 pub mod Carry
 pub mod Counts
+pub mod Crossing
 pub mod Endings
 pub mod Finished
 pub mod Histories

@@ -1,6 +1,6 @@
 -- What the calls of a board promise.
 use Rattle.std.specs.Prelude.{◌≡◌, ℕ, true, List, [], ◌∷◌, ◌++◌, Option, Some, None}
-use Rattle.std.specs.List.{count_by}
+use Rattle.std.specs.List.{count_by, list_any}
 use Rattle.std.specs.FinMap.{empty}
 use Rattle.ws_action.specs.Actions.{Action, action_id}
 use Rattle.ws_board.specs.declared.work.Status.{Status}
@@ -9,8 +9,8 @@ use Rattle.ws_board.specs.declared.work.Event.{Event}
 use Rattle.ws_board.specs.declared.work.Event.TheVariants.{Take, Idle}
 use Rattle.ws_board.specs.declared.work.Taken.{Taken}
 use Rattle.ws_board.specs.declared.work.Taken.TheVariants as taken
-use Rattle.ws_board.specs.Work.{Seen}
-use Rattle.ws_board.specs.Machine.{is_running, status_at, action_at, held, NoneFree, IsRunBy, BoardStep}
+use Rattle.ws_board.specs.Work.{Task, Seen}
+use Rattle.ws_board.specs.Machine.{is_running, is_back_of, status_at, action_at, held, NoneFree, IsRunBy, BoardStep}
 
 -- nothing happened yet
 pub record IsFresh (seen : Seen) : Type 0 where
@@ -28,9 +28,15 @@ pub record Happens (old : Seen) (event : Event) (new : Seen) : Type 0 where
 abbrev pub SomeRuns : List Status → Type 0
 SomeRuns statuses = (k : ℕ) × (is_running (status_at statuses k) ≡ true)
 
--- What a take answers: a job, which the hand then runs; idle; or later, which is no event, where no job may be given but some job runs.
+-- A job was given, which the hand then runs, and is told whether it was given back before.
+pub record Gives (hand : ℕ) (task : Task) (old new : Seen) : Type 0 where
+  pub runs : IsRunBy new.opening.jobs new.state.statuses hand task.job task.action
+  pub happens : Happens old (Take hand task.job) new
+  pub was_back : task.was_back ≡ list_any (is_back_of task.job) old.history
+
+-- What a take answers: a job; idle; or later, which is no event, where no job may be given but some job runs.
 abbrev pub TakeStep : ℕ → Taken → Seen → Seen → Type 0
-TakeStep hand (taken.Job task) old new = IsRunBy new.opening.jobs new.state.statuses hand task.job task.action × Happens old (Take hand task.job) new
+TakeStep hand (taken.Job task) old new = Gives hand task old new
 TakeStep hand taken.Idle old new = Happens old (Idle hand) new
 TakeStep hand taken.Later old new = NoneFree old.opening.jobs old.state.statuses × SomeRuns old.state.statuses × (new ≡ old)
 

@@ -1,5 +1,5 @@
 -- The board as a machine: how jobs stand, which events may come, and what each makes of it.
-use Rattle.std.specs.Prelude.{◌≡◌, ℕ, Bool, true, false, ◌&&◌, ◌||◌, not, if◌then◌else◌, List, [], ◌∷◌, length, map, Option, Some, None, slice_set}
+use Rattle.std.specs.Prelude.{◌≡◌, ℕ, Bool, true, false, ◌==◌, ◌&&◌, ◌||◌, not, if◌then◌else◌, List, [], ◌∷◌, length, map, Option, Some, None, slice_set}
 use Rattle.std.specs.List.{slice_get, slice_index_or, list_any}
 use Rattle.std.specs.Option.{option_or}
 use Rattle.std.specs.Str.{bytes_eq}
@@ -224,3 +224,10 @@ is_idle (Take hand job) = false
 is_idle (Finish hand job) = false
 is_idle (Back hand job) = false
 is_idle (Idle hand) = true
+
+-- a back of that job
+abbrev pub is_back_of : ℕ → Event → Bool
+is_back_of job (Take hand k) = false
+is_back_of job (Finish hand k) = false
+is_back_of job (Back hand k) = k == job
+is_back_of job (Idle hand) = false

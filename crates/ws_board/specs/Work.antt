@@ -15,10 +15,11 @@ pub record Job : Type 0 where
   pub action : Option Action
   pub imports : List ℕ
 
--- a job that was given: its number and its action
+-- a job that was given: its number, its action, and whether it was given back before
 pub record Task : Type 0 where
   pub job : ℕ
   pub action : Action
+  pub was_back : Bool
 
 -- entries by their ids
 abbrev pub Entries : Type 0
@@ -97,7 +98,7 @@ abbrev pub job_code : Coded Job
 job_code = code_by (Option Action × List ℕ) (coded× (coded_option action_code) (coded_list coded_ℕ)) (λ j. (j.action, j.imports)) (λ p. record { action = p.0; imports = p.1 }) (λ _. refl)
 
 abbrev pub task_code : Coded Task
-task_code = code_by (ℕ × Action) (coded× coded_ℕ action_code) (λ t. (t.job, t.action)) (λ p. record { job = p.0; action = p.1 }) (λ _. refl)
+task_code = code_by (ℕ × (Action × Bool)) (coded× coded_ℕ (coded× action_code coded_bool)) (λ t. (t.job, (t.action, t.was_back))) (λ p. record { job = p.0; action = p.1.0; was_back = p.1.1 }) (λ _. refl)
 
 abbrev pub entries_code : Coded Entries
 entries_code = code (coded_list coded_ℕ) action_code

@@ -2,6 +2,7 @@
 #![tactic(auto)]
 
 ghost use Rattle.std.specs.Prelude.{◌≡◌, ◌<◌, ◌+◌, ◌≤◌, ℕ, List, length, true, Some, IfOk, IfErr, IsTrue, OnOk, OnErr, ◌↔◌, slice_set, map};
+ghost use Rattle.std.specs.Bool.{OnTrue, OnFalse};
 ghost use Rattle.std.specs.List.{list_any, count_by};
 ghost use Rattle.ws_map.specs.Kept.{taken, joined};
 ghost use Rattle.ws_action.specs.Actions.{Action as AnAction, action_id};
@@ -10,7 +11,7 @@ ghost use Rattle.ws_cache.specs.Joined.{lesser};
 ghost use Rattle.ws_board.specs.Work.{Job as AJob};
 ghost use Rattle.ws_board.specs.declared.work.Status.{Status as AStatus};
 ghost use Rattle.ws_board.specs.declared.work.Event.TheVariants as event;
-ghost use Rattle.ws_board.specs.Machine.{is_running, is_idle, status_at, IsRunBy};
+ghost use Rattle.ws_board.specs.Machine.{is_running, is_idle, is_back_of, status_at, IsRunBy};
 ghost use Rattle.ws_board.specs.Calls.{IsFresh, Happens, TakeStep};
 ghost use Rattle.ws_board.specs.Ends.{AreFinished, ComesToEnds, IsRanked, AreEnds, End};
 
@@ -59,6 +60,16 @@ fn stand(statuses: &mut Vec<Status>, k: usize, status: Status)
     statuses[k] = status;
 }
 
+// Whether the job was given back.
+fn is_back_in(history: &[Event], job: usize) -> bool
+    ensures { result ≡ list_any (is_back_of job) history.now }
+{
+    history.iter().any(|event| match event {
+        Event::Back(_, given) => *given == job,
+        _ => false,
+    })
+}
+
 impl Board {
     /// A board of these jobs: each without an action, and each that imports one that can't be
     /// good, is blocked; each whose id the cache has is done. An `Err` only where memory ran out.
@@ -77,9 +88,9 @@ impl Board {
         })
     }
 
-    /// Gives the hand a job that is ready and whose id no hand runs. Where there is none, it
-    /// answers `Later` if any job runs, which is no event, and else `Idle`.
-    /// An `Err`, for want of memory, changes nothing.
+    /// Gives the hand a job that is ready and whose id no hand runs, and says whether that job was
+    /// given back before. Where there is none, it answers `Later` if any job runs, which is no
+    /// event, and else `Idle`. An `Err`, for want of memory, changes nothing.
     pub fn take(&mut self, hand: &Hand) -> Result<Taken, AllocError>
         ensures step { IfOk result (λ taken. TakeStep hand.now taken self.old self.new) }
         ensures err { OnErr result (self.new ≡ self.old) }
@@ -92,11 +103,12 @@ impl Board {
             return Ok(Taken::Idle);
         };
         let action = action.copy()?;
+        let was_back = is_back_in(&self.history, k);
         // For this event, its task's end, and those of the tasks that run.
         self.history.reserve(self.statuses.len() + 2)?;
         stand(&mut self.statuses, k, Status::Running(hand.number()));
         self.history.push_reserved(Event::Take(hand.number(), k));
-        Ok(Taken::Job(Task::new(k, action)))
+        Ok(Taken::Job(Task::new(k, action, was_back)))
     }
 
     /// Whether the hand runs the task.
@@ -142,6 +154,20 @@ impl Board {
         self.history.push_reserved(Event::Back(hand.number(), job));
     }
 
+    /// The task is given back, if the hand runs it, and the answer is whether it does. Where it
+    /// doesn't, the task is spent and nothing changes.
+    pub fn try_back(&mut self, hand: &Hand, task: Task) -> bool
+        ensures back { OnTrue result (Happens self.old (event.Back hand.now task.job) self.new) }
+        ensures still { OnFalse result (self.new ≡ self.old) }
+    {
+        if !self.runs(hand, &task) {
+            task.spend();
+            return false;
+        }
+        self.back(hand, task);
+        true
+    }
+
     /// Whether a hand was told that nothing is left to do.
     pub fn has_idled(&self) -> bool
         ensures { result ≡ list_any is_idle self.now.history }
@@ -150,6 +176,19 @@ impl Board {
             Event::Idle(_) => true,
             _ => false,
         })
+    }
+
+    /// How many times a hand was told that nothing is left to do.
+    pub fn idles(&self) -> usize
+        ensures { result ≡ count_by is_idle self.now.history }
+    {
+        self.history
+            .iter()
+            .filter(|event| match event {
+                Event::Idle(_) => true,
+                _ => false,
+            })
+            .count()
     }
 
     /// What the board came to, when nothing was left to do: each job that came to something has an

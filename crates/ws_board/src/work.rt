@@ -229,6 +229,7 @@ impl Job {
 pub struct Task {
     job: usize,
     action: Identified,
+    was_back: bool,
 }
 
 impl Model for Task {
@@ -238,14 +239,18 @@ impl Model for Task {
 
     ghost coded = { work.task_code };
 
-    ghost view = { λ a. record { job = a.job; action = a.action } };
+    ghost view = { λ a. record { job = a.job; action = a.action; was_back = a.was_back } };
 }
 
 impl Task {
-    pub(super) fn new(job: usize, action: Identified) -> Task
-        ensures { result ≡ record { job = job; action = action } }
+    pub(super) fn new(job: usize, action: Identified, was_back: bool) -> Task
+        ensures { result ≡ record { job = job; action = action; was_back = was_back } }
     {
-        Task { job, action }
+        Task {
+            job,
+            action,
+            was_back,
+        }
     }
 
     /// The number of the job.
@@ -253,6 +258,13 @@ impl Task {
         ensures { result ≡ self.now.job }
     {
         self.job
+    }
+
+    /// Whether the job was given back before it was given as this task.
+    pub fn was_back(&self) -> bool
+        ensures { result ≡ self.now.was_back }
+    {
+        self.was_back
     }
 
     /// A copy of what is to be compiled. An `Err` only where memory ran out.
@@ -285,7 +297,11 @@ impl Task {
     pub(super) fn spend(self) -> usize
         ensures { result ≡ self.job }
     {
-        let Task { job, action: _ } = self;
+        let Task {
+            job,
+            action: _,
+            was_back: _,
+        } = self;
         job
     }
 }

@@ -23,6 +23,7 @@ use Rattle.ws_board.specs.Ends.{End, actions_of, IsRanked, AreClear, ComesTo, Co
 use Rattle.ws_board.proofs.Runs.{inside_of, less, set_runs, finish_runs, finished_done, counted_none}
 use Rattle.ws_board.proofs.Sounds.{step_agrees}
 use Rattle.ws_board.proofs.Endings.{actions_has}
+use Rattle.ws_shared.specs.Hands.{AddsOwn}
 
 -- the board so far: nothing runs, and what was added are actions of its jobs
 pub record IsDriven (first now : Seen) : Type 0 where
@@ -159,3 +160,9 @@ pub driven_ends : (first now : Seen) → IsDriven first now → ((N : List Actio
 driven_ends first now h ends E rank stands down clear =
     let among : Includes (actions_of now.opening.jobs) h.entries = subst (λ (o : Opening). Includes (actions_of o.jobs) h.entries) (sym h.opening) h.among in
     ends h.entries h.stands E rank stands down (clear_less (E ++ ([] ++ actions_of now.opening.jobs)) (E ++ (h.entries ++ actions_of now.opening.jobs)) (with_entries E h.entries (actions_of now.opening.jobs) among) clear)
+
+-- ---- a board whose hands added entries of its jobs' actions alone
+
+pub own_ends : (seen : Seen) → AddsOwn seen → ((N : List Action) → CacheStandsFor seen.state.added N → ComesToEnds seen N) → ComesToEnds seen []
+own_ends seen own ends E rank stands down clear =
+    ends own.entries own.stands E rank stands down (clear_less (E ++ ([] ++ actions_of seen.opening.jobs)) (E ++ (own.entries ++ actions_of seen.opening.jobs)) (with_entries E own.entries (actions_of seen.opening.jobs) own.among) clear)

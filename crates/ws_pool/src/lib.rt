@@ -11,9 +11,12 @@ ghost use Rattle.ws_board.specs.Calls.{IsFresh, Happens};
 ghost use Rattle.ws_board.specs.Ends.{AreFinished, ComesToEnds};
 
 use std::alloc::AllocError;
+pub use workers::build_jobs;
 use ws_action::Action;
 use ws_board::{Board, Built, Hand, Taken, Task};
 use ws_cache::Entry;
+
+mod workers;
 
 /// Where a worker passes a gate.
 #[derive(Clone, Copy, PartialEq, Eq, Debug)]

@@ -17,14 +17,14 @@ loop-board-preserved c =
     let old = c.loop-board.board in
     let task = c.in-Job.task in
     let step : TakeStep c.new-hand.result (Job task) old c.take.new.self = subst (λ t. TakeStep c.new-hand.result t old c.take.new.self) c.in-Job.is c.in_ok-task.ensures.step in
-    driven_step c.args.board old c.take.new.self c.run.new.board c.new-hand.result task step.0 step.1 c.in_ok-run-in-Job.ensures.step c.in_ok-run-in-Job.ensures.added c.loop-board.invariant
+    driven_step c.args.board old c.take.new.self c.run.new.board c.new-hand.result task step.runs step.happens c.in_ok-run-in-Job.ensures.step c.in_ok-run-in-Job.ensures.added c.loop-board.invariant
 
 pub loop-board-smaller : goal.loop-board-smaller
 loop-board-smaller c =
     let old = c.loop-board.board in
     let task = c.in-Job.task in
     let step : TakeStep c.new-hand.result (Job task) old c.take.new.self = subst (λ t. TakeStep c.new-hand.result t old c.take.new.self) c.in-Job.is c.in_ok-task.ensures.step in
-    open_falls old c.take.new.self c.run.new.board c.new-hand.result task.job step.1 c.in_ok-run-in-Job.ensures.step
+    open_falls old c.take.new.self c.run.new.board c.new-hand.result task.job step.happens c.in_ok-run-in-Job.ensures.step
 
 pub unreachable-requires : goal.unreachable-requires
 unreachable-requires c =

@@ -1,13 +1,14 @@
-use Rattle.std.proofs.Common.{ℕ, List, ◌∙◌, ◌≡◌, ◌+◌, ◌≤◌, ◌∷◌, ◌++◌, [], false, arith, ap, subst, sym, refl, rules, vec_len, vec_capacity, length, count_by, get_or-set_same}
+use Rattle.std.proofs.Common.{ℕ, Bool, List, ◌∙◌, ◌≡◌, ◌+◌, ◌≤◌, ◌∷◌, ◌++◌, [], false, arith, ap, subst, sym, refl, rules, vec_len, vec_capacity, length, count_by, get_or-set_same}
 use Rattle.std.proofs.Math.ListN.{set, length-set}
 use Rattle.std.proofs.lemmas.List.Sums.{count_by-le-length}
+use Rattle.std.specs.List.{list_any}
 use Rattle.ws_action.specs.Actions.{Action}
 use Rattle.ws_board.specs.declared.work.Status.{Status}
 use Rattle.ws_board.specs.declared.work.Status.TheVariants.{Ready, Running, Blocked}
 use Rattle.ws_board.specs.declared.work.Event.TheVariants.{Take, Idle}
 use Rattle.ws_board.specs.Work.{Job, Task, Opening, State, Seen}
-use Rattle.ws_board.specs.Machine.{status_at, is_running, IsFree, NoneFree, IsIdle, IsRunBy, BoardStep}
-use Rattle.ws_board.specs.Calls.{Happens}
+use Rattle.ws_board.specs.Machine.{status_at, is_running, is_back_of, IsFree, NoneFree, IsIdle, IsRunBy, BoardStep}
+use Rattle.ws_board.specs.Calls.{Happens, Gives}
 use Rattle.ws_board.proofs.Histories.{history_more, ready_has}
 use Rattle.ws_board.proofs.Marks.{idle_is}
 use Rattle.ws_board.proofs.Runs.{none_counted, inside_of}
@@ -79,7 +80,11 @@ returns-clause-step c =
       runs = ap (λ xs. status_at xs k) stood ∙ get_or-set_same b.statuses.items k (Running hand) Blocked (inside_of b.statuses.items k Ready free.ready refl);
       its = free.its;
     } in
-    let task : Task = record { job = k; action = a } in
-    let told : c.new.result ≡ task = c.new.ensures ∙ ap (λ (z : Action). let t : Task = record { job = k; action = z } in t) c.in_ok-action.ensures in
+    let back : Bool = list_any (is_back_of k) b.history.items in
+    let task : Task = record { job = k; action = a; was_back = back } in
+    let given : c.is_back_in-was_back.result ≡ back = c.is_back_in-was_back.ensures ∙ ap (list_any (is_back_of k)) c.deref-3.ensures.value in
+    let told : c.new.result ≡ task =
+    c.new.ensures ∙ ap (λ (z : Action). let t : Task = record { job = k; action = z; was_back = c.is_back_in-was_back.result } in t) c.in_ok-action.ensures
+    ∙ ap (λ (z : Bool). let t : Task = record { job = k; action = a; was_back = z } in t) given in
     let happens : Happens before (Take hand k) after = record { step = step; history = pushed; opening = refl } in
-    rw (← c.self.view_is) (subst (λ (t : Task). IsRunBy b.jobs.items c.stand.new.statuses.items hand t.job t.action × Happens before (Take hand t.job) after) (sym told) (run, happens))
+    rw (← c.self.view_is) (subst (λ (t : Task). Gives hand t before after) (sym told) (record { runs = run; happens = happens; was_back = refl }))

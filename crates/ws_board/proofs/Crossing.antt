@@ -1,0 +1,24 @@
+-- A board may go to another thread: so may what it holds, type by type.
+use denote.Param.Send.{IsSend, sendable}
+use Rattle.std.proofs.Crossing.{crosses}
+use Rattle.std.proofs.MapsCrossing as maps
+use Rattle.go_ast.proofs.Crossing.{parsed_send}
+use Rattle.ws_cache.proofs.Crossing.{cache_send}
+use Rattle.ws_action.specs.contracts.Action as action
+use Rattle.ws_board.proofs.work.Status.TheSendSync as status
+use Rattle.ws_board.proofs.work.Event.TheSendSync as event
+use Rattle.ws_board.specs.contracts.work.Identified as identified
+use Rattle.ws_board.specs.contracts.work.Job as job
+use Rattle.ws_board.specs.contracts.Board as board
+
+action_send : IsSend action.the_row
+action_send = search (parsed_send, crosses, maps.crosses, sendable) depth 20
+
+identified_send : IsSend identified.the_row
+identified_send = search (action_send, crosses, sendable) depth 20
+
+job_send : IsSend job.the_row
+job_send = search (identified_send, crosses, sendable) depth 20
+
+pub board_send : IsSend board.the_row
+board_send = search (job_send, cache_send, status.the_field_send, event.the_field_send, crosses, sendable) depth 20

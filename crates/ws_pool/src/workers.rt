@@ -1,0 +1,143 @@
+//! Workers in threads, who take a board's jobs from behind its lock.
+ghost use Rattle.std.specs.Prelude.{◌≡◌, ◌<◌, All, List, [], None, IfOk, IfSome, vec_len};
+ghost use Rattle.std.specs.Bool.{OnTrue};
+ghost use Rattle.ws_action.specs.Actions.{Action as AnAction};
+ghost use Rattle.ws_board.specs.Ends.{AreFinished, ComesToEnds};
+
+use crate::{Gate, Point, Step};
+use std::alloc::{AllocError, Global};
+use std::marker::Brand;
+use std::sync::Wait;
+use std::thread;
+use std::thread::Threads;
+use ws_board::{Built, Job, Task};
+use ws_cache::{Cache, Entry};
+use ws_shared::{Blanks, Desk, SharedBoard, SharedHand};
+
+// What the gate compiles the task to. None: memory ran out.
+fn compiled<G: Gate>(gate: &G, task: &Task) -> Option<Entry>
+    ensures { IfSome result (λ entry. entry ≡ task.now.action) }
+{
+    let action = task.action().ok()?;
+    gate.compile(action).ok()
+}
+
+// Takes one task to its end, or gives it back where the gate says so. False: memory ran out, and
+// the worker ends.
+fn run<L: Desk, G: Gate, R: Wait>(
+    rt: &R,
+    board: &SharedBoard<L>,
+    hand: &mut SharedHand<L>,
+    gate: &G,
+    task: Task,
+) -> bool
+    ensures { OnTrue result (hand.new.runs ≡ None) }
+{
+    let job = task.job();
+    let may_stop = !task.was_back();
+    if gate.at(Point::Taken, job) == Step::Back && may_stop {
+        return board.back(rt, hand, task);
+    }
+    // No lock is held.
+    let Some(entry) = compiled(gate, &task) else {
+        board.back(rt, hand, task);
+        return false;
+    };
+    if gate.at(Point::Compiled, job) == Step::Back && may_stop {
+        return board.back(rt, hand, task);
+    }
+    if let Err((task, _)) = board.finish(rt, hand, task, entry) {
+        board.back(rt, hand, task);
+        return false;
+    }
+    gate.at(Point::Finished, job);
+    true
+}
+
+// Runs jobs until none is left, or memory runs out.
+fn work<L: Desk, G: Gate, R: Wait>(
+    rt: &R,
+    board: &SharedBoard<L>,
+    hand: &mut SharedHand<L>,
+    gate: &G,
+)
+    requires { hand.old.runs ≡ None }
+{
+    for _ in rt.forever() {
+        let Ok(Some(task)) = board.take(rt, hand) else {
+            return;
+        };
+        if !run(rt, board, hand, gate, task) {
+            return;
+        }
+    }
+    unreachable!()
+}
+
+// All hands at once, each in a thread of its own where one can be had.
+fn work_all<L: Desk + Send + Sync, G: Gate, R: Threads + Wait + Sync>(
+    rt: &R,
+    board: &SharedBoard<L>,
+    hands: &mut Vec<SharedHand<L>>,
+    gate: &G,
+)
+    requires rest { All (λ hand. hand.runs ≡ None) hands.old.items }
+    requires some { 0 < vec_len hands.old }
+    ensures { vec_len hands.new ≡ vec_len hands.old }
+{
+    let threads = hands.len();
+    thread::for_each_mut(
+        rt,
+        hands.as_mut_slice(),
+        threads,
+        &|_, hand: &mut SharedHand<L>|
+            requires { hand.old.runs ≡ None }
+        { work(rt, board, hand, gate) },
+    );
+}
+
+fn run_jobs<L: Desk + Send + Sync, G: Gate, R: Threads + Wait + Sync>(
+    rt: &R,
+    alloc: Global,
+    jobs: Vec<Job>,
+    cache: Cache,
+    workers: u64,
+    blanks: Blanks,
+    gate: &G,
+) -> Result<Built, AllocError>
+    requires some { 0 < workers }
+    requires blanks { (blanks ≡ L.names) × (workers ≡ L.names.hands) }
+    requires opening { record { jobs = jobs.items; cache = cache } ≡ L.opening }
+    ensures opening { IfOk result (λ built. built.opening ≡ record { jobs = jobs.items; cache = cache }) }
+    ensures finished { IfOk result (λ built. (entries : List AnAction) × AreFinished built entries) }
+    ensures ends { IfOk result (λ built. ComesToEnds built []) }
+{
+    let (board, mut hands) = SharedBoard::<L>::open(alloc, jobs, cache, workers, blanks)?;
+    work_all(rt, &board, &mut hands, gate);
+    let board = board.close(hands);
+    // Who ended for want of memory was never told that nothing is left.
+    if !board.has_idled() || (board.idles() as u64) < workers {
+        return Err(AllocError);
+    }
+    Ok(board.built())
+}
+
+/// Runs all jobs over the cache by that many workers, each in a thread of its own where one can be
+/// had: each job comes to its end, whatever the workers, the gate and the order of events. Nothing
+/// is compiled under the lock. An `Err` where a worker was refused memory.
+pub fn build_jobs<G: Gate, R: Threads + Wait + Sync>(
+    rt: &R,
+    alloc: Global,
+    jobs: Vec<Job>,
+    cache: Cache,
+    workers: u64,
+    gate: &G,
+) -> Result<Built, AllocError>
+    requires { 0 < workers }
+    ensures opening { IfOk result (λ built. built.opening ≡ record { jobs = jobs.items; cache = cache }) }
+    ensures finished { IfOk result (λ built. (entries : List AnAction) × AreFinished built entries) }
+    ensures ends { IfOk result (λ built. ComesToEnds built []) }
+{
+    let blanks = Blanks::new(workers);
+    run_jobs::<Brand, G, R>(rt, alloc, jobs, cache, workers, blanks, gate)
+}

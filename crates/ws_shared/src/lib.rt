@@ -1,0 +1,11 @@
+//! A board that hands in any threads share: each of their events is one step under one lock.
+#![tactic(auto)]
+
+pub use board::SharedBoard;
+pub use hand::SharedHand;
+pub use tally::{Blanks, Desk};
+
+mod board;
+mod hand;
+mod locked;
+mod tally;
