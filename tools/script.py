@@ -24,7 +24,7 @@ REFUSALS = {
 # How many words stand behind each command.
 COUNTS = {
     **{b"replica": 1, b"write": 3, b"remove": 2, b"apply": 5, b"merge": 2, b"settle": 0},
-    **{b"show": 1, b"build": 2, b"run": 3},
+    **{b"show": 1, b"build": 2, b"run": 3, b"ids": 2},
 }
 
 

@@ -18,6 +18,7 @@ pub data Command : Type 0 where
   Settle : Command
   Build : List ℕ → List ℕ → Command
   Run : List ℕ → List ℕ → ℕ → Command
+  Ids : List ℕ → List ℕ → Command
   Show : List ℕ → Command
 
 abbrev pub is_name_byte : ℕ → Bool
@@ -53,7 +54,8 @@ of_words (word ∷ a ∷ []) =
 of_words (word ∷ a ∷ b ∷ []) =
     cond (bytes_eq word (codes "merge")) (if_good (is_name a && is_name b) (Merge a b))
     (cond (bytes_eq word (codes "build")) (if_good (is_name a) (Build a b))
-    (cond (bytes_eq word (codes "remove")) (if_good (is_name a) (Remove a b)) Bad))
+    (cond (bytes_eq word (codes "ids")) (if_good (is_name a) (Ids a b))
+    (cond (bytes_eq word (codes "remove")) (if_good (is_name a) (Remove a b)) Bad)))
 of_words (word ∷ a ∷ b ∷ c ∷ []) =
     cond (bytes_eq word (codes "write")) (if_good (is_name a) (if_number (number_of c) (Write a b)))
     (cond (bytes_eq word (codes "run")) (if_good (is_name a) (if_number (number_of c) (Run a b))) Bad)

@@ -5,4 +5,5 @@ pub mod Seen
 pub mod Refusals
 pub mod Printing
 pub mod RunPrinting
+pub mod IdsPrinting
 pub mod ShowPrinting

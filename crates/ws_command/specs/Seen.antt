@@ -1,5 +1,5 @@
 -- A command without where its words lie.
-use Rattle.ws_command.specs.Commands.{Command, Nothing, Bad, Create, Write, Remove, Apply, Merge, Settle, Build, Run, Show}
+use Rattle.ws_command.specs.Commands.{Command, Nothing, Bad, Create, Write, Remove, Apply, Merge, Settle, Build, Run, Ids, Show}
 use Rattle.ws_command.specs.declared.commands.Asked.{Asked}
 use Rattle.ws_command.specs.declared.commands.Asked.TheVariants as asked
 
@@ -16,3 +16,4 @@ seen (asked.Show name) = Show name.now
 seen (asked.Merge name other) = Merge name.now other.now
 seen (asked.Build name directory) = Build name.now directory.now
 seen (asked.Run name directory ticks) = Run name.now directory.now ticks
+seen (asked.Ids name directory) = Ids name.now directory.now

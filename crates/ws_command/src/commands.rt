@@ -34,6 +34,8 @@ pub enum Asked<'a> {
     Build(&'a [u8], &'a [u8]),
     /// `run R DIR TICKS`
     Run(&'a [u8], &'a [u8], u64),
+    /// `ids R DIR`
+    Ids(&'a [u8], &'a [u8]),
     /// `show R`
     Show(&'a [u8]),
 }
@@ -111,6 +113,9 @@ fn asked_of_two<'a>(word: &[u8], a: &'a [u8], b: &'a [u8]) -> Asked<'a>
     }
     if word == b"build".as_slice() && is_name(a) {
         return Asked::Build(a, b);
+    }
+    if word == b"ids".as_slice() && is_name(a) {
+        return Asked::Ids(a, b);
     }
     if word == b"remove".as_slice() && is_name(a) {
         return Asked::Remove(a, b);

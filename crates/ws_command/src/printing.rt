@@ -1,17 +1,19 @@
-//! What builds and runs print.
+//! What commands print.
 ghost use Rattle.std.specs.Prelude.{◌≡◌, ◌++◌, OnOk, IfOk, count_by, map, codes};
 ghost use Rattle.std.specs.Fmt.{decimal};
 ghost use Rattle.std.specs.List.{flat_map};
+ghost use Rattle.hex.specs.Hex.{encode_lower};
 ghost use Rattle.ws_command.specs.Printing.{place_text, kind_text, fault_text, blocked_text, row_text, is_bad, summary_text, target_text, report_text};
 ghost use Rattle.ws_command.specs.RunPrinting.{panic_word, ending_text, panic_size, panic_text, run_target_text, head_text, run_text};
+ghost use Rattle.ws_command.specs.IdsPrinting.{standing_text, id_text, ids_text};
 ghost use Rattle.ws_command.specs.ShowPrinting.{content_text, write_text, show_text};
-ghost use Rattle.ws_report.specs.Reports.{rows, row};
+ghost use Rattle.ws_report.specs.Reports.{rows, row, id_row};
 
 use go_code::ending::{Ending, PanicKind};
 use go_text::fault::{Fault, FaultKind};
 use go_text::place::Place;
 use std::alloc::{AllocError, Global};
-use ws_report::{Report, Verdict};
+use ws_report::{IdLine, Report, Standing, Verdict};
 use ws_version::{Held, Write};
 
 fn push(out: &mut Vec<u8>, text: &[u8]) -> Result<(), AllocError>
@@ -248,6 +250,77 @@ pub fn run_lines(
     Ok(out)
 }
 
+/// Adds a text and then a word.
+fn push_word(out: &mut Vec<u8>, text: &[u8], word: &[u8]) -> Result<(), AllocError>
+    ensures { OnOk result (out.new.items ≡ out.old.items ++ (text.now ++ word.now)) }
+{
+    push(out, text)?;
+    push(out, word)
+}
+
+/// Adds an id in hexadecimal digits.
+fn push_id(alloc: Global, out: &mut Vec<u8>, id: [u8; 32]) -> Result<(), AllocError>
+    ensures { OnOk result (out.new.items ≡ out.old.items ++ (codes " " ++ encode_lower id)) }
+{
+    let digits = hex::encode(alloc, id)?;
+    push_word(out, b" ", digits.as_bytes())
+}
+
+/// Adds how a directory's action stands.
+fn push_standing(alloc: Global, out: &mut Vec<u8>, standing: Standing) -> Result<(), AllocError>
+    ensures { OnOk result (out.new.items ≡ out.old.items ++ standing_text standing) }
+{
+    match standing {
+        Standing::NoId => push(out, b" none"),
+        Standing::Absent(id) => {
+            push_id(alloc, out, id)?;
+            push(out, b" absent")
+        }
+        Standing::Held(id) => {
+            push_id(alloc, out, id)?;
+            push(out, b" held")
+        }
+    }
+}
+
+/// Adds the line of a directory's id.
+#[tactic(auto, unfolding(crate::specs::IdsPrinting::id_text))]
+fn push_id_line(alloc: Global, out: &mut Vec<u8>, line: &IdLine) -> Result<(), AllocError>
+    ensures { OnOk result (out.new.items ≡ out.old.items ++ id_text (id_row line.now)) }
+{
+    push_word(out, b"id ", line.directory.as_bytes())?;
+    push_standing(alloc, out, line.standing)?;
+    push(out, b"\n")
+}
+
+fn push_id_lines(alloc: Global, out: &mut Vec<u8>, lines: &[IdLine]) -> Result<(), AllocError>
+    ensures { OnOk result (out.new.items ≡ out.old.items ++ flat_map id_text (map id_row lines.now)) }
+{
+    for line in lines {
+        push_id_line(alloc, out, line)?;
+    }
+    Ok(())
+}
+
+/// The lines of ids: how many directories a target reaches, and how the action of each stands.
+#[tactic(auto, unfolding(crate::specs::IdsPrinting::ids_text))]
+pub fn ids_lines(
+    alloc: Global,
+    name: &[u8],
+    directory: &str,
+    lines: &[IdLine],
+) -> Result<Vec<u8>, AllocError>
+    ensures { IfOk result (λ text. text.items ≡ ids_text name.now directory.now (map id_row lines.now)) }
+{
+    let mut out = Vec::new(alloc);
+    push_word(&mut out, b"ids ", name)?;
+    push_word(&mut out, b" ", directory.as_bytes())?;
+    push_number(alloc, &mut out, b" ", lines.len() as u64)?;
+    push(&mut out, b"\n")?;
+    push_id_lines(alloc, &mut out, lines)?;
+    Ok(out)
+}
+
 /// Adds how long a held text is, or that the file is removed.
 fn push_content(alloc: Global, out: &mut Vec<u8>, held: &Held) -> Result<(), AllocError>
     ensures { OnOk result (out.new.items ≡ out.old.items ++ content_text held.now.text) }
@@ -280,20 +353,13 @@ fn push_writes(alloc: Global, out: &mut Vec<u8>, writes: &[Write]) -> Result<(),
     Ok(())
 }
 
-fn push_show_target(out: &mut Vec<u8>, name: &[u8]) -> Result<(), AllocError>
-    ensures { OnOk result (out.new.items ≡ out.old.items ++ (codes "show " ++ name.now)) }
-{
-    push(out, b"show ")?;
-    push(out, name)
-}
-
 /// The lines of what a replica holds: how many writes, and each of them.
 #[tactic(auto, unfolding(crate::specs::ShowPrinting::show_text))]
 pub fn show_lines(alloc: Global, name: &[u8], writes: &[Write]) -> Result<Vec<u8>, AllocError>
     ensures { IfOk result (λ text. text.items ≡ show_text name.now writes.now) }
 {
     let mut out = Vec::new(alloc);
-    push_show_target(&mut out, name)?;
+    push_word(&mut out, b"show ", name)?;
     push_number(alloc, &mut out, b" ", writes.len() as u64)?;
     push(&mut out, b"\n")?;
     push_writes(alloc, &mut out, writes)?;

@@ -43,7 +43,7 @@ places_same : (edition : ℕ) (summaries : List (Option Summary)) (ds : List Dir
 places_same edition summaries [] = refl
 places_same edition summaries (d ∷ ds) = ap (λ ps. (reached_by edition summaries d).place ∷ ps) (places_same edition summaries ds)
 
-actions_same : (edition : ℕ) (summaries : List (Option Summary)) (ds : List Directory) → map (λ (r : Reached). r.action) (map (reached_by edition summaries) ds) ≡ map (action_by edition summaries) ds
+pub actions_same : (edition : ℕ) (summaries : List (Option Summary)) (ds : List Directory) → map (λ (r : Reached). r.action) (map (reached_by edition summaries) ds) ≡ map (action_by edition summaries) ds
 actions_same edition summaries [] = refl
 actions_same edition summaries (d ∷ ds) = ap (λ as_. action_by edition summaries d ∷ as_) (actions_same edition summaries ds)
 

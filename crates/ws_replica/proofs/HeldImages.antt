@@ -60,7 +60,7 @@ reached_at edition summaries ds one c =
     let d = directory_of edition summaries one ds at.0 (slice_get ds at.0) refl (sym (slice_get-map (reached_by edition summaries) ds at.0) ∙ at.1) in
     (at.0, d.0, d.1, d.2)
 
-mapped_at : {A B : Type 0} (f : A → B) (xs : List A) (k : ℕ) (x : A) → slice_get xs k ≡ Some x → slice_get (map f xs) k ≡ Some (f x)
+pub mapped_at : {A B : Type 0} (f : A → B) (xs : List A) (k : ℕ) (x : A) → slice_get xs k ≡ Some x → slice_get (map f xs) k ≡ Some (f x)
 mapped_at f xs k x at = slice_get-map f xs k ∙ ap (option_map f) at
 
 some_member : (xs : List (Option Action)) (k : ℕ) (a : Action) → slice_get xs k ≡ Some (Some a) → Contains (somes xs) a
@@ -91,7 +91,7 @@ module _ (edition : ℕ) (W : List Write) (E : List Action) (target : List ℕ) 
     held_by id (Some a) h b e = let same : a ≡ b = some_same a b e in (subst (λ (x : Action). Contains E x) same h.among, subst (λ (x : Action). action_id x ≡ id) same h.known)
 
     -- what is found by the id of an action of the plan is that action
-    found_is : (k : ℕ) (a : Action) → slice_get actions k ≡ Some (Some a) → (held : Action) → get cache (action_id a) ≡ Some held → (held ≡ a) × Contains E a
+    pub found_is : (k : ℕ) (a : Action) → slice_get actions k ≡ Some (Some a) → (held : Action) → get cache (action_id a) ≡ Some held → (held ≡ a) × Contains E a
     found_is k a at held found =
         let h = held_by (action_id a) (get cache (action_id a)) (cache_stands cache E stands (action_id a)) held found in
         let same : held ≡ a = one_action (hashed_actions (E ++ somes actions)) (E ++ somes actions) clear (λ s c. c) sized held a

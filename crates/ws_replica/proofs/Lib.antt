@@ -1,10 +1,14 @@
 pub mod BuiltPlans
+pub mod CandidateSteps
 pub mod Compiling
 pub mod Crossing
 pub mod EndFates
+pub mod HeldIds
 pub mod HeldImages
+pub mod IdRows
 pub mod JoinedLists
 pub mod LinkedPrograms
+pub mod Marks
 pub mod Numbered
 pub mod OneBuild
 pub mod OneProgram

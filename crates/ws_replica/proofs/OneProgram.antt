@@ -94,7 +94,7 @@ among_by x xs a true e rest = inl (at_head xs x a ((same_action-Decides x a).0 e
 among_by x xs a false e (inl c) = inl (later x xs a c)
 among_by x xs a false e (inr no_rest) = inr (λ c. elim (head_or_later x xs a c) [ inl same ↦ let t : same_action x a ≡ true = (same_action-Decides x a).1 same in cc | inr r ↦ no_rest r ])
 
-among : (xs : List Action) (a : Action) → Contains xs a ⊎ (Contains xs a → ⊥)
+pub among : (xs : List Action) (a : Action) → Contains xs a ⊎ (Contains xs a → ⊥)
 among [] a = inr (none_in_empty a)
 among (x ∷ xs) a = among_by x xs a (same_action x a) refl (among xs a)
 

@@ -116,7 +116,7 @@ good_sound None has result at e = cc
 good_sound (Some d) has result at e = good_sound_by d.planned has result (list_all (λ j. is_good (at j)) d.imports) e
 
 module _ (edition : ℕ) (sources : Sources) (ds : List Directory) (planned : AllPlanned sources ds) (actions : List (Option Action)) (are : AreActionsOf edition ds ds actions) where
-  result_of : (d : Directory) (a : Action) → Contains ds d → IsActionOf edition ds d (Some a) → (c : Option Fault) × ComesTo a c
+  pub result_of : (d : Directory) (a : Action) → Contains ds d → IsActionOf edition ds d (Some a) → (c : Option Fault) × ComesTo a c
   result_of d a among (parsed, sound, summaries, have, is) =
       let has = sound_has sources d.path d.planned (planned d among) (ap is_sound sound) in
       let c = some_coming edition d.path has.0 summaries has.2.parses.parses in

@@ -6,3 +6,5 @@ pub mod Builds
 pub mod Jobs
 pub mod Programs
 pub mod Images
+pub mod Ids
+pub mod Candidates

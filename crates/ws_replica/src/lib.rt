@@ -19,6 +19,7 @@ pub use building::build;
 use go_text::source::Source;
 use go_text::text::Text;
 pub use linking::image;
+pub use standings::ids;
 use std::alloc::{AllocError, Global};
 use std::marker::Model;
 use thiserror::Error;
@@ -31,6 +32,7 @@ mod building;
 pub mod join;
 mod linking;
 mod reached;
+mod standings;
 
 /// Why there is no report.
 #[derive(Debug, Drop, Error)]

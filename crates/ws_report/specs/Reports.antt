@@ -1,9 +1,11 @@
--- What a build says of each directory that it reaches.
+-- What a build says of each directory that it reaches, and which ids they have.
 use Rattle.std.specs.Prelude.{ℕ, List, Bool, true, false, string_bytes, String, map}
 use Rattle.std.specs.Global.{Global}
 use Rattle.go_text.specs.Faults.{Fault}
 use Rattle.ws_report.specs.declared.Verdict.{Verdict as RustVerdict}
 use Rattle.ws_report.specs.declared.Verdict.TheVariants as rust
+use Rattle.ws_report.specs.declared.Standing.{Standing}
+use Rattle.ws_report.specs.declared.IdLine.{IdLine}
 
 -- good, or blocked by an import that isn't, or faulty
 pub data Verdict : Type 0 where
@@ -27,3 +29,7 @@ row e = (string_bytes e.0, seen e.1)
 
 abbrev pub rows : List (String Global × RustVerdict) → List (List ℕ × Verdict)
 rows es = map row es
+
+-- a directory, with how its action stands
+abbrev pub id_row : IdLine → List ℕ × Standing
+id_row line = (string_bytes line.directory, line.standing)

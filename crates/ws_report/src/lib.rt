@@ -1,4 +1,5 @@
-//! What a build says: of each directory that it reaches, and how many actions it compiled.
+//! What a build says: of each directory that it reaches, and how many actions it compiled; and the ids of
+//! directories.
 #![tactic(auto)]
 
 ghost use Rattle.std.specs.Prelude.{◌≡◌};
@@ -32,4 +33,22 @@ impl Verdict {
 pub struct Report {
     pub directories: Vec<(String, Verdict)>,
     pub compiled: u64,
+}
+
+/// How a directory's action stands among those whose results a replica holds.
+#[derive(Clone, Copy, Debug, PartialEq, Eq, Drop)]
+pub enum Standing {
+    /// It has no action, or one of its imports isn't held and good.
+    NoId,
+    /// No result is held of the action with that id.
+    Absent([u8; 32]),
+    /// One is held, good or faulty.
+    Held([u8; 32]),
+}
+
+/// A directory that is reached, with how its action stands.
+#[derive(Drop)]
+pub struct IdLine {
+    pub directory: String,
+    pub standing: Standing,
 }

@@ -1,4 +1,5 @@
 pub mod Fates
+pub mod IdsTelling
 pub mod OneText
 pub mod Tested
 pub mod RunTelling

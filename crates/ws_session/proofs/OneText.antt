@@ -5,9 +5,10 @@ use Rattle.ws_action.specs.Actions.{Action}
 use Rattle.ws_replica.specs.ActionPlans.{ActionPlan, IsPlanFor, actions_in}
 use Rattle.ws_replica.specs.Reports.{Fate, AreFates, compiled_actions}
 use Rattle.ws_command.specs.declared.refusal.Refusal.{Refusal}
-use Rattle.ws_command.specs.Commands.{Command, Nothing, Bad, Create, Write, Remove, Apply, Merge, Settle, Build, Run, Show, command_of, text_lines, text_of}
+use Rattle.ws_command.specs.Commands.{Command, Nothing, Bad, Create, Write, Remove, Apply, Merge, Settle, Build, Run, Ids, Show, command_of, text_lines, text_of}
 use Rattle.ws_command.specs.Refusals.{first_of}
 use Rattle.ws_command.specs.RunPrinting.{run_text}
+use Rattle.ws_command.specs.IdsPrinting.{ids_text}
 use Rattle.ws_command.specs.ShowPrinting.{show_text}
 use Rattle.std.specs.FinMap.{entries}
 use Rattle.ws_register.specs.Edits.{Contents}
@@ -15,9 +16,10 @@ use Rattle.ws_register.specs.Sources.{IsShown}
 use Rattle.ws_register.proofs.Laws.{one_contents, SameMembers-itself}
 use Rattle.go_check.specs.Meaning.{SourceMeaning}
 use Rattle.go_check.proofs.Sound.{source_once}
+use Rattle.ws_replica.proofs.IdRows.{one_id_rows}
 use Rattle.ws_replica.proofs.OneBuild.{one_plan_for, one_fates}
 use Rattle.ws_replica.proofs.OneProgram.{one_program}
-use Rattle.ws_session.specs.World.{World, opening, writes_of, actions_held, taking, with_replicas, seeking, refusals, Accepted, AfterBy, After, Answers, PrintsBy, Prints, Told, Ran, RanOr}
+use Rattle.ws_session.specs.World.{World, opening, writes_of, actions_held, taking, with_replicas, seeking, refusals, Accepted, AfterBy, After, Answers, PrintsBy, Prints, Told, Ran, RanOr, Listed}
 use Rattle.ws_session.specs.Text.{TextFrom, SessionText}
 
 one_shown : (W s t : List AWrite) → IsShown W s → IsShown W t → s ≡ t
@@ -47,6 +49,11 @@ one_ran : (edition : ℕ) (W : List AWrite) (name directory : List ℕ) (ticks :
 one_ran edition W name directory ticks held None a b is g h = g ∙ sym h
 one_ran edition W name directory ticks held (Some plan) a b is g h = ran_once edition W name directory ticks held (Some plan) a b is g h
 
+one_listed : (edition : ℕ) (W : List AWrite) (name directory : List ℕ) (held : List Action) (plan : Option ActionPlan) (a b : List ℕ) → IsPlanFor edition W directory plan → Listed name directory held plan a → Listed name directory held plan b → a ≡ b
+one_listed edition W name directory held None a b is g h = g ∙ sym h
+one_listed edition W name directory held (Some plan) a b is g h =
+    g.2 ∙ ap (ids_text name directory) (one_id_rows edition W directory held plan g.0 h.0 is g.1 h.1) ∙ sym h.2
+
 one_answer : (command : Command) (world : World) (a b : List ℕ) → Answers command world a → Answers command world b → a ≡ b
 one_answer (Build name directory) world a b g h =
     let W : List AWrite = writes_of name world in
@@ -58,6 +65,10 @@ one_answer (Run name directory ticks) world a b g h =
     let W : List AWrite = writes_of name world in
     let same : h.0 ≡ g.0 = one_plan world.edition W directory h.0 g.0 h.1 g.1 in
     one_ran world.edition W name directory ticks (actions_held name world) g.0 a b g.1 g.2 (subst (λ p. Ran name directory ticks (actions_held name world) p b) same h.2)
+one_answer (Ids name directory) world a b g h =
+    let W : List AWrite = writes_of name world in
+    let same : h.0 ≡ g.0 = one_plan world.edition W directory h.0 g.0 h.1 g.1 in
+    one_listed world.edition W name directory (actions_held name world) g.0 a b g.1 g.2 (subst (λ p. Listed name directory (actions_held name world) p b) same h.2)
 one_answer Nothing world a b g h = g ∙ sym h
 one_answer Bad world a b g h = g ∙ sym h
 one_answer (Create name) world a b g h = g ∙ sym h
@@ -84,6 +95,9 @@ one_accepted (Build name directory) text world a b g h =
     g.4 ∙ ap (λ f. seeking (with_replicas world (taking name [] (compiled_actions f) world.replicas)) (actions_in g.0)) fates
     ∙ ap (λ p. seeking (with_replicas world (taking name [] (compiled_actions h.2) world.replicas)) (actions_in p)) same ∙ sym h.4
 one_accepted (Run name directory ticks) text world a b g h =
+    let same : g.0 ≡ h.0 = one_plan world.edition (writes_of name world) directory g.0 h.0 g.1 h.1 in
+    g.2 ∙ ap (λ p. seeking world (actions_in p)) same ∙ sym h.2
+one_accepted (Ids name directory) text world a b g h =
     let same : g.0 ≡ h.0 = one_plan world.edition (writes_of name world) directory g.0 h.0 g.1 h.1 in
     g.2 ∙ ap (λ p. seeking world (actions_in p)) same ∙ sym h.2
 one_accepted Nothing text world a b g h = g ∙ sym h

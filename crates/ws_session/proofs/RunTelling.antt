@@ -37,7 +37,7 @@ among : (name : List ℕ) (rs : List Replica) (r : Replica) → replica_at name 
 among name [] r e = cc
 among name (q ∷ rs) r e = among_by name q rs r (bytes_eq q.name name) e (among name rs r)
 
-held_among : (name : List ℕ) (rs : List Replica) (r : Replica) → replica_at name rs ≡ Some r → (s : List ℕ) → Contains (hashed_actions r.actions) s → Contains (flat_map texts_of_replica rs) s
+pub held_among : (name : List ℕ) (rs : List Replica) (r : Replica) → replica_at name rs ≡ Some r → (s : List ℕ) → Contains (hashed_actions r.actions) s → Contains (flat_map texts_of_replica rs) s
 held_among name rs r e s c = among name rs r e s (Contains-append_right (flat_map (λ w. text_list w.1.text) r.writes) (hashed_actions r.actions) s c)
 
 ran_of_plan : (name directory : List ℕ) (ticks : ℕ) (held : List Action) (plan : ActionPlan) (outcome : Option Outcome) (told : List ℕ) → IsOutcome directory ticks held plan outcome → told ≡ printed name directory outcome → Ran name directory ticks held (Some plan) told

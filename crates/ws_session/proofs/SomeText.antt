@@ -7,16 +7,18 @@ use Rattle.ws_replica.specs.ActionPlans.{ActionPlan, IsPlanFor, actions_in}
 use Rattle.ws_replica.specs.Reports.{Fate, report_of, compiled_actions}
 use Rattle.ws_command.specs.declared.refusal.Refusal.{Refusal}
 use Rattle.ws_command.specs.declared.refusal.Refusal.TheVariants.{NoPackage, NotBuilt}
-use Rattle.ws_command.specs.Commands.{Command, Nothing, Bad, Create, Write, Remove, Apply, Merge, Settle, Build, Run, Show, command_of, text_lines, text_of}
+use Rattle.ws_command.specs.Commands.{Command, Nothing, Bad, Create, Write, Remove, Apply, Merge, Settle, Build, Run, Ids, Show, command_of, text_lines, text_of}
 use Rattle.ws_command.specs.Refusals.{first_of, refused}
 use Rattle.ws_command.specs.Printing.{report_text}
 use Rattle.ws_command.specs.RunPrinting.{run_text}
+use Rattle.ws_command.specs.IdsPrinting.{ids_text}
 use Rattle.ws_command.specs.ShowPrinting.{show_text}
 use Rattle.std.specs.FinMap.{entries}
 use Rattle.ws_register.proofs.Exists.{some_contents}
 use Rattle.ws_command.specs.Lines.{lines_of}
-use Rattle.ws_session.specs.World.{World, opening, writes_of, actions_held, taking, with_replicas, seeking, refusals, Accepted, AfterBy, After, Answers, PrintsBy, Prints, Told, Ran, RanOr}
+use Rattle.ws_session.specs.World.{World, opening, writes_of, actions_held, taking, with_replicas, seeking, refusals, Accepted, AfterBy, After, Answers, PrintsBy, Prints, Told, Ran, RanOr, Listed}
 use Rattle.ws_session.specs.Text.{TextFrom, SessionText}
+use Rattle.ws_replica.proofs.IdRows.{some_id_rows}
 use Rattle.ws_replica.proofs.SomeBuild.{some_plan_for, some_fates}
 use Rattle.ws_replica.proofs.OneProgram.{Decided, program_decided, some_meaning}
 use Rattle.ws_replica.specs.Programs.{IsPlannedProgram}
@@ -35,6 +37,12 @@ some_ran : (edition : ℕ) (W : List AWrite) (name directory : List ℕ) (ticks 
 some_ran edition W name directory ticks held None is = (refused NoPackage, refl)
 some_ran edition W name directory ticks held (Some plan) is = ran_by name directory ticks held (Some plan) (program_decided edition W directory held (Some plan) is)
 
+some_listed : (edition : ℕ) (W : List AWrite) (name directory : List ℕ) (held : List Action) (plan : Option ActionPlan) → IsPlanFor edition W directory plan → (told : List ℕ) × Listed name directory held plan told
+some_listed edition W name directory held None is = (refused NoPackage, refl)
+some_listed edition W name directory held (Some plan) is =
+    let rows = some_id_rows edition W directory held plan is in
+    (ids_text name directory rows.0, (rows.0, rows.1, refl))
+
 some_answer : (command : Command) (world : World) → (told : List ℕ) × Answers command world told
 some_answer (Build name directory) world =
     let p = some_plan_for world.edition (writes_of name world) directory in
@@ -44,6 +52,10 @@ some_answer (Build name directory) world =
 some_answer (Run name directory ticks) world =
     let p = some_plan_for world.edition (writes_of name world) directory in
     let t = some_ran world.edition (writes_of name world) name directory ticks (actions_held name world) p.0 p.1 in
+    (t.0, (p.0, p.1, t.1))
+some_answer (Ids name directory) world =
+    let p = some_plan_for world.edition (writes_of name world) directory in
+    let t = some_listed world.edition (writes_of name world) name directory (actions_held name world) p.0 p.1 in
     (t.0, (p.0, p.1, t.1))
 some_answer Nothing world = ([], refl)
 some_answer Bad world = ([], refl)
@@ -71,6 +83,9 @@ some_accepted (Build name directory) text world =
     let f = some_fates world.edition (writes_of name world) directory p.0 p.1 in
     (seeking (with_replicas world (taking name [] (compiled_actions f.0) world.replicas)) (actions_in p.0), (p.0, p.1, f.0, f.1, refl))
 some_accepted (Run name directory ticks) text world =
+    let p = some_plan_for world.edition (writes_of name world) directory in
+    (seeking world (actions_in p.0), (p.0, p.1, refl))
+some_accepted (Ids name directory) text world =
     let p = some_plan_for world.edition (writes_of name world) directory in
     (seeking world (actions_in p.0), (p.0, p.1, refl))
 some_accepted Nothing text world = (world, refl)

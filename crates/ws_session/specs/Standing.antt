@@ -18,6 +18,8 @@ use Rattle.ws_report.specs.Reports.{Verdict}
 use Rattle.ws_replica.specs.Holdings as holdings
 use Rattle.ws_replica.specs.Holdings.{ReplicaStandsFor}
 use Rattle.ws_replica.specs.Programs.{IsPlannedProgram}
+use Rattle.ws_replica.specs.Ids.{AreIds}
+use Rattle.ws_report.specs.declared.Standing.{Standing}
 use Rattle.go_export.specs.Typed.{Typed}
 use Rattle.go_check.specs.Meaning.{SourceMeaning}
 use Rattle.go_vm.specs.Outcomes.{Outcome}
@@ -170,3 +172,9 @@ abbrev pub RanAt : ℕ → List ℕ → ℕ → List Named → ℕ → Option Ou
 RanAt edition directory ticks named index outcome =
     (n : Named) (W : List Write) (E : List Action) → n ≡ slice_index_or named index n → ReplicaStandsFor n.replica W E → AllSized E
     → RunOf edition directory ticks W E outcome
+
+-- by what the replica at an index took, these are the ids of what a directory reaches
+abbrev pub AreIdsAt : ℕ → List ℕ → List Named → ℕ → List (List ℕ × Standing) → Type 0
+AreIdsAt edition directory named index rows =
+    (n : Named) (W : List Write) (E : List Action) → n ≡ slice_index_or named index n → ReplicaStandsFor n.replica W E → AllSized E
+    → AreIds edition W E directory rows

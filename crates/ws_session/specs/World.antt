@@ -13,6 +13,8 @@ use Rattle.ws_cache.specs.Count.{compiled_count}
 use Rattle.ws_replica.specs.ActionPlans.{ActionPlan, IsPlanFor, actions_in}
 use Rattle.ws_replica.specs.Reports.{Fate, AreFates, report_of, compiled_actions}
 use Rattle.ws_replica.specs.Programs.{IsPlannedProgram}
+use Rattle.ws_replica.specs.Ids.{AreIdRows}
+use Rattle.ws_report.specs.declared.Standing.{Standing}
 use Rattle.go_export.specs.Typed.{Typed}
 use Rattle.go_check.specs.Meaning.{SourceMeaning}
 use Rattle.go_code.specs.declared.ending.Ending.{Ending}
@@ -21,8 +23,9 @@ use Rattle.ws_command.specs.declared.refusal.Refusal.TheVariants.{BadCommand, Un
 use Rattle.ws_command.specs.Refusals.{refused, first_of}
 use Rattle.ws_command.specs.Printing.{report_text}
 use Rattle.ws_command.specs.RunPrinting.{run_text}
+use Rattle.ws_command.specs.IdsPrinting.{ids_text}
 use Rattle.ws_command.specs.ShowPrinting.{show_text}
-use Rattle.ws_command.specs.Commands.{Command, Nothing, Bad, Create, Write, Remove, Apply, Merge, Settle, Build, Run, Show}
+use Rattle.ws_command.specs.Commands.{Command, Nothing, Bad, Create, Write, Remove, Apply, Merge, Settle, Build, Run, Ids, Show}
 
 -- A replica: what it took, as two sets that are read by membership. A number is never given twice.
 pub record Replica : Type 0 where
@@ -31,8 +34,8 @@ pub record Replica : Type 0 where
   pub writes : List AWrite
   pub actions : List Action
 
--- The replicas in order of creation, the edition that all is built in, and the actions that builds and runs looked for, which no
--- command reads: their texts are hashed too.
+-- The replicas in order of creation, the edition that all is built in, and the actions that builds, runs and ids looked for, which
+-- no command reads: their texts are hashed too.
 pub record World : Type 0 where
   pub edition : ℕ
   pub replicas : List Replica
@@ -111,6 +114,7 @@ refusals (Show name) text world = (not (knows name world), Unknown) ∷ []
 refusals (Merge name other) text world = (not (knows name world && knows other world), Unknown) ∷ []
 refusals (Build name directory) text world = (not (knows name world), Unknown) ∷ (not (is_utf8 directory), NoPackage) ∷ []
 refusals (Run name directory ticks) text world = (not (knows name world), Unknown) ∷ (not (is_utf8 directory), NoPackage) ∷ []
+refusals (Ids name directory) text world = (not (knows name world), Unknown) ∷ (not (is_utf8 directory), NoPackage) ∷ []
 refusals _ text world = []
 
 abbrev pub text_in : Option (List ℕ) → List ℕ
@@ -151,6 +155,8 @@ Accepted (Build name directory) text world next =
     × (next ≡ seeking (with_replicas world (taking name [] (compiled_actions fates) world.replicas)) (actions_in plan))
 Accepted (Run name directory ticks) text world next =
     (plan : Option ActionPlan) × IsPlanFor world.edition (writes_of name world) directory plan × (next ≡ seeking world (actions_in plan))
+Accepted (Ids name directory) text world next =
+    (plan : Option ActionPlan) × IsPlanFor world.edition (writes_of name world) directory plan × (next ≡ seeking world (actions_in plan))
 Accepted _ text world next = next ≡ world
 
 abbrev pub AfterBy : Option Refusal → Command → Option (List ℕ) → World → World → Type 0
@@ -179,6 +185,11 @@ abbrev pub Ran : List ℕ → List ℕ → ℕ → List Action → Option Action
 Ran name directory ticks held None told = told ≡ refused NoPackage
 Ran name directory ticks held (Some plan) told = RanOr name directory ticks held (Some plan) told
 
+-- what the ids of a plan's directories print
+abbrev pub Listed : List ℕ → List ℕ → List Action → Option ActionPlan → List ℕ → Type 0
+Listed name directory held None told = told ≡ refused NoPackage
+Listed name directory held (Some plan) told = (rows : List (List ℕ × Standing)) × AreIdRows held plan rows × (told ≡ ids_text name directory rows)
+
 -- what a command that isn't refused prints
 abbrev pub Answers : Command → World → List ℕ → Type 0
 Answers (Build name directory) world told =
@@ -186,6 +197,8 @@ Answers (Build name directory) world told =
     × Told name directory (actions_held name world) plan fates told
 Answers (Run name directory ticks) world told =
     (plan : Option ActionPlan) × IsPlanFor world.edition (writes_of name world) directory plan × Ran name directory ticks (actions_held name world) plan told
+Answers (Ids name directory) world told =
+    (plan : Option ActionPlan) × IsPlanFor world.edition (writes_of name world) directory plan × Listed name directory (actions_held name world) plan told
 Answers (Show name) world told = (shown : List AWrite) × IsShown (writes_of name world) shown × (told ≡ show_text name shown)
 Answers _ world told = told ≡ []
 
@@ -204,6 +217,6 @@ text_list (Some text) = text ∷ []
 abbrev pub texts_of_replica : Replica → List (List ℕ)
 texts_of_replica r = flat_map (λ w. text_list w.1.text) r.writes ++ hashed_actions r.actions
 
--- The texts that are hashed: of the files written and compiled, and of the actions, also of those that builds and runs looked for.
+-- The texts that are hashed: of the files written and compiled, and of the actions, also of those that builds, runs and ids looked for.
 unfoldable pub hashed : World → List (List ℕ)
 hashed world = flat_map texts_of_replica world.replicas ++ hashed_actions world.sought

@@ -1,5 +1,5 @@
 //! The replicas of a session: what each command does to them.
-ghost use Rattle.std.specs.Prelude.{◌≡◌, ◌≢◌, ◌<◌, ℕ, List, length, slice_index_or, vec_len, true, false, IfOk, OnOk, OnErr, IfSome, MatchOption, Option, Some, None, Err};
+ghost use Rattle.std.specs.Prelude.{◌≡◌, ◌≢◌, ◌<◌, ℕ, List, length, slice_index_or, vec_len, map, true, false, IfOk, OnOk, OnErr, IfSome, MatchOption, Option, Some, None, Err};
 ghost use Rattle.std.specs.Option.{option_map};
 ghost use Rattle.ws_path.specs.Paths.{file_name};
 ghost use Rattle.go_text.specs.Editions.{edition_number};
@@ -8,12 +8,12 @@ ghost use Rattle.ws_register.specs.Sources.{top};
 ghost use Rattle.ws_session.specs.declared.replicas.Named.{Named as ANamed};
 ghost use Rattle.ws_action.specs.Actions.{Action as AnAction};
 ghost use Rattle.ws_replica.specs.Holdings.{ReplicaStandsFor};
-ghost use Rattle.ws_report.specs.Reports.{rows};
+ghost use Rattle.ws_report.specs.Reports.{rows, id_row};
 ghost use Rattle.std.specs.Thread.{IsSync};
 ghost use Rattle.ws_path.specs.Paths.{is_path};
-ghost use Rattle.ws_session.specs.Standing.{StandFor, index_of, AllStand, Settles, Tells, told_of, ChangedAt, Edited, Removal, Applied, MergedFrom, Built, HasNoPlanAt, RanAt, replicas_of, labels_of, IsContent};
+ghost use Rattle.ws_session.specs.Standing.{StandFor, index_of, AllStand, Settles, Tells, told_of, ChangedAt, Edited, Removal, Applied, MergedFrom, Built, HasNoPlanAt, RanAt, AreIdsAt, replicas_of, labels_of, IsContent};
 ghost use Rattle.ws_session.specs.World.{World, opening, is_text, is_path_word};
-ghost use Rattle.ws_command.specs.Commands.{Create, Write, Remove, Apply, Merge, Settle, Build, Run, Show};
+ghost use Rattle.ws_command.specs.Commands.{Create, Write, Remove, Apply, Merge, Settle, Build, Run, Ids, Show};
 
 use crate::steps::Steps;
 use go_text::edition::Edition;
@@ -24,13 +24,13 @@ use std::alloc::{AllocError, Global};
 use std::thread::Threads;
 use std::{mem, str};
 use ws_command::commands::Asked;
-use ws_command::printing::{report_lines, run_lines, show_lines};
+use ws_command::printing::{ids_lines, report_lines, run_lines, show_lines};
 use ws_command::refusal::{Refusal, refused};
 use ws_path::{file_name, is_path};
 use ws_register::EditError;
 use ws_replica::join::settle;
-use ws_replica::{BuildError, Replica, build, image};
-use ws_report::Report;
+use ws_replica::{BuildError, Replica, build, ids, image};
+use ws_report::{IdLine, Report};
 use ws_version::{Held, Join, Version};
 
 /// How many replicas a session may have.
@@ -486,6 +486,46 @@ fn run_target<R: Threads + Sync>(
     }
 }
 
+/// The ids of what a directory reaches, by the replica at an index.
+fn ids_at<R: Threads + Sync>(
+    rt: &R,
+    alloc: Global,
+    edition: Edition,
+    named: &Vec<Named>,
+    index: usize,
+    directory: &str,
+) -> Result<Vec<IdLine>, BuildError>
+    requires { index < vec_len named.now }
+    ensures ok { IfOk result (λ lines. AreIdsAt (edition_number edition) directory.now named.now.items index (map id_row lines.items)) }
+    ensures none { result ≡ Err BuildError.NoPackage → HasNoPlanAt (edition_number edition) directory.now named.now.items index }
+{
+    ids(rt, alloc, &named[index].replica, directory, edition)
+}
+
+/// The ids of what a directory reaches, by the replica of that name, and what is printed of them.
+fn ids_target<R: Threads + Sync>(
+    rt: &R,
+    alloc: Global,
+    edition: Edition,
+    named: &Vec<Named>,
+    name: &[u8],
+    word: &[u8],
+) -> Result<Vec<u8>, AllocError>
+    ensures { IfOk result (λ told. (text : Option (List ℕ)) (world : World) → edition_number edition ≡ world.edition → AllStand named.now.items world.replicas → Tells (Ids name.now word.now) text world told.items named.now.items) }
+{
+    let Some(index) = index_of(named.as_slice(), name) else {
+        return refused(alloc, Refusal::Unknown);
+    };
+    let Ok(directory) = str::from_utf8(word) else {
+        return refused(alloc, Refusal::NoPackage);
+    };
+    match ids_at(rt, alloc, edition, named, index, directory) {
+        Ok(lines) => ids_lines(alloc, name, directory, &lines),
+        Err(BuildError::NoPackage) => refused(alloc, Refusal::NoPackage),
+        Err(BuildError::Memory) => Err(AllocError),
+    }
+}
+
 /// What is printed for a command that prints no more than its refusal.
 fn told(alloc: Global, refusal: Option<Refusal>) -> Result<Vec<u8>, AllocError>
     ensures { IfOk result (λ line. line.items ≡ told_of refusal) }
@@ -561,6 +601,9 @@ impl Steps for Replicas {
             }
             Asked::Build(name, directory) => {
                 build_target(rt, alloc, self.edition, &mut self.named, name, directory)
+            }
+            Asked::Ids(name, directory) => {
+                ids_target(rt, alloc, self.edition, &self.named, name, directory)
             }
             Asked::Run(name, directory, ticks) => {
                 run_target(

@@ -3,7 +3,7 @@ use Rattle.std.specs.Option.{option_map}
 use Rattle.ws_command.specs.declared.refusal.Refusal.TheVariants.{BadCommand}
 use Rattle.ws_session.specs.declared.replicas.Replicas.{Replicas}
 use Rattle.ws_session.specs.declared.replicas.Named.{Named}
-use Rattle.ws_command.specs.Commands.{Nothing, Bad, Create, Write, Remove, Apply, Merge, Settle, Build, Run, Show}
+use Rattle.ws_command.specs.Commands.{Nothing, Bad, Create, Write, Remove, Apply, Merge, Settle, Build, Run, Ids, Show}
 use Rattle.ws_command.specs.Seen.{seen}
 use Rattle.ws_session.proofs.Standings.{if_ok_map}
 use Rattle.ws_session.proofs.Telling.{settled_tells, stepped, prints_nothing, prints_bad, prints_create, prints_write, prints_remove, prints_apply, prints_merge, prints_settle, nothing_settles, bad_settles}
@@ -64,6 +64,13 @@ returns-in-Run g c = λ world h. if_ok_map c.run_target.result (λ told t.
     let directory = c.in-Run.directory.now in
     stepped c.args.self.now (seen c.args.asked.now) (Run name directory c.in-Run.ticks) (given c.args.text) world told.items (ap seen c.in-Run.is) h.edition
     (t (given c.args.text) world h.edition h.replicas)) c.run_target.ensures
+
+pub returns-in-Ids : goal.returns-in-Ids
+returns-in-Ids g c = λ world h. if_ok_map c.ids_target.result (λ told t.
+    let name = c.in-Ids.name.now in
+    let directory = c.in-Ids.directory.now in
+    stepped c.args.self.now (seen c.args.asked.now) (Ids name directory) (given c.args.text) world told.items (ap seen c.in-Ids.is) h.edition
+    (t (given c.args.text) world h.edition h.replicas)) c.ids_target.ensures
 
 pub returns-in_ok-refusal-in-Remove : goal.returns-in_ok-refusal-in-Remove
 returns-in_ok-refusal-in-Remove g c = λ world h. if_ok_map c.told-in-Remove.result (λ told e.
