@@ -98,7 +98,7 @@ fn check_unpackaged<'a>(
 
 /// The constant that an operand is, or the first fault in it.
 #[cycle(check)]
-fn check_operand(alloc: Global, scope: &Scope<'_>, e: &Expr) -> Result<Option<Value>, ExprError>
+pub fn check_operand(alloc: Global, scope: &Scope<'_>, e: &Expr) -> Result<Option<Value>, ExprError>
     ensures { Answers value_of result (faults (scope_of scope.now) (expr_of e.now) ++ operand_broken (expr_of e.now) (verdict (scope_of scope.now) (expr_of e.now))) (operand (verdict (scope_of scope.now) (expr_of e.now))) }
 {
     let known = check_expr(alloc, scope, e)?;

@@ -1,0 +1,10 @@
+pub mod Agreement
+pub mod Filling
+pub mod Firsts
+pub mod Groundedness
+pub mod Lookups
+pub mod Needs
+pub mod Pairs
+pub mod Silence
+pub mod Standing
+pub mod Written

@@ -1,0 +1,23 @@
+-- Where the objects of a package stand, as the code has it.
+use Rattle.std.proofs.Common.{◌≡◌, ℕ, List, [], ◌∷◌, ◌++◌, Option, map, String, refl, sym, ap, ◌∙◌}
+use Rattle.std.specs.Global.{Global}
+use Rattle.indexmap.specs.IndexMap.{IndexMap}
+use Rattle.go_expr.specs.Known.{Names, package', Verdict, Known, Fine, Scope, universe}
+use Rattle.go_expr.specs.declared.known.Declared.{Declared}
+use Rattle.go_expr.specs.declared.scope.Import.{Import}
+use Rattle.go_expr.specs.Seen.{names_of, import_of, package_names, iota_of, names_in}
+use Rattle.go_objects.specs.Table.{Package, imports_at, scope_at}
+use Rattle.go_objects.specs.Packages.{imports_of}
+
+abbrev packages : List (List ℕ × Names) → List (List ℕ × Verdict Known)
+packages imports = map (λ i. (i.0, Fine (package' i.1))) imports
+
+imports_seen : (imports : List Import) → packages (imports_of imports) ≡ map import_of imports
+imports_seen [] = refl
+imports_seen (i ∷ is) = ap (λ l. import_of i ∷ l) (imports_seen is)
+
+pub stands : {S : Type 0} (p : Package) (imports : List Import) (known : IndexMap (String Global) (Option Declared) S) (file : ℕ) (iota : Option ℕ) (s : Scope) → s ≡ record { path = p.path; names = names_in imports known iota } →
+    imports_of imports ≡ imports_at p file → s ≡ scope_at p (names_of known) file iota
+unfolding names_in
+stands p imports known file iota s is e =
+    is ∙ ap (λ (l : List (List ℕ × Verdict Known)). record { path = p.path; names = l ++ (package_names known ++ (iota_of iota ++ universe)) }) (sym (imports_seen imports) ∙ ap packages e)

@@ -1,0 +1,10 @@
+use Rattle.std.proofs.Common.{◌≡◌, ◌++◌, drop, map}
+use Rattle.std.specs.List.{flat_map}
+use Rattle.go_ast.specs.Views.{type_of}
+use Rattle.go_scope.specs.Names.{in_type, used}
+use Rattle.go_objects.proofs.package.add_all_type_names.Given as goal
+
+abbrev pub invariant-loop-of : goal.invariant-loop-of
+invariant-loop-of l =
+    map used l.names.items ++ flat_map in_type (map (λ t. type_of t.now) (drop l.of-index l.types))
+    ≡ map used l.fn.names.items ++ flat_map in_type (map (λ t. type_of t.now) l.types)

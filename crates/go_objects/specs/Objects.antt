@@ -1,0 +1,85 @@
+-- What a package declares: https://go.dev/ref/spec#Declarations_and_scope
+use Rattle.std.specs.Prelude.{ℕ, suc, ◌||◌, if◌then◌else◌, List, [], ◌∷◌, ◌++◌, map, codes, Option, Some, None, option_map, unwrap_or}
+use Rattle.std.specs.List.{flat_map, list_any}
+use Rattle.std.specs.Str.{bytes_eq}
+use Rattle.go_ast.specs.Trees.{Name, TypeExpr, Expr, Exprs, no_exprs, some_exprs, ConstSpec, VarSpec, TypeSpec, constants, variables, types, Parameter, TopLevel, declared, function, File}
+
+-- A constant has the type that is written, if one is, its own value, and the value of iota. Of what is no constant and no type, and
+-- of a constant that has no value of its own, no more is known than what it stands on.
+pub data Form : Type 0 where
+  constant : Option TypeExpr → Expr → ℕ → Form
+  type' : TypeExpr → Form
+  other : List TypeExpr → Exprs → Form
+
+-- what is declared: the number of its file, its name and its form
+pub record Object : Type 0 where
+  pub file : ℕ
+  pub name : Name
+  pub form : Form
+
+-- names, each with its own of some values, where there are as many of both
+abbrev pub paired : {A : Type 0} → (Name → Expr → A) → List Name → Exprs → Option (List A)
+paired f [] no_exprs = Some []
+paired f (n ∷ ns) (some_exprs e es) = option_map (λ xs. f n e ∷ xs) (paired f ns es)
+paired f _ _ = None
+
+abbrev pub as_list : Option TypeExpr → List TypeExpr
+as_list None = []
+as_list (Some t) = t ∷ []
+
+-- names, each with all that stands in its specification
+abbrev pub unpaired : ℕ → Option TypeExpr → Exprs → List Name → List Object
+unpaired file t values = map (λ n. record { file = file; name = n; form = other (as_list t) values })
+
+-- https://go.dev/ref/spec#Constant_declarations
+-- a specification of constants without values means the type and the values of the one before
+abbrev pub meant : ConstSpec → ConstSpec → ConstSpec
+meant before spec = elim spec.values [ no_exprs ↦ record { names = spec.names; type = before.type; values = before.values } | some_exprs e es ↦ spec ]
+
+abbrev pub constants_of : ℕ → ℕ → ConstSpec → List Object
+constants_of file iota s =
+    unwrap_or (paired (λ n e. record { file = file; name = n; form = constant s.type e iota }) s.names s.values) (unpaired file s.type s.values s.names)
+
+-- iota counts the specifications of a group from 0 on
+abbrev pub in_group : ℕ → ℕ → ConstSpec → List ConstSpec → List Object
+in_group file iota before [] = []
+in_group file iota before (s ∷ ss) = constants_of file iota (meant before s) ++ in_group file (suc iota) (meant before s) ss
+
+-- https://go.dev/ref/spec#Variable_declarations
+abbrev pub variable : ℕ → Name → Expr → Object
+variable file n e = record { file = file; name = n; form = other [] (some_exprs e no_exprs) }
+
+-- a variable stands on its type, and where none is written on its value
+abbrev pub variables_of : ℕ → VarSpec → List Object
+variables_of file s = elim s.type [
+  | Some t ↦ unpaired file (Some t) no_exprs s.names
+  | None ↦ unwrap_or (paired (variable file) s.names s.values) (unpaired file None s.values s.names)
+]
+
+-- https://go.dev/ref/spec#Type_declarations
+abbrev pub type_object : ℕ → TypeSpec → Object
+type_object file s = record { file = file; name = s.name; form = type' s.type }
+
+abbrev pub objects_in : ℕ → TopLevel → List Object
+objects_in file (declared (constants p ss)) = in_group file 0 (record { names = []; type = None; values = no_exprs }) ss
+objects_in file (declared (variables p ss)) = flat_map (variables_of file) ss
+objects_in file (declared (types p ss)) = map (type_object file) ss
+-- a function stands on its signature; init declares no name
+objects_in file (function f) =
+    if bytes_eq f.name.text (codes "init") then []
+    else record { file = file; name = f.name; form = other (map (λ (p : Parameter). p.type) f.parameters ++ f.results) no_exprs } ∷ []
+
+abbrev pub objects_from : ℕ → List File → List Object
+objects_from file [] = []
+objects_from file (f ∷ fs) = flat_map (objects_in file) f.declarations ++ objects_from (suc file) fs
+
+-- those that names find: the blank name declares nothing, and of several of one name it is the first
+abbrev pub firsts : List (List ℕ) → List Object → List Object
+firsts names [] = []
+firsts names (o ∷ os) =
+    if bytes_eq o.name.text (codes "_") || list_any (bytes_eq o.name.text) names then firsts names os
+    else o ∷ firsts (names ++ o.name.text ∷ []) os
+
+-- what the files of a package declare
+abbrev pub objects_of : List File → List Object
+objects_of files = firsts [] (objects_from 0 files)

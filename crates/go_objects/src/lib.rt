@@ -1,0 +1,11 @@
+//! What a package declares, and what is known of it, in whatever order it is declared.
+#![tactic(auto)]
+
+mod declarations;
+mod evaluation;
+pub mod law;
+pub mod listing;
+pub mod object;
+pub mod objects;
+pub mod package;
+pub mod table;

@@ -1,0 +1,132 @@
+//! A package, and which of its objects stand on which.
+ghost use Rattle.std.specs.Prelude.{◌≡◌, ◌++◌, map, false, IfOk, OnOk};
+ghost use Rattle.std.specs.List.{flat_map};
+ghost use Rattle.go_ast.specs.Views.{type_of, exprs_in};
+ghost use Rattle.go_scope.specs.Names.{in_type, in_exprs, used};
+ghost use Rattle.ws_reach.specs.Reach.{EdgesStayWithin, rows_of};
+ghost use Rattle.go_objects.specs.Table.{used_by, is_hidden, imports_at, needs, rows};
+ghost use Rattle.go_objects.specs.Seen.{form_of, object_of};
+ghost use Rattle.go_objects.specs.Packages.{imports_of, package_of};
+
+use crate::object::{Form, Object};
+use crate::objects::Objects;
+use go_ast::expression::{Expr, TypeExpr};
+use go_expr::scope::Import;
+use go_scope::names::{UsedName, add_names, add_type_names};
+use std::alloc::{AllocError, Global};
+
+/// A package: its path, the imports of each of its files, and what its files declare.
+#[derive(Drop)]
+pub struct Package<'a> {
+    /// Its path.
+    pub path: &'a str,
+    /// Of each file what its imports declare.
+    pub imports: &'a [Vec<Import<'a>>],
+    /// What its files declare.
+    pub objects: Objects<'a>,
+}
+
+/// Of each object the numbers of those that it names: the graph for `order_of` and
+/// `depends_on_itself`. An `Err` only where memory ran out.
+pub fn rows(alloc: Global, package: &Package<'_>) -> Result<Vec<Vec<usize>>, AllocError>
+    ensures rows { IfOk result (λ found. rows_of found.items ≡ rows (package_of «package».now)) }
+    ensures within { IfOk result (λ found. EdgesStayWithin (rows_of found.items)) }
+{
+    let mut found = Vec::new(alloc);
+    for object in package.objects.list() {
+        found.push(needs(alloc, package, object)?)?;
+    }
+    Ok(found)
+}
+
+// The numbers of the objects that an object names.
+fn needs(
+    alloc: Global,
+    package: &Package<'_>,
+    object: &Object<'_>,
+) -> Result<Vec<usize>, AllocError>
+    ensures { IfOk result (λ row. row.items ≡ needs (package_of «package».now) (object_of object.now)) }
+{
+    let mut names = Vec::new(alloc);
+    add_used(&object.form, &mut names)?;
+    let imports = imports_at(package, object.file);
+    let mut row = Vec::new(alloc);
+    for name in &names {
+        if is_hidden(imports, name.text) {
+            continue;
+        }
+        if let Some(number) = package.objects.number_of(name.text) {
+            row.push(number)?;
+        }
+    }
+    Ok(row)
+}
+
+/// What the imports of a file declare.
+pub(crate) fn imports_at<'a, 'b>(package: &'b Package<'a>, file: usize) -> &'b [Import<'a>]
+    ensures { imports_of result.now ≡ imports_at (package_of «package».now) file }
+{
+    match package.imports.get(file) {
+        Some(imports) => imports.as_slice(),
+        None => &[],
+    }
+}
+
+// Whether one of some imports has a name.
+fn is_hidden(imports: &[Import<'_>], name: &str) -> bool
+    ensures { result ≡ is_hidden (imports_of imports.now) name.now }
+{
+    for import in imports {
+        if name == import.name {
+            return true;
+        }
+    }
+    false
+}
+
+// Adds the names that a form uses.
+fn add_used<'a>(form: &Form<'a>, names: &mut Vec<UsedName<'a>>) -> Result<(), AllocError>
+    ensures { OnOk result (map used names.new.items ≡ map used names.old.items ++ used_by (form_of form.now)) }
+{
+    match form {
+        Form::Constant {
+            type_expr: None,
+            value,
+            ..
+        } => add_names(*value, names),
+        Form::Constant {
+            type_expr: Some(type_expr),
+            value,
+            ..
+        } => {
+            add_type_names(*type_expr, names)?;
+            add_names(*value, names)
+        }
+        Form::Type(of) => add_type_names(*of, names),
+        Form::Other { types, values } => {
+            add_all_type_names(types, names)?;
+            add_all_names(*values, names)
+        }
+    }
+}
+
+fn add_all_type_names<'a>(
+    types: &[&'a TypeExpr],
+    names: &mut Vec<UsedName<'a>>,
+) -> Result<(), AllocError>
+    ensures { OnOk result (map used names.new.items ≡ map used names.old.items ++ flat_map in_type (map (λ t. type_of t.now) types.now)) }
+{
+    for of in types {
+        add_type_names(*of, names)?;
+    }
+    Ok(())
+}
+
+fn add_all_names<'a>(values: &'a [Expr], names: &mut Vec<UsedName<'a>>) -> Result<(), AllocError>
+    ensures { OnOk result (map used names.new.items ≡ map used names.old.items ++ in_exprs (exprs_in values.now)) }
+{
+    for value in values {
+        add_names(value, names)?;
+    }
+    Ok(())
+}
