@@ -112,7 +112,8 @@ results_of flow w = elim flow [ Normal locals ↦ Gives [] w | Returns results �
 
 -- enters a function with an argument for each parameter: that takes a tick
 abbrev pub enter : Option Function → List Value → World → (Function → World → Outcome (List Value)) → Outcome (List Value)
-enter o arguments w run = elim o [ None ↦ Stuck | Some f ↦ (if nat_eq (length arguments) (length f.parameters) then with_tick w (run f) else Stuck) ]
+enter None arguments w run = Stuck
+enter (Some f) arguments w run = if nat_eq (length arguments) (length f.parameters) then with_tick w (run f) else Stuck
 
 -- the local variables of a function that is entered: the arguments, and the others, none of which is declared yet
 abbrev pub first_locals : Function → List Value → Locals

@@ -35,19 +35,24 @@ all_of view xs = map view xs.items
 
 -- a verdict of the code
 abbrev pub verdict_of : {X Y : Type 0} → (X → Y) → Result (Option X) FaultKind → Verdict Y
-verdict_of view result = elim result [ Ok (Some x) ↦ Fine (view x) | Ok None ↦ Passed | Err kind ↦ Breaks kind ]
+verdict_of view (Ok (Some x)) = Fine (view x)
+verdict_of view (Ok None) = Passed
+verdict_of view (Err kind) = Breaks kind
 
 -- the first of the faults, unless memory ran out
 abbrev pub Fails : CheckError → List Fault → Type 0
-Fails error faults = elim error [ errors.Memory ↦ Unit {0} | errors.Faulty fault ↦ (others : List Fault) × (faults ≡ fault ∷ others) ]
+Fails errors.Memory faults = Unit {0}
+Fails (errors.Faulty fault) faults = (others : List Fault) × (faults ≡ fault ∷ others)
 
 -- Ok where there is no fault, else the first one
 abbrev pub Finds : {X : Type 0} → Result X CheckError → List Fault → Type 0
-Finds result faults = elim result [ Ok x ↦ faults ≡ [] | Err e ↦ Fails e faults ]
+Finds (Ok x) faults = faults ≡ []
+Finds (Err e) faults = Fails e faults
 
 -- where there is no fault, what is known, if it is: where something was passed over nothing is; else the first fault
 abbrev pub Answers : {X Y : Type 0} → (X → Y) → Result (Option X) CheckError → List Fault → Option Y → Type 0
-Answers view result faults known = elim result [ Ok x ↦ (faults ≡ []) × (known ≡ option_map view x) | Err e ↦ Fails e faults ]
+Answers view (Ok x) faults known = (faults ≡ []) × (known ≡ option_map view x)
+Answers view (Err e) faults known = Fails e faults
 
 -- Ok with what is known of a node at a place, or its fault
 abbrev pub AnswersAt : {X Y : Type 0} → (X → Y) → Result (Option X) CheckError → Scope → Place → Verdict Y → Type 0
@@ -75,7 +80,8 @@ functions_in t = option_map (all_of function_of) t.functions
 
 -- a statement is empty
 abbrev pub is_empty_statement : Stmt → Bool
-is_empty_statement s = elim s [ empty p ↦ true | _ ↦ false ]
+is_empty_statement (empty p) = true
+is_empty_statement _ = false
 
 -- a file with its name
 abbrev pub named_of : NamedFile → packages.NamedFile
