@@ -8,7 +8,7 @@ ghost use Rattle.ws_action.specs.Clash.{AllSized};
 ghost use Rattle.ws_board.specs.Machine.{IsGoodness};
 ghost use Rattle.ws_report.specs.Reports.{id_row};
 ghost use Rattle.ws_replica.specs.ActionPlans.{IsPlanFor};
-ghost use Rattle.ws_replica.specs.Candidates.{candidate_of, IsFound, IsCandidate, is_marked, narrowed, row_by};
+ghost use Rattle.ws_replica.specs.Candidates.{candidate_of, IsFound, IsCandidate, is_marked, is_kept, narrowed, row_by};
 ghost use Rattle.ws_replica.specs.Holdings.{ReplicaStandsFor};
 ghost use Rattle.ws_replica.specs.Ids.{AreIds};
 ghost use Rattle.ws_replica.specs.Jobs.{reached_of};
