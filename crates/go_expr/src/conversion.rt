@@ -55,7 +55,7 @@ fn in_kind(kind: Option<IntKind>, constant: &Const) -> bool
 
 /// Whether a constant of a kind that fits a type lies in it.
 /// [Representability](https://go.dev/ref/spec#Representability)
-pub(crate) fn lies_in(of: &GoType, constant: &Const) -> bool
+pub fn lies_in(of: &GoType, constant: &Const) -> bool
     ensures { result ≡ lies_in (type_of of.now) constant.now }
 {
     in_kind(int_kind(of), constant)

@@ -108,7 +108,7 @@ pub fn check_operand(alloc: Global, scope: &Scope<'_>, e: &Expr) -> Result<Optio
 /// The constants that operands are, in their order, where all are known, or the first fault in
 /// them.
 #[cycle(check)]
-fn check_operands(
+pub fn check_operands(
     alloc: Global,
     scope: &Scope<'_>,
     expressions: &[Expr],

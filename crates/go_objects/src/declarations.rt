@@ -61,16 +61,20 @@ fn add_objects<'a>(
     }
 }
 
-// A specification of constants or variables, with the type and the values that it means.
+/// A specification of constants or variables, with the type and the values that it means.
 #[derive(Clone, Copy)]
-struct Spec<'a> {
-    names: &'a [Name],
-    type_expr: Option<&'a TypeExpr>,
-    values: &'a [Expr],
+pub struct Spec<'a> {
+    /// Its names.
+    pub names: &'a [Name],
+    /// The type, if one is written.
+    pub type_expr: Option<&'a TypeExpr>,
+    /// The values.
+    pub values: &'a [Expr],
 }
 
-// What a specification means behind another.
-fn meant<'a>(before: Spec<'a>, spec: &'a ConstSpec) -> Spec<'a>
+/// What a specification of constants means behind another: without values the type and the values
+/// of that one. [Constant declarations](https://go.dev/ref/spec#Constant_declarations)
+pub fn meant<'a>(before: Spec<'a>, spec: &'a ConstSpec) -> Spec<'a>
     ensures { spec_of result ≡ objects.meant (spec_of before.entry) (const_of spec.now) }
 {
     let names = spec.names.as_slice();

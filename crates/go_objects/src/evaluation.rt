@@ -56,8 +56,9 @@ pub(crate) fn declared_by(
     }
 }
 
-// Where an object of a file stands.
-fn scope_in<'a>(
+/// Where an object of a file stands, by what is known of the package's names; of a constant iota has
+/// a value. [Declarations and scope](https://go.dev/ref/spec#Declarations_and_scope)
+pub fn scope_in<'a>(
     package: &'a Package<'a>,
     known: &'a Names,
     file: usize,
@@ -123,8 +124,9 @@ fn assigned_in(place: Place, of: GoType, value: Value) -> Result<Option<Declared
     }
 }
 
-// The type that a package declares under a name, if it has no more parts than it may.
-fn named_type(
+/// The type that a package declares under a name, if it has no more parts than it may. An `Err` only
+/// where memory ran out. [Type definitions](https://go.dev/ref/spec#Type_definitions)
+pub fn named_type(
     alloc: Global,
     path: &str,
     name: &str,

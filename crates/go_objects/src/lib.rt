@@ -1,8 +1,8 @@
 //! What a package declares, and what is known of it, in whatever order it is declared.
 #![tactic(auto)]
 
-mod declarations;
-mod evaluation;
+pub mod declarations;
+pub mod evaluation;
 pub mod law;
 pub mod listing;
 pub mod object;

@@ -1,0 +1,4 @@
+pub mod Faultless
+pub mod Groups
+pub mod Marks
+pub mod Parts

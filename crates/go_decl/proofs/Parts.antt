@@ -1,0 +1,41 @@
+-- The parts of a specification of constants, and its faults.
+use Rattle.std.proofs.Common.{◌≡◌, ℕ, Bool, true, Option, Some, Result, List, [], ◌∷◌, ◌++◌, map, sym, ap, ◌∙◌, subst}
+use Rattle.std.specs.List.{slice_get, flat_map}
+use Rattle.go_text.specs.declared.place.Place.{Place}
+use Rattle.go_text.specs.declared.fault.FaultKind.{FaultKind}
+use Rattle.go_ast.specs.Trees as trees
+use Rattle.go_ast.specs.Trees.{Name, TypeExpr}
+use Rattle.go_expr.specs.Known.{Scope}
+use Rattle.go_expr.specs.declared.error.ExprError.{ExprError}
+use Rattle.go_expr.specs.declared.error.ExprError.TheVariants.{Faulty, Memory}
+use Rattle.go_expr.specs.Seen.{Fails}
+use Rattle.go_objects.specs.Table.{scope_at}
+use Rattle.go_decl.specs.Faults.{Facts, Faults, name_faults, told_at, parts_faults, spec_broken, constants_faults}
+use Rattle.go_decl.specs.Seen.{Finds}
+
+pub sooner : (e : ExprError) (fs gs : Faults) → Fails e fs → Fails e (fs ++ gs)
+sooner Memory fs gs h = tt
+sooner (Faulty p kind) fs gs h = (h.0 ++ gs, ap (λ l. l ++ gs) h.1)
+
+pub later : {X : Type 0} (r : Result X ExprError) (fs gs : Faults) → fs ≡ [] → Finds r gs → Finds r (fs ++ gs)
+later r [] gs none h = h
+later r (f ∷ fs) gs none h = cc
+
+-- where another tells what was found
+pub told_there : (repeated : Bool) (p own : Place) (kind : FaultKind) (fs : Faults) → repeated ≡ true → Fails (Faulty own kind) fs → Fails (Faulty p kind) (told_at repeated p fs)
+told_there repeated p own kind fs there h = (map (λ f. (p, f.1)) h.0, ap (λ b. told_at b p fs) there ∙ ap (map (λ f. (p, f.1))) h.1)
+
+-- ---- a specification whose names and parts have no fault
+
+pub checked_spec : {X : Type 0} (r : Result X ExprError) (t : Facts) (file iota : ℕ) (repeated : Bool) (ns : List Name) (of : Option TypeExpr) (es : trees.Exprs) (s : Scope) (n : Name) (p : Place) →
+    slice_get ns 0 ≡ Some n → p ≡ n.place → s ≡ scope_at t.package t.known file (Some iota) → flat_map (name_faults t file) ns ≡ [] → told_at repeated p (parts_faults s (record { names = ns; type = of; values = es })) ≡ [] →
+    Finds r (spec_broken p s (record { names = ns; type = of; values = es })) → Finds r (constants_faults t file iota repeated (record { names = ns; type = of; values = es }))
+checked_spec r t file iota repeated [] of es s n p first there stands names parts h = cc
+checked_spec r t file iota repeated (m ∷ ms) of es s n p first there stands names parts h =
+    let spec : trees.ConstSpec = record { names = m ∷ ms; type = of; values = es } in
+    let same : m ≡ n = cc in
+    let at : p ≡ m.place = there ∙ ap (λ (x : Name). x.place) (sym same) in
+    let own = flat_map (name_faults t file) (m ∷ ms) in
+    subst (λ (q : Place). Finds r (own ++ (told_at repeated q (parts_faults (scope_at t.package t.known file (Some iota)) spec) ++ spec_broken q (scope_at t.package t.known file (Some iota)) spec))) at
+    (subst (λ (z : Scope). Finds r (own ++ (told_at repeated p (parts_faults z spec) ++ spec_broken p z spec))) stands
+    (later r own (told_at repeated p (parts_faults s spec) ++ spec_broken p s spec) names (later r (told_at repeated p (parts_faults s spec)) (spec_broken p s spec) parts h)))

@@ -1,0 +1,12 @@
+use Rattle.std.proofs.Common.{◌≡◌, drop, map}
+use Rattle.std.specs.List.{flat_map}
+use Rattle.go_ast.specs.Trees.{VarSpec}
+use Rattle.go_ast.specs.Views.{var_of}
+use Rattle.go_decl.specs.Faults.{name_faults}
+use Rattle.go_decl.specs.Seen.{facts_of}
+use Rattle.go_decl.proofs.declarations.check_variables.Given as goal
+
+abbrev pub invariant-loop-spec : goal.invariant-loop-spec
+invariant-loop-spec l =
+    flat_map (λ (s : VarSpec). flat_map (name_faults (facts_of l.facts) l.file) s.names) (map var_of (drop l.spec-index l.specs))
+    ≡ flat_map (λ (s : VarSpec). flat_map (name_faults (facts_of l.facts) l.file) s.names) (map var_of l.specs)

@@ -1,0 +1,5 @@
+//! Tests of the faults of declarations.
+#![tactic(auto)]
+
+#[cfg(test)]
+mod tests;
