@@ -1,21 +1,17 @@
 -- What a replica holds, its greatest counter, and what edits and removals refuse and write.
-use Rattle.std.specs.Prelude.{◌≡◌, ◌≤◌, ℕ, ◌+◌, Bool, true, cond, not, ◌&&◌, eqb, max, List, [], ◌∷◌, ◌⊎◌, Option, Some, None, is_none}
+use Rattle.std.specs.Prelude.{◌≡◌, ◌≤◌, ℕ, ◌+◌, Bool, true, cond, not, ◌&&◌, eqb, List, [], ◌∷◌, ◌⊎◌, Option, Some, None, is_none}
 use Rattle.std.specs.Str.{bytes_eq}
 use Rattle.std.specs.FinMap.{FinMap, get, entries}
 use Rattle.ws_path.specs.Paths.{is_path, file_name}
 use Rattle.ws_map.specs.Greater.{joined_option}
 use Rattle.ws_version.specs.Writes.{Held, Write, path_cmp, greater_held}
+pub use Rattle.ws_pages.specs.Tops.{top}
 use Rattle.ws_register.specs.declared.EditError.{EditError}
 use Rattle.ws_register.specs.declared.EditError.TheVariants.{BadPath, NoFile, CounterFull, Memory}
 
 -- what is held at each path
 abbrev pub Contents : Type 0
 Contents = FinMap path_cmp Held
-
--- the greatest counter among writes, and 0 for none
-abbrev pub top : List Write → ℕ
-top [] = 0
-top (w ∷ ws) = max w.1.counter (top ws)
 
 -- the greatest of the writes to a path, if there is one
 abbrev pub greatest_at : List ℕ → List Write → Option Held

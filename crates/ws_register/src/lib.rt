@@ -1,17 +1,15 @@
 //! The greatest write for each path.
 #![tactic(auto)]
 
-ghost use Rattle.std.specs.Prelude.{◌≡◌, ℕ, ◌+◌, ◌++◌, ◌∷◌, [], List, OnOk, OnErr, IfOk, IfErr, true, false, Some, None, string_bytes, option_copied, option_map, string_cmp, map as map_list};
+ghost use Rattle.std.specs.Prelude.{◌≡◌, ℕ, ◌+◌, ◌++◌, ◌∷◌, [], List, OnOk, OnErr, IfOk, IfErr, true, false, Some, None, string_bytes, option_copied, option_map, map as map_list};
 ghost use Rattle.std.specs.FinMap as map;
-ghost use Rattle.std.specs.List.{Contains};
+ghost use Rattle.std.specs.List.{AllByRecursion, Contains};
 ghost use Rattle.std.specs.Ordering.{is_gt, is_lt};
-ghost use Rattle.std.specs.BTreeMap.{IsOrdered};
-ghost use Rattle.std.specs.BTreeMap.Range.{IsLeBy, IsLtBy, entries_between};
-ghost use Rattle.std.specs.Range.Bound.{IsForward};
 ghost use Rattle.ws_map.specs.Kept.{StandsFor, StandsAt, SameMembers, taken, joined as joined_by};
 ghost use Rattle.ws_version.specs.Writes.{Write as AWrite, Held as AHeld, held_cmp, path_cmp, greater_held};
 ghost use Rattle.ws_register.specs.Texted.{texted};
-ghost use Rattle.ws_register.specs.Between.{is_between};
+ghost use Rattle.ws_pages.specs.Pages.{Ascends};
+ghost use Rattle.ws_register.specs.Between.{is_from, is_past, is_between};
 ghost use Rattle.ws_register.specs.Sources.{texts_of, is_in, file_in, files_in, pair_of, IsShown, IsSources};
 ghost use Rattle.ws_register.specs.declared.EditError.TheVariants.{Memory};
 ghost use Rattle.ws_register.specs.Edits.{top, greatest_at, greatest_counter, fits, is_missing, edit_refusal, removal_refusal, IsRefusal, edited, removed};
@@ -19,11 +17,10 @@ ghost use Rattle.ws_register.specs.Edits.{top, greatest_at, greatest_counter, fi
 use go_text::source::Source;
 use go_text::text::Text;
 use std::alloc::{AllocError, Global};
-use std::collections::BTreeMap;
 use std::marker::Model;
 use std::ops::Bound;
 use thiserror::Error;
-use ws_map::SharedMap;
+use ws_pages::{Pages, Rest};
 use ws_path::{directory as directory_of, file_name, is_path};
 use ws_version::{Held, Join, Version, Write};
 
@@ -56,7 +53,7 @@ impl From<AllocError> for EditError {
 #[derive(Drop)]
 pub struct Registers {
     alloc: Global,
-    held: SharedMap<String, Held>,
+    held: Pages,
     greatest: u64,
 }
 
@@ -83,7 +80,7 @@ impl Registers {
     {
         Registers {
             alloc,
-            held: SharedMap::new(alloc),
+            held: Pages::new(alloc),
             greatest: 0,
         }
     }
@@ -93,7 +90,7 @@ impl Registers {
         ensures value { option_copied result ≡ map.get self.now path.now }
         ensures stands { (W : List AWrite) → StandsFor held_cmp self.now W → StandsAt held_cmp W path.now (option_copied result) }
     {
-        self.held.map()?.get(path)
+        self.held.get(path)
     }
 
     /// Takes one write: it is kept if it is above what is held at its path. An `Err`, for want of
@@ -103,11 +100,8 @@ impl Registers {
         ensures err { OnErr result (self.new ≡ self.old) }
         ensures stands { OnOk result ((W : List AWrite) → StandsFor held_cmp self.old W → StandsFor held_cmp self.new (W ++ write ∷ [])) }
     {
-        let (path, held) = write.into_parts();
-        let counter = held.counter();
-        let Ok(()) = self.held.take(path, held) else {
-            return Err(AllocError);
-        };
+        let counter = write.held().counter();
+        self.held.take(write)?;
         self.greatest = self.greatest.max(counter);
         Ok(())
     }
@@ -125,10 +119,7 @@ impl Registers {
         ensures ok { IfOk result (λ writes. writes.items ≡ map.entries self.now) }
         ensures stands { IfOk result (λ writes. (W : List AWrite) → StandsFor held_cmp self.now W → IsShown W writes.items) }
     {
-        let Some(entries) = self.held.map() else {
-            return Ok(Vec::new(self.alloc));
-        };
-        let writes = list_of(self.alloc, entries)?;
+        let writes = list_of(self.alloc, self.held.iter())?;
         Ok(writes)
     }
 
@@ -138,10 +129,7 @@ impl Registers {
         ensures ok { IfOk result (λ sources. texted sources.items ≡ texts_of (map.entries self.now)) }
         ensures stands { IfOk result (λ sources. (W : List AWrite) → StandsFor held_cmp self.now W → IsSources W (texted sources.items)) }
     {
-        let Some(entries) = self.held.map() else {
-            return Ok(Vec::new(self.alloc));
-        };
-        let sources = sources_of(self.alloc, entries)?;
+        let sources = sources_of(self.alloc, self.held.iter())?;
         Ok(sources)
     }
 
@@ -151,11 +139,21 @@ impl Registers {
         ensures ok { IfOk result (λ files. map_list pair_of files.items ≡ files_in directory.now (texts_of (map.entries self.now))) }
         ensures stands { IfOk result (λ files. (W : List AWrite) → StandsFor held_cmp self.now W → (S : List (List ℕ × List ℕ)) × IsSources W S × (map_list pair_of files.items ≡ files_in directory.now S)) }
     {
-        let Some(entries) = self.held.map() else {
-            return Ok(Vec::new(self.alloc));
-        };
-        let files = files_of(self.alloc, entries, directory)?;
+        let files = files_of(self.alloc, &self.held, directory)?;
         Ok(files)
+    }
+
+    /// Registers of equal contents, which later edits of either don't change: both share their
+    /// pages until then. An `Err` is for want of memory.
+    pub fn snapshot(&self) -> Result<Registers, AllocError>
+        ensures { IfOk result (λ snapshot. snapshot ≡ self.now) }
+    {
+        let held = self.held.copy()?;
+        Ok(Registers {
+            alloc: self.alloc,
+            held,
+            greatest: self.greatest,
+        })
     }
 
     /// The replica with that number writes a text, with one more than the greatest counter.
@@ -275,51 +273,44 @@ pub fn law_removal_stays()
     ensures { (m : map.FinMap path_cmp AHeld) → (W : List AWrite) → (w : AWrite) → (h : AHeld) → StandsFor held_cmp m W → Contains W w → w.1.text ≡ None → map.get m w.0 ≡ Some h → is_missing (Some h) ≡ false → is_lt (held_cmp w.1 h) ≡ true }
 {}
 
-fn list_of(alloc: Global, entries: &BTreeMap<String, Held>) -> Result<Vec<Write>, AllocError>
-    ensures ok { IfOk result (λ writes. writes.items ≡ texted entries.now.entries) }
-    ensures ordered { IsOrdered string_cmp entries.now }
+fn list_of(alloc: Global, rest: Rest<'_>) -> Result<Vec<Write>, AllocError>
+    ensures { IfOk result (λ writes. writes.items ≡ rest.entry) }
 {
     let mut writes = Vec::new(alloc);
-    for (path, held) in entries {
-        writes.push(Write::new(path.clone()?, held.copy()?))?;
+    let mut left = rest;
+    'writes: while let Some(write) = left.next() {
+        let path = String::from_str(alloc, write.path())?;
+        writes.push(Write::new(path, write.held().copy()?))?;
     }
     Ok(writes)
 }
 
-fn sources_of(
-    alloc: Global,
-    entries: &BTreeMap<String, Held>,
-) -> Result<Vec<(String, Text)>, AllocError>
-    ensures ok { IfOk result (λ sources. texted sources.items ≡ texts_of (texted entries.now.entries)) }
-    ensures ordered { IsOrdered string_cmp entries.now }
+fn sources_of(alloc: Global, rest: Rest<'_>) -> Result<Vec<(String, Text)>, AllocError>
+    ensures { IfOk result (λ sources. texted sources.items ≡ texts_of rest.entry) }
 {
     let mut sources = Vec::new(alloc);
-    for (path, held) in entries {
-        if let Some(text) = held.text() {
-            sources.push((path.clone()?, text.copy()?))?;
+    let mut left = rest;
+    'writes: while let Some(write) = left.next() {
+        if let Some(text) = write.held().text() {
+            let path = String::from_str(alloc, write.path())?;
+            sources.push((path, text.copy()?))?;
         }
     }
     Ok(sources)
 }
 
-fn files_of(
-    alloc: Global,
-    entries: &BTreeMap<String, Held>,
-    directory: &str,
-) -> Result<Vec<Source>, AllocError>
-    ensures ok { IfOk result (λ files. map_list pair_of files.items ≡ files_in directory.now (texts_of (texted entries.now.entries))) }
-    ensures ordered { OnOk result (IsOrdered string_cmp entries.now) }
+fn files_of(alloc: Global, held: &Pages, directory: &str) -> Result<Vec<Source>, AllocError>
+    ensures { IfOk result (λ files. map_list pair_of files.items ≡ files_in directory.now (texts_of (map.entries held.now))) }
 {
-    let ends = ends_of(alloc, directory)?;
-    let files = files_between(alloc, entries, ends, directory)?;
+    let (start, end) = ends_of(alloc, directory)?;
+    let files = files_before(alloc, walk_from(held, &start), &end, directory)?;
     Ok(files)
 }
 
 // Two ends that the paths of a directory's files lie between. Only the files in no directory don't
 // stand together.
 fn ends_of(alloc: Global, directory: &str) -> Result<(Bound<String>, Bound<String>), AllocError>
-    ensures forward { IfOk result (λ ends. IsForward (IsLeBy string_cmp) (IsLtBy string_cmp) ends.0 ends.1) }
-    ensures around { IfOk result (λ ends. (path : List ℕ) → is_in directory.now path ≡ true → is_between ends.0 ends.1 path ≡ true) }
+    ensures { IfOk result (λ ends. (path : List ℕ) → is_in directory.now path ≡ true → is_between ends.0 ends.1 path ≡ true) }
 {
     if directory.is_empty() {
         return Ok((Bound::Unbounded, Bound::Unbounded));
@@ -338,19 +329,44 @@ fn followed_by(alloc: Global, directory: &str, end: &str) -> Result<String, Allo
     Ok(text)
 }
 
-fn files_between(
+// The writes from a start on, and maybe some before it.
+fn walk_from<'a>(held: &'a Pages, start: &Bound<String>) -> Rest<'a>
+    ensures { (front : List AWrite) × (map.entries held.now ≡ front ++ result) × AllByRecursion (λ w. is_from start.now w.0 ≡ false) front }
+{
+    match start {
+        Bound::Included(path) => held.iter_from(path),
+        _ => held.iter(),
+    }
+}
+
+fn is_past(end: &Bound<String>, path: &str) -> bool
+    ensures { result ≡ is_past end.now path.now }
+{
+    match end {
+        Bound::Included(last) => last.as_str() < path,
+        Bound::Excluded(first) => first.as_str() <= path,
+        Bound::Unbounded => false,
+    }
+}
+
+// The files of a directory, all of which stand before an end.
+fn files_before(
     alloc: Global,
-    entries: &BTreeMap<String, Held>,
-    ends: (Bound<String>, Bound<String>),
+    rest: Rest<'_>,
+    end: &Bound<String>,
     directory: &str,
 ) -> Result<Vec<Source>, AllocError>
-    requires forward { IsForward (IsLeBy string_cmp) (IsLtBy string_cmp) ends.0 ends.1 }
-    ensures ok { IfOk result (λ files. map_list pair_of files.items ≡ files_in directory.now (texts_of (texted (entries_between string_cmp ends.0 ends.1 entries.now.entries)))) }
-    ensures ordered { IsOrdered string_cmp entries.now }
+    requires ascends { Ascends rest }
+    requires before { (path : List ℕ) → is_in directory.now path ≡ true → is_past end.now path ≡ false }
+    ensures { IfOk result (λ files. map_list pair_of files.items ≡ files_in directory.now (texts_of rest.entry)) }
 {
     let mut files = Vec::new(alloc);
-    for (path, held) in entries.range(ends) {
-        if let Some(file) = file_of(alloc, path, held, directory)? {
+    let mut left = rest;
+    'writes: while let Some(write) = left.next() {
+        if is_past(end, write.path()) {
+            return Ok(files);
+        }
+        if let Some(file) = file_of(alloc, write.path(), write.held(), directory)? {
             files.push(file)?;
         }
     }
@@ -391,12 +407,7 @@ impl Join for Registers {
     ghost idempotent = { joined-idempotent path_cmp_total path_cmp-IsAntisymmetric held-semilattice };
 
     fn copy(&self) -> Result<Registers, AllocError> {
-        let held = self.held.copy()?;
-        Ok(Registers {
-            alloc: self.alloc,
-            held,
-            greatest: self.greatest,
-        })
+        self.snapshot()
     }
 
     fn merge(&mut self, other: &Registers) -> Result<(), AllocError>

@@ -1,4 +1,5 @@
 //! Rows of texts, each text through one function.
+mod pages;
 mod paths;
 mod plans;
 mod registers;

@@ -1,17 +1,6 @@
-use Rattle.std.proofs.Common.{ap, sym, refl, ◌∙◌, string_bytes, string_cmp}
+use Rattle.std.proofs.Common.{ap, ◌∙◌}
 use Rattle.std.specs.FinMap.{entries}
-use Rattle.ws_map.proofs.Keyed.{entries-by_key, entries-empty}
 use Rattle.ws_register.proofs.Registers.writes.Goals as goal
 
-pub returns-in_default-clause-ok : goal.returns-in_default-clause-ok
-returns-in_default-clause-ok c = c.new.ensures.items ∙ sym entries-empty ∙ ap entries (sym c.in_default.ensures ∙ c.self.view_is)
-
-pub returns-in_default-clause-stands : goal.returns-in_default-clause-stands
-returns-in_default-clause-stands c W h = (c.args.self.now, h, returns-in_default-clause-ok c)
-
-pub returns-clause-ok : goal.returns-clause-ok
-returns-clause-ok c =
-    c.in_ok-writes.ensures.ok ∙ sym (entries-by_key string_cmp string_bytes (λ a b. refl) c.in-Some.entries.now.entries c.list_of.ensures.ordered) ∙ ap entries (c.in-Some.ensures ∙ c.self.view_is)
-
 pub returns-clause-stands : goal.returns-clause-stands
-returns-clause-stands c W h = (c.args.self.now, h, returns-clause-ok c)
+returns-clause-stands c W h = (c.args.self.now, h, c.in_ok-writes.ensures ∙ c.iter.ensures ∙ ap entries c.self.view_is)

@@ -1,0 +1,10 @@
+use Rattle.std.proofs.Common.{sym, ap, ◌∙◌}
+use Rattle.std.specs.FinMap.{entries}
+use Rattle.ws_pages.specs.Listed.{all_writes}
+use Rattle.ws_pages.proofs.Contents.{entries-contents}
+use Rattle.ws_pages.proofs.Pages.iter.Goals as goal
+
+pub returns : goal.returns
+returns c =
+    c.of.ensures ∙ ap all_writes c.deref.ensures.value
+    ∙ sym (entries-contents (all_writes c.self.inside.pages.items) c.self.invariant) ∙ ap entries c.self.view_is

@@ -1,0 +1,4 @@
+pub mod Listed
+pub mod Pages
+pub mod Search
+pub mod Tops
