@@ -1,11 +1,11 @@
 -- What a line of a script asks for.
-use Rattle.std.specs.Prelude.{ℕ, zero, suc, ◌==◌, ◌&&◌, ◌||◌, nat_lt, Bool, true, false, cond, List, [], ◌∷◌, ◌++◌, length, Option, None, Some, codes}
+use Rattle.std.specs.Prelude.{ℕ, zero, suc, ◌==◌, ◌&&◌, ◌||◌, nat_lt, Bool, cond, List, [], ◌∷◌, ◌++◌, length, Option, None, Some, codes}
 use Rattle.std.specs.List.{list_all}
 use Rattle.std.specs.Str.{bytes_eq}
 use Rattle.std.specs.Option.{option_map}
 use Rattle.ws_command.specs.Lines.{words_of, number_of, without_return, is_digit}
 
--- A command with its words: names, a path, a directory, and a number of lines or of ticks. What is applied has a counter, a number,
+-- A command with its words: names, a path, a directory, and a number of lines or of ticks. What is built are names, each with a directory. What is applied has a counter, a number,
 -- and so many lines, or none where it is a removal.
 pub data Command : Type 0 where
   Nothing : Command
@@ -16,7 +16,7 @@ pub data Command : Type 0 where
   Apply : List ℕ → List ℕ → ℕ → ℕ → Option ℕ → Command
   Merge : List ℕ → List ℕ → Command
   Settle : Command
-  Build : List ℕ → List ℕ → Command
+  Build : List (List ℕ × List ℕ) → Command
   Run : List ℕ → List ℕ → ℕ → Command
   Ids : List ℕ → List ℕ → Command
   Show : List ℕ → Command
@@ -30,12 +30,10 @@ is_name word = nat_lt 0 (length word) && nat_lt (length word) 33 && list_all is_
 
 -- a command of names that are good
 abbrev pub if_good : Bool → Command → Command
-if_good true command = command
-if_good false command = Bad
+if_good good command = cond good command Bad
 
 abbrev pub if_number : Option ℕ → (ℕ → Command) → Command
-if_number None command = Bad
-if_number (Some n) command = command n
+if_number word command = elim word [ None ↦ Bad | Some n ↦ command n ]
 
 -- counters and the numbers of replicas are above 0, and those below 2^32
 abbrev pub is_version : ℕ → ℕ → Bool
@@ -45,32 +43,43 @@ is_version counter number = nat_lt 0 counter && (nat_lt 0 number && nat_lt numbe
 abbrev pub apply_of : List ℕ → List ℕ → ℕ → ℕ → List ℕ → Command
 apply_of name path counter number word = cond (bytes_eq word (codes "-")) (Apply name path counter number None) (if_number (number_of word) (λ lines. Apply name path counter number (Some lines)))
 
-abbrev pub of_words : List (List ℕ) → Command
-of_words [] = Nothing
-of_words (word ∷ []) = cond (bytes_eq word (codes "settle")) Settle Bad
-of_words (word ∷ a ∷ []) =
+-- all commands but builds
+abbrev pub of_others : List (List ℕ) → Command
+of_others (word ∷ []) = cond (bytes_eq word (codes "settle")) Settle Bad
+of_others (word ∷ a ∷ []) =
     cond (bytes_eq word (codes "replica")) (if_good (is_name a) (Create a))
     (cond (bytes_eq word (codes "show")) (if_good (is_name a) (Show a)) Bad)
-of_words (word ∷ a ∷ b ∷ []) =
+of_others (word ∷ a ∷ b ∷ []) =
     cond (bytes_eq word (codes "merge")) (if_good (is_name a && is_name b) (Merge a b))
-    (cond (bytes_eq word (codes "build")) (if_good (is_name a) (Build a b))
     (cond (bytes_eq word (codes "ids")) (if_good (is_name a) (Ids a b))
-    (cond (bytes_eq word (codes "remove")) (if_good (is_name a) (Remove a b)) Bad)))
-of_words (word ∷ a ∷ b ∷ c ∷ []) =
+    (cond (bytes_eq word (codes "remove")) (if_good (is_name a) (Remove a b)) Bad))
+of_others (word ∷ a ∷ b ∷ c ∷ []) =
     cond (bytes_eq word (codes "write")) (if_good (is_name a) (if_number (number_of c) (Write a b)))
     (cond (bytes_eq word (codes "run")) (if_good (is_name a) (if_number (number_of c) (Run a b))) Bad)
-of_words (word ∷ a ∷ b ∷ c ∷ d ∷ e ∷ []) =
+of_others (word ∷ a ∷ b ∷ c ∷ d ∷ e ∷ []) =
     cond (bytes_eq word (codes "apply")) (if_good (is_name a) (if_number (number_of c) (λ counter. if_number (number_of d) (λ number. if_good (is_version counter number) (apply_of a b counter number e))))) Bad
-of_words _ = Bad
+of_others _ = Bad
+
+-- the words of a build, two and two
+abbrev pub pairs_of : List (List ℕ) → Option (List (List ℕ × List ℕ))
+pairs_of [] = Some []
+pairs_of (a ∷ []) = None
+pairs_of (a ∷ b ∷ words) = option_map (λ pairs. (a, b) ∷ pairs) (pairs_of words)
+
+-- 1 to 64 names, each with a directory
+abbrev pub build_of : Option (List (List ℕ × List ℕ)) → Command
+build_of words = elim words [ None ↦ Bad | Some pairs ↦ if_good (nat_lt 0 (length pairs) && nat_lt (length pairs) 65 && list_all (λ pair. is_name pair.0) pairs) (Build pairs) ]
+
+abbrev pub of_words : List (List ℕ) → Command
+of_words [] = Nothing
+of_words (word ∷ words) = cond (bytes_eq word (codes "build")) (build_of (pairs_of words)) (of_others (word ∷ words))
 
 abbrev pub command_of : List ℕ → Command
 command_of line = of_words (words_of (without_return line))
 
 -- how many lines of text follow it
 abbrev pub text_lines : Command → ℕ
-text_lines (Write name path lines) = lines
-text_lines (Apply name path counter number (Some lines)) = lines
-text_lines _ = 0
+text_lines command = elim command [ Write name path lines ↦ lines | Apply name path counter number (Some lines) ↦ lines | _ ↦ 0 ]
 
 -- the text of the first n lines, each with a newline, where there are so many
 abbrev pub text_of : ℕ → List (List ℕ) → Option (List ℕ)

@@ -22,13 +22,10 @@ blocked_text directory = codes "blocked " ++ directory ++ 10 ∷ []
 
 -- the line of a directory that isn't good
 abbrev pub row_text : List ℕ × Verdict → List ℕ
-row_text (directory, Good) = []
-row_text (directory, Blocked) = blocked_text directory
-row_text (directory, Wrong fault) = fault_text directory fault
+row_text row = elim row.1 [ Good ↦ [] | Blocked ↦ blocked_text row.0 | Wrong fault ↦ fault_text row.0 fault ]
 
 abbrev pub is_bad : List ℕ × Verdict → Bool
-is_bad (directory, Good) = false
-is_bad _ = true
+is_bad row = elim row.1 [ Good ↦ false | _ ↦ true ]
 
 -- how many directories were reached, or how many of them aren't good
 unfoldable pub summary_text : List (List ℕ × Verdict) → List ℕ

@@ -16,27 +16,15 @@ panic_word (User text) = codes "user"
 
 -- how the program ended
 abbrev pub ending_text : Ending → List ℕ
-ending_text Ended = codes " ended "
-ending_text Cut = codes " cut "
-ending_text (Panicked kind) = codes " panic " ++ panic_word kind ++ codes " "
+ending_text ending = elim ending [ Ended ↦ codes " ended " | Cut ↦ codes " cut " | Panicked kind ↦ codes " panic " ++ panic_word kind ++ codes " " ]
 
 -- how long the text of the program's own panic is
-abbrev pub kind_size : PanicKind → List ℕ
-kind_size (User text) = codes " " ++ decimal (length text)
-kind_size _ = []
-
 abbrev pub panic_size : Ending → List ℕ
-panic_size (Panicked kind) = kind_size kind
-panic_size _ = []
+panic_size ending = elim ending [ Panicked (User text) ↦ codes " " ++ decimal (length text) | _ ↦ [] ]
 
 -- and that text, which a newline follows
-abbrev pub kind_text : PanicKind → List ℕ
-kind_text (User text) = text ++ 10 ∷ []
-kind_text _ = []
-
 abbrev pub panic_text : Ending → List ℕ
-panic_text (Panicked kind) = kind_text kind
-panic_text _ = []
+panic_text ending = elim ending [ Panicked (User text) ↦ text ++ 10 ∷ [] | _ ↦ [] ]
 
 abbrev pub run_target_text : List ℕ → List ℕ → List ℕ
 run_target_text name directory = codes "run " ++ name ++ codes " " ++ directory

@@ -6,8 +6,7 @@ use Rattle.ws_version.specs.Writes.{Write}
 
 -- how long the text is, or that the file is removed
 abbrev pub content_text : Option (List ℕ) → List ℕ
-content_text None = codes " removed"
-content_text (Some text) = codes " text " ++ decimal (length text)
+content_text content = elim content [ None ↦ codes " removed" | Some text ↦ codes " text " ++ decimal (length text) ]
 
 -- the path, the version, and the content
 unfoldable pub write_text : Write → List ℕ

@@ -1,12 +1,14 @@
 //! What a command line asks for.
-ghost use Rattle.std.specs.Prelude.{◌≡◌, ◌<◌, ◌&&◌, ◌∷◌, []};
-ghost use Rattle.ws_command.specs.Commands.{is_name, is_name_byte, is_version, if_good, apply_of, of_words, command_of, text_lines};
+ghost use Rattle.std.specs.Prelude.{◌≡◌, ◌∷◌, [], IfOk};
+ghost use Rattle.ws_command.specs.Commands.{is_name, is_name_byte, is_version, if_good, apply_of, of_others, pairs_of, build_of, command_of, text_lines};
+ghost use Rattle.ws_command.specs.Lines.{words_of};
 ghost use Rattle.ws_command.specs.Seen.{seen};
 
 use crate::lines::{first_word, number, trimmed};
+use std::alloc::{AllocError, Global};
 
 /// A command, whose words lie in the script.
-#[derive(Clone, Copy, Debug)]
+#[derive(Debug, Drop)]
 pub enum Asked<'a> {
     /// A line without words.
     Nothing,
@@ -30,8 +32,8 @@ pub enum Asked<'a> {
     Merge(&'a [u8], &'a [u8]),
     /// `settle`
     Settle,
-    /// `build R DIR`
-    Build(&'a [u8], &'a [u8]),
+    /// `build R DIR [R DIR ..]`: names, each with a directory.
+    Build(Vec<(&'a [u8], &'a [u8])>),
     /// `run R DIR TICKS`
     Run(&'a [u8], &'a [u8], u64),
     /// `ids R DIR`
@@ -82,7 +84,7 @@ pub fn is_name(word: &[u8]) -> bool
 }
 
 fn asked_of_none(word: &[u8]) -> Asked<'static>
-    ensures { seen result ≡ of_words (word.now ∷ []) }
+    ensures { seen result ≡ of_others (word.now ∷ []) }
 {
     if word == b"settle".as_slice() {
         return Asked::Settle;
@@ -91,7 +93,7 @@ fn asked_of_none(word: &[u8]) -> Asked<'static>
 }
 
 fn asked_of_one<'a>(word: &[u8], a: &'a [u8]) -> Asked<'a>
-    ensures { seen result ≡ of_words (word.now ∷ a.now ∷ []) }
+    ensures { seen result ≡ of_others (word.now ∷ a.now ∷ []) }
 {
     if word == b"replica".as_slice() && is_name(a) {
         return Asked::Create(a);
@@ -103,16 +105,13 @@ fn asked_of_one<'a>(word: &[u8], a: &'a [u8]) -> Asked<'a>
 }
 
 fn asked_of_two<'a>(word: &[u8], a: &'a [u8], b: &'a [u8]) -> Asked<'a>
-    ensures { seen result ≡ of_words (word.now ∷ a.now ∷ b.now ∷ []) }
+    ensures { seen result ≡ of_others (word.now ∷ a.now ∷ b.now ∷ []) }
 {
     if word == b"merge".as_slice() {
         if is_name(a) && is_name(b) {
             return Asked::Merge(a, b);
         }
         return Asked::Bad;
-    }
-    if word == b"build".as_slice() && is_name(a) {
-        return Asked::Build(a, b);
     }
     if word == b"ids".as_slice() && is_name(a) {
         return Asked::Ids(a, b);
@@ -124,7 +123,7 @@ fn asked_of_two<'a>(word: &[u8], a: &'a [u8], b: &'a [u8]) -> Asked<'a>
 }
 
 fn asked_of_three<'a>(word: &[u8], a: &'a [u8], b: &'a [u8], c: &'a [u8]) -> Asked<'a>
-    ensures { seen result ≡ of_words (word.now ∷ a.now ∷ b.now ∷ c.now ∷ []) }
+    ensures { seen result ≡ of_others (word.now ∷ a.now ∷ b.now ∷ c.now ∷ []) }
 {
     let Some(count) = number(c) else {
         return Asked::Bad;
@@ -173,7 +172,7 @@ fn asked_of_five<'a>(
     d: &[u8],
     e: &[u8],
 ) -> Asked<'a>
-    ensures { seen result ≡ of_words (word.now ∷ a.now ∷ b.now ∷ c.now ∷ d.now ∷ e.now ∷ []) }
+    ensures { seen result ≡ of_others (word.now ∷ a.now ∷ b.now ∷ c.now ∷ d.now ∷ e.now ∷ []) }
 {
     if word != b"apply".as_slice() || !is_name(a) {
         return Asked::Bad;
@@ -187,13 +186,10 @@ fn asked_of_five<'a>(
     applied(a, b, counter, writer, e)
 }
 
-/// What a line asks for.
-pub fn ask(line: &[u8]) -> Asked<'_>
-    ensures { seen result ≡ command_of line.now }
+/// The command that is no build, whose words are this one and those behind it.
+fn asked_of_words<'a>(word: &'a [u8], rest: &'a [u8]) -> Asked<'a>
+    ensures { seen result ≡ of_others (word.now ∷ words_of rest.now) }
 {
-    let Some((word, rest)) = first_word(trimmed(line)) else {
-        return Asked::Nothing;
-    };
     let Some((a, rest)) = first_word(rest) else {
         return asked_of_none(word);
     };
@@ -213,4 +209,42 @@ pub fn ask(line: &[u8]) -> Asked<'_>
         return Asked::Bad;
     }
     asked_of_five(word, a, b, c, d, e)
+}
+
+/// The most targets that a build has.
+const MOST_TARGETS: usize = 64;
+
+/// The build whose targets are these words, two and two.
+fn asked_of_targets(alloc: Global, words: &[u8]) -> Result<Asked<'_>, AllocError>
+    ensures { IfOk result (λ asked. seen asked ≡ build_of (pairs_of (words_of words.now))) }
+{
+    let mut targets = Vec::new(alloc);
+    let mut rest = words;
+    'targets: while let Some((name, behind)) = first_word(rest) {
+        let Some((directory, behind)) = first_word(behind) else {
+            return Ok(Asked::Bad);
+        };
+        if targets.len() == MOST_TARGETS || !is_name(name) {
+            return Ok(Asked::Bad);
+        }
+        targets.push((name, directory))?;
+        rest = behind;
+    }
+    if targets.is_empty() {
+        return Ok(Asked::Bad);
+    }
+    Ok(Asked::Build(targets))
+}
+
+/// What a line asks for.
+pub fn ask(alloc: Global, line: &[u8]) -> Result<Asked<'_>, AllocError>
+    ensures { IfOk result (λ asked. seen asked ≡ command_of line.now) }
+{
+    let Some((word, rest)) = first_word(trimmed(line)) else {
+        return Ok(Asked::Nothing);
+    };
+    if word == b"build".as_slice() {
+        return asked_of_targets(alloc, rest);
+    }
+    Ok(asked_of_words(word, rest))
 }

@@ -1,2 +1,2 @@
 pub mod Captures
-pub mod PoolRuns
+pub mod OwnEnds

@@ -1,5 +1,5 @@
 //! Workers in threads, who take a board's jobs from behind its lock.
-ghost use Rattle.std.specs.Prelude.{◌≡◌, ◌<◌, All, List, [], None, IfOk, IfSome, vec_len};
+ghost use Rattle.std.specs.Prelude.{◌≡◌, ◌<◌, All, List, [], None, IfOk, IfSome, max, min, vec_len};
 ghost use Rattle.std.specs.Bool.{OnTrue};
 ghost use Rattle.ws_action.specs.Actions.{Action as AnAction};
 ghost use Rattle.ws_board.specs.Ends.{AreFinished, ComesToEnds};
@@ -122,9 +122,17 @@ fn run_jobs<L: Desk + Send + Sync, G: Gate, R: Threads + Wait + Sync>(
     Ok(board.built())
 }
 
-/// Runs all jobs over the cache by that many workers, each in a thread of its own where one can be
-/// had: each job comes to its end, whatever the workers, the gate and the order of events. Nothing
-/// is compiled under the lock. An `Err` where a worker was refused memory.
+// No more workers than there are jobs, and one at least.
+fn needed(workers: u64, jobs: usize) -> u64
+    ensures { result ≡ min workers (max jobs 1) }
+{
+    workers.min(jobs.max(1) as u64)
+}
+
+/// Runs all jobs over the cache by that many workers, or by one a job where there are fewer jobs:
+/// the first on the calling thread, each other in a thread of its own where one can be had. Each
+/// job comes to its end, whatever the workers, the gate and the order of events. Nothing is
+/// compiled under the lock. An `Err` where a worker was refused memory.
 pub fn build_jobs<G: Gate, R: Threads + Wait + Sync>(
     rt: &R,
     alloc: Global,
@@ -138,6 +146,7 @@ pub fn build_jobs<G: Gate, R: Threads + Wait + Sync>(
     ensures finished { IfOk result (λ built. (entries : List AnAction) × AreFinished built entries) }
     ensures ends { IfOk result (λ built. ComesToEnds built []) }
 {
+    let workers = needed(workers, jobs.len());
     let blanks = Blanks::new(workers);
     run_jobs::<Brand, G, R>(rt, alloc, jobs, cache, workers, blanks, gate)
 }

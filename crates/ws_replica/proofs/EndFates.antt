@@ -1,5 +1,5 @@
 -- What the ends of a plan's jobs say of its directories.
-use Rattle.std.proofs.Common.{◌≡◌, ℕ, zero, suc, ◌+◌, Bool, true, false, ◌&&◌, List, [], ◌∷◌, map, Option, None, Some, refl, sym, ap, subst, ◌∙◌, arith}
+use Rattle.std.proofs.Common.{◌≡◌, ℕ, zero, suc, ◌+◌, ◌<◌, length, Bool, true, false, ◌&&◌, List, [], ◌∷◌, map, Option, None, Some, refl, sym, ap, subst, ◌∙◌, arith}
 use Rattle.std.specs.Prelude.{is_some}
 use Rattle.std.specs.List.{slice_get, list_all, AllZip, Contains}
 use Rattle.go_text.specs.Faults.{Fault}
@@ -11,18 +11,18 @@ use Rattle.ws_cache.specs.Compiles.{Good}
 use Rattle.ws_cache.specs.Compiles as compiled
 use Rattle.ws_cache.proofs.Outcomes.{one_outcome}
 use Rattle.ws_board.specs.Work.{Job}
-use Rattle.ws_board.specs.Machine.{action_at, imports_at, is_good_result}
+use Rattle.ws_board.specs.Machine.{action_at, imports_at}
 use Rattle.ws_board.specs.Ends.{End, is_good, end_at, are_good, IsEnd, AreEnds, came_of, came, somes, actions_of, IsRanked}
 use Rattle.ws_board.specs.Ends as ends
 use Rattle.ws_graph.specs.Plan.{Planned, NoFiles, Faulty, Sound}
 use Rattle.ws_graph.specs.BuildPlan.{Sources, Directory, IsPlannedAs, AreRanks}
-use Rattle.ws_report.specs.Reports.{Verdict, Wrong}
-use Rattle.ws_report.specs.Reports as report
-use Rattle.ws_replica.specs.ActionPlans.{is_sound, is_sound_in, is_sound_at, IsActionOf, AreActionsOf}
+use Rattle.ws_report.specs.Reports.{Verdict}
+use Rattle.ws_replica.specs.ActionPlans.{is_sound, is_sound_at, IsActionOf, AreActionsOf}
 use Rattle.ws_replica.specs.Reports.{Fate, Stopped, Blocked, Came, is_good_at, IsFate, AreFatesOf, compiled_actions, told_of, report_of}
-use Rattle.ws_replica.specs.Jobs.{Place, fault_in, verdict_of, fault_of, action_by, reached_by, job_of, IsToldOf, IsTold, AreTold}
+use Rattle.ws_replica.specs.Jobs.{Place, fault_in, verdict_of, fault_of, action_by, reached_by, IsToldOf, IsTold, AreTold}
 use Rattle.ws_replica.proofs.Compiling.{comes_to}
-use Rattle.ws_replica.proofs.Numbered.{some_same, at_member, all_on, all_each, each_all}
+use Rattle.ws_replica.proofs.Numbered.{all_on, all_each, each_all}
+use Rattle.ws_replica.proofs.SeveralPlans.{job_of}
 use Rattle.ws_replica.proofs.SomeBuild.{AllPlanned}
 
 -- the jobs of directories with these actions
@@ -34,6 +34,10 @@ jobs_of (d ∷ ds) (a ∷ actions) = record { action = a; imports = d.imports } 
 pub same_jobs : (edition : ℕ) (summaries : List (Option Summary)) (ds : List Directory) → map job_of (map (reached_by edition summaries) ds) ≡ jobs_of ds (map (action_by edition summaries) ds)
 same_jobs edition summaries [] = refl
 same_jobs edition summaries (d ∷ ds) = ap (λ js. job_of (reached_by edition summaries d) ∷ js) (same_jobs edition summaries ds)
+
+-- a directory's place
+abbrev pub place_in : Directory → Place
+place_in d = record { path = d.path; fault = fault_of d.planned }
 
 -- the fate of a directory whose job ends so
 abbrev fate_by : Planned → End → Fate
@@ -162,7 +166,7 @@ module _ (edition : ℕ) (sources : Sources) (all : List Directory) (planned : A
   one_row : (r : List ℕ × Verdict) (path : List ℕ) (verdict : Verdict) → r.0 ≡ path → r.1 ≡ verdict → ◌≡◌ {A = List ℕ × Verdict} r (path, verdict)
   one_row r path verdict g h = ap (λ p. let z : List ℕ × Verdict = (p, r.1) in z) g ∙ ap (λ v. let z : List ℕ × Verdict = (path, v) in z) h
 
-  pub told_report : (result : ℕ → Option Action) (k : ℕ) (ds : List Directory) (actions : List (Option Action)) (es : List End) (rows : List (List ℕ × Verdict)) → Within ds → AreActionsOf edition all ds actions → AllZip (IsEnd whole) (jobs_of ds actions) es → ((j : ℕ) → result (k + j) ≡ came_of (end_at es j)) → AreTold result k (map (λ d. record { path = d.path; fault = fault_of d.planned }) ds) rows → rows ≡ report_of ds (fates_by ds es)
+  pub told_report : (result : ℕ → Option Action) (k : ℕ) (ds : List Directory) (actions : List (Option Action)) (es : List End) (rows : List (List ℕ × Verdict)) → Within ds → AreActionsOf edition all ds actions → AllZip (IsEnd whole) (jobs_of ds actions) es → ((j : ℕ) → j < length es → result (k + j) ≡ came_of (end_at es j)) → AreTold result k (map place_in ds) rows → rows ≡ report_of ds (fates_by ds es)
   told_report result k [] [] [] [] within are h same told = refl
   told_report result k [] [] [] (row ∷ rows) within are h same told = absurd told
   told_report result k [] [] (e ∷ es) rows within are h same told = absurd h
@@ -171,10 +175,10 @@ module _ (edition : ℕ) (sources : Sources) (all : List Directory) (planned : A
   told_report result k (d ∷ ds) (a ∷ actions) [] rows within are h same told = absurd h
   told_report result k (d ∷ ds) (a ∷ actions) (e ∷ es) [] within are h same told = absurd told
   told_report result k (d ∷ ds) (a ∷ actions) (e ∷ es) (row ∷ rows) within are h same told =
-      let here : result k ≡ came_of e = subst (λ m. result m ≡ came_of e) (let z : k + 0 ≡ k = omega arith in z) (same 0) in
+      let here : result k ≡ came_of e = subst (λ m. result m ≡ came_of e) (let z : k + 0 ≡ k = omega arith in z) (same 0 (omega arith)) in
       let verdict : row.1 ≡ told_of (fate_by d.planned e) = told_by d d.planned (planned d (within d (at_head ds d d refl))) a e h.0 (result k) here row.1 told.1 in
       let rest = told_report result (suc k) ds actions es rows (within_tail d ds within) are.1 h.1
-      (λ j. subst (λ m. result m ≡ came_of (end_at es j)) (let z : k + suc j ≡ suc k + j = omega arith in z) (same (suc j))) told.2 in
+      (λ j lt. subst (λ m. result m ≡ came_of (end_at es j)) (let z : k + suc j ≡ suc k + j = omega arith in z) (same (suc j) (omega arith))) told.2 in
       ap (λ z. z ∷ rows) (one_row row d.path (told_of (fate_by d.planned e)) told.0 verdict) ∙ ap (λ zs. (d.path, told_of (fate_by d.planned e)) ∷ zs) rest
 
 -- ---- ranks and actions

@@ -1,7 +1,7 @@
 -- The image of what a cache holds, and what it is where no two texts clash.
-use Rattle.std.proofs.Common.{◌≡◌, ℕ, zero, suc, Bool, true, false, List, [], ◌∷◌, ◌++◌, map, Option, Some, None, refl, sym, ap, subst, ◌∙◌, inl, inr}
+use Rattle.std.proofs.Common.{◌≡◌, ℕ, zero, suc, true, List, [], ◌∷◌, ◌++◌, map, Option, Some, None, refl, sym, ap, subst, ◌∙◌}
 use Rattle.std.specs.Prelude.{IfSome, option_map}
-use Rattle.std.specs.List.{slice_get, list_all, Contains}
+use Rattle.std.specs.List.{slice_get, Contains}
 use Rattle.std.specs.FinMap.{FinMap, get}
 use Rattle.std.proofs.lemmas.List.Elements.{Contains-append_left, Contains-append_right}
 use Rattle.std.proofs.lemmas.Grind.{flat_map-append}
@@ -18,17 +18,17 @@ use Rattle.ws_action.specs.Clash.{NoClash, AllSized, hashed, hashed_actions}
 use Rattle.ws_action.proofs.Members.{at_head, later}
 use Rattle.ws_action.proofs.OneAction.{one_action}
 use Rattle.ws_board.specs.Ends.{somes}
-use Rattle.ws_cache.specs.Compiles.{Compiled, Good, Faulty, Compiles, IsTypedOf}
+use Rattle.ws_cache.specs.Compiles.{Good, Compiles, IsTypedOf}
 use Rattle.go_gen.specs.Translation.{object_of}
 use Rattle.ws_cache.specs.Held.{id_cmp, IsHeld, CacheStandsFor}
 use Rattle.ws_cache.proofs.Joined.{cache_stands}
 use Rattle.ws_cache.proofs.Laws.{found_itself}
 use Rattle.ws_graph.specs.BuildPlan.{Directory, IsBuildPlanOf}
-use Rattle.ws_replica.specs.ActionPlans.{ActionPlan, is_sound_at, IsActionOf, AreActionsOf, IsPlanFor}
-use Rattle.ws_replica.specs.Reports.{Fate, Blocked, Came, is_good_at, IsFate, AreFatesOf, AreFates}
+use Rattle.ws_replica.specs.ActionPlans.{ActionPlan, is_sound_at, IsActionOf, AreActionsOf}
+use Rattle.ws_replica.specs.Reports.{Fate, Came, is_good_at, IsFate, AreFatesOf, AreFates}
 use Rattle.ws_replica.specs.Programs.{MeansProgram, AllHeld, IsTargetOf, IsHeldProgram, IsImageOf}
 use Rattle.ws_replica.specs.Jobs.{Reached, action_by, reached_by}
-use Rattle.ws_replica.specs.Images.{IsLinked, IsObjectHeld, IsAt, AreObjectsHeld, LacksObject, IsHeldImage, HasNoImage, lacks, absent, no_object, no_program, IsImageHeld}
+use Rattle.ws_replica.specs.Images.{IsLinked, IsObjectHeld, IsAt, AreObjectsHeld, IsHeldImage, HasNoImage, lacks, absent, no_object, no_program, IsImageHeld}
 use Rattle.ws_cache.proofs.Outcomes.{one_typed_of}
 use Rattle.ws_replica.proofs.Compiling.{typed_well}
 use Rattle.ws_replica.proofs.Numbered.{some_same, at_member, member_at, all_each, each_all}

@@ -1,7 +1,7 @@
 -- Rows of ids: where marks stay they are those of a plan; they are one, and each plan has some.
-use Rattle.std.proofs.Common.{◌≡◌, ℕ, zero, suc, ◌<◌, Bool, true, false, ◌&&◌, List, [], ◌∷◌, map, zip, Option, None, Some, refl, sym, ap, subst, ◌∙◌, inl, inr}
+use Rattle.std.proofs.Common.{◌≡◌, ℕ, zero, suc, Bool, true, false, List, [], ◌∷◌, map, zip, Option, None, Some, refl, sym, ap, subst, ◌∙◌, inl, inr}
 use Rattle.std.specs.Prelude.{◌⊎◌, ◌↔◌, if◌then◌else◌}
-use Rattle.std.specs.List.{slice_get, slice_index_or, list_all, All, AllZip, Contains}
+use Rattle.std.specs.List.{slice_get, list_all, All, AllZip, Contains}
 use Rattle.std.proofs.lemmas.List.Elements.{All-nil, All-cons, All-head, All-tail}
 use Rattle.std.proofs.lemmas.Option.{slice_get-map}
 use Rattle.std.specs.Prelude.{option_map}
@@ -22,7 +22,7 @@ use Rattle.ws_replica.proofs.Marks.{some_stay}
 use Rattle.ws_replica.proofs.Numbered.{some_same, same_lists, and_true, and_left, and_right, ranked}
 use Rattle.ws_replica.proofs.OneBuild.{action_at}
 use Rattle.ws_replica.proofs.OneProgram.{among}
-use Rattle.ws_replica.proofs.SomeBuild.{AllPlanned, result_of}
+use Rattle.ws_replica.proofs.SomeBuild.{result_of}
 
 abbrev Rows : Type 0
 Rows = List (List ℕ × Standing)

@@ -1,4 +1,5 @@
 pub mod BuiltPlans
+pub mod BuiltTargets
 pub mod CandidateSteps
 pub mod Compiling
 pub mod Crossing
@@ -16,5 +17,8 @@ pub mod Opening
 pub mod PlanJobs
 pub mod Removals
 pub mod SettledReplicas
+pub mod SeveralPlans
 pub mod SomeBuild
 pub mod Steps
+pub mod TargetPieces
+pub mod TargetSteps

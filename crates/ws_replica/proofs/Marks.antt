@@ -1,9 +1,9 @@
 -- Marks of directories: they fall until they stay.
-use Rattle.std.proofs.Common.{◌≡◌, ℕ, zero, suc, ◌+◌, ◌<◌, ◌≤◌, leb, Bool, true, false, ◌&&◌, cond, List, [], ◌∷◌, length, map, count_by, replicate, refl, sym, ap, subst, ◌∙◌, inl, inr, arith}
-use Rattle.std.specs.List.{list_all, slice_index_or, AllZip}
+use Rattle.std.proofs.Common.{◌≡◌, ℕ, zero, suc, ◌+◌, ◌<◌, ◌≤◌, Bool, true, false, cond, List, [], ◌∷◌, length, count_by, replicate, refl, sym, ap, inl, inr, arith}
+use Rattle.std.specs.List.{list_all, AllZip}
 use Rattle.std.proofs.lemmas.Bool.Decides.{leb_tells}
 use Rattle.std.proofs.lemmas.List.Sums.{sum_by-cons}
-use Rattle.ws_replica.specs.Candidates.{Candidate, is_marked, is_kept, narrowed}
+use Rattle.ws_replica.specs.Candidates.{Candidate, is_marked, narrowed}
 use Rattle.ws_replica.proofs.Numbered.{and_true, and_left, and_right}
 
 abbrev pub Lower : Bool → Bool → Type 0

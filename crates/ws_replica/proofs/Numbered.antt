@@ -1,8 +1,6 @@
 -- Lists by the numbers of their elements.
-use Rattle.std.proofs.Common.{◌≡◌, ℕ, zero, suc, ◌<◌, ◌≤◌, Bool, true, false, ◌&&◌, List, [], ◌∷◌, length, get_or, Option, None, Some, refl, sym, ap, subst, ◌∙◌, arith, inl, inr}
+use Rattle.std.proofs.Common.{◌≡◌, ℕ, zero, suc, ◌<◌, ◌≤◌, Bool, true, false, ◌&&◌, List, [], ◌∷◌, length, None, Some, refl, ap, subst, ◌∙◌, arith, inl, inr}
 use Rattle.std.specs.List.{slice_get, list_all, Contains}
-use Rattle.std.proofs.lemmas.Option.{slice_get_past, slice_get_within, unwrap_or-slice_get}
-use Rattle.std.specs.Prelude.{unwrap_or}
 use Rattle.ws_action.proofs.Members.{at_head, later, none_in_empty, head_or_later}
 
 pub some_same : {X : Type 0} (x y : X) → Some x ≡ Some y → x ≡ y

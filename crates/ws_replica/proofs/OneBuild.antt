@@ -1,5 +1,5 @@
 -- A set of writes has one plan of a target, whose directories come to one thing each.
-use Rattle.std.proofs.Common.{◌≡◌, ℕ, zero, suc, ◌<◌, ◌≤◌, Bool, true, false, ◌&&◌, List, [], ◌∷◌, length, get_or, Option, None, Some, refl, sym, ap, subst, ◌∙◌}
+use Rattle.std.proofs.Common.{◌≡◌, ℕ, zero, suc, Bool, true, false, ◌&&◌, List, [], ◌∷◌, Option, None, Some, refl, sym, ap, subst, ◌∙◌}
 use Rattle.std.specs.Prelude.{unwrap_or}
 use Rattle.std.specs.List.{slice_get, list_all, Contains}
 use Rattle.std.proofs.lemmas.Option.{unwrap_or-slice_get}
@@ -11,7 +11,7 @@ use Rattle.ws_map.specs.Kept.{SameMembers}
 use Rattle.ws_register.proofs.Laws.{same_sources}
 use Rattle.ws_action.specs.Actions.{Action, action_of}
 use Rattle.ws_graph.specs.Packages.{package_files}
-use Rattle.ws_graph.specs.Plan.{Planned, NoFiles, Faulty, Sound, IsPlanOf}
+use Rattle.ws_graph.specs.Plan.{NoFiles, Faulty, Sound, IsPlanOf}
 use Rattle.ws_graph.specs.BuildPlan.{Directory, IsBuildPlanOf, AreRanks}
 use Rattle.go_export.specs.Summaries.{Summary}
 use Rattle.ws_graph.proofs.OnePlan.{one_package}

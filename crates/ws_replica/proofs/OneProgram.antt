@@ -1,6 +1,6 @@
 -- Whether a target's program is held compiled is decided, and it is one.
 use Rattle.std.proofs.Common.{◌≡◌, ℕ, zero, suc, List, [], ◌∷◌, Option, None, Some, Bool, true, false, refl, sym, ap, subst, ◌∙◌, inl, inr}
-use Rattle.std.specs.Prelude.{◌⊎◌, map, codes, IsSome, option_map}
+use Rattle.std.specs.Prelude.{◌⊎◌, codes, IsSome, option_map}
 use Rattle.std.specs.List.{slice_get, Contains, AllByRecursion}
 use Rattle.std.specs.List.Sorted.{IsStrictlySortedBy}
 use Rattle.std.specs.declared.cmp.Ordering.TheVariants.{Less, Equal}
@@ -22,7 +22,7 @@ use Rattle.ws_cache.specs.Compiles.{IsTypedOf}
 use Rattle.ws_cache.proofs.Laws.{same_action, same_action-Decides}
 use Rattle.ws_graph.specs.BuildPlan.{Directory, paths_of, IsBuildPlanOf}
 use Rattle.ws_replica.specs.ActionPlans.{ActionPlan, IsPlanFor}
-use Rattle.ws_replica.specs.Reports.{Fate, Stopped, Blocked, Came, IsFate, AreFatesOf, AreFates}
+use Rattle.ws_replica.specs.Reports.{Fate, Stopped, Blocked, Came, IsFate, AreFates}
 use Rattle.ws_replica.specs.Programs.{AllHeld, IsTargetOf, IsHeldProgram, IsPlannedProgram}
 use Rattle.ws_cache.proofs.Outcomes.{one_typed_of}
 use Rattle.ws_replica.proofs.Compiling.{typed_well}

@@ -1,17 +1,13 @@
 -- The actions of a plan's directories, by the summaries of all.
-use Rattle.std.proofs.Common.{◌≡◌, ℕ, zero, suc, Bool, true, false, ◌&&◌, List, [], ◌∷◌, map, Option, None, Some, refl, sym, ap, subst, ◌∙◌}
-use Rattle.std.specs.List.{slice_get, list_all, AllZip, Contains}
-use Rattle.go_text.specs.Faults.{Fault}
-use Rattle.go_ast.specs.Parse.{Parsed}
+use Rattle.std.proofs.Common.{◌≡◌, ℕ, zero, suc, Bool, true, false, ◌&&◌, List, [], ◌∷◌, map, Option, None, Some, refl, ap, subst}
+use Rattle.std.specs.List.{slice_get, list_all, Contains}
 use Rattle.go_export.specs.Summaries.{Summary}
-use Rattle.ws_action.specs.Actions.{Action}
 use Rattle.ws_action.proofs.Members.{at_head, later}
-use Rattle.ws_board.specs.Work.{Job}
 use Rattle.ws_graph.specs.Plan.{Planned, NoFiles, Faulty, Sound}
 use Rattle.ws_graph.specs.BuildPlan.{Sources, Directory, IsPlannedAs}
 use Rattle.ws_replica.specs.ActionPlans.{is_sound, is_sound_in, is_sound_at, IsSummaryOf, AreSummaries, IsActionOf, AreActionsOf}
-use Rattle.ws_replica.specs.Jobs.{IsSummaryFor, AreSummed, flat, before, gathered, made, action_by, reached_by, job_of}
-use Rattle.ws_replica.proofs.Numbered.{some_same, at_member}
+use Rattle.ws_replica.specs.Jobs.{IsSummaryFor, AreSummed, flat, before, gathered, made, action_by}
+use Rattle.ws_replica.proofs.Numbered.{at_member}
 use Rattle.ws_replica.proofs.SomeBuild.{AllPlanned, some_summary}
 
 -- what is summed of a number, if a directory has it

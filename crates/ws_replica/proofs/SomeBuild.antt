@@ -1,6 +1,5 @@
 -- Each set of writes has a plan of each target, whose directories come to something.
-use Rattle.std.proofs.Common.{◌≡◌, ℕ, zero, suc, ◌+◌, ◌<◌, ◌≤◌, Bool, true, false, ◌&&◌, List, [], ◌∷◌, length, get_or, Option, None, Some, refl, sym, ap, subst, ◌∙◌, arith, inl, inr}
-use Rattle.std.specs.Prelude.{unwrap_or}
+use Rattle.std.proofs.Common.{◌≡◌, ℕ, zero, suc, ◌+◌, ◌<◌, ◌≤◌, Bool, true, false, ◌&&◌, List, [], ◌∷◌, length, Option, None, Some, refl, sym, ap, subst, ◌∙◌, arith, inl, inr}
 use Rattle.std.specs.List.{slice_get, list_all, Contains}
 use Rattle.std.proofs.lemmas.Option.{slice_get_within}
 use Rattle.go_ast.specs.Parse.{Parsed}
@@ -10,7 +9,7 @@ use Rattle.ws_action.specs.Actions.{Action, action_of}
 use Rattle.ws_action.proofs.Members.{at_head, later}
 use Rattle.ws_graph.specs.Packages.{package_files}
 use Rattle.ws_graph.specs.Plan.{Planned, NoFiles, Faulty, Sound, IsSound}
-use Rattle.ws_graph.specs.BuildPlan.{Sources, Directory, IsPlannedAs, IsBuildPlanOf, AreRanks}
+use Rattle.ws_graph.specs.BuildPlan.{Sources, Directory, IsPlannedAs, AreRanks}
 use Rattle.go_export.specs.Summaries.{Summary}
 use Rattle.ws_replica.specs.ActionPlans.{ActionPlan, is_sound, is_sound_in, is_sound_at, IsSummaryOf, AreSummaries, IsActionOf, AreActionsOf, IsPlanFor}
 use Rattle.ws_replica.specs.Reports.{Fate, Stopped, Blocked, Came, ComesTo, is_good, is_good_at, IsFate, AreFatesOf, AreFates}

@@ -123,14 +123,14 @@ gathered_start summaries ks found e = ap (λ z. ahead z (gathered summaries ks))
 
 -- ---- what is told
 
-pub told_more : (result : ℕ → Option Action) (k n : ℕ) (place : Place) (rest all : List Place) (row : List ℕ × Verdict) (rows more : List (List ℕ × Verdict)) → n ≡ suc k → row.0 ≡ place.path → IsTold place.fault (result k) row.1 → more ≡ rows ++ row ∷ [] → ((tail : List (List ℕ × Verdict)) → AreTold result k (place ∷ rest) tail → AreTold result 0 all (rows ++ tail)) → (tail : List (List ℕ × Verdict)) → AreTold result n rest tail → AreTold result 0 all (more ++ tail)
-told_more result k n place rest all row rows more next path told pushed h tail are =
-    subst (λ zs. AreTold result 0 all zs) (sym (ap (λ zs. zs ++ tail) pushed ∙ append_assoc rows (row ∷ []) tail))
+pub told_more : (result : ℕ → Option Action) (from k n : ℕ) (place : Place) (rest all : List Place) (row : List ℕ × Verdict) (rows more : List (List ℕ × Verdict)) → n ≡ suc k → row.0 ≡ place.path → IsTold place.fault (result k) row.1 → more ≡ rows ++ row ∷ [] → ((tail : List (List ℕ × Verdict)) → AreTold result k (place ∷ rest) tail → AreTold result from all (rows ++ tail)) → (tail : List (List ℕ × Verdict)) → AreTold result n rest tail → AreTold result from all (more ++ tail)
+told_more result from k n place rest all row rows more next path told pushed h tail are =
+    subst (λ zs. AreTold result from all zs) (sym (ap (λ zs. zs ++ tail) pushed ∙ append_assoc rows (row ∷ []) tail))
     (h (row ∷ tail) (path, told, subst (λ m. AreTold result m rest tail) next are))
 
 -- where nothing is left, all is told
-pub told_whole : (result : ℕ → Option Action) (k : ℕ) (rest all : List Place) (rows : List (List ℕ × Verdict)) → rest ≡ [] → ((tail : List (List ℕ × Verdict)) → AreTold result k rest tail → AreTold result 0 all (rows ++ tail)) → AreTold result 0 all rows
-told_whole result k rest all rows e h = subst (λ zs. AreTold result 0 all zs) (append-nil rows) (h [] (subst (λ zs. AreTold result k zs []) (sym e) tt))
+pub told_whole : (result : ℕ → Option Action) (from k : ℕ) (rest all : List Place) (rows : List (List ℕ × Verdict)) → rest ≡ [] → ((tail : List (List ℕ × Verdict)) → AreTold result k rest tail → AreTold result from all (rows ++ tail)) → AreTold result from all rows
+told_whole result from k rest all rows e h = subst (λ zs. AreTold result from all zs) (append-nil rows) (h [] (subst (λ zs. AreTold result k zs []) (sym e) tt))
 
 -- ---- what was reached
 

@@ -7,7 +7,7 @@ use Rattle.go_export.specs.Summaries.{Summary}
 use Rattle.ws_version.specs.Writes.{Write}
 use Rattle.ws_action.specs.Actions.{Action, action_of}
 pub use Rattle.ws_board.specs.Ends.{somes}
-use Rattle.ws_graph.specs.Plan.{Planned, NoFiles, Faulty, Sound, IsPlanOf}
+use Rattle.ws_graph.specs.Plan.{Planned, NoFiles, Sound, IsPlanOf}
 use Rattle.ws_graph.specs.BuildPlan.{Directory, IsBuildPlanOf}
 
 -- the directories of a plan, and the action of each, if it has one

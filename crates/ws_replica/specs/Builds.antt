@@ -1,35 +1,79 @@
--- What a build comes to.
-use Rattle.std.specs.Prelude.{◌≡◌, ℕ, List, ◌++◌, Some}
-use Rattle.ws_version.specs.Writes.{Write}
+-- What a build of several targets comes to.
+use Rattle.std.specs.Prelude.{◌≡◌, ◌==◌, ℕ, Bool, if◌then◌else◌, List, [], ◌++◌, map, None, Some, slice_index_or}
+use Rattle.std.specs.List.{AllZip, Contains, flat_map, list_any, slice_get}
+use Rattle.std.specs.FinMap.{FinMap}
 use Rattle.ws_action.specs.Actions.{Action}
 use Rattle.ws_action.specs.Clash.{NoClash, AllSized, hashed_actions}
 use Rattle.ws_cache.specs.Count.{compiled_count}
+use Rattle.ws_cache.specs.Held.{id_cmp, CacheStandsFor}
 use Rattle.ws_graph.specs.declared.planned.PlanError.{PlanError}
 use Rattle.ws_graph.specs.declared.planned.PlanError.TheVariants as plan
 use Rattle.ws_report.specs.declared.Report.{Report}
 use Rattle.ws_report.specs.Reports.{rows}
 use Rattle.ws_replica.specs.declared.BuildError.{BuildError}
+use Rattle.ws_replica.specs.declared.building.Target.{Target}
 use Rattle.ws_replica.specs.declared.BuildError.TheVariants as build
-use Rattle.ws_replica.specs.Holdings.{Replica, ReplicaStandsFor}
-use Rattle.ws_replica.specs.ActionPlans.{ActionPlan, IsPlanFor, actions_in}
-use Rattle.ws_replica.specs.Reports.{Fate, AreFates, report_of, compiled_actions}
+use Rattle.ws_replica.specs.Holdings.{Replica, ReplicaStandsFor, Took}
+use Rattle.ws_replica.specs.ActionPlans.{IsPlanFor}
+use Rattle.ws_replica.specs.Reports.{TargetBuild, IsTargetBuild, all_sought, all_compiled, report_of}
 
 -- what is answered where there is no plan
 abbrev pub refusal_of : PlanError → BuildError
 refusal_of plan.NoPackage = build.NoPackage
 refusal_of plan.Memory = build.Memory
 
--- where no two texts clash: the report is the plan's, the count is right, and the replica took what was compiled
-pub record IsRight (W : List Write) (E : List Action) (plan : ActionPlan) (fates : List Fate) (report : Report) (new : Replica) : Type 0 where
-  pub reports : rows report.directories.items ≡ report_of plan.directories fates
-  pub counts : report.compiled ≡ compiled_count E (compiled_actions fates)
-  pub stands : ReplicaStandsFor new W (E ++ compiled_actions fates)
+-- the number of a target's replica, and its directory
+abbrev pub target_of : Target → ℕ × List ℕ
+target_of t = (t.replica, t.directory.now)
 
--- What a build that succeeds says: the plan of the writes, what becomes of its directories, and that the report and the replica say so.
-pub record IsBuild (edition : ℕ) (W : List Write) (E : List Action) (target : List ℕ) (report : Report) (new : Replica) : Type 0 where
-  pub plan : ActionPlan
-  pub planned : IsPlanFor edition W target (Some plan)
-  pub fates : List Fate
-  pub are : AreFates (Some plan) fates
-  pub sized : AllSized (actions_in (Some plan))
-  pub right : NoClash (hashed_actions (E ++ actions_in (Some plan))) → IsRight W E plan fates report new
+-- what the replica of that number took; a number without a replica took nothing
+abbrev pub took_at : List Took → ℕ → Took
+took_at took k = slice_index_or took k (record { writes = []; actions = [] })
+
+-- the entries that the replicas of these targets hold
+abbrev pub held_by : List Took → List (ℕ × List ℕ) → List Action
+held_by took targets = flat_map (λ t. (took_at took t.0).actions) targets
+
+-- some target is the replica's of that number
+abbrev pub builds : List (ℕ × List ℕ) → ℕ → Bool
+builds targets k = list_any (λ t. t.0 == k) targets
+
+-- a replica stands for what it took, and for these actions where it is one that builds
+abbrev pub StandsAfter : List (ℕ × List ℕ) → List Action → ℕ → Took → Replica → Type 0
+StandsAfter targets actions k took replica = ReplicaStandsFor replica took.writes (if builds targets k then took.actions ++ actions else took.actions)
+
+-- Where no two texts clash: each report is its target's, each count that of the whole build, and all replicas that build took
+-- what they hold together and what was compiled.
+pub record AreRight (took : List Took) (targets : List (ℕ × List ℕ)) (all : List TargetBuild) (given : List Report) (new : List Replica) : Type 0 where
+  pub reports : map (λ (r : Report). rows r.directories.items) given ≡ map (λ (b : TargetBuild). report_of b.plan.directories b.fates) all
+  pub counts : (r : Report) → Contains given r → r.compiled ≡ compiled_count (held_by took targets) (all_compiled all)
+  pub stand : (k : ℕ) (t : Took) (replica : Replica) → slice_get took k ≡ Some t → slice_get new k ≡ Some replica →
+      StandsAfter targets (held_by took targets ++ all_compiled all) k t replica
+
+-- What a build that succeeds says of replicas that took this: the plans of the writes, what becomes of their directories, and that
+-- the reports and the replicas say so.
+pub record AreBuilt (edition : ℕ) (took : List Took) (targets : List (ℕ × List ℕ)) (reports : List Report) (new : List Replica) : Type 0 where
+  pub all : List TargetBuild
+  pub are : AllZip (λ t b. IsTargetBuild edition (took_at took t.0).writes t.1 b) targets all
+  pub sized : AllSized (all_sought all)
+  pub right : NoClash (hashed_actions (held_by took targets ++ all_sought all)) → AreRight took targets all reports new
+
+-- The same of a build that changes no replica, and gives a cache with what those that build hold together and what was compiled.
+pub record AreRightFrom (took : List Took) (targets : List (ℕ × List ℕ)) (all : List TargetBuild) (given : List Report) (cache : FinMap id_cmp Action) : Type 0 where
+  pub reports : map (λ (r : Report). rows r.directories.items) given ≡ map (λ (b : TargetBuild). report_of b.plan.directories b.fates) all
+  pub counts : (r : Report) → Contains given r → r.compiled ≡ compiled_count (held_by took targets) (all_compiled all)
+  pub stands : CacheStandsFor cache (held_by took targets ++ all_compiled all)
+
+pub record AreBuiltFrom (edition : ℕ) (took : List Took) (targets : List (ℕ × List ℕ)) (reports : List Report) (cache : FinMap id_cmp Action) : Type 0 where
+  pub all : List TargetBuild
+  pub are : AllZip (λ t b. IsTargetBuild edition (took_at took t.0).writes t.1 b) targets all
+  pub sized : AllSized (all_sought all)
+  pub right : NoClash (hashed_actions (held_by took targets ++ all_sought all)) → AreRightFrom took targets all reports cache
+
+-- a target without package files
+abbrev pub LacksPackage : ℕ → List Took → List (ℕ × List ℕ) → Type 0
+LacksPackage edition took targets = (k : ℕ) × (directory : List ℕ) × Contains targets (k, directory) × IsPlanFor edition (took_at took k).writes directory None
+
+-- the texts of the entries that each took are sized
+abbrev pub AllTookSized : List Took → Type 0
+AllTookSized took = AllSized (flat_map (λ (t : Took). t.actions) took)

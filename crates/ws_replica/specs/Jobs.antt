@@ -1,9 +1,9 @@
 -- The steps from a plan to what is said of its directories.
-use Rattle.std.specs.Prelude.{◌≡◌, ℕ, suc, List, [], ◌∷◌, map, Option, Some, None, IfSome, string_bytes}
-use Rattle.std.specs.List.{slice_get, AllZip, count_by}
+use Rattle.std.specs.Prelude.{Vec, ◌≡◌, ℕ, suc, ◌+◌, List, [], ◌∷◌, ◌++◌, length, map, Option, Some, None, IfSome, string_bytes}
+use Rattle.std.specs.List.{slice_get, All, AllZip, count_by}
 use Rattle.std.specs.FinMap.{FinMap}
+use Rattle.std.specs.Global.{Global}
 use Rattle.go_text.specs.Faults.{Fault}
-use Rattle.go_ast.specs.Parse.{Parsed}
 use Rattle.go_export.specs.Summaries.{Summary}
 use Rattle.ws_action.specs.Actions.{Action, IsSized, action_of}
 use Rattle.ws_cache.specs.Compiles.{Compiled, Compiles}
@@ -84,9 +84,6 @@ abbrev pub reached_by : ℕ → List (Option Summary) → Directory → Reached
 reached_by edition summaries d =
     record { place = record { path = d.path; fault = fault_of d.planned }; action = action_by edition summaries d; imports = d.imports }
 
-abbrev pub job_of : Reached → Job
-job_of r = record { action = r.action; imports = r.imports }
-
 -- the fault in what compiling gives, if there is one
 abbrev pub fault_in : Compiled → Option Fault
 fault_in (compiled.Good object) = None
@@ -112,11 +109,39 @@ AreTold result k [] (row ∷ rows) = ⊥
 AreTold result k (place ∷ places) [] = ⊥
 AreTold result k (place ∷ places) (row ∷ rows) = (row.0 ≡ place.path) × IsTold place.fault (result k) row.1 × AreTold result (suc k) places rows
 
--- what a board came to over a cache with the jobs of what was reached, and what was said of it
-pub record IsRun (cache : FinMap id_cmp Action) (reached : List Reached) (report : Report) (added : FinMap id_cmp Action) : Type 0 where
+-- ---- several plans, one after another
+
+-- the job of what was reached, where so many jobs come before those of its plan
+abbrev pub job_after : ℕ → Reached → Job
+job_after n r = record { action = r.action; imports = map (λ k. n + k) r.imports }
+
+-- the jobs of plans, where so many come before
+abbrev pub jobs_after : ℕ → List (List Reached) → List Job
+jobs_after n [] = []
+jobs_after n (reached ∷ rest) = map (job_after n) reached ++ jobs_after (n + length reached) rest
+
+-- what is said of each plan's directories, from the number n on
+abbrev pub AllTold : (ℕ → Option Action) → ℕ → List (List Place) → List (List (List ℕ × Verdict)) → Type 0
+AllTold result n [] [] = Unit {0}
+AllTold result n [] (rows ∷ others) = ⊥
+AllTold result n (places ∷ rest) [] = ⊥
+AllTold result n (places ∷ rest) (rows ∷ others) = AreTold result n places rows × AllTold result (n + length places) rest others
+
+-- of what the code keeps
+abbrev pub all_reached_of : List (Vec RustReached Global) → List (List Reached)
+all_reached_of all = map (λ v. map reached_of v.items) all
+
+abbrev pub all_places_of : List (Vec RustPlace Global) → List (List Place)
+all_places_of all = map (λ v. map place_of v.items) all
+
+abbrev pub rows_of : Report → List (List ℕ × Verdict)
+rows_of report = rows report.directories.items
+
+-- what a board came to over a cache with the jobs of what was reached of several plans, and what was said of each plan
+pub record IsRun (cache : FinMap id_cmp Action) (all : List (List Reached)) (reports : List Report) (added : FinMap id_cmp Action) : Type 0 where
   pub board : Seen
-  pub opening : board.opening ≡ record { jobs = map job_of reached; cache = cache }
+  pub opening : board.opening ≡ record { jobs = jobs_after 0 all; cache = cache }
   pub ends : ComesToEnds board []
-  pub told : AreTold (result_at board) 0 (map (λ r. r.place) reached) (rows report.directories.items)
-  pub counts : report.compiled ≡ count_by is_finish board.history
+  pub told : AllTold (result_at board) 0 (map (λ reached. map (λ r. r.place) reached) all) (map rows_of reports)
+  pub counts : All (λ r. r.compiled ≡ count_by is_finish board.history) reports
   pub added_are : added ≡ board.state.added

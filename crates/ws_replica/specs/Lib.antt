@@ -8,3 +8,4 @@ pub mod Programs
 pub mod Images
 pub mod Ids
 pub mod Candidates
+pub mod Targets

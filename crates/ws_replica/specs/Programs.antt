@@ -13,7 +13,7 @@ use Rattle.ws_action.specs.Clash.{NoClash, hashed_actions}
 use Rattle.ws_cache.specs.Compiles.{IsTypedOf}
 use Rattle.ws_graph.specs.BuildPlan.{Directory}
 use Rattle.ws_replica.specs.ActionPlans.{ActionPlan, IsPlanFor, actions_in}
-use Rattle.ws_replica.specs.Reports.{Fate, Stopped, Blocked, Came, AreFates}
+use Rattle.ws_replica.specs.Reports.{Fate, Came, AreFates}
 
 -- each directory is compiled and good, and its action is among those held
 abbrev pub AllHeld : List Action → List Fate → Type 0

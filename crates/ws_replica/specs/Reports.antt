@@ -1,6 +1,6 @@
 -- What a build says of each directory that it reaches.
 use Rattle.std.specs.Prelude.{◌≡◌, ℕ, Bool, true, false, is_none, List, [], ◌∷◌, Option, Some, None, slice_index_or}
-use Rattle.std.specs.List.{list_all}
+use Rattle.std.specs.List.{list_all, flat_map}
 use Rattle.go_text.specs.Faults.{Fault}
 use Rattle.go_ast.specs.Parse.{Parsed}
 use Rattle.ws_action.specs.Actions.{Action}
@@ -10,7 +10,8 @@ use Rattle.ws_graph.specs.Plan.{Sound, Faulty}
 use Rattle.ws_graph.specs.BuildPlan.{Directory}
 use Rattle.ws_report.specs.Reports.{Verdict, Wrong}
 use Rattle.ws_report.specs.Reports as report
-use Rattle.ws_replica.specs.ActionPlans.{ActionPlan}
+use Rattle.ws_version.specs.Writes.{Write}
+use Rattle.ws_replica.specs.ActionPlans.{ActionPlan, IsPlanFor, actions_in}
 
 -- what becomes of a directory: the fault of its plan, or nothing where an import isn't good, or its action, which is good or has a fault
 pub data Fate : Type 0 where
@@ -63,3 +64,21 @@ told_of (Came action (Some fault)) = Wrong fault
 abbrev pub report_of : List Directory → List Fate → List (List ℕ × Verdict)
 report_of (d ∷ ds) (f ∷ fates) = (d.path, told_of f) ∷ report_of ds fates
 report_of _ _ = []
+
+-- ---- builds of several targets
+
+-- a target's plan, and what becomes of its directories
+pub record TargetBuild : Type 0 where
+  pub plan : ActionPlan
+  pub fates : List Fate
+
+-- that of a directory, from a set of writes alone
+abbrev pub IsTargetBuild : ℕ → List Write → List ℕ → TargetBuild → Type 0
+IsTargetBuild edition writes directory build = IsPlanFor edition writes directory (Some build.plan) × AreFates (Some build.plan) build.fates
+
+-- the actions of all plans, and those that were compiled
+abbrev pub all_sought : List TargetBuild → List Action
+all_sought builds = flat_map (λ b. actions_in (Some b.plan)) builds
+
+abbrev pub all_compiled : List TargetBuild → List Action
+all_compiled builds = flat_map (λ b. compiled_actions b.fates) builds

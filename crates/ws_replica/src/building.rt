@@ -1,37 +1,55 @@
-//! Builds: what a plan's directories come to, and the report.
-ghost use Rattle.std.specs.Prelude.{◌≡◌, List, map, IfOk, OnErr, Err};
+//! Builds of several targets.
+ghost use Rattle.std.specs.Prelude.{◌≡◌, ◌<◌, ◌+◌, ◌++◌, List, length, map, IfOk, OnOk, OnErr, Err, All};
 ghost use Rattle.go_text.specs.Editions.{edition_number};
-ghost use Rattle.ws_version.specs.Writes.{Write as AWrite};
-ghost use Rattle.ws_action.specs.Actions.{Action as AnAction};
-ghost use Rattle.ws_action.specs.Clash.{AllSized};
-ghost use Rattle.ws_cache.specs.Compiles.{compiled_of};
-ghost use Rattle.ws_board.specs.Calls.{result_at};
-ghost use Rattle.ws_report.specs.Reports.{rows, seen};
-ghost use Rattle.ws_replica.specs.ActionPlans.{IsPlanFor};
-ghost use Rattle.ws_replica.specs.Holdings.{ReplicaStandsFor};
-ghost use Rattle.ws_replica.specs.Jobs.{fault_in, verdict_of, place_of, reached_of, job_of, IsTold, AreTold, IsRun};
-ghost use Rattle.ws_replica.specs.Builds.{IsBuild};
+ghost use Rattle.ws_replica.specs.Holdings.{Took, AllStandFor};
+ghost use Rattle.ws_replica.specs.Jobs.{place_of, reached_of, all_reached_of, all_places_of, job_after, jobs_after, IsRun};
+ghost use Rattle.ws_replica.specs.Builds.{target_of, AreBuilt, LacksPackage, AllTookSized};
 
-use crate::reached::{Place, Reached, all_reached};
+use crate::openings::{all_planned, give_results, opening_of};
+use crate::reached::{Place, Reached};
+use crate::telling::{number_after, reports};
 use crate::{BuildError, Replica};
 use go_text::edition::Edition;
-use go_text::fault::Fault;
 use std::alloc::{AllocError, Global};
+use std::sync::Wait;
 use std::thread::Threads;
-use ws_board::{Board, Built, Job};
-use ws_cache::{Cache, Outcome};
-use ws_graph::planning::plan;
-use ws_pool::drive;
-use ws_report::{Report, Verdict};
-use ws_version::Join;
+use ws_board::Job;
+use ws_cache::Cache;
+use ws_pool::{Gate, build_jobs};
+use ws_report::Report;
 
-/// The directories, and the job of each.
-fn parted(alloc: Global, reached: Vec<Reached>) -> Result<(Vec<Place>, Vec<Job>), AllocError>
-    ensures places { IfOk result (λ parts. map place_of parts.0.items ≡ map (λ r. place_of r.place) reached.items) }
-    ensures jobs { IfOk result (λ parts. parts.1.items ≡ map (λ r. job_of (reached_of r)) reached.items) }
+/// What is to be built: a directory, by the sources of the replica of a number.
+#[derive(Clone, Copy, Debug)]
+pub struct Target<'a> {
+    /// The replica's number in the list of replicas.
+    pub replica: usize,
+    /// The directory's path.
+    pub directory: &'a str,
+}
+
+/// The numbers of imports after that many jobs of other plans.
+fn numbers_after(alloc: Global, before: usize, imports: &[usize]) -> Result<Vec<usize>, AllocError>
+    ensures { IfOk result (λ numbers. numbers.items ≡ map (λ k. before + k) imports.now) }
 {
+    let mut numbers = Vec::new(alloc);
+    for import in imports {
+        let number = number_after(before, *import)?;
+        numbers.push(number)?;
+    }
+    Ok(numbers)
+}
+
+/// Adds the jobs of a plan to those of the plans before it: the places of its directories.
+fn add_jobs(
+    alloc: Global,
+    reached: Vec<Reached>,
+    jobs: &mut Vec<Job>,
+) -> Result<Vec<Place>, AllocError>
+    ensures places { IfOk result (λ places. map place_of places.items ≡ map (λ r. r.place) (map reached_of reached.items)) }
+    ensures jobs { OnOk result (jobs.new.items ≡ jobs.old.items ++ map (job_after (length jobs.old.items)) (map reached_of reached.items)) }
+{
+    let before = jobs.len();
     let mut places = Vec::new(alloc);
-    let mut jobs = Vec::new(alloc);
     for one in reached {
         let Reached {
             place,
@@ -39,86 +57,73 @@ fn parted(alloc: Global, reached: Vec<Reached>) -> Result<(Vec<Place>, Vec<Job>)
             imports,
         } = one;
         places.push(place)?;
+        let imports = numbers_after(alloc, before, &imports)?;
         let job = Job::new(action, imports)?;
         jobs.push(job)?;
+    }
+    Ok(places)
+}
+
+/// The places of each plan's directories, and the jobs of all plans in one list.
+fn parted(alloc: Global, all: Vec<Vec<Reached>>) -> Result<(Vec<Vec<Place>>, Vec<Job>), AllocError>
+    ensures places { IfOk result (λ parts. all_places_of parts.0.items ≡ map (λ reached. map (λ r. r.place) reached) (all_reached_of all.items)) }
+    ensures jobs { IfOk result (λ parts. parts.1.items ≡ jobs_after 0 (all_reached_of all.items)) }
+{
+    let mut places = Vec::new(alloc);
+    let mut jobs = Vec::new(alloc);
+    for reached in all {
+        let its = add_jobs(alloc, reached, &mut jobs)?;
+        places.push(its)?;
     }
     Ok((places, jobs))
 }
 
-fn verdict_of(outcome: &Outcome) -> Result<Verdict, AllocError>
-    ensures { IfOk result (λ verdict. seen verdict ≡ verdict_of (fault_in (compiled_of outcome.now))) }
-{
-    match outcome {
-        Outcome::Good(_) => Ok(Verdict::Good),
-        Outcome::Faulty(fault) => Ok(Verdict::Faulty(fault.copy()?)),
-    }
-}
-
-/// What is said of a directory: the fault of its plan, or what its job came to.
-fn told(built: &Built, job: usize, fault: Option<Fault>) -> Result<Verdict, AllocError>
-    ensures { IfOk result (λ verdict. IsTold fault (result_at built.now job) (seen verdict)) }
-{
-    if let Some(fault) = fault {
-        return Ok(Verdict::Faulty(fault));
-    }
-    let Some(outcome) = built.result(job) else {
-        return Ok(Verdict::Blocked);
-    };
-    let verdict = verdict_of(outcome)?;
-    Ok(verdict)
-}
-
-/// What is said of each directory.
-fn all_told(
-    alloc: Global,
-    built: &Built,
-    places: Vec<Place>,
-) -> Result<Vec<(String, Verdict)>, AllocError>
-    ensures { IfOk result (λ told. AreTold (result_at built.now) 0 (map place_of places.items) (rows told.items)) }
-{
-    let mut directories = Vec::new(alloc);
-    for place in places {
-        let Place { path, fault } = place;
-        let verdict = told(built, directories.len(), fault)?;
-        directories.push((path, verdict))?;
-    }
-    Ok(directories)
-}
-
-/// Compiles what the cache lacks of what was reached: the report, and the new entries.
-fn run(alloc: Global, cache: &Cache, reached: Vec<Reached>) -> Result<(Report, Cache), AllocError>
-    ensures { IfOk result (λ run. IsRun cache.now (map reached_of reached.items) run.0 run.1) }
-{
-    let (places, jobs) = parted(alloc, reached)?;
-    let board = Board::open(alloc, jobs, cache.copy()?)?;
-    let built = drive(board)?;
-    let directories = all_told(alloc, &built, places)?;
-    let compiled = built.compiled() as u64;
-    let report = Report {
-        directories,
-        compiled,
-    };
-    Ok((report, built.into_added()))
-}
-
-/// Builds a directory: the report, of all directories that it reaches, depends on the replica's
-/// sources alone, and what was compiled is put into its cache. `NoPackage` comes where the
-/// directory has no files that belong to a build. An `Err` changes nothing.
-pub fn build<R: Threads + Sync>(
+/// Compiles what the opening lacks of all that was reached: the reports, and the new entries.
+pub(crate) fn run<R: Threads + Wait + Sync, G: Gate>(
     rt: &R,
     alloc: Global,
-    replica: &mut Replica,
-    directory: &str,
-    edition: Edition,
-) -> Result<Report, BuildError>
-    ensures ok { IfOk result (λ report. (W : List AWrite) (E : List AnAction) → ReplicaStandsFor replica.old W E → AllSized E → IsBuild (edition_number edition) W E directory.now report replica.new) }
-    ensures registers { replica.new.registers ≡ replica.old.registers }
-    ensures none { result ≡ Err BuildError.NoPackage → (W : List AWrite) (E : List AnAction) → ReplicaStandsFor replica.old W E → IsPlanFor (edition_number edition) W directory.now None }
-    ensures err { OnErr result (replica.new ≡ replica.old) }
+    all: Vec<Vec<Reached>>,
+    opening: Cache,
+    workers: u64,
+    gate: &G,
+) -> Result<(Vec<Report>, Cache), AllocError>
+    requires { 0 < workers }
+    ensures { IfOk result (λ run. IsRun opening (all_reached_of all.items) run.0.items run.1) }
 {
-    let plan = plan(rt, alloc, &replica.registers, directory)?;
-    let reached = all_reached(alloc, edition, plan.directories)?;
-    let (report, added) = run(alloc, &replica.cache, reached)?;
-    replica.cache.merge(&added)?;
-    Ok(report)
+    let (places, jobs) = parted(alloc, all)?;
+    let built = build_jobs(rt, alloc, jobs, opening, workers, gate)?;
+    let reports = reports(alloc, &built, places)?;
+    Ok((reports, built.into_added()))
+}
+
+/// Builds targets, all of them on one board that is opened over the join of the caches of the
+/// replicas that they name: a report for each, of all directories that it reaches, with how many
+/// were compiled for all of them. The reports depend on the replicas' sources alone. Each replica
+/// that is named then holds what all of these held and what was compiled; the others stay.
+///
+/// `NoPackage` comes where a target's directory has no files that belong to a build, and `Memory`
+/// where an allocation was refused, a worker's too. An `Err` changes nothing.
+pub fn build<R: Threads + Wait + Sync, G: Gate>(
+    rt: &R,
+    alloc: Global,
+    replicas: &mut [Replica],
+    targets: &[Target<'_>],
+    edition: Edition,
+    workers: u64,
+    gate: &G,
+) -> Result<Vec<Report>, BuildError>
+    requires within { All (λ t. t.replica < length replicas.old) targets.now }
+    requires some { 0 < workers }
+    ensures ok { IfOk result (λ reports. (took : List Took) → AllStandFor replicas.old took → AllTookSized took
+        → AreBuilt (edition_number edition) took (map target_of targets.now) reports.items replicas.new) }
+    ensures registers { map (λ r. r.registers) replicas.new ≡ map (λ r. r.registers) replicas.old }
+    ensures none { result ≡ Err BuildError.NoPackage → (took : List Took) → AllStandFor replicas.old took
+        → LacksPackage (edition_number edition) took (map target_of targets.now) }
+    ensures err { OnErr result (replicas.new ≡ replicas.old) }
+{
+    let all = all_planned(rt, alloc, replicas, targets, edition)?;
+    let opening = opening_of(alloc, replicas, targets)?;
+    let (reports, added) = run(rt, alloc, all, opening, workers, gate)?;
+    give_results(alloc, replicas, targets, &added)?;
+    Ok(reports)
 }

@@ -38,7 +38,11 @@ pub fn join_all<R: Threads + Sync, J: Join + Drop>(rt: &R, all: &[J]) -> Result<
 }
 
 /// As many copies as asked for, or an `Err` for want of memory.
-fn copies<J: Join + Drop>(alloc: Global, count: usize, joined: &J) -> Result<Vec<J>, AllocError>
+pub(crate) fn copies<J: Join + Drop>(
+    alloc: Global,
+    count: usize,
+    joined: &J,
+) -> Result<Vec<J>, AllocError>
     ensures { IfOk result (λ copies. copies.items ≡ replicate count joined.now) }
 {
     let mut copies = Vec::with_capacity(alloc, count)?;

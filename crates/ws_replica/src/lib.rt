@@ -4,21 +4,24 @@
 ghost use Rattle.std.specs.Prelude.{◌≡◌, ℕ, ◌++◌, ◌∷◌, [], List, Option, IfOk, IfErr, OnOk, OnErr, None, option_copied, string_bytes};
 ghost use Rattle.ws_map.specs.Kept.{SameMembers};
 ghost use Rattle.ws_version.specs.Writes.{Write as AWrite, held_cmp};
-ghost use Rattle.ws_map.specs.Kept.{StandsAt};
+ghost use Rattle.ws_map.specs.Kept.{StandsAt, joined};
 ghost use Rattle.ws_register.specs.Edits.{top, greatest_at, edit_refusal, removal_refusal, IsRefusal, edited, removed};
 ghost use Rattle.ws_register.specs.Sources.{IsShown, IsSources};
 ghost use Rattle.ws_register.specs.Texted.{texted};
 ghost use Rattle.ws_action.specs.Actions.{Action as AnAction};
+ghost use Rattle.ws_cache.specs.Held.{CacheStandsFor};
+ghost use Rattle.ws_cache.specs.Joined.{lesser};
 ghost use Rattle.ws_replica.specs.Holdings.{ReplicaStandsFor, both};
 ghost use Rattle.ws_replica.specs.declared.BuildError.TheVariants.{Memory};
 ghost use Rattle.ws_replica.specs.ActionPlans.{ActionPlan, IsPlanFor};
 ghost use Rattle.ws_replica.specs.Reports.{Fate, AreFates};
 ghost use Rattle.ws_replica.specs.Builds.{refusal_of};
 
-pub use building::build;
+pub use building::{Target, build};
 use go_text::source::Source;
 use go_text::text::Text;
 pub use linking::image;
+pub use snapshot::{Snapshot, build_from};
 pub use standings::ids;
 use std::alloc::{AllocError, Global};
 use std::marker::Model;
@@ -31,8 +34,11 @@ use ws_version::{Held, Join, Write};
 mod building;
 pub mod join;
 mod linking;
+mod openings;
 mod reached;
+mod snapshot;
 mod standings;
+mod telling;
 
 /// Why there is no report.
 #[derive(Debug, Drop, Error)]
@@ -90,6 +96,24 @@ impl Replica {
             registers: Registers::new(alloc),
             cache: Cache::new(alloc),
         }
+    }
+
+    pub(crate) fn registers(&self) -> &Registers
+        ensures { result.now ≡ self.now.registers }
+    {
+        &self.registers
+    }
+
+    pub(crate) fn cache(&self) -> &Cache
+        ensures { result.now ≡ self.now.cache }
+    {
+        &self.cache
+    }
+
+    pub(crate) fn put_cache(&mut self, cache: Cache)
+        ensures { self.new ≡ record self.old { cache = cache } }
+    {
+        self.cache = cache;
     }
 
     /// What is held at a path, a removal too.
@@ -159,6 +183,25 @@ impl Replica {
         let sources = self.registers.sources()?;
         Ok(sources)
     }
+
+    /// What it holds now, which is shared and not copied. An `Err` is for want of memory.
+    pub fn snapshot(&self) -> Result<Snapshot, AllocError>
+        ensures { IfOk result (λ snapshot. snapshot ≡ self.now) }
+    {
+        let held = self.copy()?;
+        Ok(Snapshot::new(held))
+    }
+
+    /// Takes the results of a build into its cache. An `Err`, for want of memory, changes nothing.
+    pub fn take_results(&mut self, results: &Cache) -> Result<(), AllocError>
+        ensures ok { OnOk result (self.new ≡ record self.old { cache = joined lesser self.old.cache results.now }) }
+        ensures err { OnErr result (self.new ≡ self.old) }
+        ensures stands { OnOk result ((writes : List AWrite) (E F : List AnAction) → ReplicaStandsFor self.old writes E
+            → CacheStandsFor results.now F → ReplicaStandsFor self.new writes (E ++ F)) }
+    {
+        self.cache.merge(results)?;
+        Ok(())
+    }
 }
 
 impl Join for Replica {
@@ -183,10 +226,11 @@ impl Join for Replica {
         ensures err { OnErr result (self.new ≡ self.old) }
         ensures stands { OnOk result ((V W : List AWrite) (E F : List AnAction) → ReplicaStandsFor self.old V E → ReplicaStandsFor other.now W F → ReplicaStandsFor self.new (V ++ W) (E ++ F)) }
     {
-        let mut cache = self.cache.copy()?;
-        cache.merge(&other.cache)?;
-        self.registers.merge(&other.registers)?;
-        self.cache = cache;
+        // A copy of registers shares their pages; one of the cache would have it cloned.
+        let mut registers = self.registers.copy()?;
+        registers.merge(&other.registers)?;
+        self.cache.merge(&other.cache)?;
+        self.registers = registers;
         Ok(())
     }
 }

@@ -5,12 +5,12 @@ use Rattle.ws_command.specs.Commands.{Command, command_of, text_of, text_lines}
 use Rattle.ws_session.specs.World.{World, After, Prints}
 use Rattle.ws_command.specs.Lines.{lines_of}
 use Rattle.ws_script.specs.Requests.{IsFirst}
-use Rattle.ws_session.specs.Text.{TextFrom, BegunFrom, ReachedFrom}
+use Rattle.ws_session.specs.Text.{TextFrom, IsBeginning, ReachedFrom}
+use Rattle.ws_session.proofs.SomeText.{some_after, some_text_from}
 
 -- From the first world's lines on, all that is said from here on follows this front, and each world that is reached from here is reached.
 pub record LeadsTo (first : World) (all : List (List ℕ)) (world : World) (left : List (List ℕ)) (front : List ℕ) : Type 0 where
   pub text : (later : List ℕ) → TextFrom 0 left world later → TextFrom 0 all first (front ++ later)
-  pub begun : (later : List ℕ) → BegunFrom 0 left world later → BegunFrom 0 all first (front ++ later)
   pub reached : (other : World) → ReachedFrom 0 left world other → ReachedFrom 0 all first other
 
 -- what a line's command prints, on the lines behind it
@@ -28,12 +28,6 @@ text_taken zero lines world told h = h
 text_taken (suc taken) [] world told h = h
 text_taken (suc taken) (line ∷ lines) world told h = text_taken taken lines world told h
 
-begun_taken : (taken : ℕ) (lines : List (List ℕ)) (world : World) (told : List ℕ) → BegunFrom 0 (drop taken lines) world told → BegunFrom taken lines world told
-unfolding BegunFrom
-begun_taken zero lines world told h = h
-begun_taken (suc taken) [] world told h = h
-begun_taken (suc taken) (line ∷ lines) world told h = begun_taken taken lines world told h
-
 reached_taken : (taken : ℕ) (lines : List (List ℕ)) (world other : World) → ReachedFrom 0 (drop taken lines) world other → ReachedFrom taken lines world other
 unfolding ReachedFrom
 reached_taken zero lines world other h = h
@@ -46,31 +40,15 @@ unfolding ReachedFrom
 reached_itself [] world = refl
 reached_itself (line ∷ lines) world = inl refl
 
-begun_nothing : (lines : List (List ℕ)) (world : World) → BegunFrom 0 lines world []
-unfolding BegunFrom
-begun_nothing [] world = refl
-begun_nothing (line ∷ lines) world = inl refl
-
 -- nothing is said before the first command
 pub at_first : (first : World) (all : List (List ℕ)) → LeadsTo first all first all []
-at_first first all = record { text = λ later h. h; begun = λ later h. h; reached = λ other h. h }
+at_first first all = record { text = λ later h. h; reached = λ other h. h }
 
 text_line : (line : List ℕ) (lines : List (List ℕ)) (world next : World) (told later : List ℕ) →
     LinePrints line lines world told → LineLeads line lines world next →
     TextFrom 0 (drop (text_lines (command_of line)) lines) next later → TextFrom 0 (line ∷ lines) world (told ++ later)
 unfolding TextFrom
 text_line line lines world next told later prints after h = (told, later, next, prints, after, text_taken (text_lines (command_of line)) lines next later h, refl)
-
-begun_line : (line : List ℕ) (lines : List (List ℕ)) (world next : World) (told later : List ℕ) →
-    LinePrints line lines world told → LineLeads line lines world next →
-    BegunFrom 0 (drop (text_lines (command_of line)) lines) next later → BegunFrom 0 (line ∷ lines) world (told ++ later)
-unfolding BegunFrom
-begun_line line lines world next told later prints after h = inr (inr (told, later, next, prints, after, begun_taken (text_lines (command_of line)) lines next later h, refl))
-
-begun_part : (line : List ℕ) (lines : List (List ℕ)) (world : World) (told : List ℕ) (n : ℕ) →
-    LinePrints line lines world told → BegunFrom 0 (line ∷ lines) world (take n told)
-unfolding BegunFrom
-begun_part line lines world told n prints = inr (inl (told, prints, (drop n told, sym (take-append-drop n told))))
 
 reached_line : (line : List ℕ) (lines : List (List ℕ)) (world next other : World) → LineLeads line lines world next →
     ReachedFrom 0 (drop (text_lines (command_of line)) lines) next other → ReachedFrom 0 (line ∷ lines) world other
@@ -88,7 +66,6 @@ pub leads_on : {first : World} {all : List (List ℕ)} {world : World} {line : L
     LeadsTo first all next (drop (text_lines (command_of line)) lines) (front ++ told)
 leads_on {first = first} {all = all} {front = front} leads next told prints after = record {
   text = λ later h. subst (λ (t : List ℕ). TextFrom 0 all first t) (sym (append_assoc front told later)) (leads.text (told ++ later) (text_line _ _ _ next told later prints after h));
-  begun = λ later h. subst (λ (t : List ℕ). BegunFrom 0 all first t) (sym (append_assoc front told later)) (leads.begun (told ++ later) (begun_line _ _ _ next told later prints after h));
   reached = λ other h. leads.reached other (reached_line _ _ _ next other after h);
 }
 
@@ -98,14 +75,26 @@ unfolding TextFrom
 all_said {first = first} {all = all} {world = world} {front = front} leads none =
     subst (λ (t : List ℕ). TextFrom 0 all first t) (append-nil front) (leads.text [] (subst (λ (ls : List (List ℕ)). TextFrom 0 ls world []) (sym none) refl))
 
+-- some bytes are a beginning of all that is said
+abbrev pub BegunFrom : List (List ℕ) → World → List ℕ → Type 0
+BegunFrom all first front = (text : List ℕ) × TextFrom 0 all first text × IsBeginning front text
+
 -- the front is a beginning
-pub front_said : {first : World} {all : List (List ℕ)} {world : World} {left : List (List ℕ)} {front : List ℕ} → LeadsTo first all world left front → BegunFrom 0 all first front
-front_said {first = first} {all = all} {front = front} leads = subst (λ (t : List ℕ). BegunFrom 0 all first t) (append-nil front) (leads.begun [] (begun_nothing _ _))
+pub front_said : {first : World} {all : List (List ℕ)} {world : World} {left : List (List ℕ)} {front : List ℕ} → LeadsTo first all world left front → BegunFrom all first front
+front_said {world = world} {left = left} {front = front} leads =
+    let later = some_text_from 0 left world in
+    (front ++ later.0, leads.text later.0 later.1, (later.0, refl))
 
 -- and so is the front with some of what the next command prints
 pub part_said : {first : World} {all : List (List ℕ)} {world : World} {line : List ℕ} {lines : List (List ℕ)} {front : List ℕ} → LeadsTo first all world (line ∷ lines) front → (told : List ℕ) (n : ℕ) →
-    LinePrints line lines world told → BegunFrom 0 all first (front ++ take n told)
-part_said leads told n prints = leads.begun (take n told) (begun_part _ _ _ told n prints)
+    LinePrints line lines world told → BegunFrom all first (front ++ take n told)
+part_said {world = world} {line = line} {lines = lines} {front = front} leads told n prints =
+    let next = some_after (command_of line) (text_of (text_lines (command_of line)) lines) world in
+    let later = some_text_from 0 (drop (text_lines (command_of line)) lines) next.0 in
+    let split : front ++ (told ++ later.0) ≡ (front ++ take n told) ++ (drop n told ++ later.0) =
+    ap (λ t. front ++ (t ++ later.0)) (sym (take-append-drop n told)) ∙ ap (λ t. front ++ t) (append_assoc (take n told) (drop n told) later.0)
+    ∙ sym (append_assoc front (take n told) (drop n told ++ later.0)) in
+    (front ++ (told ++ later.0), leads.text (told ++ later.0) (text_line line lines world next.0 told later.0 prints next.1 later.1), (drop n told ++ later.0, split))
 
 text_is : {script : List ℕ} {command : Command} {text : Option (List ℕ)} {rest : List ℕ} (is : IsFirst script command text rest) → text ≡ text_of (text_lines (command_of is.line)) is.lines
 text_is is = is.text_is ∙ ap (λ (k : Command). text_of (text_lines k) is.lines) is.command_is
@@ -138,5 +127,5 @@ first_leads {first = first} {all = all} {world = world} {front = front} is leads
 
 -- the front with some of what it prints is a beginning
 pub first_part : {first : World} {all : List (List ℕ)} {world : World} {front : List ℕ} {script : List ℕ} {command : Command} {text : Option (List ℕ)} {rest : List ℕ} → IsFirst script command text rest →
-    LeadsTo first all world (lines_of script) front → (told : List ℕ) (n : ℕ) → Prints command text world told → BegunFrom 0 all first (front ++ take n told)
+    LeadsTo first all world (lines_of script) front → (told : List ℕ) (n : ℕ) → Prints command text world told → BegunFrom all first (front ++ take n told)
 first_part {world = world} is leads told n prints = part_said (at_line is leads) told n (prints_line is world told prints)

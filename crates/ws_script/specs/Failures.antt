@@ -7,13 +7,11 @@ use Rattle.ws_script.specs.declared.running.SessionError.TheVariants.{Read, Writ
 
 -- of the reader
 abbrev pub failed_reads : {A : Type 0} → Result A SessionError → ℕ
-failed_reads (Err Read) = 1
-failed_reads _ = 0
+failed_reads ended = elim ended [ Err Read ↦ 1 | _ ↦ 0 ]
 
 -- of the writer
 abbrev pub failed_writes : {A : Type 0} → Result A SessionError → ℕ
-failed_writes (Err Write) = 1
-failed_writes _ = 0
+failed_writes ended = elim ended [ Err Write ↦ 1 | _ ↦ 0 ]
 
 -- of the writer, where the script is read
 abbrev pub unwritten : {A : Type 0} → Result A AnswerError → ℕ

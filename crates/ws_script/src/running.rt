@@ -6,6 +6,7 @@ ghost use Rattle.ws_command.specs.Commands.{text_of};
 ghost use Rattle.ws_command.specs.Seen.{seen};
 ghost use Rattle.ws_script.specs.Requests.{IsFirst};
 ghost use Rattle.ws_session.specs.World.{opening};
+ghost use Rattle.ws_session.specs.Standing.{StandFor};
 ghost use Rattle.ws_script.specs.Ends.{Wrote, WroteSome, Session};
 ghost use Rattle.ws_script.specs.Failures.{failed_writes, failed_reads, unwritten};
 ghost use Rattle.ws_script.specs.Answers.{unread, unanswered};
@@ -14,11 +15,13 @@ ghost use Rattle.ws_script.specs.declared.running.AnswerError.TheVariants.{Memor
 use crate::reading::{EndFault, ReadError, ScriptIn, read_whole};
 use crate::writing::{ScriptOut, write_whole};
 use std::alloc::{AllocError, Global};
+use std::sync::Wait;
 use std::thread::Threads;
 use thiserror::Error;
 use ws_command::commands::{Asked, ask};
 use ws_command::lines::{closed, cut_line, next_line};
-use ws_session::steps::Steps;
+use ws_pool::Gate;
+use ws_session::replicas::Replicas;
 
 /// Why a session ended early: no memory, a failed read, a failed write, or a script that is too
 /// long. The texts are those that the program prints.
@@ -125,7 +128,7 @@ pub fn first_request(alloc: Global, script: &[u8]) -> Result<Request<'_>, AllocE
     ensures shorter { IfOk result (λ request. length request.behind.now < length script.now) }
 {
     let (line, behind) = next_line(script);
-    let asked = ask(line);
+    let asked = ask(alloc, line)?;
     let (text, behind) = take_text(alloc, behind, asked.text_lines())?;
     Ok(Request {
         asked,
@@ -134,21 +137,25 @@ pub fn first_request(alloc: Global, script: &[u8]) -> Result<Request<'_>, AllocE
     })
 }
 
-/// Writes what a session writes for a script, where the steps stand for an edition's first world.
+/// Writes what a session writes for a script, where the replicas stand for an edition's first
+/// world: whatever the number of workers, and the gate that they pass.
 ///
 /// On an `Err` a beginning of it is written: on `Memory` all that the commands before print, on
 /// `Write` all that the writer took.
-pub fn answer<R: Threads + Sync, S: Steps, O: ScriptOut>(
+pub fn answer<R: Threads + Wait + Sync, O: ScriptOut, G: Gate>(
     rt: &R,
     alloc: Global,
-    steps: &mut S,
+    replicas: &mut Replicas,
     script: &[u8],
     writer: &mut O,
+    workers: u64,
+    gate: &G,
 ) -> Result<(), AnswerError>
+    requires some { 0 < workers }
     requires writable { O.failed writer.old + 1 < 2 ^ 64 }
-    ensures ok { (edition : ℕ) → S.stands_for steps.old (opening edition) →
+    ensures ok { (edition : ℕ) → StandFor replicas.old (opening edition) →
         OnOk result (Wrote edition script.now (O.written writer.old) (O.written writer.new)) }
-    ensures err { (edition : ℕ) → S.stands_for steps.old (opening edition) →
+    ensures err { (edition : ℕ) → StandFor replicas.old (opening edition) →
         OnErr result (WroteSome edition script.now (O.written writer.old) (O.written writer.new)) }
     ensures failed { O.failed writer.new ≡ O.failed writer.old + unwritten result }
 {
@@ -159,36 +166,40 @@ pub fn answer<R: Threads + Sync, S: Steps, O: ScriptOut>(
             text,
             behind,
         } = first_request(alloc, rest)?;
-        let told = steps.step(rt, &asked, text)?;
+        let told = replicas.step(rt, workers, gate, &asked, text)?;
         write_whole(writer, told.as_slice())?;
         rest = behind;
     }
     Ok(())
 }
 
-/// Reads a script to its end, and writes what a session writes for it, where the steps stand for
-/// an edition's first world.
+/// Reads a script to its end, and writes what a session writes for it, where the replicas stand for
+/// an edition's first world: whatever the number of workers, and the gate that they pass.
 ///
 /// - `Memory`: there was none for the script, or for a command. A beginning of the text is written.
 /// - `Read`: a read failed. Nothing is written.
 /// - `TooLong`: the script has more than 16,777,216 bytes. Nothing is written.
 /// - `Write`: a write failed, or took nothing. A beginning of the text is written.
-pub fn play<R: Threads + Sync, S: Steps, I: ScriptIn, O: ScriptOut>(
+pub fn play<R: Threads + Wait + Sync, I: ScriptIn, O: ScriptOut, G: Gate>(
     rt: &R,
     alloc: Global,
-    steps: &mut S,
+    replicas: &mut Replicas,
     reader: &mut I,
     writer: &mut O,
+    workers: u64,
+    gate: &G,
 ) -> Result<(), SessionError>
+    requires some { 0 < workers }
     requires readable { I.failed reader.old + 1 < 2 ^ 64 }
     requires writable { O.failed writer.old + 1 < 2 ^ 64 }
-    ensures session { (edition : ℕ) → S.stands_for steps.old (opening edition) →
+    ensures session { (edition : ℕ) → StandFor replicas.old (opening edition) →
         Session edition result (I.told reader.old) (I.told reader.new)
         (O.written writer.old) (O.written writer.new) }
     ensures reads { I.failed reader.new ≡ I.failed reader.old + failed_reads result }
     ensures writes { O.failed writer.new ≡ O.failed writer.old + failed_writes result }
 {
-    let script = read_whole(alloc, reader)?;
-    answer(rt, alloc, steps, script.as_slice(), writer)?;
+    let bytes = read_whole(alloc, reader)?;
+    let script = bytes.as_slice();
+    answer(rt, alloc, replicas, script, writer, workers, gate)?;
     Ok(())
 }

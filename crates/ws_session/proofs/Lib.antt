@@ -1,5 +1,10 @@
+pub mod Asked
+pub mod BuildTelling
+pub mod Building
 pub mod Fates
 pub mod IdsTelling
+pub mod Lines
+pub mod Names
 pub mod OneText
 pub mod Tested
 pub mod RunTelling

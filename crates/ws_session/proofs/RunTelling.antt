@@ -1,6 +1,7 @@
 -- What a run tells of the replicas of a session, and of those of the world.
 use Rattle.std.proofs.Common.{◌≡◌, ℕ, List, [], ◌∷◌, Option, None, Some, true, false, Bool, cond, refl, sym, ap, subst, inl, inr}
 use Rattle.std.specs.List.{flat_map, Contains}
+use Rattle.std.specs.Option.{option_to_list}
 use Rattle.std.specs.Str.{bytes_eq, is_utf8}
 use Rattle.std.proofs.lemmas.List.Elements.{Contains-append_left, Contains-append_right}
 use Rattle.ws_action.specs.Actions.{Action}
@@ -12,7 +13,7 @@ use Rattle.ws_command.specs.declared.refusal.Refusal.TheVariants.{Unknown, NoPac
 use Rattle.ws_command.specs.Commands.{Run}
 use Rattle.ws_command.specs.Refusals.{first_of, refused}
 use Rattle.ws_command.specs.RunPrinting.{run_text}
-use Rattle.ws_session.specs.World.{World, Replica, replica_at, or_new, writes_of, actions_held, seeking, refusals, AfterBy, After, PrintsBy, Prints, Ran, hashed, texts_of_replica, text_list}
+use Rattle.ws_session.specs.World.{World, Replica, replica_at, or_new, writes_of, actions_held, seeking, refusals, AfterBy, After, PrintsBy, Prints, Ran, texts_of_replica}
 use Rattle.ws_session.specs.Standing.{index_of, AllStand, Tells, IsOutcome, RunOf, HasNoPlanAt, RanAt}
 use Rattle.ws_session.proofs.Standings.{found}
 use Rattle.ws_session.proofs.Settling.{knows_none, knows_some}
@@ -38,11 +39,12 @@ among name [] r e = cc
 among name (q ∷ rs) r e = among_by name q rs r (bytes_eq q.name name) e (among name rs r)
 
 pub held_among : (name : List ℕ) (rs : List Replica) (r : Replica) → replica_at name rs ≡ Some r → (s : List ℕ) → Contains (hashed_actions r.actions) s → Contains (flat_map texts_of_replica rs) s
-held_among name rs r e s c = among name rs r e s (Contains-append_right (flat_map (λ w. text_list w.1.text) r.writes) (hashed_actions r.actions) s c)
+held_among name rs r e s c = among name rs r e s (Contains-append_right (flat_map (λ w. option_to_list w.1.text) r.writes) (hashed_actions r.actions) s c)
 
-ran_of_plan : (name directory : List ℕ) (ticks : ℕ) (held : List Action) (plan : ActionPlan) (outcome : Option Outcome) (told : List ℕ) → IsOutcome directory ticks held plan outcome → told ≡ printed name directory outcome → Ran name directory ticks held (Some plan) told
-ran_of_plan name directory ticks held plan None told o e = inr (o, e)
-ran_of_plan name directory ticks held plan (Some outcome) told o e = inl (o.0, o.1, outcome.ending, outcome.output, o.2, e)
+ran_of_plan : (world : World) (name directory : List ℕ) (ticks : ℕ) (plan : ActionPlan) (outcome : Option Outcome) (told : List ℕ) → IsOutcome directory ticks (actions_held name world) plan outcome → told ≡ printed name directory outcome
+    → Ran name directory ticks world (Some plan) told
+ran_of_plan world name directory ticks plan None told o e = inr (o, e)
+ran_of_plan world name directory ticks plan (Some outcome) told o e = inl (o.0, o.1, outcome.ending, outcome.output, o.2, e)
 
 module _ (name directory : List ℕ) (ticks : ℕ) (text : Option (List ℕ)) (world : World) (ns : List Named) (h : AllStand ns world.replicas) where
   pub run_unknown : (told : List ℕ) → index_of name ns ≡ None → told ≡ refused Unknown → Tells (Run name directory ticks) text world told ns
@@ -95,7 +97,7 @@ module _ (name directory : List ℕ) (ticks : ℕ) (text : Option (List ℕ)) (w
           edition = refl;
           clear = λ clear.
               let o = subst (λ E. IsOutcome directory ticks E b.plan outcome) (sym actions_are) (b.ran (clear_sought r.actions sought world (held_among name world.replicas r f.at) clear)) in (
-                subst (λ z. PrintsBy z (Run name directory ticks) world told) (sym (allowed u)) (Some b.plan, plan, ran_of_plan name directory ticks (actions_held name world) b.plan outcome told o t),
+                subst (λ z. PrintsBy z (Run name directory ticks) world told) (sym (allowed u)) (Some b.plan, plan, ran_of_plan world name directory ticks b.plan outcome told o t),
                 h,
               );
         }

@@ -1,8 +1,8 @@
 -- What a run of an image says of the sources.
-use Rattle.std.proofs.Common.{◌≡◌, ℕ, List, [], ◌∷◌, Option, None, Some, sym, ap, subst, ◌∙◌}
+use Rattle.std.proofs.Common.{◌≡◌, ℕ, List, [], ◌∷◌, None, Some, subst}
 use Rattle.std.proofs.lemmas.List.Elements.{All-cons, All-nil}
 use Rattle.go_code.specs.declared.ending.Ending.{Ending}
-use Rattle.go_code.specs.Finals.{Final, Ends, BadCode}
+use Rattle.go_code.specs.Finals.{Ends, BadCode}
 use Rattle.go_code.specs.Images.{Image}
 use Rattle.go_code.specs.Machine.{MachineMeaning}
 use Rattle.go_code.proofs.Steps.{meaning_once}

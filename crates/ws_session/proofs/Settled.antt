@@ -1,12 +1,12 @@
 -- Replicas of a session of which each takes what all hold.
-use Rattle.std.proofs.Common.{◌≡◌, ℕ, List, [], ◌∷◌, ◌++◌, map, Option, None, refl, sym, ap, ◌∙◌, subst, length, Vec, Global}
+use Rattle.std.proofs.Common.{◌≡◌, ℕ, suc, List, [], ◌∷◌, ◌++◌, map, Option, None, refl, sym, ap, ◌∙◌, subst, length, Vec, Global}
 use Rattle.std.specs.List.{flat_map}
 use Rattle.std.proofs.lemmas.List.{length-map}
 use Rattle.ws_version.specs.Writes.{Write as AWrite}
 use Rattle.ws_action.specs.Actions.{Action}
 use Rattle.ws_action.specs.Clash.{AllSized}
 use Rattle.ws_replica.specs.Joins as joins
-use Rattle.ws_replica.specs.Holdings.{ReplicaStandsFor, Took, AllStandFor, all_taken}
+use Rattle.ws_replica.specs.Holdings.{Took, AllStandFor, all_taken}
 use Rattle.ws_session.specs.declared.replicas.Named.{Named}
 use Rattle.ws_command.specs.Commands.{Settle}
 use Rattle.ws_session.specs.World.{World, Replica, with_replicas, settled}
@@ -20,8 +20,11 @@ settled_length f [] = refl
 settled_length f (first ∷ rest) = length-map (first ∷ rest) (λ _. joins.joined_from f first rest)
 
 -- what replicas of the world took
+abbrev pub took_by : Replica → Took
+took_by r = record { writes = r.writes; actions = r.actions }
+
 abbrev pub took_of : List Replica → List Took
-took_of rs = map (λ r. record { writes = r.writes; actions = r.actions }) rs
+took_of rs = map took_by rs
 
 pub all_stand_for : (ns : List Named) (rs : List Replica) → AllStand ns rs → AllStandFor (replicas_of ns) (took_of rs)
 all_stand_for [] [] h = tt
@@ -33,11 +36,11 @@ all_writes : (rs : List Replica) → (all_taken (took_of rs)).writes ≡ flat_ma
 all_writes [] = refl
 all_writes (r ∷ rs) = ap (λ (W : List AWrite). r.writes ++ W) (all_writes rs)
 
-all_actions : (rs : List Replica) → (all_taken (took_of rs)).actions ≡ flat_map (λ r. r.actions) rs
+pub all_actions : (rs : List Replica) → (all_taken (took_of rs)).actions ≡ flat_map (λ r. r.actions) rs
 all_actions [] = refl
 all_actions (r ∷ rs) = ap (λ (E : List Action). r.actions ++ E) (all_actions rs)
 
-all_sized : (ns : List Named) (rs : List Replica) → AllStand ns rs → AllSized (flat_map (λ r. r.actions) rs)
+pub all_sized : (ns : List Named) (rs : List Replica) → AllStand ns rs → AllSized (flat_map (λ r. r.actions) rs)
 all_sized [] [] h = none_sized
 all_sized [] (r ∷ rs) h = absurd h
 all_sized (n ∷ ns) [] h = absurd h
@@ -47,10 +50,10 @@ all_sized (n ∷ ns) (r ∷ rs) h = sized_both r.actions (flat_map (λ s. s.acti
 abbrev with_all : List AWrite → List Action → List Replica → List Replica
 with_all W E rs = map (λ r. record { name = r.name; number = r.number; writes = W; actions = E }) rs
 
-first_label : (n m : Named) (ns ms : List Named) → labels_of (m ∷ ms) ≡ labels_of (n ∷ ns) → ◌≡◌ {A = Vec ℕ Global × ℕ} (m.name, m.number) (n.name, n.number)
+pub first_label : (n m : Named) (ns ms : List Named) → labels_of (m ∷ ms) ≡ labels_of (n ∷ ns) → ◌≡◌ {A = Vec ℕ Global × ℕ} (m.name, m.number) (n.name, n.number)
 first_label n m ns ms e = cc
 
-later_labels : (n m : Named) (ns ms : List Named) → labels_of (m ∷ ms) ≡ labels_of (n ∷ ns) → labels_of ms ≡ labels_of ns
+pub later_labels : (n m : Named) (ns ms : List Named) → labels_of (m ∷ ms) ≡ labels_of (n ∷ ns) → labels_of ms ≡ labels_of ns
 later_labels n m ns ms e = cc
 
 all_stand : (t : Took) (ns ms : List Named) (rs : List Replica) → labels_of ms ≡ labels_of ns → AllStand ns rs → AllStandFor (replicas_of ms) (map (λ _. t) (took_of rs)) → AllSized t.actions → AllStand ms (with_all t.writes t.actions rs)
@@ -68,6 +71,29 @@ all_stand t (n ∷ ns) (m ∷ ms) (r ∷ rs) e h k s =
       sized = s;
     } in
     (stand, all_stand t ns ms rs (later_labels n m ns ms e) h.1 k.1 s)
+
+pub labels_length : (ns ms : List Named) → labels_of ms ≡ labels_of ns → length ms ≡ length ns
+labels_length [] [] e = refl
+labels_length (n ∷ ns) [] e = cc
+labels_length [] (m ∷ ms) e = cc
+labels_length (n ∷ ns) (m ∷ ms) e = ap (λ k. suc k) (labels_length ns ms (later_labels n m ns ms e))
+
+first_replica : (n m : Named) (ns ms : List Named) → replicas_of (m ∷ ms) ≡ replicas_of (n ∷ ns) → m.replica ≡ n.replica
+first_replica n m ns ms e = cc
+
+later_replicas : (n m : Named) (ns ms : List Named) → replicas_of (m ∷ ms) ≡ replicas_of (n ∷ ns) → replicas_of ms ≡ replicas_of ns
+later_replicas n m ns ms e = cc
+
+-- with the same names, numbers and replicas nothing changed
+pub same_named : (ns ms : List Named) → labels_of ms ≡ labels_of ns → replicas_of ms ≡ replicas_of ns → ms ≡ ns
+same_named [] [] e f = refl
+same_named (n ∷ ns) [] e f = cc
+same_named [] (m ∷ ms) e f = cc
+same_named (n ∷ ns) (m ∷ ms) e f =
+    let label = first_label n m ns ms e in
+    let replica = first_replica n m ns ms f in
+    let one : m ≡ n = λ i. record { name = (label i).0; number = (label i).1; replica = replica i } in
+    ap (λ z. z ∷ ms) one ∙ ap (λ zs. n ∷ zs) (same_named ns ms (later_labels n m ns ms e) (later_replicas n m ns ms f))
 
 -- each has its name and number, and stands for what all took
 pub settles : (text : Option (List ℕ)) (world : World) (ns ms : List Named) → labels_of ms ≡ labels_of ns

@@ -1,6 +1,6 @@
 -- What a command makes of the replicas of a session, and what of those of the world.
 use Rattle.std.proofs.Common.{◌≡◌, ◌<◌, ◌≤◌, ◌+◌, ℕ, List, [], ◌∷◌, ◌++◌, Option, None, Some, true, false, Bool, not, refl, sym, ap, ◌∙◌, cond, subst, length, get_or, append-nil, arith}
-use Rattle.std.specs.Prelude.{is_some, nat_lt, ◌&&◌}
+use Rattle.std.specs.Prelude.{is_some, nat_lt, ◌&&◌, unwrap_or}
 use Rattle.std.proofs.lemmas.Bool.{lt-ltb, le-ltb, eq-eqb, false_from_ne_true, eqb-true}
 use Rattle.std.proofs.Common.{inl, inr}
 use Rattle.std.proofs.lemmas.List.Elements.{Contains-append_cases}
@@ -14,7 +14,7 @@ use Rattle.ws_command.specs.declared.refusal.Refusal.{Refusal}
 use Rattle.ws_command.specs.declared.refusal.Refusal.TheVariants.{BadCommand, Unknown, Exists, BadPath, CounterFull, BadText}
 use Rattle.ws_command.specs.Commands.{Command, Create, Write, Merge}
 use Rattle.ws_command.specs.Refusals.{first_of}
-use Rattle.ws_session.specs.World.{World, Replica, replica_at, or_new, knows, writes_of, actions_held, taking, grown, with_replicas, edit_of, refusals, is_text, text_in, is_path_word}
+use Rattle.ws_session.specs.World.{World, Replica, replica_at, or_new, knows, writes_of, actions_held, taking, grown, with_replicas, edit_of, refusals, is_text, is_path_word}
 use Rattle.ws_session.specs.Standing.{index_of, Stands, AllStand, Settles, ChangedAt, Edited, MergedFrom}
 use Rattle.ws_session.proofs.Standings.{found, not_found, same_length, stands_push}
 
@@ -97,14 +97,14 @@ module _ (name path : List ℕ) (lines : ℕ) (text : Option (List ℕ)) (world 
         let r = f.replica in
         let s = f.stands f.one f.is in
         let edited = change.so f.one f.is in
-        let w : AWrite = edit_of name path (text_in text) world in
+        let w : AWrite = edit_of name path (unwrap_or text []) world in
         let same : AWrite = (path, record { counter = top r.writes + 1; number = f.one.number; text = Some bytes }) in
-        let texts : bytes ≡ text_in text = ap text_in b in
+        let texts : bytes ≡ unwrap_or text [] = ap (λ (t : Option (List ℕ)). unwrap_or t []) b in
         let numbers : f.one.number ≡ (or_new (replica_at name world.replicas)).number = s.number ∙ sym (ap (λ o. (or_new o).number) f.at) in
         let is : same ≡ w =
         ap (λ n. let x : AWrite = (path, record { counter = top r.writes + 1; number = n; text = Some bytes }) in x) numbers
         ∙ ap (λ q. let x : AWrite = (path, record { counter = top r.writes + 1; number = (or_new (replica_at name world.replicas)).number; text = Some q }) in x) texts
-        ∙ ap (λ V. let x : AWrite = (path, record { counter = top V + 1; number = (or_new (replica_at name world.replicas)).number; text = Some (text_in text) }) in x) (sym writes_are) in
+        ∙ ap (λ V. let x : AWrite = (path, record { counter = top V + 1; number = (or_new (replica_at name world.replicas)).number; text = Some (unwrap_or text []) }) in x) (sym writes_are) in
         let stand : Stands change.changed (grown r (w ∷ []) []) = record {
           name = edited.name ∙ s.name;
           number = edited.number ∙ s.number;

@@ -1,11 +1,10 @@
 -- What is shown of the replicas of a session, and of those of the world.
-use Rattle.std.proofs.Common.{◌≡◌, ℕ, List, [], ◌∷◌, Option, None, Some, true, false, Bool, not, refl, sym, ap, ◌∙◌, cond, subst, get_or}
+use Rattle.std.proofs.Common.{◌≡◌, ℕ, List, [], ◌∷◌, Option, None, Some, true, false, Bool, not, refl, sym, ap, cond, subst, get_or}
 use Rattle.ws_version.specs.Writes.{Write as AWrite}
 use Rattle.ws_register.specs.Sources.{IsShown}
 use Rattle.ws_action.specs.Actions.{Action}
 use Rattle.ws_replica.specs.Holdings.{ReplicaStandsFor}
 use Rattle.ws_session.specs.declared.replicas.Named.{Named}
-use Rattle.ws_command.specs.declared.refusal.Refusal.{Refusal}
 use Rattle.ws_command.specs.declared.refusal.Refusal.TheVariants.{Unknown}
 use Rattle.ws_command.specs.Commands.{Show}
 use Rattle.ws_command.specs.Refusals.{refused, first_of}

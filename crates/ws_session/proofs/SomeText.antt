@@ -1,61 +1,67 @@
 -- Each script has a session text.
 use Rattle.std.proofs.Common.{ℕ, zero, suc, List, [], ◌∷◌, ◌++◌, Option, None, Some, refl, inl, inr}
-use Rattle.ws_version.specs.Writes.{Write as AWrite}
-use Rattle.ws_action.specs.Actions.{Action}
-use Rattle.ws_cache.specs.Count.{compiled_count}
+use Rattle.ws_action.proofs.Members.{later, at_head}
 use Rattle.ws_replica.specs.ActionPlans.{ActionPlan, IsPlanFor, actions_in}
-use Rattle.ws_replica.specs.Reports.{Fate, report_of, compiled_actions}
+use Rattle.ws_replica.specs.Reports.{Fate, AreFates, TargetBuild}
 use Rattle.ws_command.specs.declared.refusal.Refusal.{Refusal}
 use Rattle.ws_command.specs.declared.refusal.Refusal.TheVariants.{NoPackage, NotBuilt}
 use Rattle.ws_command.specs.Commands.{Command, Nothing, Bad, Create, Write, Remove, Apply, Merge, Settle, Build, Run, Ids, Show, command_of, text_lines, text_of}
 use Rattle.ws_command.specs.Refusals.{first_of, refused}
-use Rattle.ws_command.specs.Printing.{report_text}
 use Rattle.ws_command.specs.RunPrinting.{run_text}
 use Rattle.ws_command.specs.IdsPrinting.{ids_text}
 use Rattle.ws_command.specs.ShowPrinting.{show_text}
 use Rattle.std.specs.FinMap.{entries}
 use Rattle.ws_register.proofs.Exists.{some_contents}
 use Rattle.ws_command.specs.Lines.{lines_of}
-use Rattle.ws_session.specs.World.{World, opening, writes_of, actions_held, taking, with_replicas, seeking, refusals, Accepted, AfterBy, After, Answers, PrintsBy, Prints, Told, Ran, RanOr, Listed}
+use Rattle.ws_session.specs.World.{World, opening, writes_of, actions_held, seeking, AreBuilds, after_builds, builds_text, refusals, Accepted, AfterBy, After, Answers, PrintsBy, Prints, IsPlan, Ran, Listed}
 use Rattle.ws_session.specs.Text.{TextFrom, SessionText}
 use Rattle.ws_replica.proofs.IdRows.{some_id_rows}
 use Rattle.ws_replica.proofs.SomeBuild.{some_plan_for, some_fates}
 use Rattle.ws_replica.proofs.OneProgram.{Decided, program_decided, some_meaning}
 use Rattle.ws_replica.specs.Programs.{IsPlannedProgram}
 
-some_told : (name directory : List ℕ) (held : List Action) (plan : Option ActionPlan) (fates : List Fate) → (told : List ℕ) × Told name directory held plan fates told
-some_told name directory held None fates = (refused NoPackage, refl)
-some_told name directory held (Some plan) fates = (report_text name directory (report_of plan.directories fates) (compiled_count held (compiled_actions fates)), refl)
+none_later : (world : World) (t : List ℕ × List ℕ) (targets : List (List ℕ × List ℕ)) → AreBuilds world targets None → AreBuilds world (t ∷ targets) None
+none_later world t targets (name, directory, c, none) = (name, directory, later t targets (name, directory) c, none)
 
-ran_by : (name directory : List ℕ) (ticks : ℕ) (held : List Action) (plan : Option ActionPlan) → Decided (IsPlannedProgram held plan directory) → (told : List ℕ) × RanOr name directory ticks held plan told
-ran_by name directory ticks held plan (inl (typed, program)) =
-    let means = some_meaning held plan directory typed program ticks in
+more_builds : (world : World) (t : List ℕ × List ℕ) (targets : List (List ℕ × List ℕ)) (plan : Option ActionPlan) (fates : List Fate) (builds : Option (List TargetBuild))
+    → IsPlanFor world.edition (writes_of t.0 world) t.1 plan → AreFates plan fates → AreBuilds world targets builds → (all : Option (List TargetBuild)) × AreBuilds world (t ∷ targets) all
+more_builds world t targets None fates builds is are rest = (None, (t.0, t.1, at_head targets t (t.0, t.1) refl, is))
+more_builds world t targets (Some plan) fates None is are rest = (None, none_later world t targets rest)
+more_builds world t targets (Some plan) fates (Some builds) is are rest = (Some (record { plan = plan; fates = fates } ∷ builds), ((is, are), rest))
+
+some_builds : (world : World) (targets : List (List ℕ × List ℕ)) → (builds : Option (List TargetBuild)) × AreBuilds world targets builds
+some_builds world [] = (Some [], tt)
+some_builds world (t ∷ targets) =
+    let p = some_plan_for world.edition (writes_of t.0 world) t.1 in
+    let f = some_fates world.edition (writes_of t.0 world) t.1 p.0 p.1 in
+    let rest = some_builds world targets in
+    more_builds world t targets p.0 f.0 rest.0 p.1 f.1 rest.1
+
+ran_by : (world : World) (name directory : List ℕ) (ticks : ℕ) (plan : ActionPlan) → Decided (IsPlannedProgram (actions_held name world) (Some plan) directory) → (told : List ℕ) × Ran name directory ticks world (Some plan) told
+ran_by world name directory ticks plan (inl (typed, program)) =
+    let means = some_meaning (actions_held name world) (Some plan) directory typed program ticks in
     (run_text name directory means.0 means.1, inl (typed, program, means.0, means.1, means.2, refl))
-ran_by name directory ticks held plan (inr no_program) = (refused NotBuilt, inr (no_program, refl))
+ran_by world name directory ticks plan (inr no_program) = (refused NotBuilt, inr (no_program, refl))
 
-some_ran : (edition : ℕ) (W : List AWrite) (name directory : List ℕ) (ticks : ℕ) (held : List Action) (plan : Option ActionPlan) → IsPlanFor edition W directory plan → (told : List ℕ) × Ran name directory ticks held plan told
-some_ran edition W name directory ticks held None is = (refused NoPackage, refl)
-some_ran edition W name directory ticks held (Some plan) is = ran_by name directory ticks held (Some plan) (program_decided edition W directory held (Some plan) is)
+some_ran : (world : World) (name directory : List ℕ) (ticks : ℕ) (plan : Option ActionPlan) → IsPlan name directory world plan → (told : List ℕ) × Ran name directory ticks world plan told
+some_ran world name directory ticks None is = (refused NoPackage, refl)
+some_ran world name directory ticks (Some plan) is = ran_by world name directory ticks plan (program_decided world.edition (writes_of name world) directory (actions_held name world) (Some plan) is)
 
-some_listed : (edition : ℕ) (W : List AWrite) (name directory : List ℕ) (held : List Action) (plan : Option ActionPlan) → IsPlanFor edition W directory plan → (told : List ℕ) × Listed name directory held plan told
-some_listed edition W name directory held None is = (refused NoPackage, refl)
-some_listed edition W name directory held (Some plan) is =
-    let rows = some_id_rows edition W directory held plan is in
+some_listed : (world : World) (name directory : List ℕ) (plan : Option ActionPlan) → IsPlan name directory world plan → (told : List ℕ) × Listed name directory world plan told
+some_listed world name directory None is = (refused NoPackage, refl)
+some_listed world name directory (Some plan) is =
+    let rows = some_id_rows world.edition (writes_of name world) directory (actions_held name world) plan is in
     (ids_text name directory rows.0, (rows.0, rows.1, refl))
 
 some_answer : (command : Command) (world : World) → (told : List ℕ) × Answers command world told
-some_answer (Build name directory) world =
-    let p = some_plan_for world.edition (writes_of name world) directory in
-    let f = some_fates world.edition (writes_of name world) directory p.0 p.1 in
-    let t = some_told name directory (actions_held name world) p.0 f.0 in
-    (t.0, (p.0, p.1, f.0, f.1, t.1))
+some_answer (Build targets) world = let b = some_builds world targets in (builds_text world targets b.0, (b.0, b.1, refl))
 some_answer (Run name directory ticks) world =
     let p = some_plan_for world.edition (writes_of name world) directory in
-    let t = some_ran world.edition (writes_of name world) name directory ticks (actions_held name world) p.0 p.1 in
+    let t = some_ran world name directory ticks p.0 p.1 in
     (t.0, (p.0, p.1, t.1))
 some_answer (Ids name directory) world =
     let p = some_plan_for world.edition (writes_of name world) directory in
-    let t = some_listed world.edition (writes_of name world) name directory (actions_held name world) p.0 p.1 in
+    let t = some_listed world name directory p.0 p.1 in
     (t.0, (p.0, p.1, t.1))
 some_answer Nothing world = ([], refl)
 some_answer Bad world = ([], refl)
@@ -78,10 +84,7 @@ unfolding Prints
 some_print command text world = some_print_by (first_of (refusals command text world)) command world
 
 some_accepted : (command : Command) (text : Option (List ℕ)) (world : World) → (next : World) × Accepted command text world next
-some_accepted (Build name directory) text world =
-    let p = some_plan_for world.edition (writes_of name world) directory in
-    let f = some_fates world.edition (writes_of name world) directory p.0 p.1 in
-    (seeking (with_replicas world (taking name [] (compiled_actions f.0) world.replicas)) (actions_in p.0), (p.0, p.1, f.0, f.1, refl))
+some_accepted (Build targets) text world = let b = some_builds world targets in (after_builds world targets b.0, (b.0, b.1, refl))
 some_accepted (Run name directory ticks) text world =
     let p = some_plan_for world.edition (writes_of name world) directory in
     (seeking world (actions_in p.0), (p.0, p.1, refl))
@@ -102,11 +105,11 @@ some_after_by : (refusal : Option Refusal) (command : Command) (text : Option (L
 some_after_by None command text world = some_accepted command text world
 some_after_by (Some refusal) command text world = (world, refl)
 
-some_after : (command : Command) (text : Option (List ℕ)) (world : World) → (next : World) × After command text world next
+pub some_after : (command : Command) (text : Option (List ℕ)) (world : World) → (next : World) × After command text world next
 unfolding After
 some_after command text world = some_after_by (first_of (refusals command text world)) command text world
 
-some_text_from : (taken : ℕ) (lines : List (List ℕ)) (world : World) → (told : List ℕ) × TextFrom taken lines world told
+pub some_text_from : (taken : ℕ) (lines : List (List ℕ)) (world : World) → (told : List ℕ) × TextFrom taken lines world told
 unfolding TextFrom
 some_text_from taken [] world = ([], refl)
 some_text_from (suc taken) (line ∷ lines) world = some_text_from taken lines world

@@ -1,7 +1,7 @@
 -- Replicas of a session and of a world, index by index.
 use Rattle.std.proofs.Common.{◌≡◌, ℕ, zero, suc, List, [], ◌∷◌, ◌++◌, Option, None, Some, true, false, Bool, refl, sym, ap, ◌∙◌, cond, subst, length, get_or, arith}
 use Rattle.std.proofs.Math.ListN.{set}
-use Rattle.std.specs.Prelude.{Result, Ok, Err, OnOk, IfOk}
+use Rattle.std.specs.Prelude.{Result, Ok, Err, OnOk, IfOk, is_some}
 use Rattle.std.specs.Option.{option_map}
 use Rattle.std.specs.Str.{bytes_eq}
 use Rattle.ws_version.specs.Writes.{Write}
@@ -74,11 +74,24 @@ found name k ns rs h e = subst (FoundAt name ns rs) e (found_at name ns rs h)
 pub not_found : (name : List ℕ) (ns : List Named) (rs : List Replica) → AllStand ns rs → index_of name ns ≡ None → replica_at name rs ≡ None
 not_found name ns rs h e = subst (FoundAt name ns rs) e (found_at name ns rs h)
 
+-- a name is known where it has an index
+known_by : (name : List ℕ) (ns : List Named) (rs : List Replica) (o : Option ℕ) → FoundAt name ns rs o → is_some (replica_at name rs) ≡ is_some o
+known_by name ns rs None f = ap (λ (r : Option Replica). is_some r) f
+known_by name ns rs (Some k) f = ap (λ (r : Option Replica). is_some r) f.at
+
+pub known_index : (name : List ℕ) (ns : List Named) (rs : List Replica) → AllStand ns rs → is_some (replica_at name rs) ≡ is_some (index_of name ns)
+known_index name ns rs h = known_by name ns rs (index_of name ns) (found_at name ns rs h)
+
 -- what an index reads doesn't hang on a default
 pub one_element : {X : Type 0} (xs : List X) (k : ℕ) (n m : X) → k < length xs → n ≡ get_or xs k n → m ≡ get_or xs k m → n ≡ m
 one_element [] k n m lt e f = absurd (omega arith)
 one_element (x ∷ xs) zero n m lt e f = e ∙ sym f
 one_element (x ∷ xs) (suc k) n m lt e f = one_element xs k n m (omega (arith, lt)) e f
+
+pub set_same : {X : Type 0} (xs : List X) (k : ℕ) (x : X) → x ≡ get_or xs k x → set xs k x ≡ xs
+set_same [] k x e = refl
+set_same (y ∷ xs) zero x e = ap (λ z. z ∷ xs) e
+set_same (y ∷ xs) (suc k) x e = ap (λ zs. y ∷ zs) (set_same xs k x e)
 
 -- a change of the one element that was read
 pub changed_one : (Change : Named → Named → Type 0) (old : List Named) (index : ℕ) (one new : Named) → index < length old → one ≡ get_or old index one → Change one new → ChangedAt Change old index (set old index new)

@@ -1,5 +1,5 @@
 -- What removals and foreign writes make of the replicas of a session, and what of those of the world.
-use Rattle.std.proofs.Common.{◌≡◌, ◌+◌, ℕ, List, [], ◌∷◌, ◌++◌, Option, None, Some, true, false, Bool, not, refl, sym, ap, ◌∙◌, cond, subst, get_or, append-nil}
+use Rattle.std.proofs.Common.{◌≡◌, ℕ, List, [], ◌∷◌, ◌++◌, Option, None, Some, true, false, Bool, not, refl, sym, ap, ◌∙◌, cond, subst, append-nil}
 use Rattle.std.proofs.Math.ListN.{set}
 use Rattle.std.specs.Prelude.{◌==◌}
 use Rattle.std.specs.Option.{option_map}
@@ -10,14 +10,13 @@ use Rattle.ws_register.specs.Edits.{removed, removal_refusal, greatest_at, is_mi
 use Rattle.ws_register.specs.declared.EditError.{EditError}
 use Rattle.ws_register.specs.declared.EditError.TheVariants as edits
 use Rattle.ws_register.specs.Sources.{top}
-use Rattle.ws_action.specs.Actions.{Action}
 use Rattle.ws_replica.specs.Holdings.{ReplicaStandsFor}
 use Rattle.ws_session.specs.declared.replicas.Named.{Named}
 use Rattle.ws_command.specs.declared.refusal.Refusal.{Refusal}
 use Rattle.ws_command.specs.declared.refusal.Refusal.TheVariants.{Unknown, BadPath, NoFile, CounterFull, BadText}
 use Rattle.ws_command.specs.Commands.{Remove, Apply}
-use Rattle.ws_session.specs.World.{World, Replica, replica_at, or_new, knows, writes_of, taking, grown, with_replicas, removal_of, is_path_word, is_content, content_in}
-use Rattle.ws_session.specs.Standing.{index_of, Stands, AllStand, Settles, ChangedAt, Removed, RemovedOr, Removal, removal_row, Applied}
+use Rattle.ws_session.specs.World.{World, replica_at, or_new, knows, writes_of, taking, grown, with_replicas, removal_of, is_path_word, is_content, content_in}
+use Rattle.ws_session.specs.Standing.{index_of, Stands, AllStand, Settles, ChangedAt, RemovedOr, Removal, removal_row, Applied}
 use Rattle.ws_session.proofs.Standings.{found}
 use Rattle.ws_session.proofs.Settling.{refused_settles, knows_none, knows_some}
 

@@ -1,7 +1,9 @@
 -- What the replicas of a session stand for.
-use Rattle.std.specs.Prelude.{◌≡◌, ℕ, ◌+◌, ◌==◌, suc, cond, true, false, List, [], ◌∷◌, ◌++◌, map, slice_set, slice_index_or, Option, None, Some, Result, Ok, Err, Vec}
+use Rattle.std.specs.Prelude.{◌≡◌, ℕ, ◌+◌, ◌==◌, suc, not, is_some, cond, true, false, List, [], ◌∷◌, ◌++◌, map, slice_set, slice_index_or, Option, None, Some, Result, Ok, Err, Vec}
+use Rattle.std.specs.Borrow.{Bor}
 use Rattle.std.specs.Global.{Global}
-use Rattle.std.specs.Str.{bytes_eq}
+use Rattle.std.specs.List.{AllZip, Contains, list_all}
+use Rattle.std.specs.Str.{bytes_eq, is_utf8}
 use Rattle.std.specs.Option.{option_map}
 use Rattle.go_text.specs.Editions.{edition_number}
 use Rattle.ws_session.specs.declared.replicas.Named.{Named}
@@ -11,12 +13,13 @@ use Rattle.ws_register.specs.Sources.{top}
 use Rattle.ws_register.specs.Edits.{greatest_at, is_missing, removed}
 use Rattle.ws_action.specs.Actions.{Action}
 use Rattle.ws_action.specs.Clash.{AllSized, NoClash, hashed_actions}
-use Rattle.ws_cache.specs.Count.{compiled_count}
 use Rattle.ws_replica.specs.ActionPlans.{ActionPlan, IsPlanFor, actions_in}
-use Rattle.ws_replica.specs.Reports.{Fate, AreFates, report_of, compiled_actions}
-use Rattle.ws_report.specs.Reports.{Verdict}
+use Rattle.ws_replica.specs.declared.building.Target.{Target}
+use Rattle.ws_replica.specs.Builds.{target_of, AllTookSized, AreBuilt, LacksPackage}
+use Rattle.ws_report.specs.declared.Report.{Report}
+use Rattle.ws_report.specs.Reports.{rows}
 use Rattle.ws_replica.specs.Holdings as holdings
-use Rattle.ws_replica.specs.Holdings.{ReplicaStandsFor}
+use Rattle.ws_replica.specs.Holdings.{ReplicaStandsFor, Took, AllStandFor}
 use Rattle.ws_replica.specs.Programs.{IsPlannedProgram}
 use Rattle.ws_replica.specs.Ids.{AreIds}
 use Rattle.ws_report.specs.declared.Standing.{Standing}
@@ -25,9 +28,10 @@ use Rattle.go_check.specs.Meaning.{SourceMeaning}
 use Rattle.go_vm.specs.Outcomes.{Outcome}
 use Rattle.ws_command.specs.Refusals.{refused, first_of}
 use Rattle.ws_command.specs.Commands.{Command}
+use Rattle.ws_command.specs.Printing.{report_text}
 use Rattle.ws_session.specs.World.{World, Replica, refusals, AfterBy, After, Prints, hashed, is_content, content_in}
 use Rattle.ws_command.specs.declared.refusal.Refusal.{Refusal}
-use Rattle.ws_command.specs.declared.refusal.Refusal.TheVariants.{NoFile, CounterFull, BadText}
+use Rattle.ws_command.specs.declared.refusal.Refusal.TheVariants.{Unknown, NoFile, CounterFull, BadText, NoPackage}
 
 -- the first index of that name
 abbrev pub index_of : List ℕ → List Named → Option ℕ
@@ -48,9 +52,18 @@ AllStand [] (r ∷ rs) = ⊥
 AllStand (n ∷ ns) [] = ⊥
 AllStand (n ∷ ns) (r ∷ rs) = Stands n r × AllStand ns rs
 
+-- no name twice
+abbrev pub AreApart : List (List ℕ) → Type 0
+AreApart [] = Unit {0}
+AreApart (name ∷ names) = (¬ (Contains names name)) × AreApart names
+
+abbrev pub names_in : World → List (List ℕ)
+names_in world = map (λ r. r.name) world.replicas
+
 pub record StandFor (s : Replicas) (world : World) : Type 0 where
   pub edition : edition_number s.edition ≡ world.edition
   pub replicas : AllStand s.named.items world.replicas
+  pub apart : AreApart (names_in world)
 
 -- A command that prints no more than its refusal: the refusal is the definition's, and the replicas stand for the world after it.
 pub record Settles (command : Command) (text : Option (List ℕ)) (world : World) (refusal : Option Refusal) (named : List Named) : Type 0 where
@@ -129,26 +142,41 @@ pub record MergedFrom (named : List Named) (theirs : ℕ) (old new : Named) : Ty
   pub holds : (other : Named) → other ≡ slice_index_or named theirs other → (V W : List Write) (E F : List Action)
       → ReplicaStandsFor old.replica V E → ReplicaStandsFor other.replica W F → ReplicaStandsFor new.replica (V ++ W) (E ++ F)
 
--- what is known of a build where no two texts clash
-pub record IsBuilt (report : List (List ℕ × Verdict)) (compiled : ℕ) (new : Named) (W : List Write) (E : List Action) (plan : ActionPlan) (fates : List Fate) : Type 0 where
-  pub reports : report ≡ report_of plan.directories fates
-  pub counts : compiled ≡ compiled_count E (compiled_actions fates)
-  pub holds : ReplicaStandsFor new.replica W (E ++ compiled_actions fates)
+-- the words of what is asked to be built
+abbrev pub asked_of : Bor (List ℕ) × Bor (List ℕ) → List ℕ × List ℕ
+asked_of asked = (asked.0.now, asked.1.now)
 
--- what is known of a build
-pub record BuildOf (edition : ℕ) (directory : List ℕ) (report : List (List ℕ × Verdict)) (compiled : ℕ) (new : Named) (W : List Write) (E : List Action) : Type 0 where
-  pub plan : ActionPlan
-  pub planned : IsPlanFor edition W directory (Some plan)
-  pub fates : List Fate
-  pub are : AreFates (Some plan) fates
-  pub sized : AllSized (actions_in (Some plan))
-  pub built : NoClash (hashed_actions (E ++ actions_in (Some plan))) → IsBuilt report compiled new W E plan fates
+-- a name with a directory, and the number of the first replica of that name with the same directory
+abbrev pub IsTarget : List Named → List ℕ × List ℕ → ℕ × List ℕ → Type 0
+IsTarget named asked target = (index_of asked.0 named ≡ Some target.0) × (asked.1 ≡ target.1)
 
--- it built a directory, with this report
-pub record Built (edition : ℕ) (directory : List ℕ) (report : List (List ℕ × Verdict)) (compiled : ℕ) (old new : Named) : Type 0 where
-  pub name : new.name.items ≡ old.name.items
-  pub number : new.number ≡ old.number
-  pub builds : (W : List Write) (E : List Action) → ReplicaStandsFor old.replica W E → AllSized E → BuildOf edition directory report compiled new W E
+-- why there is no build of names with directories
+abbrev pub targets_row : List Named → List (List ℕ × List ℕ) → Option Refusal
+targets_row named asked =
+    first_of ((not (list_all (λ t. is_some (index_of t.0 named)) asked), Unknown) ∷ (not (list_all (λ t. is_utf8 t.1) asked), NoPackage) ∷ [])
+
+-- what a build of names with directories is of, or why there is none
+abbrev pub AreTargets : List Named → List (List ℕ × List ℕ) → Result (Vec Target Global) Refusal → Type 0
+AreTargets named asked (Ok targets) = (targets_row named asked ≡ None) × AllZip (IsTarget named) asked (map target_of targets.items)
+AreTargets named asked (Err refusal) = targets_row named asked ≡ Some refusal
+
+-- replicas built targets, with these reports, and each has its name and number
+pub record Built (edition : ℕ) (targets : List (ℕ × List ℕ)) (reports : List Report) (old new : List Named) : Type 0 where
+  pub labels : labels_of new ≡ labels_of old
+  pub builds : (took : List Took) → AllStandFor (replicas_of old) took → AllTookSized took → AreBuilt edition took targets reports (replicas_of new)
+
+-- or nothing changed, since a target has no package files
+abbrev pub AreBuiltBy : ℕ → List (ℕ × List ℕ) → List Named → Option (Vec Report Global) → List Named → Type 0
+AreBuiltBy edition targets old None new = (new ≡ old) × ((took : List Took) → AllStandFor (replicas_of old) took → LacksPackage edition took targets)
+AreBuiltBy edition targets old (Some reports) new = Built edition targets reports.items old new
+
+-- the name of a target's replica, with its directory
+abbrev pub words_of : List Named → ℕ × List ℕ → List ℕ × List ℕ
+words_of named target = (slice_index_or (map (λ n. n.name.items) named) target.0 [], target.1)
+
+-- what the report of a name with a directory prints
+abbrev pub report_line : (List ℕ × List ℕ) × Report → List ℕ
+report_line ((name, directory), report) = report_text name directory (rows report.directories.items) report.compiled
 
 -- by what the replica at an index took, a directory has no package files
 abbrev pub HasNoPlanAt : ℕ → List ℕ → List Named → ℕ → Type 0

@@ -15,30 +15,16 @@ unfoldable pub TextFrom : ℕ → List (List ℕ) → World → List ℕ → Typ
 TextFrom taken [] world told = told ≡ []
 TextFrom (suc taken) (line ∷ lines) world told = TextFrom taken lines world told
 TextFrom zero (line ∷ lines) world told =
-    let command = command_of line in
-    let text = text_of (text_lines command) lines in
+    let command = command_of line in let text = text_of (text_lines command) lines in
     (now : List ℕ) × (later : List ℕ) × (next : World) × Prints command text world now × After command text world next
     × TextFrom (text_lines command) lines next later × (told ≡ now ++ later)
-
--- A beginning of that: nothing, or a beginning of what the first command prints, or all of that and a beginning of what comes later.
-unfoldable pub BegunFrom : ℕ → List (List ℕ) → World → List ℕ → Type 0
-BegunFrom taken [] world told = told ≡ []
-BegunFrom (suc taken) (line ∷ lines) world told = BegunFrom taken lines world told
-BegunFrom zero (line ∷ lines) world told =
-    let command = command_of line in
-    let text = text_of (text_lines command) lines in
-    (told ≡ [])
-    ⊎ ((now : List ℕ) × Prints command text world now × IsBeginning told now)
-    ⊎ ((now : List ℕ) × (later : List ℕ) × (next : World) × Prints command text world now × After command text world next
-    × BegunFrom (text_lines command) lines next later × (told ≡ now ++ later))
 
 -- the worlds that are reached from here, this one too
 unfoldable pub ReachedFrom : ℕ → List (List ℕ) → World → World → Type 0
 ReachedFrom taken [] world other = other ≡ world
 ReachedFrom (suc taken) (line ∷ lines) world other = ReachedFrom taken lines world other
 ReachedFrom zero (line ∷ lines) world other =
-    let command = command_of line in
-    let text = text_of (text_lines command) lines in
+    let command = command_of line in let text = text_of (text_lines command) lines in
     (other ≡ world) ⊎ ((next : World) × After command text world next × ReachedFrom (text_lines command) lines next other)
 
 -- all that is written for a script, from no replica on
@@ -47,7 +33,7 @@ SessionText edition script told = TextFrom 0 (lines_of script) (opening edition)
 
 -- a beginning of it
 abbrev pub Begun : ℕ → List ℕ → List ℕ → Type 0
-Begun edition script told = BegunFrom 0 (lines_of script) (opening edition) told
+Begun edition script front = (text : List ℕ) × SessionText edition script text × IsBeginning front text
 
 -- No two different texts that the script's session hashes, in any world that it reaches, have one digest.
 abbrev pub IsClear : ℕ → List ℕ → Type 0

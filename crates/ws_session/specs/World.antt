@@ -1,6 +1,7 @@
 -- The world of a session: replicas, each a set of writes and a set of actions.
-use Rattle.std.specs.Prelude.{◌≡◌, ℕ, ◌⊎◌, ◌+◌, ◌==◌, ◌&&◌, not, nat_lt, Bool, true, false, cond, List, [], ◌∷◌, ◌++◌, length, map, Option, None, Some, is_some, is_none}
-use Rattle.std.specs.List.{flat_map}
+use Rattle.std.specs.Prelude.{◌≡◌, ℕ, ◌⊎◌, ◌+◌, ◌==◌, ◌&&◌, ◌||◌, not, nat_lt, Bool, true, false, cond, if◌then◌else◌, List, [], ◌∷◌, ◌++◌, length, map, zip, Option, None, Some, is_some, is_none}
+use Rattle.std.specs.List.{AllZip, Contains, flat_map, list_all, list_any}
+use Rattle.std.specs.Option.{option_map, option_to_list, unwrap_or}
 use Rattle.std.specs.Str.{bytes_eq, is_utf8}
 use Rattle.go_text.specs.Texts.{text_error}
 use Rattle.ws_version.specs.Writes.{Write as AWrite}
@@ -11,7 +12,7 @@ use Rattle.ws_action.specs.Actions.{Action}
 use Rattle.ws_action.specs.Clash.{hashed_actions}
 use Rattle.ws_cache.specs.Count.{compiled_count}
 use Rattle.ws_replica.specs.ActionPlans.{ActionPlan, IsPlanFor, actions_in}
-use Rattle.ws_replica.specs.Reports.{Fate, AreFates, report_of, compiled_actions}
+use Rattle.ws_replica.specs.Reports.{TargetBuild, IsTargetBuild, all_sought, all_compiled, report_of}
 use Rattle.ws_replica.specs.Programs.{IsPlannedProgram}
 use Rattle.ws_replica.specs.Ids.{AreIdRows}
 use Rattle.ws_report.specs.declared.Standing.{Standing}
@@ -25,7 +26,7 @@ use Rattle.ws_command.specs.Printing.{report_text}
 use Rattle.ws_command.specs.RunPrinting.{run_text}
 use Rattle.ws_command.specs.IdsPrinting.{ids_text}
 use Rattle.ws_command.specs.ShowPrinting.{show_text}
-use Rattle.ws_command.specs.Commands.{Command, Nothing, Bad, Create, Write, Remove, Apply, Merge, Settle, Build, Run, Ids, Show}
+use Rattle.ws_command.specs.Commands.{Command, Bad, Create, Write, Remove, Apply, Merge, Settle, Build, Run, Ids, Show}
 
 -- A replica: what it took, as two sets that are read by membership. A number is never given twice.
 pub record Replica : Type 0 where
@@ -54,8 +55,7 @@ knows name world = is_some (replica_at name world.replicas)
 
 -- one that took nothing stands for none
 abbrev pub or_new : Option Replica → Replica
-or_new None = record { name = []; number = 0; writes = []; actions = [] }
-or_new (Some r) = r
+or_new r = unwrap_or r (record { name = []; number = 0; writes = []; actions = [] })
 
 -- what the replica of that name took
 abbrev pub writes_of : List ℕ → World → List AWrite
@@ -87,13 +87,11 @@ lacks name path world = is_missing (greatest_at path (writes_of name world))
 
 -- a whole text: there are so many lines, they are UTF-8, and a source may hold them
 abbrev pub is_text : Option (List ℕ) → Bool
-is_text None = false
-is_text (Some text) = is_utf8 text && is_none (text_error text)
+is_text text = elim text [ None ↦ false | Some its ↦ is_utf8 its && is_none (text_error its) ]
 
 -- what is applied: a removal, or a whole text
 abbrev pub is_content : Option ℕ → Option (List ℕ) → Bool
-is_content None text = true
-is_content (Some lines) text = is_text text
+is_content lines text = is_none lines || is_text text
 
 -- a word that is UTF-8 and spells a path
 abbrev pub is_path_word : List ℕ → Bool
@@ -112,19 +110,15 @@ refusals (Apply name path counter number lines) text world =
     (not (knows name world), Unknown) ∷ (not (is_path_word path), BadPath) ∷ (not (is_content lines text), BadText) ∷ []
 refusals (Show name) text world = (not (knows name world), Unknown) ∷ []
 refusals (Merge name other) text world = (not (knows name world && knows other world), Unknown) ∷ []
-refusals (Build name directory) text world = (not (knows name world), Unknown) ∷ (not (is_utf8 directory), NoPackage) ∷ []
+refusals (Build targets) text world =
+    (not (list_all (λ t. knows t.0 world) targets), Unknown) ∷ (not (list_all (λ t. is_utf8 t.1) targets), NoPackage) ∷ []
 refusals (Run name directory ticks) text world = (not (knows name world), Unknown) ∷ (not (is_utf8 directory), NoPackage) ∷ []
 refusals (Ids name directory) text world = (not (knows name world), Unknown) ∷ (not (is_utf8 directory), NoPackage) ∷ []
 refusals _ text world = []
 
-abbrev pub text_in : Option (List ℕ) → List ℕ
-text_in None = []
-text_in (Some text) = text
-
 -- the text of what is applied, and none where it is a removal
 abbrev pub content_in : Option ℕ → Option (List ℕ) → Option (List ℕ)
-content_in None text = None
-content_in (Some lines) text = Some (text_in text)
+content_in lines text = option_map (λ _. unwrap_or text []) lines
 
 -- every replica takes what all took
 abbrev pub settled : List Replica → List Replica
@@ -137,12 +131,35 @@ with_replicas world replicas = record { edition = world.edition; replicas = repl
 abbrev pub seeking : World → List Action → World
 seeking world actions = record { edition = world.edition; replicas = world.replicas; sought = world.sought ++ actions }
 
+-- a plan of a directory, by what the replica of that name took
+abbrev pub IsPlan : List ℕ → List ℕ → World → Option ActionPlan → Type 0
+IsPlan name directory world plan = IsPlanFor world.edition (writes_of name world) directory plan
+
+-- what builds of targets come to; nothing where one of them has no package files
+abbrev pub AreBuilds : World → List (List ℕ × List ℕ) → Option (List TargetBuild) → Type 0
+AreBuilds world targets None = (name : List ℕ) × (directory : List ℕ) × Contains targets (name, directory) × IsPlan name directory world None
+AreBuilds world targets (Some builds) = AllZip (λ t b. IsTargetBuild world.edition (writes_of t.0 world) t.1 b) targets builds
+
+-- the entries that the replicas of targets hold
+abbrev pub held_by : World → List (List ℕ × List ℕ) → List Action
+held_by world targets = flat_map (λ t. actions_held t.0 world) targets
+
+-- every replica of a target takes these actions
+abbrev pub sharing : List (List ℕ × List ℕ) → List Action → List Replica → List Replica
+sharing targets actions rs = map (λ r. if list_any (λ t. bytes_eq r.name t.0) targets then grown r [] actions else r) rs
+
+-- every replica of a target takes what they hold together and what was compiled
+abbrev pub after_builds : World → List (List ℕ × List ℕ) → Option (List TargetBuild) → World
+after_builds world targets None = world
+after_builds world targets (Some builds) =
+    seeking (with_replicas world (sharing targets (held_by world targets ++ all_compiled builds) world.replicas)) (all_sought builds)
+
 -- the world after a command that isn't refused
 abbrev pub Accepted : Command → Option (List ℕ) → World → World → Type 0
 Accepted (Create name) text world next =
     next ≡ with_replicas world (world.replicas ++ record { name = name; number = length world.replicas + 1; writes = []; actions = [] } ∷ [])
 Accepted (Write name path lines) text world next =
-    next ≡ with_replicas world (taking name (edit_of name path (text_in text) world ∷ []) [] world.replicas)
+    next ≡ with_replicas world (taking name (edit_of name path (unwrap_or text []) world ∷ []) [] world.replicas)
 Accepted (Remove name path) text world next =
     next ≡ with_replicas world (taking name (removal_of name path world ∷ []) [] world.replicas)
 Accepted (Apply name path counter number lines) text world next =
@@ -150,72 +167,56 @@ Accepted (Apply name path counter number lines) text world next =
 Accepted Settle text world next = next ≡ with_replicas world (settled world.replicas)
 Accepted (Merge name other) text world next =
     next ≡ with_replicas world (taking name (writes_of other world) (actions_held other world) world.replicas)
-Accepted (Build name directory) text world next =
-    (plan : Option ActionPlan) × IsPlanFor world.edition (writes_of name world) directory plan × (fates : List Fate) × AreFates plan fates
-    × (next ≡ seeking (with_replicas world (taking name [] (compiled_actions fates) world.replicas)) (actions_in plan))
-Accepted (Run name directory ticks) text world next =
-    (plan : Option ActionPlan) × IsPlanFor world.edition (writes_of name world) directory plan × (next ≡ seeking world (actions_in plan))
-Accepted (Ids name directory) text world next =
-    (plan : Option ActionPlan) × IsPlanFor world.edition (writes_of name world) directory plan × (next ≡ seeking world (actions_in plan))
+Accepted (Build targets) text world next = (builds : Option (List TargetBuild)) × AreBuilds world targets builds × (next ≡ after_builds world targets builds)
+Accepted (Run name directory ticks) text world next = (plan : Option ActionPlan) × IsPlan name directory world plan × (next ≡ seeking world (actions_in plan))
+Accepted (Ids name directory) text world next = (plan : Option ActionPlan) × IsPlan name directory world plan × (next ≡ seeking world (actions_in plan))
 Accepted _ text world next = next ≡ world
 
 abbrev pub AfterBy : Option Refusal → Command → Option (List ℕ) → World → World → Type 0
-AfterBy None command text world next = Accepted command text world next
-AfterBy (Some refusal) command text world next = next ≡ world
+AfterBy refusal command text world next = elim refusal [ None ↦ Accepted command text world next | Some its ↦ next ≡ world ]
 
 -- the world after a command, of which a refused one changes nothing
 unfoldable pub After : Command → Option (List ℕ) → World → World → Type 0
 After command text world next = AfterBy (first_of (refusals command text world)) command text world next
 
--- what a plan's report prints, where these are its fates
-abbrev pub Told : List ℕ → List ℕ → List Action → Option ActionPlan → List Fate → List ℕ → Type 0
-Told name directory held None fates told = told ≡ refused NoPackage
-Told name directory held (Some plan) fates told =
-    told ≡ report_text name directory (report_of plan.directories fates) (compiled_count held (compiled_actions fates))
+-- what builds of targets print: a report each, where each has package files; the count is that of all
+abbrev pub target_report : ℕ → (List ℕ × List ℕ) × TargetBuild → List ℕ
+target_report count ((name, directory), build) = report_text name directory (report_of build.plan.directories build.fates) count
 
--- for so many ticks what the sources mean, if they are a program that the replica holds compiled, and else a refusal
-abbrev pub RanOr : List ℕ → List ℕ → ℕ → List Action → Option ActionPlan → List ℕ → Type 0
-RanOr name directory ticks held plan told =
-    ((typed : Typed) × IsPlannedProgram held plan directory typed
+abbrev pub builds_text : World → List (List ℕ × List ℕ) → Option (List TargetBuild) → List ℕ
+builds_text world targets None = refused NoPackage
+builds_text world targets (Some builds) = flat_map (target_report (compiled_count (held_by world targets) (all_compiled builds))) (zip targets builds)
+
+-- what a run prints: for so many ticks what the sources mean, if they are a program that the replica holds compiled, and else a refusal
+abbrev pub Ran : List ℕ → List ℕ → ℕ → World → Option ActionPlan → List ℕ → Type 0
+Ran name directory ticks world None told = told ≡ refused NoPackage
+Ran name directory ticks world plan told =
+    ((typed : Typed) × IsPlannedProgram (actions_held name world) plan directory typed
     × (ending : Ending) × (output : List ℕ) × SourceMeaning (typed ∷ []) ticks ending output × (told ≡ run_text name directory ending output))
-    ⊎ (((typed : Typed) → IsPlannedProgram held plan directory typed → ⊥) × (told ≡ refused NotBuilt))
-
--- what a run prints
-abbrev pub Ran : List ℕ → List ℕ → ℕ → List Action → Option ActionPlan → List ℕ → Type 0
-Ran name directory ticks held None told = told ≡ refused NoPackage
-Ran name directory ticks held (Some plan) told = RanOr name directory ticks held (Some plan) told
+    ⊎ (((typed : Typed) → IsPlannedProgram (actions_held name world) plan directory typed → ⊥) × (told ≡ refused NotBuilt))
 
 -- what the ids of a plan's directories print
-abbrev pub Listed : List ℕ → List ℕ → List Action → Option ActionPlan → List ℕ → Type 0
-Listed name directory held None told = told ≡ refused NoPackage
-Listed name directory held (Some plan) told = (rows : List (List ℕ × Standing)) × AreIdRows held plan rows × (told ≡ ids_text name directory rows)
+abbrev pub Listed : List ℕ → List ℕ → World → Option ActionPlan → List ℕ → Type 0
+Listed name directory world None told = told ≡ refused NoPackage
+Listed name directory world (Some plan) told = (rows : List (List ℕ × Standing)) × AreIdRows (actions_held name world) plan rows × (told ≡ ids_text name directory rows)
 
 -- what a command that isn't refused prints
 abbrev pub Answers : Command → World → List ℕ → Type 0
-Answers (Build name directory) world told =
-    (plan : Option ActionPlan) × IsPlanFor world.edition (writes_of name world) directory plan × (fates : List Fate) × AreFates plan fates
-    × Told name directory (actions_held name world) plan fates told
-Answers (Run name directory ticks) world told =
-    (plan : Option ActionPlan) × IsPlanFor world.edition (writes_of name world) directory plan × Ran name directory ticks (actions_held name world) plan told
-Answers (Ids name directory) world told =
-    (plan : Option ActionPlan) × IsPlanFor world.edition (writes_of name world) directory plan × Listed name directory (actions_held name world) plan told
+Answers (Build targets) world told = (builds : Option (List TargetBuild)) × AreBuilds world targets builds × (told ≡ builds_text world targets builds)
+Answers (Run name directory ticks) world told = (plan : Option ActionPlan) × IsPlan name directory world plan × Ran name directory ticks world plan told
+Answers (Ids name directory) world told = (plan : Option ActionPlan) × IsPlan name directory world plan × Listed name directory world plan told
 Answers (Show name) world told = (shown : List AWrite) × IsShown (writes_of name world) shown × (told ≡ show_text name shown)
 Answers _ world told = told ≡ []
 
 abbrev pub PrintsBy : Option Refusal → Command → World → List ℕ → Type 0
-PrintsBy None command world told = Answers command world told
-PrintsBy (Some refusal) command world told = told ≡ refused refusal
+PrintsBy refusal command world told = elim refusal [ None ↦ Answers command world told | Some its ↦ told ≡ refused its ]
 
 -- what a command prints
 unfoldable pub Prints : Command → Option (List ℕ) → World → List ℕ → Type 0
 Prints command text world told = PrintsBy (first_of (refusals command text world)) command world told
 
-abbrev pub text_list : Option (List ℕ) → List (List ℕ)
-text_list None = []
-text_list (Some text) = text ∷ []
-
 abbrev pub texts_of_replica : Replica → List (List ℕ)
-texts_of_replica r = flat_map (λ w. text_list w.1.text) r.writes ++ hashed_actions r.actions
+texts_of_replica r = flat_map (λ w. option_to_list w.1.text) r.writes ++ hashed_actions r.actions
 
 -- The texts that are hashed: of the files written and compiled, and of the actions, also of those that builds, runs and ids looked for.
 unfoldable pub hashed : World → List (List ℕ)

@@ -3,4 +3,3 @@
 
 pub mod law;
 pub mod replicas;
-pub mod steps;

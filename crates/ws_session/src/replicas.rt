@@ -1,5 +1,6 @@
 //! The replicas of a session: what each command does to them.
-ghost use Rattle.std.specs.Prelude.{◌≡◌, ◌≢◌, ◌<◌, ℕ, List, length, slice_index_or, vec_len, map, true, false, IfOk, OnOk, OnErr, IfSome, MatchOption, Option, Some, None, Err};
+ghost use Rattle.std.specs.Prelude.{◌≡◌, ◌≢◌, ◌<◌, ℕ, List, length, slice_index_or, vec_len, map, zip, true, false, IfOk, OnOk, OnErr, IfSome, MatchOption, Option, Some, None, Err};
+ghost use Rattle.std.specs.List.{All, flat_map};
 ghost use Rattle.std.specs.Option.{option_map};
 ghost use Rattle.ws_path.specs.Paths.{file_name};
 ghost use Rattle.go_text.specs.Editions.{edition_number};
@@ -8,28 +9,31 @@ ghost use Rattle.ws_register.specs.Sources.{top};
 ghost use Rattle.ws_session.specs.declared.replicas.Named.{Named as ANamed};
 ghost use Rattle.ws_action.specs.Actions.{Action as AnAction};
 ghost use Rattle.ws_replica.specs.Holdings.{ReplicaStandsFor};
-ghost use Rattle.ws_report.specs.Reports.{rows, id_row};
-ghost use Rattle.std.specs.Thread.{IsSync};
+ghost use Rattle.ws_replica.specs.Builds.{target_of};
+ghost use Rattle.ws_report.specs.Reports.{id_row};
 ghost use Rattle.ws_path.specs.Paths.{is_path};
-ghost use Rattle.ws_session.specs.Standing.{StandFor, index_of, AllStand, Settles, Tells, told_of, ChangedAt, Edited, Removal, Applied, MergedFrom, Built, HasNoPlanAt, RanAt, AreIdsAt, replicas_of, labels_of, IsContent};
-ghost use Rattle.ws_session.specs.World.{World, opening, is_text, is_path_word};
+ghost use Rattle.ws_session.specs.Standing.{StandFor, index_of, AllStand, Settles, Tells, told_of, ChangedAt, Edited, Removal, Applied, MergedFrom, asked_of, AreTargets, AreBuiltBy, AreApart, names_in, words_of, report_line, HasNoPlanAt, RanAt, AreIdsAt, replicas_of, labels_of, IsContent};
+ghost use Rattle.ws_session.specs.World.{World, opening, is_text, is_path_word, hashed, After, Prints};
+ghost use Rattle.ws_action.specs.Clash.{NoClash};
+ghost use Rattle.ws_command.specs.Seen.{seen};
 ghost use Rattle.ws_command.specs.Commands.{Create, Write, Remove, Apply, Merge, Settle, Build, Run, Ids, Show};
 
-use crate::steps::Steps;
 use go_text::edition::Edition;
 use go_text::source::Source;
 use go_text::text::{Text, TextError};
 use go_vm::run::{Outcome, RunError, run};
 use std::alloc::{AllocError, Global};
+use std::sync::Wait;
 use std::thread::Threads;
 use std::{mem, str};
 use ws_command::commands::Asked;
 use ws_command::printing::{ids_lines, report_lines, run_lines, show_lines};
 use ws_command::refusal::{Refusal, refused};
 use ws_path::{file_name, is_path};
+use ws_pool::Gate;
 use ws_register::EditError;
 use ws_replica::join::settle;
-use ws_replica::{BuildError, Replica, build, ids, image};
+use ws_replica::{BuildError, Replica, Target, build, ids, image};
 use ws_report::{IdLine, Report};
 use ws_version::{Held, Join, Version};
 
@@ -158,24 +162,6 @@ fn merge_at(
     let merged = one.merge(&named[theirs].replica);
     named[mine].replica = one;
     merged
-}
-
-/// The replica at an index builds a directory.
-fn build_at<R: Threads + Sync>(
-    rt: &R,
-    alloc: Global,
-    edition: Edition,
-    named: &mut Vec<Named>,
-    index: usize,
-    directory: &str,
-) -> Result<Report, BuildError>
-    requires { index < vec_len named.old }
-    ensures ok { IfOk result (λ report. ChangedAt (Built (edition_number edition) directory.now (rows report.directories.items) report.compiled) named.old.items index named.new.items) }
-    ensures none { result ≡ Err BuildError.NoPackage → HasNoPlanAt (edition_number edition) directory.now named.old.items index }
-    ensures err { OnErr result (named.new.items ≡ named.old.items) }
-{
-    let one = &mut named[index];
-    build(rt, alloc, &mut one.replica, directory, edition)
 }
 
 /// A write of a text to a path by the replica of that name.
@@ -412,27 +398,109 @@ fn merge(
     Ok(None)
 }
 
-/// A build of a directory by the replica of that name, and what it prints.
-fn build_target<R: Threads + Sync>(
+/// What is asked to be built, by the numbers of the replicas; or why it isn't.
+fn targets_of<'a>(
+    alloc: Global,
+    named: &[Named],
+    asked: &[(&'a [u8], &'a [u8])],
+) -> Result<Result<Vec<Target<'a>>, Refusal>, AllocError>
+    ensures { IfOk result (λ targets. AreTargets named.now (map asked_of asked.now) targets) }
+{
+    let mut targets = Vec::new(alloc);
+    let mut is_text = true;
+    for (name, word) in asked {
+        let Some(replica) = index_of(named, name) else {
+            return Ok(Err(Refusal::Unknown));
+        };
+        match str::from_utf8(word) {
+            Ok(directory) => targets.push(Target { replica, directory })?,
+            Err(_) => is_text = false,
+        }
+    }
+    if !is_text {
+        return Ok(Err(Refusal::NoPackage));
+    }
+    Ok(Ok(targets))
+}
+
+/// The replicas build targets: the reports, or nothing, and no change, where a target has no
+/// package files.
+fn build_all<R: Threads + Wait + Sync, G: Gate>(
     rt: &R,
     alloc: Global,
     edition: Edition,
+    workers: u64,
+    gate: &G,
     named: &mut Vec<Named>,
-    name: &[u8],
-    word: &[u8],
-) -> Result<Vec<u8>, AllocError>
-    ensures { IfOk result (λ told. (text : Option (List ℕ)) (world : World) → edition_number edition ≡ world.edition → AllStand named.old.items world.replicas → Tells (Build name.now word.now) text world told.items named.new.items) }
+    targets: &[Target<'_>],
+) -> Result<Option<Vec<Report>>, AllocError>
+    requires some { 0 < workers }
+    requires within { All (λ t. t.replica < vec_len named.old) targets.now }
+    ensures { IfOk result (λ reports. AreBuiltBy (edition_number edition) (map target_of targets.now) named.old.items reports named.new.items) }
 {
-    let Some(index) = index_of(named.as_slice(), name) else {
-        return refused(alloc, Refusal::Unknown);
-    };
-    let Ok(directory) = str::from_utf8(word) else {
-        return refused(alloc, Refusal::NoPackage);
-    };
-    match build_at(rt, alloc, edition, named, index, directory) {
-        Ok(report) => report_lines(alloc, name, directory, &report),
-        Err(BuildError::NoPackage) => refused(alloc, Refusal::NoPackage),
+    let (labels, mut replicas) = parted(alloc, mem::replace(named, Vec::new(alloc)))?;
+    let built = build(
+        rt,
+        alloc,
+        replicas.as_mut_slice(),
+        targets,
+        edition,
+        workers,
+        gate,
+    );
+    *named = rejoined(alloc, labels, replicas)?;
+    match built {
+        Ok(reports) => Ok(Some(reports)),
+        Err(BuildError::NoPackage) => Ok(None),
         Err(BuildError::Memory) => Err(AllocError),
+    }
+}
+
+/// What the reports of a build's targets print, one behind the other.
+fn all_lines(
+    alloc: Global,
+    named: &[Named],
+    targets: &[Target<'_>],
+    reports: &[Report],
+) -> Result<Vec<u8>, AllocError>
+    requires { All (λ t. t.replica < length named.now) targets.now }
+    ensures { IfOk result (λ told. told.items ≡ flat_map report_line (zip (map (words_of named.now) (map target_of targets.now)) reports.now)) }
+{
+    let mut told = Vec::new(alloc);
+    for (target, report) in targets.iter().zip(reports) {
+        let name = named[target.replica].name.as_slice();
+        let lines = report_lines(alloc, name, target.directory, report)?;
+        told.extend_from_slice(lines.as_slice())?;
+    }
+    Ok(told)
+}
+
+/// A build of directories by the replicas of those names, and what it prints.
+fn build_targets<R: Threads + Wait + Sync, G: Gate>(
+    rt: &R,
+    alloc: Global,
+    edition: Edition,
+    workers: u64,
+    gate: &G,
+    named: &mut Vec<Named>,
+    asked: &[(&[u8], &[u8])],
+) -> Result<Vec<u8>, AllocError>
+    requires { 0 < workers }
+    ensures { IfOk result (λ told. (text : Option (List ℕ)) (world : World) → edition_number edition ≡ world.edition → AllStand named.old.items world.replicas → AreApart (names_in world) → Tells (Build (map asked_of asked.now)) text world told.items named.new.items) }
+{
+    let targets = match targets_of(alloc, named.as_slice(), asked)? {
+        Ok(targets) => targets,
+        Err(refusal) => return refused(alloc, refusal),
+    };
+    let reports = build_all(rt, alloc, edition, workers, gate, named, targets.as_slice())?;
+    match reports {
+        None => refused(alloc, Refusal::NoPackage),
+        Some(reports) => all_lines(
+            alloc,
+            named.as_slice(),
+            targets.as_slice(),
+            reports.as_slice(),
+        ),
     }
 }
 
@@ -547,19 +615,26 @@ impl Replicas {
             named: Vec::new(alloc),
         }
     }
-}
 
-impl Steps for Replicas {
-    ghost use Rattle.ws_session.specs.Standing.{StandFor};
-
-    ghost stands_for = { StandFor };
-
-    fn step<R: Threads + Sync>(
+    /// Runs one command on its text, where the script had all of it, and answers what it prints:
+    /// whatever the number of workers that build, and the gate that they pass. It may start
+    /// threads, and joins them. After an `Err`, want of memory, it may stand for no world.
+    pub fn step<R: Threads + Wait + Sync, G: Gate>(
         &mut self,
         rt: &R,
+        workers: u64,
+        gate: &G,
         asked: &Asked<'_>,
         text: Option<Vec<u8>>,
-    ) -> Result<Vec<u8>, AllocError> {
+    ) -> Result<Vec<u8>, AllocError>
+        requires { 0 < workers }
+        ensures { let command = seen asked.now in
+            let given = option_map (λ v. v.items) text in
+            (world : World) → StandFor self.old world → IfOk result (λ told.
+            (next : World) × After command given world next
+            × (NoClash (hashed next) →
+            Prints command given world told.items × StandFor self.new next)) }
+    {
         let alloc = self.alloc;
         match asked {
             Asked::Nothing => told(alloc, None),
@@ -599,8 +674,16 @@ impl Steps for Replicas {
                 let refusal = merge(alloc, &mut self.named, name, other)?;
                 told(alloc, refusal)
             }
-            Asked::Build(name, directory) => {
-                build_target(rt, alloc, self.edition, &mut self.named, name, directory)
+            Asked::Build(targets) => {
+                build_targets(
+                    rt,
+                    alloc,
+                    self.edition,
+                    workers,
+                    gate,
+                    &mut self.named,
+                    targets.as_slice(),
+                )
             }
             Asked::Ids(name, directory) => {
                 ids_target(rt, alloc, self.edition, &self.named, name, directory)

@@ -2,9 +2,9 @@
 
 mod actions;
 mod boards;
-mod builds;
 mod entries;
 mod fixture;
 mod groupings;
 mod joins;
 mod replicas;
+mod snapshots;

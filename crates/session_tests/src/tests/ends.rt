@@ -3,12 +3,14 @@ ghost use Rattle.std.specs.Prelude.{◌≡◌, ◌+◌, ◌<◌, ◌^◌, None, 
 
 use go_text::edition::Edition;
 use std::alloc::Global;
+use std::sync::Wait;
 use std::test::Fail;
 use std::thread::Threads;
+use ws_pool::Plain;
 use ws_script::ends::{FromReader, ToWriter};
 use ws_script::reading::{EndFault, ScriptIn};
 use ws_script::running::SessionError;
-use ws_script::script::run_session;
+use ws_script::script::run_script;
 use ws_script::writing::ScriptOut;
 
 /// A reader of some bytes, of which a call gives at most `step`, and call `fails_at` fails.
@@ -161,13 +163,13 @@ impl ScriptOut for FakeOut {
 }
 
 const SCRIPT: &[u8] =
-    b"replica a\nwrite a p/x.go 1\npackage p\nbuild a p\nbuild a p\nreplica b\nmerge b a\nbuild b p\n";
+    b"replica a\nwrite a p/x.go 1\npackage p\nbuild a p\nbuild a p\nreplica b\nmerge b a\nbuild b p a p\n";
 
 const TOLD: &[u8] =
-    b"build a p ok 1 compiled 1\nbuild a p ok 1 compiled 0\nbuild b p ok 1 compiled 0\n";
+    b"build a p ok 1 compiled 1\nbuild a p ok 1 compiled 0\nbuild b p ok 1 compiled 0\nbuild a p ok 1 compiled 0\n";
 
-/// A session of edition 1.
-fn say<R: Threads + Sync, I: ScriptIn, O: ScriptOut>(
+/// A session of edition 1, in which 4 workers build.
+fn say<R: Threads + Wait + Sync, I: ScriptIn, O: ScriptOut>(
     rt: &R,
     alloc: Global,
     reader: &mut I,
@@ -176,7 +178,7 @@ fn say<R: Threads + Sync, I: ScriptIn, O: ScriptOut>(
     requires readable { I.failed reader.old + 1 < 2 ^ 64 }
     requires writable { O.failed writer.old + 1 < 2 ^ 64 }
 {
-    run_session(rt, alloc, Edition::One, reader, writer)
+    run_script(rt, alloc, reader, writer, 4, Edition::One, &Plain)
 }
 
 #[test]

@@ -32,14 +32,18 @@ fn spelled<'a>(asked: &Asked<'a>) -> (&'static str, &'a [u8], &'a [u8], u64) {
         Asked::Create(name) => ("create", name, b"", 0),
         Asked::Write(name, path, lines) => ("write", name, path, *lines),
         Asked::Merge(name, other) => ("merge", name, other, 0),
-        Asked::Build(name, directory) => ("build", name, directory, 0),
+        Asked::Build(targets) => match targets.as_slice() {
+            [(name, directory)] => ("build", name, directory, 1),
+            [(name, _), .., (_, directory)] => ("build", name, directory, targets.len() as u64),
+            [] => ("build", b"", b"", 0),
+        },
         _ => ("another", b"", b"", 0),
     }
 }
 
 #[test]
-fn words(rt: HostRuntime) {
-    let rows: [(&[u8], (&str, &[u8], &[u8], u64)); 12] = [
+fn words(rt: HostRuntime) -> Result<(), Fail> {
+    let rows: [(&[u8], (&str, &[u8], &[u8], u64)); 14] = [
         (b"  \r", ("nothing", b"", b"", 0)),
         (b"\t", ("bad", b"", b"", 0)),
         (b" replica  a ", ("create", b"a", b"", 0)),
@@ -52,11 +56,15 @@ fn words(rt: HostRuntime) {
             ("write", b"a", b"p", u64::MAX),
         ),
         (b"merge a b", ("merge", b"a", b"b", 0)),
-        (b"build a b", ("build", b"a", b"b", 0)),
+        (b"build a b", ("build", b"a", b"b", 1)),
         (b"build a b c", ("bad", b"", b"", 0)),
+        (b"build a b c d", ("build", b"a", b"d", 2)),
+        (b"build", ("bad", b"", b"", 0)),
         (b"write a p 1 2", ("bad", b"", b"", 0)),
     ];
     for (line, want) in rows {
-        assert!(rt; spelled(&ask(line)) == want);
+        let asked = ask(rt.alloc(), line)?;
+        assert!(rt; spelled(&asked) == want);
     }
+    Ok(())
 }

@@ -83,11 +83,9 @@ fn no_replicas_settle(rt: HostRuntime) {
 fn replicas_settle_on_what_is_compiled(rt: HostRuntime) -> Result<(), Fail> {
     let alloc = rt.alloc();
     let mut both = [Replica::new(alloc), Replica::new(alloc)];
-    let [first, _] = &mut both;
-    take(alloc, first, "p/x.go", 1, Some("package p\n"))?;
-    assert!(rt; built(&rt, alloc, first) == ("good", 1));
+    take(alloc, &mut both[0], "p/x.go", 1, Some("package p\n"))?;
+    assert!(rt; built(&rt, alloc, &mut both, 0) == ("good", 1));
     settle(&rt, alloc, &mut both)?;
-    let [_, second] = &mut both;
-    assert!(rt; built(&rt, alloc, second) == ("good", 0));
+    assert!(rt; built(&rt, alloc, &mut both, 1) == ("good", 0));
     Ok(())
 }

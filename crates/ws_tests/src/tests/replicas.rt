@@ -4,11 +4,13 @@ use go_text::source::Source;
 use go_text::text::Text;
 use std::alloc::Global;
 use std::process::Abort;
+use std::sync::Wait;
 use std::test::Fail;
 use std::thread::Threads;
+use ws_pool::Plain;
 use ws_register::EditError;
-use ws_replica::{BuildError, Replica, build, image};
-use ws_report::Verdict;
+use ws_replica::{BuildError, Replica, Target, build, image};
+use ws_report::{Report, Verdict};
 use ws_version::{Held, Join, Version, Write};
 
 /// The replica takes a write with that counter and number, and that text.
@@ -62,20 +64,33 @@ fn listed(alloc: Global, replica: &Replica) -> Result<String, Fail> {
     Ok(all)
 }
 
-/// What a build of the directory p says, and how many actions it compiled.
-pub fn built<R: Threads + Sync>(
+/// What a build of the directory p by the replica of a number says, and how many actions it compiled.
+pub fn built<R: Threads + Wait + Sync>(
     rt: &R,
     alloc: Global,
-    replica: &mut Replica,
+    replicas: &mut [Replica; 2],
+    replica: usize,
 ) -> (&'static str, u64) {
-    match build(rt, alloc, replica, "p", Edition::One) {
-        Ok(report) => match report.directories.as_slice() {
-            [(_, Verdict::Good)] => ("good", report.compiled),
-            [(_, Verdict::Faulty(_))] => ("faulty", report.compiled),
-            _ => ("another report", report.compiled),
+    let directory = "p";
+    if replica >= 2 {
+        return ("no replica", 0);
+    }
+    let targets = [Target { replica, directory }];
+    match build(rt, alloc, replicas, &targets, Edition::One, 2, &Plain) {
+        Ok(reports) => match reports.as_slice() {
+            [report] => (word_of(report), report.compiled),
+            _ => ("another number of reports", 0),
         },
         Err(BuildError::NoPackage) => ("no package", 0),
         Err(BuildError::Memory) => ("out of memory", 0),
+    }
+}
+
+fn word_of(report: &Report) -> &'static str {
+    match report.directories.as_slice() {
+        [(_, Verdict::Good)] => "good",
+        [(_, Verdict::Faulty(_))] => "faulty",
+        _ => "another report",
     }
 }
 
@@ -122,29 +137,29 @@ fn writes_are_held(rt: HostRuntime) -> Result<(), Fail> {
 }
 
 /// Builds of a replica, of its copy, and of the copy edited and merged with it.
-fn shares<R: Abort + Threads + Sync>(
+fn shares<R: Abort + Threads + Wait + Sync>(
     rt: &R,
     alloc: Global,
-    first: &mut Replica,
-    second: &mut Replica,
+    replicas: &mut [Replica; 2],
 ) -> Result<(), Fail> {
-    edit(alloc, first, "package main\nfunc main() {}\n")?;
-    assert!(rt; linked(rt, alloc, first) == Some(false));
-    assert!(rt; built(rt, alloc, first) == ("good", 1));
-    *second = first.copy()?;
-    assert!(rt; built(rt, alloc, second) == ("good", 0));
-    edit(alloc, second, "package")?;
-    assert!(rt; built(rt, alloc, second) == ("faulty", 0));
-    second.merge(first)?;
-    assert!(rt; linked(rt, alloc, first) == Some(true));
-    assert!(rt; linked(rt, alloc, second) == Some(false));
+    edit(alloc, &mut replicas[0], "package main\nfunc main() {}\n")?;
+    assert!(rt; linked(rt, alloc, &replicas[0]) == Some(false));
+    assert!(rt; built(rt, alloc, replicas, 0) == ("good", 1));
+    replicas[1] = replicas[0].copy()?;
+    assert!(rt; built(rt, alloc, replicas, 1) == ("good", 0));
+    edit(alloc, &mut replicas[1], "package")?;
+    assert!(rt; built(rt, alloc, replicas, 1) == ("faulty", 0));
+    let first = replicas[0].copy()?;
+    replicas[1].merge(&first)?;
+    assert!(rt; linked(rt, alloc, &replicas[0]) == Some(true));
+    assert!(rt; linked(rt, alloc, &replicas[1]) == Some(false));
     Ok(())
 }
 
 #[test]
 fn results_are_shared(rt: HostRuntime) -> Result<(), Fail> {
     let alloc = rt.alloc();
-    let (mut first, mut second) = (Replica::new(alloc), Replica::new(alloc));
-    assert!(rt; built(&rt, alloc, &mut first) == ("no package", 0));
-    shares(&rt, alloc, &mut first, &mut second)
+    let mut replicas = [Replica::new(alloc), Replica::new(alloc)];
+    assert!(rt; built(&rt, alloc, &mut replicas, 0) == ("no package", 0));
+    shares(&rt, alloc, &mut replicas)
 }

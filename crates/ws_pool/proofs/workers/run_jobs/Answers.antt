@@ -1,7 +1,7 @@
 use Rattle.std.proofs.Common.{[], sym, subst}
 use Rattle.ws_board.specs.Work.{Seen}
 use Rattle.ws_board.specs.Ends.{ComesToEnds}
-use Rattle.ws_pool.proofs.PoolRuns.{own_ends}
+use Rattle.ws_pool.proofs.OwnEnds.{own_ends}
 use Rattle.ws_pool.proofs.workers.run_jobs.Goals as goal
 
 pub returns-clause-ends : goal.returns-clause-ends

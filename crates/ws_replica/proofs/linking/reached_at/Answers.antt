@@ -1,4 +1,4 @@
-use Rattle.std.proofs.Common.{◌≡◌, ◌<◌, ◌≤◌, length, map, arith, subst}
+use Rattle.std.proofs.Common.{◌<◌, ◌≤◌, length, map, arith, subst}
 use Rattle.ws_replica.specs.Images.{IsAt}
 use Rattle.ws_replica.specs.Jobs.{Reached, reached_of}
 use Rattle.ws_replica.proofs.Steps.{at_next, mapped_member, taken_all}

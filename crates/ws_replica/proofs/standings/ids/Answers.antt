@@ -11,7 +11,7 @@ use Rattle.ws_graph.specs.BuildPlan.{Directory, IsBuildPlanOf}
 use Rattle.ws_graph.specs.Node.{directory_of}
 use Rattle.ws_report.specs.Reports.{id_row}
 use Rattle.ws_replica.specs.declared.standings.Candidate.{Candidate as RustCandidate}
-use Rattle.ws_replica.specs.Candidates.{Candidate, candidate_of, IsCandidate, narrowed, row_by}
+use Rattle.ws_replica.specs.Candidates.{candidate_of, IsCandidate, narrowed, row_by}
 use Rattle.ws_replica.specs.Holdings.{Replica}
 use Rattle.ws_replica.specs.Jobs.{reached_of}
 use Rattle.ws_replica.proofs.BuiltPlans.{all_fit}

@@ -1,10 +1,13 @@
-use Rattle.std.proofs.Common.{arith, ◌++◌, ap, take, List, ℕ}
+use Rattle.std.proofs.Common.{arith, ◌++◌, ap, take, List, ℕ, Option}
 use Rattle.ws_command.specs.Lines.{lines_of}
+use Rattle.ws_command.specs.Commands.{Command}
+use Rattle.ws_script.specs.Requests.{IsFirst}
 use Rattle.ws_script.specs.Told.{Grows}
-use Rattle.ws_session.specs.World.{World}
+use Rattle.ws_session.specs.Standing.{StandFor}
+use Rattle.ws_session.specs.World.{World, After, Prints}
 use Rattle.ws_script.proofs.Texts.{empty_is}
 use Rattle.ws_script.proofs.Growth.{grows_on, grows_by}
-use Rattle.ws_script.proofs.Reaches.{all_said, front_said, first_reaches, first_leads, first_part}
+use Rattle.ws_script.proofs.Reaches.{LeadsTo, all_said, front_said, first_reaches, first_leads, first_part}
 use Rattle.ws_script.proofs.Refused.{on_refusal}
 use Rattle.ws_script.proofs.running.answer.Goals as goal
 
@@ -23,19 +26,39 @@ returns-in_err-told-clause-err g c = λ edition opened. on_refusal c.from_residu
     let so_far = c.commands.invariant.so_far edition opened clear in
     (so_far.1, front_said so_far.4, so_far.3))
 
+-- the world after a command is led to, with what it prints behind the front
+goes_on : {first_world : World} {all : List (List ℕ)} {left rest front : List ℕ} {command : Command} {text : Option (List ℕ)} {world next : World} (old mid new : Option (List ℕ)) (told : List ℕ) (stands : World → Type 0)
+    → IsFirst left command text rest → LeadsTo first_world all world (lines_of left) front → Grows old mid front → Grows mid new told
+    → After command text world next → Prints command text world told → stands next
+    → (reached : World) × (said : List ℕ) × stands reached × Grows old new said × LeadsTo first_world all reached (lines_of rest) said
+goes_on {front = front} {next = next} old mid new told stands first leads grown more after prints stand =
+    (next, front ++ told, stand, grows_on old mid new front told grown more, first_leads first leads next told prints after)
+
 pub commands-preserved : goal.commands-preserved
 commands-preserved g c = record {
   so_far = λ edition opened clear.
-      let written = g.O.ScriptOut.written in
       let so_far = c.commands.invariant.so_far edition opened clear in
-      let ran = c.in_ok-told.ensures so_far.0 so_far.2 in
-      let next : World = ran.0 in
-      let told : List ℕ = c.in_ok-told.told.items in
       let first = c.in_ok-asked.ensures.first in
-      let printed = ran.2 (clear next (first_reaches first so_far.4 next ran.1)) in
-      let wrote : Grows (written c.commands.writer) (written c.write_whole.new.writer) told =
-      grows_by _ _ _ _ c.as_slice.ensures.value c.in_ok-write_whole.ensures.ok in
-      (next, so_far.1 ++ told, printed.1, grows_on _ _ _ so_far.1 told so_far.3 wrote, first_leads first so_far.4 next told printed.0 ran.1);
+      let ran = c.in_ok-told.ensures so_far.0 so_far.2 in
+      let printed = ran.2 (clear ran.0 (first_reaches first so_far.4 ran.0 ran.1)) in
+      let written = g.O.ScriptOut.written in
+      let told : List ℕ = c.in_ok-told.told.items in
+      let wrote : Grows (written c.commands.writer) (written c.write_whole.new.writer) told = grows_by _ _ _ _ c.as_slice.ensures.value c.in_ok-write_whole.ensures.ok in
+      goes_on (written c.args.writer.now) (written c.commands.writer) (written c.write_whole.new.writer) told (StandFor c.step.new.self) first so_far.4 so_far.3 wrote ran.1 printed.0 printed.1;
+  no_failure = omega (arith, c.in_ok-write_whole.ensures.failed, c.commands.invariant.no_failure);
+}
+
+pub commands-preserved-in_ok-write_whole : goal.commands-preserved-in_ok-write_whole
+commands-preserved-in_ok-write_whole g c = record {
+  so_far = λ edition opened clear.
+      let so_far = c.commands.invariant.so_far edition opened clear in
+      let first = c.in_ok-asked.ensures.first in
+      let ran = c.in_ok-told.ensures so_far.0 so_far.2 in
+      let printed = ran.2 (clear ran.0 (first_reaches first so_far.4 ran.0 ran.1)) in
+      let written = g.O.ScriptOut.written in
+      let told : List ℕ = c.in_ok-told.told.items in
+      let wrote : Grows (written c.commands.writer) (written c.write_whole.new.writer) told = grows_by _ _ _ _ c.as_slice.ensures.value c.in_ok-write_whole.ensures.ok in
+      goes_on (written c.args.writer.now) (written c.commands.writer) (written c.write_whole.new.writer) told (StandFor c.step.new.self) first so_far.4 so_far.3 wrote ran.1 printed.0 printed.1;
   no_failure = omega (arith, c.in_ok-write_whole.ensures.failed, c.commands.invariant.no_failure);
 }
 

@@ -1,4 +1,4 @@
-use Rattle.std.proofs.Common.{◌≡◌, ap, sym, ◌∙◌, subst, List, ℕ, Option, Some, Vec, Global}
+use Rattle.std.proofs.Common.{ap, sym, ◌∙◌, subst, List, ℕ, Option, Some, Vec, Global}
 use Rattle.std.specs.Option.{option_map}
 use Rattle.ws_version.specs.Writes.{Held}
 use Rattle.ws_command.specs.declared.refusal.Refusal.{Refusal}

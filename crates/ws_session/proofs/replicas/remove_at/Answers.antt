@@ -1,6 +1,5 @@
-use Rattle.std.proofs.Common.{◌≡◌, ◌<◌, length, string_bytes, ◌++◌, ◌∷◌, [], List, ℕ, Some, None, true, subst, refl, ap, ◌∙◌, arith, get_or}
+use Rattle.std.proofs.Common.{◌≡◌, ◌<◌, length, string_bytes, ◌++◌, ◌∷◌, [], List, ℕ, Some, None, subst, refl, ap, ◌∙◌, arith, get_or}
 use Rattle.std.proofs.Math.ListN.{set}
-use Rattle.ws_path.specs.Paths.{is_path}
 use Rattle.ws_register.specs.Edits.{removed, removal_refusal, greatest_at, IsRefusal}
 use Rattle.ws_register.specs.declared.EditError.{EditError}
 use Rattle.ws_register.specs.declared.EditError.TheVariants.{BadPath, NoFile, CounterFull}
@@ -8,8 +7,7 @@ use Rattle.ws_register.specs.Sources.{top}
 use Rattle.ws_replica.specs.Holdings.{Replica, ReplicaStandsFor}
 use Rattle.ws_session.specs.declared.replicas.Named.{Named}
 use Rattle.ws_session.specs.Standing.{Removed}
-use Rattle.ws_session.proofs.Standings.{changed_one, one_element}
-use Rattle.ws_session.proofs.Telling.{set_same}
+use Rattle.ws_session.proofs.Standings.{changed_one, one_element, set_same}
 use Rattle.ws_session.proofs.Writing.{row_of_refusal}
 use Rattle.ws_session.proofs.replicas.remove_at.Goals as goal
 

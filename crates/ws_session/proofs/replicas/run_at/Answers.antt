@@ -1,4 +1,4 @@
-use Rattle.std.proofs.Common.{◌≡◌, ◌<◌, length, arith, sym, ap, subst, Option, Some, None, List, [], ◌∷◌}
+use Rattle.std.proofs.Common.{◌≡◌, ◌<◌, length, arith, subst, Option, [], ◌∷◌}
 use Rattle.std.specs.Prelude.{IfSome, Err}
 use Rattle.go_export.specs.Typed.{Typed}
 use Rattle.go_export.specs.WellTyped.{IsWellTyped}

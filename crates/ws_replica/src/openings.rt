@@ -1,0 +1,154 @@
+//! What the replicas that targets name bring to a build, and what they take from it.
+ghost use Rattle.std.specs.Prelude.{◌≡◌, ◌==◌, ◌<◌, ℕ, List, length, map, IfOk, OnOk, OnErr, Err, Some, All};
+ghost use Rattle.std.specs.FinMap.{FinMap};
+ghost use Rattle.std.specs.List.{slice_get, list_all};
+ghost use Rattle.go_text.specs.Editions.{edition_number};
+ghost use Rattle.ws_map.specs.Kept.{StandsFor};
+ghost use Rattle.ws_version.specs.Writes.{Write as AWrite, held_cmp};
+ghost use Rattle.ws_action.specs.Actions.{Action as AnAction};
+ghost use Rattle.ws_cache.specs.Held.{id_cmp};
+ghost use Rattle.ws_graph.specs.Plan.{NoFiles, IsPlanOf};
+ghost use Rattle.ws_replica.specs.Holdings.{Took, AllStandFor};
+ghost use Rattle.ws_replica.specs.Jobs.{reached_of, all_reached_of};
+ghost use Rattle.ws_replica.specs.Builds.{target_of, LacksPackage};
+ghost use Rattle.ws_replica.specs.Targets.{IsReachedBy, AreReached, IsOpening, HaveCache, TakesInto, TakeResults};
+
+use crate::building::Target;
+use crate::join::copies;
+use crate::reached::{Reached, all_reached};
+use crate::{BuildError, Replica};
+use go_text::edition::Edition;
+use std::alloc::{AllocError, Global};
+use std::thread::Threads;
+use ws_cache::Cache;
+use ws_graph::planning::plan;
+use ws_register::Registers;
+use ws_version::Join;
+
+fn replica_at(replicas: &[Replica], number: usize) -> &Replica
+    requires { number < length replicas.now }
+    ensures { slice_get replicas.now number ≡ Some result.now }
+{
+    &replicas[number]
+}
+
+/// What is reached of a directory, by the sources of the registers.
+fn planned(
+    rt: &(impl Threads + Sync),
+    alloc: Global,
+    registers: &Registers,
+    directory: &str,
+    edition: Edition,
+) -> Result<Vec<Reached>, BuildError>
+    ensures ok { IfOk result (λ reached. IsReachedBy (edition_number edition) registers.now directory.now (map reached_of reached.items)) }
+    ensures none { result ≡ Err BuildError.NoPackage → (W : List AWrite) → StandsFor held_cmp registers.now W → IsPlanOf W directory.now NoFiles }
+{
+    let plan = plan(rt, alloc, registers, directory)?;
+    let reached = all_reached(alloc, edition, plan.directories)?;
+    Ok(reached)
+}
+
+/// What is reached of each target. `NoPackage` comes where a target's directory has no files that
+/// belong to a build.
+pub(crate) fn all_planned(
+    rt: &(impl Threads + Sync),
+    alloc: Global,
+    replicas: &[Replica],
+    targets: &[Target<'_>],
+    edition: Edition,
+) -> Result<Vec<Vec<Reached>>, BuildError>
+    requires { All (λ t. t.replica < length replicas.now) targets.now }
+    ensures ok { IfOk result (λ all. AreReached (edition_number edition) replicas.now (map target_of targets.now) (all_reached_of all.items)) }
+    ensures none { result ≡ Err BuildError.NoPackage → (took : List Took) → AllStandFor replicas.now took
+        → LacksPackage (edition_number edition) took (map target_of targets.now) }
+{
+    let mut all = Vec::new(alloc);
+    for target in targets {
+        let registers = replica_at(replicas, target.replica).registers();
+        let reached = planned(rt, alloc, registers, target.directory, edition)?;
+        if let Err(e) = all.push(reached) {
+            return Err(AllocError::from(e).into());
+        }
+    }
+    Ok(all)
+}
+
+/// The join of the caches of the replicas that the targets name. Where they name one replica its
+/// cache is shared, and nothing that grows with it is copied.
+pub(crate) fn opening_of(
+    alloc: Global,
+    replicas: &[Replica],
+    targets: &[Target<'_>],
+) -> Result<Cache, AllocError>
+    requires { All (λ t. t.replica < length replicas.now) targets.now }
+    ensures { IfOk result (λ cache. IsOpening replicas.now (map target_of targets.now) cache) }
+{
+    let Some(first) = targets.first() else {
+        return Ok(Cache::new(alloc));
+    };
+    let mut opening = replica_at(replicas, first.replica).cache().copy()?;
+    for target in targets {
+        if target.replica != first.replica {
+            opening.merge(replica_at(replicas, target.replica).cache())?;
+        }
+    }
+    Ok(opening)
+}
+
+fn all_name(targets: &[Target<'_>], number: usize) -> bool
+    ensures { result ≡ list_all (λ t. t.replica == number) targets.now }
+{
+    targets.iter().all(|target| target.replica == number)
+}
+
+/// The replica of that number takes the new entries in place. An `Err` changes nothing.
+fn take_into(replicas: &mut [Replica], number: usize, added: &Cache) -> Result<(), AllocError>
+    requires { number < length replicas.old }
+    ensures ok { OnOk result (TakesInto number added.now replicas.old replicas.new) }
+    ensures err { OnErr result (replicas.new ≡ replicas.old) }
+{
+    replicas[number].take_results(added)?;
+    Ok(())
+}
+
+/// Puts a cache into each replica that a target names.
+fn put_all(replicas: &mut [Replica], targets: &[Target<'_>], caches: Vec<Cache>)
+    requires within { All (λ t. t.replica < length replicas.old) targets.now }
+    requires enough { length caches.items ≡ length targets.now }
+    ensures { (cache : FinMap id_cmp AnAction) → All (λ c. c ≡ cache) caches.items → HaveCache (map target_of targets.now) cache replicas.old replicas.new }
+{
+    let mut left = caches;
+    for target in targets {
+        let Some(cache) = left.pop() else {
+            unreachable!();
+        };
+        replicas[target.replica].put_cache(cache);
+    }
+}
+
+/// Each replica that a target names then has its cache joined with the opening and the new
+/// entries: in place where they name one replica; and where they name several, all that can fail
+/// comes before the first of them changes. An `Err` changes nothing.
+pub(crate) fn give_results(
+    alloc: Global,
+    replicas: &mut [Replica],
+    targets: &[Target<'_>],
+    added: &Cache,
+) -> Result<(), AllocError>
+    requires { All (λ t. t.replica < length replicas.old) targets.now }
+    ensures ok { OnOk result (TakeResults (map target_of targets.now) added.now replicas.old replicas.new) }
+    ensures err { OnErr result (replicas.new ≡ replicas.old) }
+{
+    let Some(first) = targets.first() else {
+        return Ok(());
+    };
+    if all_name(targets, first.replica) {
+        take_into(replicas, first.replica, added)?;
+        return Ok(());
+    }
+    let mut cache = opening_of(alloc, replicas, targets)?;
+    cache.merge(added)?;
+    let caches = copies(alloc, targets.len(), &cache)?;
+    put_all(replicas, targets, caches);
+    Ok(())
+}

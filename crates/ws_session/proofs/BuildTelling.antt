@@ -1,0 +1,114 @@
+-- What builds tell of the replicas of a session, and of those of the world.
+use Rattle.std.proofs.Common.{◌≡◌, ℕ, List, [], ◌∷◌, ◌++◌, map, zip, Option, None, Some, not, refl, sym, ap, ◌∙◌, cond, subst}
+use Rattle.std.specs.Prelude.{is_some, ◌&&◌}
+use Rattle.std.specs.List.{AllZip, Contains, flat_map, list_any, list_all}
+use Rattle.std.specs.Str.{bytes_eq, is_utf8}
+use Rattle.ws_action.specs.Actions.{Action}
+use Rattle.ws_action.specs.Clash.{NoClash, AllSized, hashed_actions}
+use Rattle.ws_action.proofs.Members.{later, at_head}
+use Rattle.ws_cache.specs.Count.{compiled_count}
+use Rattle.ws_replica.specs.Builds as numbered
+use Rattle.ws_replica.specs.Builds.{LacksPackage, AreBuilt, AreRight}
+use Rattle.ws_replica.specs.Holdings.{Took, AllStandFor}
+use Rattle.ws_replica.specs.Reports.{TargetBuild, all_sought, all_compiled, report_of}
+use Rattle.ws_report.specs.declared.Report.{Report}
+use Rattle.ws_report.specs.Reports.{rows, Verdict}
+use Rattle.ws_session.specs.declared.replicas.Named.{Named}
+use Rattle.ws_command.specs.declared.refusal.Refusal.{Refusal}
+use Rattle.ws_command.specs.declared.refusal.Refusal.TheVariants.{Unknown, NoPackage}
+use Rattle.ws_command.specs.Commands.{Build}
+use Rattle.ws_command.specs.Refusals.{first_of, refused}
+use Rattle.ws_command.specs.Printing.{report_text}
+use Rattle.ws_session.specs.World.{World, knows, AreBuilds, held_by, after_builds, target_report, builds_text, refusals, AfterBy, After, PrintsBy, Prints}
+use Rattle.ws_session.specs.Standing.{index_of, AllStand, AreApart, names_in, IsTarget, targets_row, replicas_of, Built, report_line, Tells}
+use Rattle.ws_session.proofs.Building.{same_held, same_builds, no_builds, held_sized, same_tests, all_share, clear_builds, compiled_sized}
+use Rattle.ws_session.proofs.Settled.{took_of, all_stand_for, all_actions, all_sized}
+use Rattle.ws_session.proofs.Settling.{sized_both}
+use Rattle.ws_session.proofs.Standings.{known_index}
+use Rattle.ws_session.proofs.Telling.{settled_tells}
+
+-- ---- what is printed
+
+one_line : (count : ℕ) (asked : List ℕ × List ℕ) (r : Report) (b : TargetBuild) → rows r.directories.items ≡ report_of b.plan.directories b.fates → r.compiled ≡ count → report_line (asked, r) ≡ target_report count (asked, b)
+one_line count (name, directory) r b same counts =
+    ap (λ z. report_text name directory z r.compiled) same ∙ ap (report_text name directory (report_of b.plan.directories b.fates)) counts
+
+abbrev told_rows : List Report → List (List (List ℕ × Verdict))
+told_rows reports = map (λ (r : Report). rows r.directories.items) reports
+
+abbrev build_rows : List TargetBuild → List (List (List ℕ × Verdict))
+build_rows all = map (λ (b : TargetBuild). report_of b.plan.directories b.fates) all
+
+first_rows : (r : Report) (b : TargetBuild) (reports : List Report) (all : List TargetBuild) → told_rows (r ∷ reports) ≡ build_rows (b ∷ all) → rows r.directories.items ≡ report_of b.plan.directories b.fates
+first_rows r b reports all e = cc
+
+later_rows : (r : Report) (b : TargetBuild) (reports : List Report) (all : List TargetBuild) → told_rows (r ∷ reports) ≡ build_rows (b ∷ all) → told_rows reports ≡ build_rows all
+later_rows r b reports all e = cc
+
+same_text : (count : ℕ) (asked : List (List ℕ × List ℕ)) (reports : List Report) (all : List TargetBuild) → told_rows reports ≡ build_rows all → ((r : Report) → Contains reports r → r.compiled ≡ count)
+    → flat_map report_line (zip asked reports) ≡ flat_map (target_report count) (zip asked all)
+same_text count [] reports all e counts = refl
+same_text count (a ∷ asked) [] [] e counts = refl
+same_text count (a ∷ asked) [] (b ∷ all) e counts = cc
+same_text count (a ∷ asked) (r ∷ reports) [] e counts = cc
+same_text count (a ∷ asked) (r ∷ reports) (b ∷ all) e counts =
+    ap (λ t. t ++ flat_map report_line (zip asked reports)) (one_line count a r b (first_rows r b reports all e) (counts r (at_head reports r r refl)))
+    ∙ ap (λ t. target_report count (a, b) ++ t) (same_text count asked reports all (later_rows r b reports all e) (λ q c. counts q (later r reports q c)))
+
+-- ---- when a build is refused
+
+all_known : (world : World) (ns : List Named) → AllStand ns world.replicas → (asked : List (List ℕ × List ℕ)) → list_all (λ t. knows t.0 world) asked ≡ list_all (λ t. is_some (index_of t.0 ns)) asked
+all_known world ns h [] = refl
+all_known world ns h (a ∷ asked) =
+    ap (λ b. b && list_all (λ t. knows t.0 world) asked) (known_index a.0 ns world.replicas h) ∙ ap (λ b. is_some (index_of a.0 ns) && b) (all_known world ns h asked)
+
+module _ (asked : List (List ℕ × List ℕ)) (text : Option (List ℕ)) (world : World) (ns : List Named) (h : AllStand ns world.replicas) where
+  row : first_of (refusals (Build asked) text world) ≡ targets_row ns asked
+  row = ap (λ b. cond (not b) (Some Unknown) (cond (not (list_all (λ t. is_utf8 t.1) asked)) (Some NoPackage) None)) (all_known world ns h asked)
+
+  pub build_refused : (refusal : Refusal) (told : List ℕ) → targets_row ns asked ≡ Some refusal → told ≡ refused refusal → Tells (Build asked) text world told ns
+  build_refused refusal told e t = settled_tells (Build asked) text world (Some refusal) told ns (λ _ q. q) t
+      (record { refuses = row ∙ e; next = world; after = refl; edition = refl; stand = h })
+
+  module _ (targets : List (ℕ × List ℕ)) (allowed : targets_row ns asked ≡ None) (are : AllZip (IsTarget ns) asked targets) where
+    pub build_lacks : (edition : ℕ) (told : List ℕ) → edition ≡ world.edition → told ≡ refused NoPackage
+        → ((took : List Took) → AllStandFor (replicas_of ns) took → LacksPackage edition took targets) → Tells (Build asked) text world told ns
+    unfolding After Prints
+    build_lacks edition told same t lacks =
+        let none : AreBuilds world asked None =
+        no_builds world ns h asked targets are (subst (λ n. LacksPackage n (took_of world.replicas) targets) same (lacks (took_of world.replicas) (all_stand_for ns world.replicas h))) in
+        record {
+          next = world;
+          after = subst (λ z. AfterBy z (Build asked) text world world) (sym (row ∙ allowed)) (None, none, refl);
+          edition = refl;
+          clear = λ _. (subst (λ z. PrintsBy z (Build asked) world told) (sym (row ∙ allowed)) (None, none, t), h);
+        }
+
+    pub build_told : AreApart (names_in world) → (edition : ℕ) (reports : List Report) (told : List ℕ) (ms : List Named) → edition ≡ world.edition
+        → told ≡ flat_map report_line (zip asked reports) → Built edition targets reports ns ms → Tells (Build asked) text world told ms
+    unfolding After Prints
+    build_told apart edition reports told ms same t built =
+        let took : List Took = took_of world.replicas in
+        let sized = subst AllSized (sym (all_actions world.replicas)) (all_sized ns world.replicas h) in
+        let b = subst (λ n. AreBuilt n took targets reports (replicas_of ms)) same (built.builds took (all_stand_for ns world.replicas h) sized) in
+        let builds : AreBuilds world asked (Some b.all) = same_builds world ns h asked targets b.all are b.are in
+        let held = same_held world ns h asked targets are in
+        let next : World = after_builds world asked (Some b.all) in
+        record {
+          next = next;
+          after = subst (λ z. AfterBy z (Build asked) text world next) (sym (row ∙ allowed)) (Some b.all, builds, refl);
+          edition = refl;
+          clear = λ clear.
+              let right : AreRight took targets b.all reports (replicas_of ms) =
+              b.right (subst (λ E. NoClash (hashed_actions (E ++ all_sought b.all))) (sym held) (clear_builds world asked b.all clear)) in
+              let count : ℕ = compiled_count (held_by world asked) (all_compiled b.all) in
+              let printed : told ≡ builds_text world asked (Some b.all) =
+              t ∙ same_text count asked reports b.all right.reports (λ r c. right.counts r c ∙ ap (λ E. compiled_count E (all_compiled b.all)) held) in
+              let actions : List Action = held_by world asked ++ all_compiled b.all in (
+                subst (λ z. PrintsBy z (Build asked) world told) (sym (row ∙ allowed)) (Some b.all, builds, printed),
+                all_share (λ r. list_any (λ t. bytes_eq r.name t.0) asked) (numbered.builds targets) actions ns ms world.replicas built.labels h
+                    (sized_both (held_by world asked) (all_compiled b.all) (held_sized world ns h asked targets are) (compiled_sized world.edition world asked b.all builds b.sized))
+                    (same_tests world ns h apart asked targets are)
+                    (λ k o m e f. subst (λ E. numbered.StandsAfter targets (E ++ all_compiled b.all) k o m) held (right.stand k o m e f)),
+              );
+        }
