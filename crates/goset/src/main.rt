@@ -1,28 +1,27 @@
 //! `goset`: a replicated workspace with a shared build cache, driven by a script on standard input.
 #![tactic(auto)]
 
-use go_text::edition::Edition;
 use std::process::ExitCode;
-use ws_pool::Plain;
+use std::{env, io};
 use ws_script::ends::{FromReader, ToWriter};
-use ws_script::script::run_script;
+use ws_words::running::{refuse_words, run_words};
+
+fn words_of(rt: &HostRuntime) -> io::Result<Vec<String>> {
+    Ok(env::args(rt)?.collect(rt.alloc())?)
+}
 
 fn main(rt: HostRuntime) -> ExitCode {
-    let mut reader = FromReader::new(rt.stdin());
-    let mut writer = ToWriter::new(rt.stdout());
-    match run_script(
-        &rt,
-        rt.alloc(),
-        &mut reader,
-        &mut writer,
-        4,
-        Edition::One,
-        &Plain,
-    ) {
-        Ok(()) => ExitCode::SUCCESS,
-        Err(error) => {
-            let _ = eprintln!(rt; "goset: {error}");
-            ExitCode::FAILURE
-        }
-    }
+    let mut errors = ToWriter::new(rt.stderr());
+    let status = match words_of(&rt) {
+        Ok(words) => run_words(
+            &rt,
+            rt.alloc(),
+            words.as_slice(),
+            &mut FromReader::new(rt.stdin()),
+            &mut ToWriter::new(rt.stdout()),
+            &mut errors,
+        ),
+        Err(error) => refuse_words(&error, &mut errors),
+    };
+    ExitCode::from(status)
 }

@@ -1,0 +1,28 @@
+use Rattle.std.proofs.Common.{rules, ap, ap₂, ◌∙◌, ◌≡◌, codes, true, [], subst, sym}
+use Rattle.std.specs.Prelude.{pos}
+use Rattle.std.proofs.lemmas.Result.{IfOk-weaker}
+use Rattle.clap.specs.Simple.{app_of, app_of_fields, new_app, on_top, with_rule}
+use Rattle.clap.specs.declared.builder.value_parser.ValueParser.TheVariants.{Signed}
+use Rattle.std.specs.List.{All}
+use Rattle.std.proofs.lemmas.List.Elements.{All-nil}
+use Rattle.clap.specs.Facts.{args_of, groups_of}
+use Rattle.clap.specs.Built.{IsPlain, IsPlainArg}
+use Rattle.clap.proofs.CallerLemmas.{added_plain}
+use Rattle.ws_words.proofs.options.command.Goals as goal
+
+pub returns : goal.returns
+returns c =
+    let most_64 : c.range.result ≡ Signed (pos 1) (pos 64) = rw (c.value_parser.ensures, c.new.ensures.start, c.new.ensures.end) at c.range.ensures in
+    let most_1 : c.range-2.result ≡ Signed (pos 1) (pos 1) = rw (c.value_parser-2.ensures, c.new-2.ensures.start, c.new-2.ensures.end) at c.range-2.ensures in
+    let workers_is = c.option-workers.ensures.rule 64 most_64 in
+    let edition_is = c.option-edition.ensures.rule 1 most_1 in
+    let start_is : app_of c.about.result ≡ on_top (λ top. record top { has_version = true }) (new_app (codes "goset")) =
+    ap app_of_fields c.about.ensures ∙ (ap app_of_fields c.version.ensures ∙ ap (on_top (λ top. record top { has_version = true })) c.new-3.ensures.app) in
+    let no_args : args_of c.about.result ≡ [] = search rules in
+    let no_groups : groups_of c.about.result ≡ [] = search rules in
+    let start_plain : IsPlain c.about.result = (subst (All IsPlainArg) (sym no_args) (All-nil IsPlainArg), no_groups) in
+    record {
+      app = IfOk-weaker c.arg-2.result _ _ (λ command h. h.shape c.option-edition.ensures.local
+          ∙ ap₂ with_rule (c.in_ok-arg.ensures.shape c.option-workers.ensures.local ∙ ap₂ with_rule start_is workers_is) edition_is) c.arg-2.ensures;
+      plain = IfOk-weaker c.arg-2.result _ _ (λ command h. added_plain _ _ _ h (added_plain _ _ _ c.in_ok-arg.ensures start_plain c.option-workers.ensures.plain) c.option-edition.ensures.plain) c.arg-2.ensures;
+    }

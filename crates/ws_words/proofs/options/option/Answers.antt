@@ -1,0 +1,18 @@
+use Rattle.std.proofs.Common.{rules, ap, ap₂, ◌∙◌, ◌≡◌, Some}
+use Rattle.std.specs.Prelude.{pos}
+use Rattle.clap.specs.Walk.{Rule, rule_of}
+use Rattle.clap.specs.declared.builder.value_parser.ValueParser.TheVariants.{Signed}
+use Rattle.ws_words.proofs.options.option.Goals as goal
+
+pub returns : goal.returns
+returns c =
+    let given = c.value_parser.ensures.given in
+    record {
+      rule = λ most is.
+          let parser_is : c.value_parser.result.value_parser ≡ Some (Signed (pos 1) (pos most)) = given.1 ∙ ap Some (given.2 ∙ is) in
+          let long_is = ap rule_of c.long.ensures ∙ ap (λ (r : Rule). record r { long = Some c.args.name.now }) c.new.ensures.rule in
+          let name_is = ap rule_of c.value_name.ensures ∙ ap (λ (r : Rule). record r { value_names = 1 }) long_is in
+          ap rule_of c.help.ensures ∙ (ap rule_of c.value_parser.ensures.others ∙ ap₂ (λ (r : Rule) p. record r { parser = p }) name_is parser_is);
+      plain = search rules;
+      local = search rules;
+    }
