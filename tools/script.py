@@ -6,12 +6,13 @@ import re
 
 GREATEST = 2**64 - 1
 MOST_REPLICAS = 64
+MOST_TARGETS = 64
 LONGEST_PATH = 200
 LONGEST_TEXT = 1_048_576
 LONGEST_SCRIPT = 16_777_216
 MARK = b"\xef\xbb\xbf"
 REFUSALS = {
-    1: ("command", "the line is no command: unknown, a wrong count of words, a bad name or number, or a 65th replica"),
+    1: ("command", "the line is no command: unknown, a wrong count of words, a bad name or number, or a 65th replica or target"),
     2: ("replica", "no replica has that name"),
     3: ("exists", "a replica has that name already"),
     4: ("path", "that is no path of a file"),
@@ -21,10 +22,9 @@ REFUSALS = {
     8: ("nopackage", "the directory has no files of a package"),
     9: ("notbuilt", "no compiled program is held of the directory as it is: not built, with a fault, or not main"),
 }
-# How many words stand behind each command.
 COUNTS = {
     **{b"replica": 1, b"write": 3, b"remove": 2, b"apply": 5, b"merge": 2, b"settle": 0},
-    **{b"show": 1, b"build": 2, b"run": 3, b"ids": 2},
+    **{b"show": 1, b"run": 3, b"ids": 2},
 }
 
 
@@ -44,6 +44,18 @@ def name_of(word):
     if not re.fullmatch(rb"[A-Za-z0-9_-]{1,32}", word):
         raise Refused(1)
     return word
+
+
+def is_counted(command, words):
+    """Whether so many words may stand behind a command; a build has two for each target."""
+    if command == b"build":
+        return len(words) in range(2, 2 * MOST_TARGETS + 1, 2)
+    return COUNTS.get(command) == len(words)
+
+
+def targets_of(words):
+    """The names and directories that a build's words are, or refusal 1."""
+    return [(name_of(name), at) for name, at in zip(words[::2], words[1::2])]
 
 
 def is_path(word):
