@@ -36,11 +36,14 @@ kind_of n =
     else (if nat_eq n 14 then faults.Range
     else (if nat_eq n 15 then faults.Constant
     else (if nat_eq n 16 then faults.DivideByZero
+    else (if nat_eq n 17 then faults.Index
+    else (if nat_eq n 18 then faults.NoReturn
     else (if nat_eq n 19 then faults.Assign
     else (if nat_eq n 20 then faults.Count
     else (if nat_eq n 21 then faults.Recursive
     else (if nat_eq n 23 then faults.Main
-    else faults.Unexported)))))))))))))))))))
+    else (if nat_eq n 24 then faults.Branch
+    else faults.Unexported))))))))))))))))))))))
 
 kind_again : (k : FaultKind) → kind_of (fault_number k) ≡ k
 unfolding kind_of
@@ -60,10 +63,13 @@ kind_again faults.Mismatch = refl
 kind_again faults.Range = refl
 kind_again faults.Constant = refl
 kind_again faults.DivideByZero = refl
+kind_again faults.Index = refl
+kind_again faults.NoReturn = refl
 kind_again faults.Assign = refl
 kind_again faults.Count = refl
 kind_again faults.Recursive = refl
 kind_again faults.Main = refl
+kind_again faults.Branch = refl
 kind_again faults.Unexported = refl
 
 one_kind : (k l : FaultKind) → fault_number k ≡ fault_number l → k ≡ l

@@ -41,6 +41,10 @@ pub enum FaultKind {
     Constant,
     /// A constant division by zero.
     DivideByZero,
+    /// A constant index, or an element of an array literal, past the end.
+    Index,
+    /// A function with results whose body may run off its end.
+    NoReturn,
     /// A value that isn't assignable to the type that is due.
     Assign,
     /// Another number of operands or values than is due.
@@ -49,6 +53,8 @@ pub enum FaultKind {
     Recursive,
     /// A program with no function main.
     Main,
+    /// A `break`, `continue`, `fallthrough` or default case where it can't stand.
+    Branch,
     /// A name that its package doesn't export.
     Unexported,
 }
@@ -75,10 +81,13 @@ impl FaultKind {
             FaultKind::Range => 14,
             FaultKind::Constant => 15,
             FaultKind::DivideByZero => 16,
+            FaultKind::Index => 17,
+            FaultKind::NoReturn => 18,
             FaultKind::Assign => 19,
             FaultKind::Count => 20,
             FaultKind::Recursive => 21,
             FaultKind::Main => 23,
+            FaultKind::Branch => 24,
             FaultKind::Unexported => 25,
         }
     }
@@ -104,10 +113,13 @@ impl FaultKind {
             FaultKind::Range => "range",
             FaultKind::Constant => "constant",
             FaultKind::DivideByZero => "zero",
+            FaultKind::Index => "index",
+            FaultKind::NoReturn => "noreturn",
             FaultKind::Assign => "assign",
             FaultKind::Count => "count",
             FaultKind::Recursive => "recursive",
             FaultKind::Main => "main",
+            FaultKind::Branch => "branch",
             FaultKind::Unexported => "unexported",
         }
     }
