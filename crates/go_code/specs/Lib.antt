@@ -4,6 +4,7 @@ pub mod Images
 pub mod Kinds
 pub mod Lines
 pub mod Machine
+pub mod Operators
 pub mod Packages
 pub mod Referred
 pub mod Symbols

@@ -31,4 +31,5 @@ pub mod image;
 pub mod instr;
 pub mod law;
 pub mod object;
+pub mod operator;
 pub mod setup;
