@@ -1,3 +1,4 @@
+pub mod Accesses
 pub mod Finals
 pub mod Functions
 pub mod Images
@@ -6,5 +7,6 @@ pub mod Lines
 pub mod Machine
 pub mod Operators
 pub mod Packages
+pub mod Parts
 pub mod Referred
 pub mod Symbols

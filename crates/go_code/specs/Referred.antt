@@ -1,7 +1,7 @@
 -- Instructions, functions and setups with other references.
 use Rattle.std.specs.Prelude.{map}
 use Rattle.go_code.specs.declared.instr.Instr.{Instr}
-use Rattle.go_code.specs.declared.instr.Instr.TheVariants.{Frame as In_frame, Output as To_output, Calls as By_call}
+use Rattle.go_code.specs.declared.instr.Instr.TheVariants.{Frame, Local, Global, Part, Operate, Jump, Output, Calls as By_call}
 use Rattle.go_code.specs.declared.instr.CallInstr.{CallInstr}
 use Rattle.go_code.specs.declared.instr.CallInstr.TheVariants.{Call, Return}
 use Rattle.go_code.specs.Functions.{Function, Setup}
@@ -13,8 +13,13 @@ refer_call g (Return count) = Return count
 
 -- the instruction with its reference changed: only calls have one
 abbrev pub refer : {R S : Type 0} → (R → S) → Instr R → Instr S
-refer g (In_frame i) = In_frame i
-refer g (To_output i) = To_output i
+refer g (Frame i) = Frame i
+refer g (Local i) = Local i
+refer g (Global i) = Global i
+refer g (Part i) = Part i
+refer g (Operate operator) = Operate operator
+refer g (Jump i) = Jump i
+refer g (Output i) = Output i
 refer g (By_call i) = By_call (refer_call g i)
 
 -- the function with the references of its code changed

@@ -2,6 +2,7 @@
 ghost use Rattle.std.specs.Prelude.{◌≡◌, IfOk, string_bytes};
 
 use crate::cell::Cell;
+use crate::operator::Operator;
 use std::alloc::AllocError;
 use std::marker::Model;
 
@@ -53,18 +54,106 @@ impl Symbol {
     }
 }
 
-/// What is about the newest frame alone: its cells and its stack.
+/// What is about the newest frame's stack alone.
 #[derive(Drop)]
 pub enum FrameInstr {
     /// The cell goes on top of the stack.
     Push(Cell),
+    /// So many cells leave the stack.
+    Pop(usize),
+    /// A row leaves the stack, and comes back so many times.
+    Repeat {
+        /// How many cells the row has.
+        count: usize,
+        /// How often it comes back.
+        times: usize,
+    },
+}
+
+/// How cells are loaded on the newest frame's stack and stored from it.
+#[derive(Clone, Copy)]
+pub enum AccessInstr {
+    /// Cells side by side are loaded.
+    Load {
+        /// The number of the first.
+        first: usize,
+        /// How many.
+        count: usize,
+    },
+    /// Cells leave the stack and are stored side by side.
+    Store {
+        /// The number of the first.
+        first: usize,
+        /// How many.
+        count: usize,
+    },
+    /// An offset leaves the stack, and the cells are loaded that lie by it behind the first.
+    LoadAt {
+        /// The number of the first at the offset 0.
+        first: usize,
+        /// How many.
+        count: usize,
+    },
+    /// An offset leaves the stack, then cells, which are stored by it behind the first.
+    StoreAt {
+        /// The number of the first at the offset 0.
+        first: usize,
+        /// How many.
+        count: usize,
+    },
+}
+
+/// What leads to parts of arrays and structs: by offsets, or on the stack.
+#[derive(Clone, Copy)]
+pub enum PartInstr {
+    /// An offset becomes so much greater.
+    Move(usize),
+    /// An index leaves the stack, and the offset below it becomes that of the element.
+    Index {
+        /// How many elements there are.
+        count: usize,
+        /// How many cells an element has.
+        size: usize,
+    },
+    /// An index leaves the stack, and of the array below it the element stays.
+    Pick {
+        /// How many elements there are.
+        count: usize,
+        /// How many cells an element has.
+        size: usize,
+    },
+    /// Of so many cells on top of the stack a part stays.
+    Part {
+        /// How many cells there are.
+        whole: usize,
+        /// How many of them are below the part.
+        first: usize,
+        /// How many cells the part has.
+        count: usize,
+    },
+}
+
+/// Where the newest frame goes on. A jump forward passes so many instructions; a jump back is
+/// counted from the instruction behind it.
+#[derive(Clone, Copy)]
+pub enum JumpInstr {
+    /// Forward.
+    Jump(usize),
+    /// A truth value leaves the stack; forward if it is true.
+    JumpIf(usize),
+    /// A truth value leaves the stack; forward if it is false.
+    JumpIfNot(usize),
+    /// A truth value leaves the stack; if it is true a tick is taken, and it goes back.
+    LoopIf(usize),
 }
 
 /// What takes cells from the stack for the program as a whole.
-#[derive(Drop)]
+#[derive(Clone, Copy)]
 pub enum OutputInstr {
     /// So many cells leave the stack, and are printed as a line.
     Print(usize),
+    /// A text leaves the stack, and the program panics with it.
+    Panic,
 }
 
 /// What opens a frame or leaves it. `R` is what it refers to functions by.
@@ -81,8 +170,18 @@ pub enum CallInstr<R> {
 /// function in the machine.
 #[derive(Drop)]
 pub enum Instr<R> {
-    /// About the newest frame alone.
+    /// About the newest frame's stack alone.
     Frame(FrameInstr),
+    /// About the cells of the newest frame.
+    Local(AccessInstr),
+    /// About the cells of the package variables.
+    Global(AccessInstr),
+    /// About parts of arrays and structs.
+    Part(PartInstr),
+    /// An operator; its operands leave the stack, and what it gives comes on top.
+    Operate(Operator),
+    /// A jump.
+    Jump(JumpInstr),
     /// About the output.
     Output(OutputInstr),
     /// A call, or the way back from it.
