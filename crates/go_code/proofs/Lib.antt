@@ -1,4 +1,5 @@
 pub mod Ends
 pub mod Follows
+pub mod FollowsInside
 pub mod Stands
 pub mod Steps

@@ -13,7 +13,7 @@ use Rattle.go_code.specs.Symbols.{Symbol}
 use Rattle.go_code.specs.declared.instr.Instr.TheVariants.{Calls as By_call}
 use Rattle.go_code.specs.declared.instr.CallInstr.TheVariants.{Call}
 use Rattle.go_link.specs.declared.link.LinkError.TheVariants.{NoMain, NameMissing}
-use Rattle.go_link.specs.Links.{code_of, has_main, has_main_in, is_missing, last_package, link_refusal, name_missing, linked, linked_function, names, number_of, same_symbol, symbol_of}
+use Rattle.go_link.specs.Links.{code_of, has_main, has_main_in, is_missing, last_package, link_refusal, name_missing, linked_function, names, number_of, same_symbol, symbol_of}
 use Rattle.go_link.specs.Found.{IsDeclared, Found}
 
 -- ---- indexes

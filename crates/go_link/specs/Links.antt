@@ -7,13 +7,13 @@ use Rattle.go_code.specs.declared.cell.Cell.{Cell}
 use Rattle.go_code.specs.declared.image.Start.{Start}
 use Rattle.go_code.specs.declared.image.Start.TheVariants.{Setup as Set_up, Function as Run}
 use Rattle.go_code.specs.declared.instr.Instr.{Instr}
-use Rattle.go_code.specs.declared.instr.Instr.TheVariants.{Frame as In_frame, Output as To_output, Calls as By_call}
+use Rattle.go_code.specs.declared.instr.Instr.TheVariants.{Calls as By_call}
 use Rattle.go_code.specs.declared.instr.CallInstr.{CallInstr}
 use Rattle.go_code.specs.declared.instr.CallInstr.TheVariants.{Call, Return}
 use Rattle.go_code.specs.Functions.{Function, Setup}
 use Rattle.go_code.specs.Images.{Image}
 use Rattle.go_code.specs.Packages.{Object, PackageFunction}
-use Rattle.go_code.specs.Referred.{refer, refer_function, refer_setup}
+use Rattle.go_code.specs.Referred.{refer_function, refer_setup}
 use Rattle.go_code.specs.Symbols.{Symbol}
 use Rattle.go_link.specs.declared.link.LinkError.{LinkError}
 use Rattle.go_link.specs.declared.link.LinkError.TheVariants.{Memory, NoMain, NameMissing}
@@ -45,9 +45,8 @@ misses names (Return count) = false
 
 -- the instruction refers to none of the functions
 abbrev pub is_missing : List Symbol → Instr Symbol → Bool
-is_missing names (In_frame i) = false
-is_missing names (To_output i) = false
 is_missing names (By_call i) = misses names i
+is_missing names other = false
 
 -- all code of a package
 abbrev pub code_of : Object → List (Instr Symbol)

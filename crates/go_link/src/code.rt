@@ -8,7 +8,7 @@ ghost use Rattle.go_link.specs.Links.{number_of, linked_function, zeros_of};
 use crate::names::Names;
 use go_code::cell::{Cell, push_copies};
 use go_code::function::Function;
-use go_code::instr::{CallInstr, FrameInstr, Instr, OutputInstr, Symbol};
+use go_code::instr::{CallInstr, FrameInstr, Instr, Symbol};
 use go_code::object::Object;
 use go_code::object::function::PackageFunction;
 use go_code::object::variable::PackageVariable;
@@ -21,15 +21,11 @@ fn copy_frame(instr: &FrameInstr) -> Result<FrameInstr, AllocError>
 {
     match instr {
         FrameInstr::Push(cell) => Ok(FrameInstr::Push(cell.copy()?)),
-    }
-}
-
-/// Another instruction of equal contents.
-fn copy_output(instr: &OutputInstr) -> OutputInstr
-    ensures { result ≡ instr.now }
-{
-    match instr {
-        OutputInstr::Print(count) => OutputInstr::Print(*count),
+        FrameInstr::Pop(count) => Ok(FrameInstr::Pop(*count)),
+        FrameInstr::Repeat { count, times } => Ok(FrameInstr::Repeat {
+            count: *count,
+            times: *times,
+        }),
     }
 }
 
@@ -49,7 +45,12 @@ fn link_instr<'a>(names: &Names<'a>, instr: &'a Instr<Symbol>) -> Result<Instr<u
 {
     match instr {
         Instr::Frame(instr) => Ok(Instr::Frame(copy_frame(instr)?)),
-        Instr::Output(instr) => Ok(Instr::Output(copy_output(instr))),
+        Instr::Local(instr) => Ok(Instr::Local(*instr)),
+        Instr::Global(instr) => Ok(Instr::Global(*instr)),
+        Instr::Part(instr) => Ok(Instr::Part(*instr)),
+        Instr::Operate(operator) => Ok(Instr::Operate(*operator)),
+        Instr::Jump(instr) => Ok(Instr::Jump(*instr)),
+        Instr::Output(instr) => Ok(Instr::Output(*instr)),
         Instr::Calls(instr) => Ok(Instr::Calls(link_call(names, instr))),
     }
 }

@@ -127,8 +127,8 @@ fn is_missing<'a>(names: &Names<'a>, instr: &'a Instr<Symbol>) -> bool
     ensures { result ≡ is_missing names.now instr.now }
 {
     match instr {
-        Instr::Frame(_) | Instr::Output(_) => false,
         Instr::Calls(instr) => call_misses(names, instr),
+        _ => false,
     }
 }
 
