@@ -29,6 +29,14 @@ impl Text {
         Ok(Text { held })
     }
 
+    /// The text of a buffer's bytes. An `Err` only where memory ran out.
+    pub fn from_vec(bytes: Vec<u8>) -> Result<Text, AllocError>
+        ensures { IfOk result (λ text. text ≡ bytes.items) }
+    {
+        let held = ArcSlice::from_vec(bytes)?;
+        Ok(Text { held })
+    }
+
     /// The bytes of the text.
     pub fn bytes(&self) -> &[u8]
         ensures { result.now ≡ self.now }

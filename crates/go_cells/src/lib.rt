@@ -1,0 +1,6 @@
+//! Cells as the machine keeps them, and what operators give of them.
+#![tactic(auto)]
+
+mod number;
+pub mod operate;
+pub mod slot;

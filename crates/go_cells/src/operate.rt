@@ -1,0 +1,249 @@
+//! What operators give of slots.
+ghost use Rattle.std.specs.Prelude.{◌≡◌, ◌∷◌, [], length, true, Some, None, IfOk};
+ghost use Rattle.std.specs.Option.{option_copied};
+ghost use Rattle.std.specs.Cmp.Lexicographic.{pointwise};
+ghost use Rattle.go_code.specs.Lines.{number_fits};
+ghost use Rattle.go_code.specs.Operators.{Gives as Given, byte_of, operands, operate, same_cell, most_bytes};
+ghost use Rattle.go_code.specs.declared.operator.Operator.TheVariants.{Arithmetic, Shift, Negate, Complement, Convert, Not, Compare, Text as On_text};
+ghost use Rattle.go_code.specs.declared.operator.TextOperator.TheVariants.{At, Length, Join};
+ghost use Rattle.go_cells.specs.Slots.{number_in};
+ghost use Rattle.go_cells.specs.Told.{told};
+
+use crate::number::{calculate, shift, wrap};
+use crate::slot::Slot;
+use go_code::cell::{Cell, Text};
+use go_code::ending::PanicKind;
+use go_code::operator::{Operator, TextOperator};
+use go_const::kind::IntKind;
+use go_const::operator::{ArithmeticOperator, ComparisonOperator, ShiftOperator};
+use std::alloc::{AllocError, Global};
+
+/// What comes of an operator.
+#[derive(Drop)]
+pub enum Operated {
+    /// It gives this.
+    Gives(Slot),
+    /// It panics.
+    Panics(PanicKind),
+    /// It makes no sense of its operands.
+    Senseless,
+}
+
+/// What an operator gives that gives a number.
+fn number(number: i128) -> Operated
+    requires { number_fits number ≡ true }
+    ensures { told result ≡ Given (Cell.Int number) }
+{
+    match Slot::number(number) {
+        Some(slot) => Operated::Gives(slot),
+        None => Operated::Senseless,
+    }
+}
+
+/// An operator between two integers.
+fn calculated(operator: ArithmeticOperator, kind: IntKind, x: &Slot, y: &Slot) -> Operated
+    ensures { told result ≡ operate (Arithmetic operator kind) (x.now ∷ y.now ∷ []) }
+{
+    let Some(x) = x.as_number() else {
+        return Operated::Senseless;
+    };
+    let Some(y) = y.as_number() else {
+        return Operated::Senseless;
+    };
+    if operator.divides() && y == 0 {
+        return Operated::Panics(PanicKind::Divide);
+    }
+    number(calculate(operator, kind, x, y))
+}
+
+/// A shift of an integer.
+fn shifted(operator: ShiftOperator, kind: IntKind, x: &Slot, count: &Slot) -> Operated
+    ensures { told result ≡ operate (Shift operator kind) (x.now ∷ count.now ∷ []) }
+{
+    let Some(x) = x.as_number() else {
+        return Operated::Senseless;
+    };
+    let Some(count) = count.as_number() else {
+        return Operated::Senseless;
+    };
+    match u64::try_from(count) {
+        Ok(count) => number(shift(operator, kind, x, count)),
+        Err(_) => Operated::Panics(PanicKind::Shift),
+    }
+}
+
+/// Minus before an integer.
+fn negated(kind: IntKind, x: &Slot) -> Operated
+    ensures { told result ≡ operate (Negate kind) (x.now ∷ []) }
+{
+    match x.as_number() {
+        Some(x) => number(wrap(kind, -x)),
+        None => Operated::Senseless,
+    }
+}
+
+/// All bits of an integer flipped.
+fn complemented(kind: IntKind, x: &Slot) -> Operated
+    ensures { told result ≡ operate (Complement kind) (x.now ∷ []) }
+{
+    match x.as_number() {
+        Some(x) => number(wrap(kind, -1 - x)),
+        None => Operated::Senseless,
+    }
+}
+
+/// An integer as one of another type.
+fn converted(kind: IntKind, x: &Slot) -> Operated
+    ensures { told result ≡ operate (Convert kind) (x.now ∷ []) }
+{
+    match x.as_number() {
+        Some(x) => number(wrap(kind, x)),
+        None => Operated::Senseless,
+    }
+}
+
+/// The other truth value.
+fn opposite(x: &Slot) -> Operated
+    ensures { told result ≡ operate Not (x.now ∷ []) }
+{
+    match x.as_truth() {
+        Some(truth) => Operated::Gives(Slot::truth(!truth)),
+        None => Operated::Senseless,
+    }
+}
+
+/// A comparison of two texts.
+fn compared_texts(operator: ComparisonOperator, s: &Slot, t: &Slot) -> Operated
+    requires { number_in s.now ≡ None }
+    ensures { told result ≡ operate (Compare operator) (s.now ∷ t.now ∷ []) }
+{
+    let Some(s) = s.as_text() else {
+        return Operated::Senseless;
+    };
+    let Some(t) = t.as_text() else {
+        return Operated::Senseless;
+    };
+    Operated::Gives(Slot::truth(operator.holds(s.bytes().cmp(t.bytes()))))
+}
+
+/// A comparison of two integers or two texts.
+fn compared(operator: ComparisonOperator, x: &Slot, y: &Slot) -> Operated
+    ensures { told result ≡ operate (Compare operator) (x.now ∷ y.now ∷ []) }
+{
+    let Some(first) = x.as_number() else {
+        return compared_texts(operator, x, y);
+    };
+    let Some(second) = y.as_number() else {
+        return Operated::Senseless;
+    };
+    Operated::Gives(Slot::truth(operator.holds(first.cmp(&second))))
+}
+
+/// A byte, if there is one, as what an index gives.
+fn byte(byte: Option<&u8>) -> Operated
+    ensures { told result ≡ byte_of (option_copied byte.entry) }
+{
+    match byte {
+        Some(byte) => number(i128::from(*byte)),
+        None => Operated::Panics(PanicKind::Index),
+    }
+}
+
+/// The byte of a text at an index.
+fn byte_at(text: &Slot, index: &Slot) -> Operated
+    ensures { told result ≡ operate (On_text At) (text.now ∷ index.now ∷ []) }
+{
+    let Some(text) = text.as_text() else {
+        return Operated::Senseless;
+    };
+    let Some(index) = index.as_number() else {
+        return Operated::Senseless;
+    };
+    match u64::try_from(index) {
+        Ok(index) => byte(text.bytes().get(index as usize)),
+        Err(_) => Operated::Panics(PanicKind::Index),
+    }
+}
+
+/// How many bytes a text has.
+fn length(text: &Slot) -> Operated
+    ensures { told result ≡ operate (On_text Length) (text.now ∷ []) }
+{
+    match text.as_text() {
+        Some(text) => number(text.bytes().len() as i128),
+        None => Operated::Senseless,
+    }
+}
+
+/// Two texts as one. An `Err` only where memory ran out.
+#[tactic(auto, unfolding(go_code::specs::Operators::most_bytes))]
+fn joined(alloc: Global, s: &Slot, t: &Slot) -> Result<Operated, AllocError>
+    ensures { IfOk result (λ came. told came ≡ operate (On_text Join) (s.now ∷ t.now ∷ [])) }
+{
+    let Some(s) = s.as_text() else {
+        return Ok(Operated::Senseless);
+    };
+    let Some(t) = t.as_text() else {
+        return Ok(Operated::Senseless);
+    };
+    let (s, t) = (s.bytes(), t.bytes());
+    if s.len().saturating_add(t.len()) > 16_777_216 {
+        return Ok(Operated::Panics(PanicKind::Long));
+    }
+    let mut bytes = Vec::with_capacity(alloc, s.len() + t.len())?;
+    bytes.extend_from_slice(s)?;
+    bytes.extend_from_slice(t)?;
+    Ok(Operated::Gives(Slot::text(Text::from_vec(bytes)?)))
+}
+
+/// Whether the cells of two rows of one length are equal.
+fn are_same(xs: &[Slot], ys: &[Slot]) -> bool
+    requires { length xs.now ≡ length ys.now }
+    ensures { result ≡ pointwise same_cell xs.now ys.now }
+{
+    for i in 0..xs.len() {
+        if !xs[i].is_same(&ys[i]) {
+            return false;
+        }
+    }
+    true
+}
+
+/// What comes of an operator on a text or texts.
+fn operate_text(
+    alloc: Global,
+    operator: TextOperator,
+    cells: &[Slot],
+) -> Result<Operated, AllocError>
+    requires { length cells.now ≡ operands (On_text operator) }
+    ensures { IfOk result (λ came. told came ≡ operate (On_text operator) cells.now) }
+{
+    match operator {
+        TextOperator::At => Ok(byte_at(&cells[0], &cells[1])),
+        TextOperator::Length => Ok(length(&cells[0])),
+        TextOperator::Join => joined(alloc, &cells[0], &cells[1]),
+    }
+}
+
+/// What comes of an operator and its cells. An `Err` only where memory ran out.
+pub fn operate(alloc: Global, operator: Operator, cells: &[Slot]) -> Result<Operated, AllocError>
+    requires { length cells.now ≡ operands operator }
+    ensures { IfOk result (λ came. told came ≡ operate operator cells.now) }
+{
+    match operator {
+        Operator::Arithmetic(operator, kind) => {
+            Ok(calculated(operator, kind, &cells[0], &cells[1]))
+        }
+        Operator::Shift(operator, kind) => Ok(shifted(operator, kind, &cells[0], &cells[1])),
+        Operator::Negate(kind) => Ok(negated(kind, &cells[0])),
+        Operator::Complement(kind) => Ok(complemented(kind, &cells[0])),
+        Operator::Convert(kind) => Ok(converted(kind, &cells[0])),
+        Operator::Not => Ok(opposite(&cells[0])),
+        Operator::Compare(operator) => Ok(compared(operator, &cells[0], &cells[1])),
+        Operator::Equal(count) => Ok(Operated::Gives(Slot::truth(are_same(
+            &cells[..count],
+            &cells[count..],
+        )))),
+        Operator::Text(operator) => operate_text(alloc, operator, cells),
+    }
+}
