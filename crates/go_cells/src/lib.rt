@@ -3,4 +3,5 @@
 
 mod number;
 pub mod operate;
+pub mod part;
 pub mod slot;

@@ -1,5 +1,5 @@
 //! What operators give of slots.
-ghost use Rattle.std.specs.Prelude.{◌≡◌, ◌∷◌, [], length, true, Some, None, IfOk};
+ghost use Rattle.std.specs.Prelude.{◌≡◌, ◌∷◌, [], length, true, Some, None, ◌<◌, ◌≤◌, IfOk, MatchOption};
 ghost use Rattle.std.specs.Option.{option_copied};
 ghost use Rattle.std.specs.Cmp.Lexicographic.{pointwise};
 ghost use Rattle.go_code.specs.Lines.{number_fits};
@@ -246,4 +246,18 @@ pub fn operate(alloc: Global, operator: Operator, cells: &[Slot]) -> Result<Oper
         )))),
         Operator::Text(operator) => operate_text(alloc, operator, cells),
     }
+}
+
+/// How many cells an operator takes, if they are no more than so many.
+#[inline(always)]
+pub fn operand_count(operator: Operator, most: usize) -> Option<usize>
+    ensures { MatchOption result (most < operands operator) (λ count. (count ≡ operands operator) × (count ≤ most)) }
+{
+    let count = match operator {
+        Operator::Arithmetic(_, _) | Operator::Shift(_, _) | Operator::Compare(_) => 2,
+        Operator::Equal(count) => count.checked_add(count)?,
+        Operator::Text(TextOperator::At | TextOperator::Join) => 2,
+        _ => 1,
+    };
+    if count > most { None } else { Some(count) }
 }

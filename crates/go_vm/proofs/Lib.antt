@@ -1,2 +1,4 @@
 pub mod Coming
+pub mod Handed
+pub mod Rows
 pub mod Views

@@ -2,6 +2,7 @@
 #![tactic(auto)]
 
 mod frames;
+mod inside;
 mod line;
 mod machine;
 pub mod run;

@@ -2,19 +2,19 @@
 ghost use Rattle.std.specs.Prelude.{◌≡◌, ◌+◌, ◌-◌, ◌<◌, ◌≤◌, ◌^◌, ◌∷◌, ◌++◌, [], List, length, take, drop, pos, negsuc, IfOk, OnOk, MatchOption, IsTrue, slice_get, Some, None};
 ghost use Rattle.go_code.specs.declared.image.Start.{Start as AStart};
 ghost use Rattle.go_code.specs.declared.instr.CallInstr.TheVariants.{Call, Return};
-ghost use Rattle.go_code.specs.declared.instr.FrameInstr.TheVariants.{Push};
-ghost use Rattle.go_code.specs.declared.instr.OutputInstr.TheVariants.{Print};
-ghost use Rattle.go_code.specs.Lines.{cell_fits, line_text};
-ghost use Rattle.go_code.specs.Machine.{act, begin, call, call_step, frame_step, goes_with, output_step, step};
+ghost use Rattle.go_code.specs.declared.instr.OutputInstr.TheVariants.{Print, Panic};
+ghost use Rattle.go_code.specs.Lines.{line_text};
+ghost use Rattle.go_code.specs.Machine.{act, begin, call, call_step, output_step, step};
 ghost use Rattle.go_vm.specs.Told.{state_of, between, told, told_begun};
 
 use crate::frames::Frames;
+use crate::inside::{obey_frame, obey_global, obey_jump, obey_local, obey_operator, obey_part};
 use crate::line::push_line;
-use go_code::cell::Cell;
+use go_cells::slot::Slot;
 use go_code::ending::{Ending, PanicKind};
 use go_code::function::Function;
 use go_code::image::{Image, Start};
-use go_code::instr::{CallInstr, FrameInstr, Instr, OutputInstr};
+use go_code::instr::{CallInstr, Instr, OutputInstr};
 use std::alloc::{AllocError, Global};
 
 /// How many calls may be open.
@@ -24,7 +24,7 @@ pub(crate) const MOST_OPEN: usize = 1000;
 /// far.
 #[derive(Drop)]
 pub(crate) struct World {
-    pub(crate) globals: Vec<Cell>,
+    pub(crate) globals: Vec<Slot>,
     pub(crate) ticks: u64,
     pub(crate) output: Vec<u8>,
 }
@@ -58,34 +58,12 @@ pub(crate) enum Begun<'a> {
     Leaves(Exit),
 }
 
-/// Whether the machine knows the cell: a number is from -2^63 to 2^64-1.
-#[inline(always)]
-fn cell_fits(cell: &Cell) -> bool
-    ensures { result ≡ cell_fits cell.now }
-{
-    match cell {
-        Cell::Int(number) => (-0x8000_0000_0000_0000..=0xFFFF_FFFF_FFFF_FFFF).contains(number),
-        _ => true,
-    }
-}
-
 /// A function of an image, by its number.
 #[inline(always)]
 fn find(image: &Image, number: usize) -> Option<&Function<usize>>
     ensures { MatchOption result (slice_get image.now.functions number ≡ None) (λ f. slice_get image.now.functions number ≡ Some f.now) }
 {
     image.functions().get(number)
-}
-
-#[inline(always)]
-fn push_cell(frames: &mut Frames<'_>, world: &World, cell: &Cell) -> Result<Flow, AllocError>
-    ensures { IfOk result (λ flow. (starts : List AStart) → goes_with (state_of frames.old starts world.now) frames.old.callers (frame_step (Push cell.now) frames.old.newest) ≡ told flow (state_of frames.new starts world.now)) }
-{
-    if !cell_fits(cell) {
-        return Ok(Flow::Leaves(Exit::BadCode));
-    }
-    frames.push(cell.copy()?)?;
-    Ok(Flow::GoesOn)
 }
 
 fn print_top(frames: &mut Frames<'_>, world: &mut World, count: usize) -> Result<Flow, AllocError>
@@ -140,17 +118,15 @@ fn return_top(frames: &mut Frames<'_>, world: &World, image: &Image, count: usiz
     }
 }
 
-/// What an instruction about the newest frame alone does.
-#[inline(always)]
-fn obey_frame(
-    frames: &mut Frames<'_>,
-    world: &World,
-    instr: &FrameInstr,
-) -> Result<Flow, AllocError>
-    ensures { IfOk result (λ flow. (starts : List AStart) → goes_with (state_of frames.old starts world.now) frames.old.callers (frame_step instr.now frames.old.newest) ≡ told flow (state_of frames.new starts world.now)) }
+fn panic_with(frames: &Frames<'_>, world: &World) -> Result<Flow, AllocError>
+    ensures { IfOk result (λ flow. (starts : List AStart) → output_step Panic (state_of frames.now starts world.now) frames.now.newest frames.now.callers ≡ told flow (state_of frames.now starts world.now)) }
 {
-    match instr {
-        FrameInstr::Push(cell) => push_cell(frames, world, cell),
+    let Some([cell]) = frames.top(1) else {
+        return Ok(Flow::Leaves(Exit::BadCode));
+    };
+    match cell.as_text() {
+        Some(text) => Ok(Flow::Leaves(Exit::Ends(Ending::Panicked(PanicKind::User(text.copy()?))))),
+        None => Ok(Flow::Leaves(Exit::BadCode)),
     }
 }
 
@@ -165,6 +141,7 @@ fn obey_output(
 {
     match instr {
         OutputInstr::Print(count) => print_top(frames, world, *count),
+        OutputInstr::Panic => panic_with(frames, world),
     }
 }
 
@@ -187,6 +164,7 @@ fn obey_call<'a>(
 /// What an instruction of the newest frame does, which is past it already.
 #[inline(always)]
 fn perform<'a>(
+    alloc: Global,
     frames: &mut Frames<'a>,
     world: &mut World,
     image: &'a Image,
@@ -196,6 +174,11 @@ fn perform<'a>(
 {
     match instr {
         Instr::Frame(instr) => obey_frame(frames, world, instr),
+        Instr::Local(instr) => obey_local(frames, world, *instr),
+        Instr::Global(instr) => obey_global(frames, world, *instr),
+        Instr::Part(instr) => obey_part(frames, world, *instr),
+        Instr::Operate(operator) => obey_operator(alloc, frames, world, *operator),
+        Instr::Jump(instr) => Ok(obey_jump(frames, world, *instr)),
         Instr::Output(instr) => obey_output(frames, world, instr),
         Instr::Calls(instr) => obey_call(frames, world, image, instr),
     }
@@ -204,6 +187,7 @@ fn perform<'a>(
 /// One step of a start step. An `Err` only where memory ran out.
 #[inline(always)]
 pub(crate) fn one_step<'a>(
+    alloc: Global,
     frames: &mut Frames<'a>,
     world: &mut World,
     image: &'a Image,
@@ -213,7 +197,7 @@ pub(crate) fn one_step<'a>(
     let Some(instr) = frames.fetch() else {
         return Ok(Flow::Leaves(Exit::BadCode));
     };
-    perform(frames, world, image, instr)
+    perform(alloc, frames, world, image, instr)
 }
 
 /// A function is called by no frame.

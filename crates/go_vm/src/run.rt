@@ -1,13 +1,16 @@
 //! Whole runs.
-ghost use Rattle.std.specs.Prelude.{◌≡◌, List, ◌∷◌, IfOk};
+ghost use Rattle.std.specs.Prelude.{◌≡◌, List, ◌∷◌, true, false, IfOk, MatchOption};
+ghost use Rattle.std.specs.List.{list_all};
 ghost use Rattle.go_code.specs.declared.image.Start.{Start as AStart};
-ghost use Rattle.go_vm.specs.Answers.{Answers, ComesTo};
+ghost use Rattle.go_code.specs.Lines.{cell_fits};
+ghost use Rattle.go_vm.specs.Answers.{Answers, AnswersFrom, ComesTo};
 ghost use Rattle.go_vm.specs.Told.{state_of, between, left_by};
 ghost use Rattle.go_vm.specs.declared.run.RunError.TheVariants.{Memory};
 
 use crate::frames::Frames;
 use crate::machine::{Begun, Exit, Flow, World, begin, one_step};
-use go_code::cell::push_copies;
+use go_cells::slot::Slot;
+use go_code::cell::Cell;
 use go_code::ending::Ending;
 use go_code::image::{Image, Start};
 use std::alloc::{AllocError, Global};
@@ -67,6 +70,7 @@ impl From<AllocError> for RunError {
 
 /// Goes on until the start step is left whose frames are open.
 fn finish<'a>(
+    alloc: Global,
     mut frames: Frames<'a>,
     world: &mut World,
     image: &'a Image,
@@ -74,7 +78,7 @@ fn finish<'a>(
     ensures { IfOk result (λ exit. (starts : List AStart) → ComesTo image.now (state_of frames.entry starts world.old) (left_by exit (between starts world.new))) }
 {
     loop {
-        match one_step(&mut frames, world, image)? {
+        match one_step(alloc, &mut frames, world, image)? {
             Flow::GoesOn => {}
             Flow::Leaves(exit) => return Ok(exit),
         }
@@ -91,24 +95,29 @@ fn run_start(
     ensures { IfOk result (λ exit. (starts : List AStart) → ComesTo image.now (between (start.now ∷ starts) world.old) (left_by exit (between starts world.new))) }
 {
     match begin(alloc, world, image, start)? {
-        Begun::Open(frames) => finish(frames, world, image),
+        Begun::Open(frames) => finish(alloc, frames, world, image),
         Begun::Leaves(exit) => Ok(exit),
     }
 }
 
-/// What an image does that is given so many ticks. It returns for every image. `BadCode` is
-/// answered where the image comes to an instruction that makes no sense, `Memory` only where
-/// memory ran out.
-pub fn run(alloc: Global, image: &Image, ticks: u64) -> Result<Outcome, RunError>
-    ensures { Answers image.now ticks result }
+/// Slots of cells, if the machine knows each of the cells. An `Err` only where memory ran out.
+fn slots_of(alloc: Global, cells: &[Cell]) -> Result<Option<Vec<Slot>>, AllocError>
+    ensures { IfOk result (λ made. MatchOption made (list_all cell_fits cells.now ≡ false) (λ slots. (list_all cell_fits cells.now ≡ true) × (slots.items ≡ cells.now))) }
 {
-    let mut globals = Vec::new(alloc);
-    push_copies(&mut globals, image.globals())?;
-    let mut world = World {
-        globals,
-        ticks,
-        output: Vec::new(alloc),
-    };
+    let mut slots = Vec::with_capacity(alloc, cells.len())?;
+    for cell in cells {
+        let Some(slot) = Slot::of_cell(cell)? else {
+            return Ok(None);
+        };
+        slots.push(slot)?;
+    }
+    Ok(Some(slots))
+}
+
+/// Runs the start steps, one behind the other.
+fn run_starts(alloc: Global, image: &Image, mut world: World) -> Result<Outcome, RunError>
+    ensures { AnswersFrom image.now (between image.now.starts world) result }
+{
     let starts = image.starts();
     for start in starts {
         match run_start(alloc, &mut world, image, start)? {
@@ -118,6 +127,23 @@ pub fn run(alloc: Global, image: &Image, ticks: u64) -> Result<Outcome, RunError
         }
     }
     Ok(outcome_of(Ending::Ended, world))
+}
+
+/// What an image does that is given so many ticks. It returns for every image. `BadCode` is
+/// answered where the image comes to an instruction that makes no sense, `Memory` only where
+/// memory ran out.
+pub fn run(alloc: Global, image: &Image, ticks: u64) -> Result<Outcome, RunError>
+    ensures { Answers image.now ticks result }
+{
+    let Some(globals) = slots_of(alloc, image.globals())? else {
+        return Err(RunError::BadCode);
+    };
+    let world = World {
+        globals,
+        ticks,
+        output: Vec::new(alloc),
+    };
+    run_starts(alloc, image, world)
 }
 
 fn outcome_of(ending: Ending, world: World) -> Outcome

@@ -5,7 +5,7 @@ use Rattle.go_code.proofs.Follows.{ended_leads}
 use Rattle.go_code.specs.Machine.{Leads}
 use Rattle.go_vm.specs.Told.{between}
 use Rattle.go_vm.proofs.Coming.{comes_round}
-use Rattle.go_vm.proofs.run.run.Goals as goal
+use Rattle.go_vm.proofs.run.run_starts.Goals as goal
 
 pub loop-start-preserved : goal.loop-start-preserved
 loop-start-preserved c = λ final l.

@@ -1,0 +1,414 @@
+//! What instructions do that stay in the newest frame.
+ghost use Rattle.std.specs.Prelude.{◌≡◌, ℕ, ◌+◌, ◌-◌, ◌*◌, ◌∷◌, [], List, length, take, drop, Some, None, ◌≤◌, IfOk};
+ghost use Rattle.go_cells.specs.Told.{told_index, told_offset};
+ghost use Rattle.std.specs.Option.{option_map};
+ghost use Rattle.go_code.specs.Accesses.{access, loaded, stored, split_top, with_offset};
+ghost use Rattle.go_code.specs.declared.image.Start.{Start as AStart};
+ghost use Rattle.go_code.specs.declared.instr.AccessInstr.TheVariants.{LoadAt, StoreAt};
+ghost use Rattle.go_code.specs.declared.instr.FrameInstr.TheVariants.{Push, Pop, Repeat};
+ghost use Rattle.go_code.specs.declared.instr.JumpInstr.TheVariants.{Jump, JumpIf, JumpIfNot, LoopIf};
+ghost use Rattle.go_code.specs.declared.instr.PartInstr.TheVariants.{Move, Index, Pick, Part};
+ghost use Rattle.go_code.specs.Machine.{came, frame_step, global_step, goes_with, jump_step, local_step, with_top};
+ghost use Rattle.go_code.specs.Operators.{Gives, operands, operate};
+ghost use Rattle.go_code.specs.Parts.{part, part_cells, with_index};
+ghost use Rattle.go_vm.specs.Told.{state_of, told};
+
+use crate::frames::Frames;
+use crate::machine::{Exit, Flow, World};
+use go_cells::operate::{Operated, operand_count, operate};
+use go_cells::part::{Indexed, element_offset, index_below, moved, picked_cells};
+use go_cells::slot::Slot;
+use go_code::cell::Cell;
+use go_code::ending::{Ending, PanicKind};
+use go_code::instr::{AccessInstr, FrameInstr, JumpInstr, PartInstr};
+use go_code::operator::Operator;
+use std::alloc::{AllocError, Global};
+
+#[inline(always)]
+fn push_cell(frames: &mut Frames<'_>, world: &World, cell: &Cell) -> Result<Flow, AllocError>
+    ensures { IfOk result (λ flow. (starts : List AStart) → goes_with (state_of frames.old starts world.now) frames.old.callers (frame_step (Push cell.now) frames.old.newest) ≡ told flow (state_of frames.new starts world.now)) }
+{
+    let Some(slot) = Slot::of_cell(cell)? else {
+        return Ok(Flow::Leaves(Exit::BadCode));
+    };
+    frames.push(slot)?;
+    Ok(Flow::GoesOn)
+}
+
+fn pop_cells(frames: &mut Frames<'_>, world: &World, count: usize) -> Flow
+    ensures { (starts : List AStart) → goes_with (state_of frames.old starts world.now) frames.old.callers (frame_step (Pop count) frames.old.newest) ≡ told result (state_of frames.new starts world.now) }
+{
+    if count > frames.height() {
+        return Flow::Leaves(Exit::BadCode);
+    }
+    frames.drop_top(count);
+    Flow::GoesOn
+}
+
+fn repeat_cells(
+    frames: &mut Frames<'_>,
+    world: &World,
+    count: usize,
+    times: usize,
+) -> Result<Flow, AllocError>
+    ensures { IfOk result (λ flow. (starts : List AStart) → goes_with (state_of frames.old starts world.now) frames.old.callers (frame_step (Repeat count times) frames.old.newest) ≡ told flow (state_of frames.new starts world.now)) }
+{
+    if count > frames.height() {
+        return Ok(Flow::Leaves(Exit::BadCode));
+    }
+    frames.repeat(count, times)?;
+    Ok(Flow::GoesOn)
+}
+
+/// What an instruction about the newest frame's stack does.
+#[inline(always)]
+pub(crate) fn obey_frame(
+    frames: &mut Frames<'_>,
+    world: &World,
+    instr: &FrameInstr,
+) -> Result<Flow, AllocError>
+    ensures { IfOk result (λ flow. (starts : List AStart) → goes_with (state_of frames.old starts world.now) frames.old.callers (frame_step instr.now frames.old.newest) ≡ told flow (state_of frames.new starts world.now)) }
+{
+    match instr {
+        FrameInstr::Push(cell) => push_cell(frames, world, cell),
+        FrameInstr::Pop(count) => Ok(pop_cells(frames, world, *count)),
+        FrameInstr::Repeat { count, times } => repeat_cells(frames, world, *count, *times),
+    }
+}
+
+fn load_local(
+    frames: &mut Frames<'_>,
+    world: &World,
+    first: usize,
+    count: usize,
+) -> Result<Flow, AllocError>
+    ensures { IfOk result (λ flow. (starts : List AStart) → goes_with (state_of frames.old starts world.now) frames.old.callers (option_map (local_step frames.old.newest) (loaded frames.old.newest.cells frames.old.newest.stack first count)) ≡ told flow (state_of frames.new starts world.now)) }
+{
+    if first > frames.cells() || count > frames.cells() - first {
+        return Ok(Flow::Leaves(Exit::BadCode));
+    }
+    frames.load(first, count)?;
+    Ok(Flow::GoesOn)
+}
+
+fn store_local(frames: &mut Frames<'_>, world: &World, first: usize, count: usize) -> Flow
+    ensures { (starts : List AStart) → goes_with (state_of frames.old starts world.now) frames.old.callers (option_map (local_step frames.old.newest) (stored frames.old.newest.cells first (split_top count frames.old.newest.stack))) ≡ told result (state_of frames.new starts world.now) }
+{
+    if count > frames.height() || first > frames.cells() || count > frames.cells() - first {
+        return Flow::Leaves(Exit::BadCode);
+    }
+    frames.store(first, count);
+    Flow::GoesOn
+}
+
+fn load_local_at(
+    frames: &mut Frames<'_>,
+    world: &World,
+    first: usize,
+    count: usize,
+) -> Result<Flow, AllocError>
+    ensures { IfOk result (λ flow. (starts : List AStart) → goes_with (state_of frames.old starts world.now) frames.old.callers (option_map (local_step frames.old.newest) (access (LoadAt first count) frames.old.newest.cells frames.old.newest.stack)) ≡ told flow (state_of frames.new starts world.now)) }
+{
+    let Some(offset) = frames.pop_offset() else {
+        return Ok(Flow::Leaves(Exit::BadCode));
+    };
+    if first > frames.cells() || offset > frames.cells() - first {
+        return Ok(Flow::Leaves(Exit::BadCode));
+    }
+    load_local(frames, world, first + offset, count)
+}
+
+fn store_local_at(frames: &mut Frames<'_>, world: &World, first: usize, count: usize) -> Flow
+    ensures { (starts : List AStart) → goes_with (state_of frames.old starts world.now) frames.old.callers (option_map (local_step frames.old.newest) (access (StoreAt first count) frames.old.newest.cells frames.old.newest.stack)) ≡ told result (state_of frames.new starts world.now) }
+{
+    let Some(offset) = frames.pop_offset() else {
+        return Flow::Leaves(Exit::BadCode);
+    };
+    if first > frames.cells() || offset > frames.cells() - first {
+        return Flow::Leaves(Exit::BadCode);
+    }
+    store_local(frames, world, first + offset, count)
+}
+
+/// What an instruction about the newest frame's cells does.
+#[inline(always)]
+pub(crate) fn obey_local(
+    frames: &mut Frames<'_>,
+    world: &World,
+    instr: AccessInstr,
+) -> Result<Flow, AllocError>
+    ensures { IfOk result (λ flow. (starts : List AStart) → goes_with (state_of frames.old starts world.now) frames.old.callers (option_map (local_step frames.old.newest) (access instr frames.old.newest.cells frames.old.newest.stack)) ≡ told flow (state_of frames.new starts world.now)) }
+{
+    match instr {
+        AccessInstr::Load { first, count } => load_local(frames, world, first, count),
+        AccessInstr::Store { first, count } => Ok(store_local(frames, world, first, count)),
+        AccessInstr::LoadAt { first, count } => load_local_at(frames, world, first, count),
+        AccessInstr::StoreAt { first, count } => Ok(store_local_at(frames, world, first, count)),
+    }
+}
+
+fn load_global(
+    frames: &mut Frames<'_>,
+    world: &World,
+    first: usize,
+    count: usize,
+) -> Result<Flow, AllocError>
+    ensures { IfOk result (λ flow. (starts : List AStart) → global_step (state_of frames.old starts world.now) frames.old.newest frames.old.callers (loaded world.now.globals.items frames.old.newest.stack first count) ≡ told flow (state_of frames.new starts world.now)) }
+{
+    if first > world.globals.len() || count > world.globals.len() - first {
+        return Ok(Flow::Leaves(Exit::BadCode));
+    }
+    frames.push_all(&world.globals[first..first + count])?;
+    Ok(Flow::GoesOn)
+}
+
+fn store_global(frames: &mut Frames<'_>, world: &mut World, first: usize, count: usize) -> Flow
+    ensures { (starts : List AStart) → global_step (state_of frames.old starts world.old) frames.old.newest frames.old.callers (stored world.old.globals.items first (split_top count frames.old.newest.stack)) ≡ told result (state_of frames.new starts world.new) }
+{
+    let cells = world.globals.len();
+    if count > frames.height() || first > cells || count > cells - first {
+        return Flow::Leaves(Exit::BadCode);
+    }
+    frames.store_into(&mut world.globals, first, count);
+    Flow::GoesOn
+}
+
+fn load_global_at(
+    frames: &mut Frames<'_>,
+    world: &World,
+    first: usize,
+    count: usize,
+) -> Result<Flow, AllocError>
+    ensures { IfOk result (λ flow. (starts : List AStart) → global_step (state_of frames.old starts world.now) frames.old.newest frames.old.callers (access (LoadAt first count) world.now.globals.items frames.old.newest.stack) ≡ told flow (state_of frames.new starts world.now)) }
+{
+    let Some(offset) = frames.pop_offset() else {
+        return Ok(Flow::Leaves(Exit::BadCode));
+    };
+    let cells = world.globals.len();
+    if first > cells || offset > cells - first {
+        return Ok(Flow::Leaves(Exit::BadCode));
+    }
+    load_global(frames, world, first + offset, count)
+}
+
+fn store_global_at(frames: &mut Frames<'_>, world: &mut World, first: usize, count: usize) -> Flow
+    ensures { (starts : List AStart) → global_step (state_of frames.old starts world.old) frames.old.newest frames.old.callers (access (StoreAt first count) world.old.globals.items frames.old.newest.stack) ≡ told result (state_of frames.new starts world.new) }
+{
+    let Some(offset) = frames.pop_offset() else {
+        return Flow::Leaves(Exit::BadCode);
+    };
+    let cells = world.globals.len();
+    if first > cells || offset > cells - first {
+        return Flow::Leaves(Exit::BadCode);
+    }
+    store_global(frames, world, first + offset, count)
+}
+
+/// What an instruction about the package variables' cells does.
+#[inline(always)]
+pub(crate) fn obey_global(
+    frames: &mut Frames<'_>,
+    world: &mut World,
+    instr: AccessInstr,
+) -> Result<Flow, AllocError>
+    ensures { IfOk result (λ flow. (starts : List AStart) → global_step (state_of frames.old starts world.old) frames.old.newest frames.old.callers (access instr world.old.globals.items frames.old.newest.stack) ≡ told flow (state_of frames.new starts world.new)) }
+{
+    match instr {
+        AccessInstr::Load { first, count } => load_global(frames, world, first, count),
+        AccessInstr::Store { first, count } => Ok(store_global(frames, world, first, count)),
+        AccessInstr::LoadAt { first, count } => load_global_at(frames, world, first, count),
+        AccessInstr::StoreAt { first, count } => Ok(store_global_at(frames, world, first, count)),
+    }
+}
+
+/// What an operator does.
+#[inline(always)]
+pub(crate) fn obey_operator(
+    alloc: Global,
+    frames: &mut Frames<'_>,
+    world: &World,
+    operator: Operator,
+) -> Result<Flow, AllocError>
+    ensures { IfOk result (λ flow. (starts : List AStart) → with_top (split_top (operands operator) frames.old.newest.stack) (λ rest row. came (λ c. c ∷ []) (state_of frames.old starts world.now) frames.old.newest frames.old.callers rest (operate operator row)) ≡ told flow (state_of frames.new starts world.now)) }
+{
+    let Some(count) = operand_count(operator, frames.height()) else {
+        return Ok(Flow::Leaves(Exit::BadCode));
+    };
+    match operate(alloc, operator, frames.top_cells(count))? {
+        Operated::Gives(slot) => {
+            frames.replace(count, slot)?;
+            Ok(Flow::GoesOn)
+        }
+        Operated::Panics(kind) => Ok(Flow::Leaves(Exit::Ends(Ending::Panicked(kind)))),
+        Operated::Senseless => Ok(Flow::Leaves(Exit::BadCode)),
+    }
+}
+
+fn move_offset(frames: &mut Frames<'_>, world: &World, by: usize) -> Result<Flow, AllocError>
+    ensures { IfOk result (λ flow. (starts : List AStart) → with_top (split_top (part_cells (Move by)) frames.old.newest.stack) (λ rest row. came (λ cells. cells) (state_of frames.old starts world.now) frames.old.newest frames.old.callers rest (part (Move by) row)) ≡ told flow (state_of frames.new starts world.now)) }
+{
+    let Some([offset]) = frames.top(1) else {
+        return Ok(Flow::Leaves(Exit::BadCode));
+    };
+    let answer = moved(offset, by);
+    replace_by(frames, world, 1, answer)
+}
+
+/// What an operator gave in place of so many cells.
+fn replace_by(
+    frames: &mut Frames<'_>,
+    world: &World,
+    count: usize,
+    answer: Operated,
+) -> Result<Flow, AllocError>
+    requires { count ≤ length frames.old.newest.stack }
+    ensures { IfOk result (λ flow. (starts : List AStart) → came (λ cells. cells) (state_of frames.old starts world.now) frames.old.newest frames.old.callers (take (length frames.old.newest.stack - count) frames.old.newest.stack) (told_offset answer) ≡ told flow (state_of frames.new starts world.now)) }
+{
+    match answer {
+        Operated::Gives(slot) => {
+            frames.replace(count, slot)?;
+            Ok(Flow::GoesOn)
+        }
+        Operated::Panics(kind) => Ok(Flow::Leaves(Exit::Ends(Ending::Panicked(kind)))),
+        Operated::Senseless => Ok(Flow::Leaves(Exit::BadCode)),
+    }
+}
+
+fn index_offset(
+    frames: &mut Frames<'_>,
+    world: &World,
+    count: usize,
+    size: usize,
+) -> Result<Flow, AllocError>
+    ensures { IfOk result (λ flow. (starts : List AStart) → with_top (split_top (part_cells (Index count size)) frames.old.newest.stack) (λ rest row. came (λ cells. cells) (state_of frames.old starts world.now) frames.old.newest frames.old.callers rest (part (Index count size) row)) ≡ told flow (state_of frames.new starts world.now)) }
+{
+    let Some([offset, index]) = frames.top(2) else {
+        return Ok(Flow::Leaves(Exit::BadCode));
+    };
+    let answer = element_offset(count, size, offset, index);
+    replace_by(frames, world, 2, answer)
+}
+
+/// What the index on top of so many elements of a size leads to.
+fn picked_index(count: usize, size: usize, cells: &[Slot]) -> Indexed
+    requires { length cells.now ≡ count * size + 1 }
+    ensures told { part (Pick count size) cells.now ≡ with_index (told_index result) (λ index. Gives (take size (drop (index * size) cells.now))) }
+    ensures within { (index : ℕ) → told_index result ≡ Gives index → index * size + size ≤ count * size }
+{
+    index_below(count, &cells[count * size])
+}
+
+fn pick_element(frames: &mut Frames<'_>, world: &World, count: usize, size: usize) -> Flow
+    ensures { (starts : List AStart) → with_top (split_top (part_cells (Pick count size)) frames.old.newest.stack) (λ rest row. came (λ cells. cells) (state_of frames.old starts world.now) frames.old.newest frames.old.callers rest (part (Pick count size) row)) ≡ told result (state_of frames.new starts world.now) }
+{
+    let Some(whole) = picked_cells(count, size, frames.height()) else {
+        return Flow::Leaves(Exit::BadCode);
+    };
+    match picked_index(count, size, frames.top_cells(whole)) {
+        Indexed::At(index) => {
+            frames.keep(whole, index * size, size);
+            Flow::GoesOn
+        }
+        Indexed::Outside => Flow::Leaves(Exit::Ends(Ending::Panicked(PanicKind::Index))),
+        Indexed::Senseless => Flow::Leaves(Exit::BadCode),
+    }
+}
+
+fn keep_part(
+    frames: &mut Frames<'_>,
+    world: &World,
+    whole: usize,
+    first: usize,
+    count: usize,
+) -> Flow
+    ensures { (starts : List AStart) → with_top (split_top (part_cells (Part whole first count)) frames.old.newest.stack) (λ rest row. came (λ cells. cells) (state_of frames.old starts world.now) frames.old.newest frames.old.callers rest (part (Part whole first count) row)) ≡ told result (state_of frames.new starts world.now) }
+{
+    if whole > frames.height() || first > whole || count > whole - first {
+        return Flow::Leaves(Exit::BadCode);
+    }
+    frames.keep(whole, first, count);
+    Flow::GoesOn
+}
+
+/// What an instruction about parts of values does.
+#[inline(always)]
+pub(crate) fn obey_part(
+    frames: &mut Frames<'_>,
+    world: &World,
+    instr: PartInstr,
+) -> Result<Flow, AllocError>
+    ensures { IfOk result (λ flow. (starts : List AStart) → with_top (split_top (part_cells instr) frames.old.newest.stack) (λ rest row. came (λ cells. cells) (state_of frames.old starts world.now) frames.old.newest frames.old.callers rest (part instr row)) ≡ told flow (state_of frames.new starts world.now)) }
+{
+    match instr {
+        PartInstr::Move(by) => move_offset(frames, world, by),
+        PartInstr::Index { count, size } => index_offset(frames, world, count, size),
+        PartInstr::Pick { count, size } => Ok(pick_element(frames, world, count, size)),
+        PartInstr::Part {
+            whole,
+            first,
+            count,
+        } => Ok(keep_part(frames, world, whole, first, count)),
+    }
+}
+
+fn jump_if(frames: &mut Frames<'_>, world: &World, count: usize) -> Flow
+    ensures { (starts : List AStart) → jump_step (JumpIf count) (state_of frames.old starts world.now) frames.old.newest frames.old.callers ≡ told result (state_of frames.new starts world.now) }
+{
+    match frames.pop_truth() {
+        Some(true) => jump(frames, world, count),
+        Some(false) => Flow::GoesOn,
+        None => Flow::Leaves(Exit::BadCode),
+    }
+}
+
+fn jump_if_not(frames: &mut Frames<'_>, world: &World, count: usize) -> Flow
+    ensures { (starts : List AStart) → jump_step (JumpIfNot count) (state_of frames.old starts world.now) frames.old.newest frames.old.callers ≡ told result (state_of frames.new starts world.now) }
+{
+    match frames.pop_truth() {
+        Some(false) => jump(frames, world, count),
+        Some(true) => Flow::GoesOn,
+        None => Flow::Leaves(Exit::BadCode),
+    }
+}
+
+#[inline(always)]
+fn jump(frames: &mut Frames<'_>, world: &World, count: usize) -> Flow
+    ensures { (starts : List AStart) → jump_step (Jump count) (state_of frames.old starts world.now) frames.old.newest frames.old.callers ≡ told result (state_of frames.new starts world.now) }
+{
+    if frames.jump_ahead(count) {
+        Flow::GoesOn
+    } else {
+        Flow::Leaves(Exit::BadCode)
+    }
+}
+
+fn loop_if(frames: &mut Frames<'_>, world: &mut World, count: usize) -> Flow
+    ensures { (starts : List AStart) → jump_step (LoopIf count) (state_of frames.old starts world.old) frames.old.newest frames.old.callers ≡ told result (state_of frames.new starts world.new) }
+{
+    match frames.pop_truth() {
+        Some(false) => return Flow::GoesOn,
+        Some(true) => {}
+        None => return Flow::Leaves(Exit::BadCode),
+    }
+    if !frames.jump_back(count) {
+        return Flow::Leaves(Exit::BadCode);
+    }
+    if world.ticks == 0 {
+        return Flow::Leaves(Exit::Ends(Ending::Cut));
+    }
+    world.ticks -= 1;
+    Flow::GoesOn
+}
+
+/// What a jump does.
+#[inline(always)]
+pub(crate) fn obey_jump(frames: &mut Frames<'_>, world: &mut World, instr: JumpInstr) -> Flow
+    ensures { (starts : List AStart) → jump_step instr (state_of frames.old starts world.old) frames.old.newest frames.old.callers ≡ told result (state_of frames.new starts world.new) }
+{
+    match instr {
+        JumpInstr::Jump(count) => jump(frames, world, count),
+        JumpInstr::JumpIf(count) => jump_if(frames, world, count),
+        JumpInstr::JumpIfNot(count) => jump_if_not(frames, world, count),
+        JumpInstr::LoopIf(count) => loop_if(frames, world, count),
+    }
+}
