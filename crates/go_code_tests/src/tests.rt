@@ -1,4 +1,5 @@
 mod code;
+mod instructions;
 mod link;
 mod notation;
 mod vm;

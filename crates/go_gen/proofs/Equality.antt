@@ -1,7 +1,7 @@
 -- An image that calls packages' functions means what the packages mean.
 use Rattle.std.proofs.Common.{◌≡◌, ℕ, zero, suc, ◌≤◌, length, List, [], ◌∷◌, map, Option, Some, None, refl, sym, ap, ◌∙◌, subst, arith}
 use Rattle.std.specs.Prelude.{⊤, nat_eq, slice_get}
-use Rattle.std.specs.List.{All, flat_map}
+use Rattle.std.specs.List.{All, flat_map, list_all}
 use Rattle.go_code.specs.declared.cell.Cell.{Cell}
 use Rattle.go_code.specs.declared.ending.Ending.{Ending}
 use Rattle.go_code.specs.declared.ending.Ending.TheVariants.{Ended}
@@ -15,6 +15,8 @@ use Rattle.go_code.proofs.Follows.{return_over, start_leads, start_cut}
 use Rattle.go_code.specs.Functions.{Function as ImageFunction}
 use Rattle.go_code.specs.Images.{Image}
 use Rattle.go_code.specs.Machine.{State, Leads, MachineMeaning}
+use Rattle.go_code.specs.Lines.{cell_fits}
+use Rattle.go_gen.proofs.Zeros.{begins, variables_known}
 use Rattle.go_code.proofs.Stands.{stands_whole, stands_as}
 use Rattle.go_code.proofs.Steps.{leads_stop, meaning_once}
 use Rattle.go_export.specs.Typed.{Function, Stmts, Symbol, Typed}
@@ -112,9 +114,10 @@ one_may_open = omega arith
 pub machine_follows : (packages : List Typed) (image : Image) (number : Symbol → ℕ) (n : ℕ) (ending : Ending) (output : List ℕ) → Starts packages image number → SourceMeaning packages n ending output → MachineMeaning image n (Ends_with ending output)
 machine_follows packages image number n ending output s h =
     let w : World = first_world packages n in
-    subst (λ globals. Leads image (record { frames = []; starts = image.starts; globals = globals; ticks = n; output = [] }) (Ends_with ending output)) (sym s.globals)
+    begins image n (Ends_with ending output) (ap (list_all cell_fits) s.globals ∙ variables_known packages)
+    (subst (λ globals. Leads image (record { frames = []; starts = image.starts; globals = globals; ticks = n; output = [] }) (Ends_with ending output)) (sym s.globals)
     (subst (λ starts. Leads image (between starts w) (Ends_with ending output)) (sym s.starts)
-    (runs_at packages image number most_open w (Ends_with ending output) s one_may_open (over_onward (run packages n) ending output h.1)))
+    (runs_at packages image number most_open w (Ends_with ending output) s one_may_open (over_onward (run packages n) ending output h.1))))
 
 final_same : (a b : Ending) (s t : List ℕ) → Ends_with a s ≡ Ends_with b t → (a ≡ b) × (s ≡ t)
 final_same a b s t e = (cc, cc)

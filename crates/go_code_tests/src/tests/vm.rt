@@ -1,7 +1,7 @@
 //! Runs of images that are written by hand.
-use super::notation::{number, parts, plain};
+use super::notation::{cell, number, parts, plain};
 use go_code::cell::{Cell, Text};
-use go_code::ending::{Ending, PanicKind};
+use go_code::ending::Ending;
 use go_code::function::Function;
 use go_code::image::{Image, Start};
 use go_code::instr::{CallInstr, FrameInstr, Instr, OutputInstr};
@@ -28,18 +28,25 @@ fn code(alloc: Global, words: &str) -> Result<Vec<Instr<usize>>, AllocError> {
     Ok(code)
 }
 
-/// The functions and the start steps of an image that is being read.
+/// The zero cells, the functions and the start steps of an image that is being read.
 #[derive(Drop)]
 struct Parts {
+    globals: Vec<Cell>,
     functions: Vec<Function<usize>>,
     starts: Vec<Start>,
 }
 
 /// One part more: `f:2.5` and a code is a function of 2 parameters and 5 cells, `s:3` and a code
-/// a start step by a setup of 3 cells, and `@:0` a start step that calls function 0.
+/// a start step by a setup of 3 cells, `@:0` a start step that calls function 0, and `v:i5` a zero
+/// cell of a package variable.
 fn read_part(alloc: Global, read: &mut Parts, part: &str) -> Result<(), AllocError> {
     let (head, words) = part.split_once(' ').unwrap_or((part, ""));
     let (kind, size) = parts(head)?;
+    if kind == "v" {
+        let (kind, text) = size.split_at_checked(1).unwrap_or(("", ""));
+        read.globals.push(cell(alloc, kind, text)?)?;
+        return Ok(());
+    }
     if kind == "@" {
         read.starts.push(Start::Function(number(size)?))?;
         return Ok(());
@@ -58,6 +65,7 @@ fn read_part(alloc: Global, read: &mut Parts, part: &str) -> Result<(), AllocErr
 /// The image of parts with semicolons between them.
 fn image(alloc: Global, text: &str) -> Result<Image, AllocError> {
     let mut read = Parts {
+        globals: Vec::new(alloc),
         functions: Vec::new(alloc),
         starts: Vec::new(alloc),
     };
@@ -67,8 +75,12 @@ fn image(alloc: Global, text: &str) -> Result<Image, AllocError> {
             read_part(alloc, &mut read, part)?;
         }
     }
-    let Parts { functions, starts } = read;
-    Ok(Image::new(Vec::new(alloc), functions, starts))
+    let Parts {
+        globals,
+        functions,
+        starts,
+    } = read;
+    Ok(Image::new(globals, functions, starts))
 }
 
 /// How a program ended.
@@ -76,8 +88,7 @@ fn ending(outcome: &Outcome) -> &'static str {
     match outcome.ending() {
         Ending::Ended => "ended",
         Ending::Cut => "cut",
-        Ending::Panicked(PanicKind::Depth) => "depth",
-        Ending::Panicked(_) => "panicked",
+        Ending::Panicked(kind) => kind.word(),
     }
 }
 
@@ -113,7 +124,7 @@ fn answer(alloc: Global, asked: &str) -> Result<String, AllocError> {
 }
 
 /// How many rows are told as wanted, behind those that aren't, and behind lines that are no rows.
-fn differing(alloc: Global, rows: &str) -> Result<String, AllocError> {
+pub(crate) fn differing(alloc: Global, rows: &str) -> Result<String, AllocError> {
     let mut told = String::new(alloc);
     let mut agreeing = 0usize;
     for row in rows.lines() {
