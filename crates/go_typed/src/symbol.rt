@@ -1,0 +1,54 @@
+//! The names by which packages know one another's functions and variables.
+ghost use Rattle.std.specs.Prelude.{◌≡◌, IfOk, string_bytes};
+
+use std::alloc::AllocError;
+use std::marker::Model;
+
+/// What a package declares, by the package's path and the name.
+/// [Qualified identifiers](https://go.dev/ref/spec#Qualified_identifiers)
+#[derive(Drop)]
+pub struct Symbol {
+    path: String,
+    name: String,
+}
+
+impl Model for Symbol {
+    ghost use Rattle.std.specs.Prelude.{string_bytes};
+    ghost use Rattle.go_typed.specs.Trees as trees;
+
+    ghost Value = { trees.Symbol };
+
+    ghost view = { λ a. record { path = string_bytes a.path; name = string_bytes a.name } };
+}
+
+impl Symbol {
+    /// The symbol of a package's path and a name.
+    pub fn new(path: String, name: String) -> Symbol
+        ensures { result ≡ record { path = string_bytes path; name = string_bytes name } }
+    {
+        Symbol { path, name }
+    }
+
+    /// The package's path.
+    pub fn path(&self) -> &str
+        ensures { result.now ≡ self.now.path }
+    {
+        self.path.as_str()
+    }
+
+    /// The name.
+    pub fn name(&self) -> &str
+        ensures { result.now ≡ self.now.name }
+    {
+        self.name.as_str()
+    }
+
+    /// Another of equal contents. An `Err` only where memory ran out.
+    pub fn copy(&self) -> Result<Symbol, AllocError>
+        ensures { IfOk result (λ copy. copy ≡ self.now) }
+    {
+        let path = self.path.clone()?;
+        let name = self.name.clone()?;
+        Ok(Symbol { path, name })
+    }
+}
