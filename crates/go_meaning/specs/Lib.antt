@@ -1,0 +1,4 @@
+pub mod Choices
+pub mod Meaning
+pub mod Programs
+pub mod Values

@@ -1,0 +1,367 @@
+-- What expressions, statements and calls come to.
+use Rattle.std.specs.Prelude.{ℕ, zero, suc, ◌+◌, nat_lt, nat_le, nat_eq, Bool, true, false, ◌&&◌, List, [], ◌∷◌, ◌++◌, length, map, slice_get, slice_set, pos, negsuc, Option, Some, None, if◌then◌else◌}
+use Rattle.std.specs.List.{find, flat_map}
+use Rattle.std.specs.Option.{option_map, option_and_then}
+use Rattle.std.specs.Str.{bytes_eq}
+use Rattle.go_types.specs.Types.{Type', array}
+use Rattle.go_types.specs.Relations.{underlying}
+use Rattle.go_types.specs.Sizes.{cells}
+use Rattle.go_const.specs.declared.operator.ComparisonOperator.TheVariants.{Equal}
+use Rattle.go_code.specs.declared.cell.Cell.TheVariants.{Int, Bool as Truth, Text}
+use Rattle.go_code.specs.declared.ending.Ending.{Ending}
+use Rattle.go_code.specs.declared.ending.Ending.TheVariants.{Cut, Panicked}
+use Rattle.go_code.specs.declared.ending.PanicKind.TheVariants.{User}
+use Rattle.go_code.specs.declared.operator.Operator.TheVariants.{Text as On_text}
+use Rattle.go_code.specs.declared.operator.TextOperator.TheVariants.{At, Length}
+use Rattle.go_code.specs.Lines.{line_text}
+use Rattle.go_code.specs.Operators as operators
+use Rattle.go_code.specs.Operators.{Operated}
+use Rattle.go_typed.specs.declared.expression.Operator.TheVariants.{Comparison as comparison}
+use Rattle.go_typed.specs.Trees.{Symbol, Expr, constant, local, global, field, index, length as length_of, unary, binary, both, either, conversion, literal, call, Exprs, no_exprs, some_exprs, Parts, no_parts, part, Steps, here, to_field as then_field, to_element as then_element, Left, blank, of_local, of_global, Source, each, results, zeros, Stmt, define, assign, update, run, print, panic, if_statement, for_statement, range_statement, switch_statement, block, break, continue, return, Stmts, no_stmts, some_stmts, Clauses, no_clauses, clause, expr_type}
+use Rattle.go_meaning.specs.Values.{Value, single, parts, flat, is_of, are_of, zero_of, Step, to_field, to_element, part_of, read, updated, or_else}
+use Rattle.go_meaning.specs.Choices.{cell_of, unary_operators, binary_operators, conversion_operators, operated, field_type, element_type}
+
+-- ---- outcomes
+
+-- a package variable, and the value that it holds
+pub record Stored : Type 0 where
+  pub symbol : Symbol
+  pub of : Type'
+  pub value : Value
+
+-- what outlives calls: the ticks that are left, the package variables, and the output so far
+pub record World : Type 0 where
+  pub ticks : ℕ
+  pub variables : List Stored
+  pub output : List ℕ
+
+-- what something comes to: it gives an answer, or the whole program ends there, or a rule of the language is broken, of which nothing is said
+pub data Outcome (A : Type 0) : Type 0 where
+  Gives : (answer : A) (world : World) → Outcome A
+  Ends : (ending : Ending) (output : List ℕ) → Outcome A
+  Stuck : Outcome A
+
+-- a local variable: its type and its value; one that isn't declared yet has none
+pub record Local : Type 0 where
+  pub of : Type'
+  pub value : Option Value
+
+abbrev pub Locals : Type 0
+Locals = List Local
+
+-- How a statement leaves off: for the next one, for the end or the next turn of a loop, each with the local variables, or for the
+-- caller with the function's results.
+pub data Flow : Type 0 where
+  Normal : (locals : Locals) → Flow
+  Breaks : (locals : Locals) → Flow
+  Continues : (locals : Locals) → Flow
+  Returns : (results : List Value) → Flow
+
+-- one thing and then, where that gives an answer, another
+abbrev pub and_then : {A B : Type 0} → Outcome A → (A → World → Outcome B) → Outcome B
+and_then (Gives a w) next = next a w
+and_then (Ends ending output) next = Ends ending output
+and_then Stuck next = Stuck
+
+-- takes a tick; none left: the program is cut
+abbrev pub with_tick : {A : Type 0} → World → (World → Outcome A) → Outcome A
+with_tick {A} w next = elim w.ticks [ zero ↦ Ends Cut w.output | suc left ↦ next (record w { ticks = left }) ]
+
+-- what a call of a function comes to, by its symbol and its arguments
+abbrev pub Calls : Type 0
+Calls = Symbol → List Value → World → Outcome (List Value)
+
+-- what is known; nothing is said where it isn't
+abbrev pub if_known : {A : Type 0} → Option A → World → Outcome A
+if_known None w = Stuck
+if_known (Some a) w = Gives a w
+
+-- a value of that type, or a panic
+abbrev pub given : Type' → Operated Value → World → Outcome Value
+given t (operators.Gives v) w = if is_of t v then Gives v w else Stuck
+given t (operators.Panics kind) w = Ends (Panicked kind) w.output
+given t operators.Senseless w = Stuck
+
+-- values of these types
+abbrev pub all_given : List Type' → List Value → World → Outcome (List Value)
+all_given ts vs w = if are_of ts vs then Gives vs w else Stuck
+
+abbrev pub one_value : List Value → World → Outcome Value
+one_value [] w = Stuck
+one_value (v ∷ []) w = Gives v w
+one_value (v ∷ u ∷ us) w = Stuck
+
+-- the one or the other, by a truth value
+abbrev pub if_true : {A : Type 0} → Value → Outcome A → Outcome A → Outcome A
+if_true (single (Truth true)) a b = a
+if_true (single (Truth false)) a b = b
+if_true (single (Int z)) a b = Stuck
+if_true (single (Text t)) a b = Stuck
+if_true (parts vs) a b = Stuck
+
+-- ---- variables
+
+abbrev pub same_symbol : Symbol → Symbol → Bool
+same_symbol s t = bytes_eq s.path t.path && bytes_eq s.name t.name
+
+abbrev pub local_value : Locals → ℕ → Operated Value
+local_value locals n = or_else operators.Senseless (option_and_then (λ l. l.value) (slice_get locals n))
+
+abbrev pub global_value : List Stored → Symbol → Operated Value
+global_value variables s = or_else operators.Senseless (option_map (λ v. v.value) (find (λ v. same_symbol s v.symbol) variables))
+
+-- a local variable gets a value of its type
+abbrev pub with_local : Locals → ℕ → Value → Option Locals
+with_local locals n v =
+    option_and_then (λ l. if is_of l.of v then Some (slice_set locals n (record { of = l.of; value = Some v })) else None) (slice_get locals n)
+
+-- so does a package variable
+abbrev pub with_global : List Stored → Symbol → Value → Option (List Stored)
+with_global [] s v = None
+with_global (x ∷ xs) s v =
+    if same_symbol s x.symbol then (if is_of x.of v then Some (record x { value = v } ∷ xs) else None)
+    else option_map (λ ys. x ∷ ys) (with_global xs s v)
+
+-- ---- expressions
+
+-- https://go.dev/ref/spec#Selectors, Index_expressions
+abbrev pub selected : Type' → Value → ℕ → Operated Value
+selected s v n = elim (field_type s n) [ None ↦ operators.Senseless | Some t ↦ part_of v (to_field n) ]
+
+-- of an array; else of a string
+abbrev pub indexed : Type' → Value → Value → Operated Value
+indexed (array n t) v (single (Int z)) = part_of v (to_element z)
+indexed (array n t) v j = operators.Senseless
+indexed s v j = operated (On_text At ∷ []) (v ∷ j ∷ [])
+
+-- https://go.dev/ref/spec#Order_of_evaluation: from left to right
+abbrev mutual
+  pub eval : Calls → Expr → Locals → World → Outcome Value
+  eval calls (constant t c) ls w = given t (operators.Gives (single (cell_of c))) w
+  eval calls (local t n) ls w = given t (local_value ls n) w
+  eval calls (global t s) ls w = given t (global_value w.variables s) w
+  eval calls (field t e n) ls w = and_then (eval calls e ls w) (λ v. given t (selected (underlying (expr_type e)) v n))
+  eval calls (index t e i) ls w =
+      and_then (eval calls e ls w) (λ v w1. and_then (eval calls i ls w1) (λ j. given t (indexed (underlying (expr_type e)) v j)))
+  eval calls (length_of t e) ls w = and_then (eval calls e ls w) (λ v. given t (operated (On_text Length ∷ []) (v ∷ [])))
+  eval calls (unary t op e) ls w = and_then (eval calls e ls w) (λ v. given t (operated (unary_operators (underlying t) op) (v ∷ [])))
+  eval calls (binary t op a b) ls w =
+      and_then (eval calls a ls w) (λ x w1. and_then (eval calls b ls w1) (λ y. given t (operated (binary_operators (underlying (expr_type a)) op) (x ∷ y ∷ []))))
+  -- https://go.dev/ref/spec#Logical_operators
+  eval calls (both t a b) ls w = and_then (eval calls a ls w) (λ x w1. and_then (if_true x (eval calls b ls w1) (Gives x w1)) (λ y. given t (operators.Gives y)))
+  eval calls (either t a b) ls w = and_then (eval calls a ls w) (λ x w1. and_then (if_true x (Gives x w1) (eval calls b ls w1)) (λ y. given t (operators.Gives y)))
+  eval calls (conversion t e) ls w = and_then (eval calls e ls w) (λ v. given t (operated (conversion_operators (underlying t)) (v ∷ [])))
+  -- https://go.dev/ref/spec#Composite_literals
+  eval calls (literal t ps) ls w = and_then (given t (operators.Gives (zero_of t)) w) (eval_parts calls t ps ls)
+  eval calls (call t s es) ls w =
+      and_then (eval_all calls es ls w) (λ vs w1. and_then (calls s vs w1) (λ rs w2. and_then (all_given (t ∷ []) rs w2) one_value))
+
+  pub eval_all : Calls → Exprs → Locals → World → Outcome (List Value)
+  eval_all calls no_exprs ls w = Gives [] w
+  eval_all calls (some_exprs e es) ls w =
+      and_then (eval calls e ls w) (λ v w1. and_then (eval_all calls es ls w1) (λ vs w2. Gives (v ∷ vs) w2))
+
+  -- the parts of a value of that type, one after the other
+  pub eval_parts : Calls → Type' → Parts → Locals → Value → World → Outcome Value
+  eval_parts calls t no_parts ls v w = Gives v w
+  eval_parts calls t (part n e ps) ls v w =
+      and_then (eval calls e ls w) (λ x w1. and_then (given t (updated (to_field n ∷ []) v x) w1) (eval_parts calls t ps ls))
+
+-- values that are due
+abbrev pub source : Calls → Source → Locals → World → Outcome (List Value)
+source calls (each es) ls w = eval_all calls es ls w
+source calls (results ts s es) ls w = and_then (eval_all calls es ls w) (λ vs w1. and_then (calls s vs w1) (all_given ts))
+source calls (zeros ts) ls w = Gives (map zero_of ts) w
+
+-- ---- assignments
+
+-- https://go.dev/ref/spec#Assignment_statements: first the index operands are evaluated
+abbrev pub with_index : Value → World → (Step → Outcome (List Step)) → Outcome (List Step)
+with_index (single (Int z)) w next = next (to_element z)
+with_index v w next = Stuck
+
+abbrev pub with_type : {A : Type 0} → Option Type' → (Type' → Outcome A) → Outcome A
+with_type None next = Stuck
+with_type (Some t) next = next t
+
+abbrev pub steps : Calls → Type' → Steps → Locals → World → Outcome (List Step)
+steps calls t here ls w = Gives [] w
+steps calls t (then_field n p) ls w =
+    with_type (field_type (underlying t) n) (λ u. and_then (steps calls u p ls w) (λ ss w1. Gives (to_field n ∷ ss) w1))
+steps calls t (then_element e p) ls w =
+    with_type (element_type (underlying t)) (λ u. and_then (eval calls e ls w) (λ v w1. with_index v w1 (λ s.
+    and_then (steps calls u p ls w1) (λ ss w2. Gives (s ∷ ss) w2))))
+
+-- what is assigned: nothing, or the part of a variable that the steps lead to
+pub data Target : Type 0 where
+  nowhere : Target
+  in_local : Type' → ℕ → List Step → Target
+  in_global : Type' → Symbol → List Step → Target
+
+-- no type has more cells
+unfoldable pub most_cells : ℕ
+most_cells = 65536
+
+abbrev pub aim : Calls → Left → Locals → World → Outcome Target
+aim calls blank ls w = Gives nowhere w
+aim calls (of_local t n p) ls w =
+    if nat_le (cells t) most_cells then and_then (steps calls t p ls w) (λ ss w1. Gives (in_local t n ss) w1) else Stuck
+aim calls (of_global t s p) ls w =
+    if nat_le (cells t) most_cells then and_then (steps calls t p ls w) (λ ss w1. Gives (in_global t s ss) w1) else Stuck
+
+abbrev pub aim_all : Calls → List Left → Locals → World → Outcome (List Target)
+aim_all calls [] ls w = Gives [] w
+aim_all calls (l ∷ lefts) ls w = and_then (aim calls l ls w) (λ t w1. and_then (aim_all calls lefts ls w1) (λ ts w2. Gives (t ∷ ts) w2))
+
+-- the whole variable that is aimed at
+abbrev pub aimed : Target → Locals → World → Outcome Value
+aimed nowhere ls w = Stuck
+aimed (in_local t n ss) ls w = given t (local_value ls n) w
+aimed (in_global t s ss) ls w = given t (global_value w.variables s) w
+
+abbrev pub steps_in : Target → List Step
+steps_in nowhere = []
+steps_in (in_local t n ss) = ss
+steps_in (in_global t s ss) = ss
+
+-- the value of the part, of that type
+abbrev pub taken : Type' → Target → Locals → World → Outcome Value
+taken t target ls w = and_then (aimed target ls w) (λ v. given t (read (steps_in target) v))
+
+-- what is updated, or a panic
+abbrev pub changed : Operated Value → World → Outcome Value
+changed (operators.Gives v) w = Gives v w
+changed (operators.Panics kind) w = Ends (Panicked kind) w.output
+changed operators.Senseless w = Stuck
+
+abbrev pub put : Target → Value → Locals → World → Outcome Locals
+put nowhere v ls w = Gives ls w
+put (in_local t n ss) v ls w = if_known (with_local ls n v) w
+put (in_global t s ss) v ls w = and_then (if_known (with_global w.variables s v) w) (λ variables w1. Gives ls (record w1 { variables = variables }))
+
+-- then each is assigned, from left to right; the bounds are tested here
+abbrev pub give : Target → Value → Locals → World → Outcome Locals
+give nowhere v ls w = Gives ls w
+give target v ls w = and_then (aimed target ls w) (λ old w1. and_then (changed (updated (steps_in target) old v) w1) (λ new. put target new ls))
+
+abbrev pub give_all : List Target → List Value → Locals → World → Outcome Locals
+give_all [] [] ls w = Gives ls w
+give_all [] (v ∷ vs) ls w = Stuck
+give_all (t ∷ ts) [] ls w = Stuck
+give_all (t ∷ ts) (v ∷ vs) ls w = and_then (give t v ls w) (give_all ts vs)
+
+-- https://go.dev/ref/spec#Variable_declarations: new variables get values
+abbrev pub defined : List (Option ℕ) → List Value → Locals → Option Locals
+defined [] [] ls = Some ls
+defined [] (v ∷ vs) ls = None
+defined (n ∷ ns) [] ls = None
+defined (None ∷ ns) (v ∷ vs) ls = defined ns vs ls
+defined (Some n ∷ ns) (v ∷ vs) ls = option_and_then (λ ls1. with_local ls1 n v) (defined ns vs ls)
+
+-- ---- statements
+
+abbrev pub normal : Locals → World → Outcome Flow
+normal ls w = Gives (Normal ls) w
+
+-- goes on behind a statement that leaves off for the next one
+abbrev pub if_normal : (Locals → World → Outcome Flow) → Flow → World → Outcome Flow
+if_normal next (Normal ls) w = next ls w
+if_normal next (Breaks ls) w = Gives (Breaks ls) w
+if_normal next (Continues ls) w = Gives (Continues ls) w
+if_normal next (Returns vs) w = Gives (Returns vs) w
+
+-- behind a loop's body
+abbrev pub turned : (Locals → World → Outcome Flow) → Flow → World → Outcome Flow
+turned next (Normal ls) w = next ls w
+turned next (Breaks ls) w = normal ls w
+turned next (Continues ls) w = next ls w
+turned next (Returns vs) w = Gives (Returns vs) w
+
+-- a switch is left by break
+abbrev pub switched : Flow → World → Outcome Flow
+switched (Normal ls) w = normal ls w
+switched (Breaks ls) w = normal ls w
+switched (Continues ls) w = Gives (Continues ls) w
+switched (Returns vs) w = Gives (Returns vs) w
+
+-- https://go.dev/ref/spec#For_statements
+-- each turn takes a tick, so that as many turns as there are ticks at the entry are enough
+abbrev pub turns : ℕ → (Locals → World → Outcome Value) → (Locals → World → Outcome Flow) → (Locals → World → Outcome Flow) → Locals → World → Outcome Flow
+turns zero test body post ls w = and_then (test ls w) (λ c w1. if_true c (Ends Cut w1.output) (normal ls w1))
+turns (suc n) test body post ls w =
+    and_then (test ls w) (λ c w1. if_true c
+    (with_tick w1 (λ w2. and_then (body ls w2) (turned (λ ls1 w3. and_then (post ls1 w3) (if_normal (turns n test body post))))))
+    (normal ls w1))
+
+-- from c up to h, which is not reached
+abbrev pub walk : ℕ → ℕ → ℕ → Option ℕ → (Locals → World → Outcome Flow) → Locals → World → Outcome Flow
+walk zero c h o body ls w = if nat_lt c h then Ends Cut w.output else normal ls w
+walk (suc n) c h o body ls w =
+    if nat_lt c h
+    then with_tick w (λ w1. and_then (if_known (defined (o ∷ []) (single (Int (pos c)) ∷ []) ls) w1) (λ ls1 w2.
+    and_then (body ls1 w2) (turned (walk n (c + 1) h o body))))
+    else normal ls w
+
+abbrev pub walk_to : Value → (ℕ → Outcome Flow) → Outcome Flow
+walk_to (single (Int (pos h))) next = next h
+walk_to (single (Int (negsuc h))) next = next 0
+walk_to v next = Stuck
+
+-- https://go.dev/ref/spec#Switch_statements
+-- whether one of the cases is equal to the tag, which has that type
+abbrev pub is_case : Calls → Type' → Value → Exprs → Locals → World → Outcome Bool
+is_case calls t tag no_exprs ls w = Gives false w
+is_case calls t tag (some_exprs e es) ls w =
+    and_then (eval calls e ls w) (λ v w1. and_then (changed (operated (binary_operators (underlying t) (comparison Equal)) (tag ∷ v ∷ [])) w1) (λ b w2.
+    if_true b (Gives true w2) (is_case calls t tag es ls w2)))
+
+-- the number of the first clause with such a case, else of the last default, if there is one
+abbrev pub chosen : Calls → Type' → Value → Clauses → ℕ → Option ℕ → Locals → World → Outcome (Option ℕ)
+chosen calls t tag no_clauses n other ls w = Gives other w
+chosen calls t tag (clause None body falls cs) n other ls w = chosen calls t tag cs (n + 1) (Some n) ls w
+chosen calls t tag (clause (Some es) body falls cs) n other ls w =
+    and_then (is_case calls t tag es ls w) (λ b w1. if b then Gives (Some n) w1 else chosen calls t tag cs (n + 1) other ls w1)
+
+abbrev pub panicked : Value → World → Outcome Flow
+panicked (single (Text t)) w = Ends (Panicked (User t)) w.output
+panicked v w = Stuck
+
+abbrev pub tested : Calls → Option Expr → Locals → World → Outcome Value
+tested calls None ls w = Gives (single (Truth true)) w
+tested calls (Some e) ls w = eval calls e ls w
+
+abbrev mutual
+  pub exec : Calls → Stmt → Locals → World → Outcome Flow
+  exec calls (define ns s) ls w = and_then (source calls s ls w) (λ vs w1. and_then (if_known (defined ns vs ls) w1) normal)
+  exec calls (assign lefts s) ls w =
+      and_then (aim_all calls lefts ls w) (λ ts w1. and_then (source calls s ls w1) (λ vs w2.
+      if nat_eq (length ts) (length vs) then and_then (give_all ts vs ls w2) normal else Stuck))
+  exec calls (update t l op e) ls w =
+      and_then (aim calls l ls w) (λ target w1. and_then (taken t target ls w1) (λ x w2. and_then (eval calls e ls w2) (λ y w3.
+      and_then (given t (operated (binary_operators (underlying t) op) (x ∷ y ∷ [])) w3) (λ z w4. and_then (give target z ls w4) normal))))
+  exec calls (run ts s es) ls w = and_then (source calls (results ts s es) ls w) (λ vs. normal ls)
+  exec calls (print es) ls w = and_then (eval_all calls es ls w) (λ vs w1. normal ls (record w1 { output = w1.output ++ line_text (flat_map flat vs) }))
+  exec calls (panic e) ls w = and_then (eval calls e ls w) panicked
+  exec calls (if_statement e a b) ls w = and_then (eval calls e ls w) (λ c w1. if_true c (exec_all calls a ls w1) (exec_all calls b ls w1))
+  exec calls (for_statement o post body) ls w = turns w.ticks (tested calls o) (exec_all calls body) (exec_all calls post) ls w
+  exec calls (range_statement o t e body) ls w =
+      and_then (eval calls e ls w) (λ v w1. and_then (given t (operators.Gives v) w1) (λ v1 w2. walk_to v1 (λ h. walk w2.ticks 0 h o (exec_all calls body) ls w2)))
+  exec calls (switch_statement e cs) ls w =
+      and_then (eval calls e ls w) (λ tag w1. and_then (chosen calls (expr_type e) tag cs 0 None ls w1) (λ o w2. and_then (from_clause calls cs o ls w2) switched))
+  exec calls (block ss) ls w = exec_all calls ss ls w
+  exec calls break ls w = Gives (Breaks ls) w
+  exec calls continue ls w = Gives (Continues ls) w
+  exec calls (return s) ls w = and_then (source calls s ls w) (λ vs w1. Gives (Returns vs) w1)
+
+  pub exec_all : Calls → Stmts → Locals → World → Outcome Flow
+  exec_all calls no_stmts ls w = normal ls w
+  exec_all calls (some_stmts s ss) ls w = and_then (exec calls s ls w) (if_normal (exec_all calls ss))
+
+  -- https://go.dev/ref/spec#Fallthrough_statements
+  -- the clause of that number, if any, and those that it falls through to
+  pub from_clause : Calls → Clauses → Option ℕ → Locals → World → Outcome Flow
+  from_clause calls no_clauses o ls w = normal ls w
+  from_clause calls (clause es body falls cs) None ls w = normal ls w
+  from_clause calls (clause es body falls cs) (Some zero) ls w =
+      and_then (exec_all calls body ls w) (if_normal (from_clause calls cs (if falls then Some zero else None)))
+  from_clause calls (clause es body falls cs) (Some (suc n)) ls w = from_clause calls cs (Some n) ls w

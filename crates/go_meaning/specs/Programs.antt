@@ -1,0 +1,126 @@
+-- What checked packages mean: packages in an order in which each stands behind those that it imports.
+use Rattle.std.specs.Prelude.{◌≡◌, ℕ, zero, suc, ◌-◌, List, [], ◌∷◌, ◌++◌, length, map, Bool, slice_get, Option, Some, None, ⊤, codes, nat_eq, IsSome, if◌then◌else◌}
+use Rattle.std.specs.List.{filter, find, flat_map, starts_with}
+use Rattle.std.specs.Option.{option_map}
+use Rattle.std.specs.Str.{bytes_eq}
+use Rattle.go_types.specs.Types.{Type'}
+use Rattle.go_code.specs.declared.ending.Ending.{Ending}
+use Rattle.go_code.specs.declared.ending.Ending.TheVariants.{Ended, Panicked}
+use Rattle.go_code.specs.declared.ending.PanicKind.TheVariants.{Depth}
+use Rattle.go_typed.specs.Trees.{Symbol, Function, Package}
+use Rattle.go_meaning.specs.Values.{Value, are_of, zero_of}
+use Rattle.go_meaning.specs.Meaning.{Stored, World, Outcome, Gives, Ends, Stuck, Locals, Flow, Normal, Breaks, Continues, Returns, and_then, with_tick, Calls, same_symbol, exec_all}
+
+-- ---- calls
+
+-- what a function's body gives its caller; no break or continue leaves a body
+abbrev pub results_of : Flow → World → Outcome (List Value)
+results_of (Normal locals) w = Gives [] w
+results_of (Breaks locals) w = Stuck
+results_of (Continues locals) w = Stuck
+results_of (Returns results) w = Gives results w
+
+-- enters a function with an argument for each parameter: that takes a tick
+abbrev pub enter : Option Function → List Value → World → (Function → World → Outcome (List Value)) → Outcome (List Value)
+enter None arguments w run = Stuck
+enter (Some f) arguments w run = if are_of f.parameters arguments then with_tick w (run f) else Stuck
+
+abbrev pub with_arguments : List Type' → List Value → Locals
+with_arguments [] vs = []
+with_arguments (t ∷ ts) [] = []
+with_arguments (t ∷ ts) (v ∷ vs) = record { of = t; value = Some v } ∷ with_arguments ts vs
+
+-- the local variables of a function that is entered: the arguments, and the others, none of which is declared yet
+abbrev pub first_locals : Function → List Value → Locals
+first_locals f arguments = with_arguments f.parameters arguments ++ map (λ t. record { of = t; value = None }) f.locals
+
+abbrev pub symbol_of : Package → List ℕ → Symbol
+symbol_of p name = record { path = p.path; name = name }
+
+-- a function with its symbol
+pub record Declared : Type 0 where
+  pub symbol : Symbol
+  pub function : Function
+
+abbrev pub package_functions : Package → List Declared
+package_functions p = map (λ f. record { symbol = symbol_of p f.name; function = f }) p.functions
+
+-- the first function of a symbol
+abbrev pub function_at : List Package → Symbol → Option Function
+function_at packages s = option_map (λ d. d.function) (find (λ d. same_symbol s d.symbol) (flat_map package_functions packages))
+
+-- what calls come to where so many more may be open
+abbrev pub call_at : List Package → ℕ → Calls
+call_at packages zero s arguments w = enter (function_at packages s) arguments w (λ f w1. Ends (Panicked Depth) w1.output)
+call_at packages (suc left) s arguments w =
+    enter (function_at packages s) arguments w (λ f w1. and_then (exec_all (call_at packages left) f.body (first_locals f arguments) w1) results_of)
+
+-- ---- programs
+
+-- https://go.dev/ref/spec#Program_execution
+-- how many calls may be open
+unfoldable pub most_open : ℕ
+most_open = 1000
+
+abbrev pub last_package : List Package → Option Package
+last_package packages = slice_get packages (length packages - 1)
+
+-- the first function of a name
+abbrev pub function_named : List ℕ → List Function → Option Function
+function_named name functions = find (λ f. bytes_eq name f.name) functions
+
+-- the package is named main and has a function main
+abbrev pub HasMain : Option Package → Type 0
+HasMain o = elim o [ None ↦ ⊥ | Some p ↦ (p.name ≡ codes "main") × IsSome (function_named (codes "main") p.functions) ]
+
+-- packages are a program by the last of them
+abbrev pub IsProgram : List Package → Type 0
+IsProgram packages = HasMain (last_package packages)
+
+-- an init function of the source: its name here is `init.` and a number, which is no name in the source
+abbrev pub is_init : Function → Bool
+is_init f = starts_with nat_eq f.name (codes "init.")
+
+-- a step of a program's start: a call of a function, without arguments
+pub data Step : Type 0 where
+  calls : Symbol → Step
+
+-- https://go.dev/ref/spec#Package_initialization
+-- a package's inits, in declaration order
+abbrev pub package_steps : Package → List Step
+package_steps p = map (λ f. calls (symbol_of p f.name)) (filter is_init p.functions)
+
+abbrev pub main_steps : Option Package → List Step
+main_steps o = elim o [ None ↦ [] | Some p ↦ calls (symbol_of p (codes "main")) ∷ [] ]
+
+-- the start of a program: package by package, and at last the function main of the last
+abbrev pub start_steps : List Package → List Step
+start_steps packages = flat_map package_steps packages ++ main_steps (last_package packages)
+
+abbrev pub step : Calls → Step → World → Outcome ⊤
+step call (calls s) w = and_then (call s [] w) (λ results w1. Gives tt w1)
+
+-- one step after another
+abbrev pub step_all : Calls → List Step → World → Outcome ⊤
+step_all call [] w = Gives tt w
+step_all call (s ∷ ss) w = and_then (step call s w) (λ done w1. step_all call ss w1)
+
+-- a package's variables, at their zero values
+abbrev pub first_variables : Package → List Stored
+first_variables p = map (λ v. record { symbol = symbol_of p v.name; of = v.of; value = zero_of v.of }) p.variables
+
+-- the world that a program starts in
+abbrev pub first_world : List Package → ℕ → World
+first_world packages ticks = record { ticks = ticks; variables = flat_map first_variables packages; output = [] }
+
+-- the program is over so where its start comes to this
+abbrev pub IsOver : Outcome ⊤ → Ending → List ℕ → Type 0
+IsOver outcome ending output = elim outcome [ Gives done w ↦ (ending ≡ Ended) × (output ≡ w.output) | Ends e o ↦ (ending ≡ e) × (output ≡ o) | Stuck ↦ ⊥ ]
+
+-- what a program comes to that is given so many ticks
+abbrev pub run : List Package → ℕ → Outcome ⊤
+run packages ticks = step_all (call_at packages most_open) (start_steps packages) (first_world packages ticks)
+
+-- a program that is given so many ticks ends so; it has ended when main returns
+abbrev pub SourceMeaning : List Package → ℕ → Ending → List ℕ → Type 0
+SourceMeaning packages ticks ending output = IsProgram packages × IsOver (run packages ticks) ending output
