@@ -1,0 +1,8 @@
+use Rattle.go_summary.proofs.Found.{ascends, found}
+use Rattle.go_summary.proofs.law.law_exports.Goals as goal
+
+pub returns-clause-ordered : goal.returns-clause-ordered
+returns-clause-ordered c = ascends
+
+pub returns-clause-found : goal.returns-clause-found
+returns-clause-found c = found

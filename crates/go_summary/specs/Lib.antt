@@ -1,0 +1,5 @@
+pub mod Codes
+pub mod Exports
+pub mod Summaries
+pub mod Views
+pub mod Writable

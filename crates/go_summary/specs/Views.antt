@@ -1,0 +1,25 @@
+-- Which values the code's exports are.
+use Rattle.std.specs.Prelude.{ℕ, List, map, string_bytes, String}
+use Rattle.std.specs.Global.{Global}
+use Rattle.go_types.specs.Views.{type_of}
+use Rattle.go_summary.specs.Exports as exports
+use Rattle.go_summary.specs.Summaries.{Summary}
+use Rattle.go_summary.specs.declared.export.Export.{Export}
+use Rattle.go_summary.specs.declared.export.Export.TheVariants as variants
+
+abbrev pub export_of : Export → exports.Export
+export_of (variants.Constant t c) = exports.constant (type_of t) c
+export_of (variants.Variable t) = exports.variable (type_of t)
+export_of (variants.Function parameters results) = exports.function (map type_of parameters.items) (map type_of results.items)
+export_of (variants.Type t) = exports.type' (type_of t)
+
+-- a name with what it exports
+abbrev pub named_of : String Global × Export → List ℕ × exports.Export
+named_of e = (string_bytes e.0, export_of e.1)
+
+abbrev pub all_of : List (String Global × Export) → exports.Exports
+all_of es = map named_of es
+
+-- the summary of a package by its path, its name and its exports
+abbrev pub shown : List ℕ → List ℕ → List (String Global × Export) → Summary
+shown path name es = record { path = path; «package» = name; exports = all_of es }

@@ -1,0 +1,8 @@
+//! Summaries: what the importers of a package know of it.
+#![tactic(auto)]
+
+mod collection;
+pub mod export;
+pub mod law;
+pub mod summary;
+mod text;

@@ -1,0 +1,97 @@
+//! What the importers of a package know of it.
+ghost use Rattle.std.specs.Prelude.{◌≡◌, IfOk};
+ghost use Rattle.std.specs.Option.{option_map};
+ghost use Rattle.go_typed.specs.Views.{typed_of};
+ghost use Rattle.go_summary.specs.Exports.{look_up};
+ghost use Rattle.go_summary.specs.Summaries.{summary_of, summary_text, summary_digest};
+ghost use Rattle.go_summary.specs.Views.{export_of};
+
+use crate::collection::exports_of;
+use crate::export::Export;
+use crate::text::text_of;
+use go_export::field::digest;
+use go_typed::package::Typed;
+use std::alloc::{AllocError, Global};
+use std::collections::BTreeMap;
+use std::marker::Model;
+
+/// What the importers of a package know of it: its path, its name and what it exports. It holds
+/// the text that stands for it in digests.
+/// [Import declarations](https://go.dev/ref/spec#Import_declarations)
+#[derive(Drop)]
+pub struct Summary {
+    path: String,
+    name: String,
+    named: BTreeMap<String, Export>,
+    text: Vec<u8>,
+}
+
+impl Model for Summary {
+    ghost use Rattle.std.specs.Prelude.{◌≡◌, string_bytes};
+    ghost use Rattle.go_summary.specs.Codes.{summary_code};
+    ghost use Rattle.go_summary.specs.Summaries as summaries;
+
+    ghost Value = { summaries.Summary };
+
+    ghost coded = { summary_code };
+
+    ghost use Rattle.go_summary.specs.Views.{shown};
+
+    ghost view = { λ s. shown (string_bytes s.path) (string_bytes s.name) s.named.entries };
+
+    ghost invariant = { λ s. s.text.items ≡ summaries.summary_text (shown (string_bytes s.path) (string_bytes s.name) s.named.entries) };
+}
+
+impl Summary {
+    /// The summary of a checked package. An `Err` only where memory ran out.
+    pub fn of(alloc: Global, typed: &Typed) -> Result<Summary, AllocError>
+        ensures { IfOk result (λ s. s ≡ summary_of (typed_of typed.now)) }
+    {
+        let path = typed.path.clone()?;
+        let name = typed.name.clone()?;
+        let named = exports_of(alloc, typed)?;
+        let text = text_of(alloc, &path, &name, &named)?;
+        Ok(Summary {
+            path,
+            name,
+            named,
+            text,
+        })
+    }
+
+    /// The directory that the package stands in, which is its path.
+    pub fn path(&self) -> &str
+        ensures { result.now ≡ self.now.path }
+    {
+        self.path.as_str()
+    }
+
+    /// The name in its package clauses.
+    pub fn package(&self) -> &str
+        ensures { result.now ≡ self.now.package }
+    {
+        self.name.as_str()
+    }
+
+    /// What a name exports, if the package exports that name.
+    /// [Qualified identifiers](https://go.dev/ref/spec#Qualified_identifiers)
+    pub fn find(&self, name: &str) -> Option<&Export>
+        ensures { option_map (λ e. export_of e.now) result ≡ look_up name.now self.now.exports }
+    {
+        self.named.get(name)
+    }
+
+    /// The text that stands for the summary in digests.
+    pub fn text(&self) -> &[u8]
+        ensures { result.now ≡ summary_text self.now }
+    {
+        self.text.as_slice()
+    }
+
+    /// The SHA-256 digest of the summary's text.
+    pub fn digest(&self) -> [u8; 32]
+        ensures { result ≡ summary_digest self.now }
+    {
+        digest(&self.text)
+    }
+}
