@@ -3,9 +3,9 @@ use Rattle.std.proofs.Common.{◌≡◌, ℕ, Bool, true, false, cond, List, [],
 use Rattle.std.specs.Prelude.{bytes_eq}
 use Rattle.std.specs.BTreeMap.{insert_entry}
 use Rattle.std.specs.Cmp.Lexicographic.{slice_cmp}
-use Rattle.std.specs.List.{AllByRecursion}
+use Rattle.std.specs.List.{All, AllByRecursion}
 use Rattle.std.specs.List.Sorted.{IsStrictlySortedBy}
-use Rattle.std.specs.Map.{keys_of, lookup}
+use Rattle.std.specs.Map.{keys_of, values_of, lookup}
 use Rattle.std.specs.Ordering.{nat_cmp, match_ordering, ordering_reverse}
 use Rattle.std.specs.declared.cmp.Ordering.{Ordering}
 use Rattle.std.specs.declared.cmp.Ordering.TheVariants.{Less, Equal, Greater}
@@ -13,7 +13,10 @@ use Rattle.std.proofs.lemmas.Cmp.{nat_list_cmp_total, tied_itself}
 use Rattle.std.proofs.lemmas.Map.Entries.{lookup-filter-keys}
 use Rattle.std.proofs.lemmas.Map.Lookups.{exact_bytes}
 use Rattle.std.proofs.lemmas.Slice.Eq.{bytes_eq-Decides}
+use Rattle.std.proofs.lemmas.List.Elements.{All-cons, All-head, All-tail}
+use Rattle.std.proofs.lemmas.Map.Views.{All-values-insert_entry}
 use Rattle.go_typed.specs.Trees.{Package}
+use Rattle.go_summary.specs.Writable.{IsShown}
 use Rattle.go_summary.specs.Exports.{Export, Exports, is_exported, declared_by, exported, in_order, exports_of}
 
 abbrev name_cmp : List ℕ → List ℕ → Ordering
@@ -107,3 +110,22 @@ in_order_ascends (e ∷ es) = put_ordered e.0 e.1 (in_order es) (in_order_ascend
 pub ascends : (p : Package) → IsStrictlySortedBy name_cmp (keys_of (exports_of p))
 unfolding exports_of
 ascends p = in_order_ascends (exported (declared_by p))
+
+-- ---- what is shown
+
+shown_among : (es : Exports) → All IsShown (values_of es) → All IsShown (values_of (exported es))
+shown_among [] h = h
+shown_among (e ∷ es) h = by_name (shown_among es (All-tail IsShown e.1 (values_of es) h)) (is_exported e.0)
+  where
+    by_name : All IsShown (values_of (exported es)) → (b : Bool) → All IsShown (values_of (cond b (e ∷ exported es) (exported es)))
+    by_name rest true = All-cons IsShown e.1 (values_of (exported es)) (All-head IsShown e.1 (values_of es) h) rest
+    by_name rest false = rest
+
+shown_in_order : (es : Exports) → All IsShown (values_of es) → All IsShown (values_of (in_order es))
+shown_in_order [] h = h
+shown_in_order (e ∷ es) h =
+    All-values-insert_entry name_cmp e.0 e.1 IsShown (in_order es) (shown_in_order es (All-tail IsShown e.1 (values_of es) h)) (All-head IsShown e.1 (values_of es) h)
+
+pub shown : (p : Package) → All IsShown (values_of (declared_by p)) → All IsShown (values_of (exports_of p))
+unfolding exports_of
+shown p h = shown_in_order (exported (declared_by p)) (shown_among (declared_by p) h)

@@ -2,6 +2,7 @@
 use Rattle.std.proofs.Common.{◌≡◌, ℕ, ◌<◌, true, false, List, [], ◌∷◌, ◌++◌, append-nil, length, codes, refl, ap, sym, ◌∙◌, subst, arith}
 use Rattle.std.specs.Prelude.{bytes_eq}
 use Rattle.std.specs.List.{All, flat_map}
+use Rattle.std.specs.Map.{values_of}
 use Rattle.std.proofs.lemmas.List.{append_assoc}
 use Rattle.std.proofs.lemmas.List.Elements.{All-head, All-tail}
 use Rattle.go_export.specs.Fields.{be, field}
@@ -107,10 +108,7 @@ told_export a b s t p q h e =
     let letters = split_field (letter a) (letter b) (body a ++ s) (body b ++ t) (subst Short behind h) (sym behind ∙ e ∙ other) in
     told_body a b s t p q letters.0 letters.2 letters.1
 
-abbrev Shown : List ℕ × Export → Type 0
-Shown n = IsShown n.1
-
-told_named : (a b : List ℕ × Export) (s t : List ℕ) → Shown a → Shown b → Short (named_text a ++ s) → named_text a ++ s ≡ named_text b ++ t → Told a b s t
+told_named : (a b : List ℕ × Export) (s t : List ℕ) → IsShown a.1 → IsShown b.1 → Short (named_text a ++ s) → named_text a ++ s ≡ named_text b ++ t → Told a b s t
 told_named a b s t p q h e =
     let behind : named_text a ++ s ≡ field a.0 ++ (export_text a.1 ++ s) = append_assoc (field a.0) (export_text a.1) s in
     let other : named_text b ++ t ≡ field b.0 ++ (export_text b.1 ++ t) = append_assoc (field b.0) (export_text b.1) t in
@@ -118,16 +116,16 @@ told_named a b s t p q h e =
     let exports = told_export a.1 b.1 s t p q names.2 names.1 in
     (ap (λ (n : List ℕ). (n, a.1)) names.0 ∙ ap (λ (x : Export). (b.0, x)) exports.0, exports.1, exports.2)
 
-told_exports : (xs ys : Exports) (s t : List ℕ) → All Shown xs → All Shown ys → length xs ≡ length ys → Short (flat_map named_text xs ++ s) → flat_map named_text xs ++ s ≡ flat_map named_text ys ++ t → Told xs ys s t
+told_exports : (xs ys : Exports) (s t : List ℕ) → All IsShown (values_of xs) → All IsShown (values_of ys) → length xs ≡ length ys → Short (flat_map named_text xs ++ s) → flat_map named_text xs ++ s ≡ flat_map named_text ys ++ t → Told xs ys s t
 told_exports [] [] s t p q l h e = (refl, e, h)
 told_exports [] (b ∷ ys) s t p q l h e = absurd (omega (arith, l))
 told_exports (a ∷ xs) [] s t p q l h e = absurd (omega (arith, l))
 told_exports (a ∷ xs) (b ∷ ys) s t p q l h e =
     let behind : (named_text a ++ flat_map named_text xs) ++ s ≡ named_text a ++ (flat_map named_text xs ++ s) = append_assoc (named_text a) (flat_map named_text xs) s in
     let other : (named_text b ++ flat_map named_text ys) ++ t ≡ named_text b ++ (flat_map named_text ys ++ t) = append_assoc (named_text b) (flat_map named_text ys) t in
-    let first = told_named a b (flat_map named_text xs ++ s) (flat_map named_text ys ++ t) (All-head Shown a xs p) (All-head Shown b ys q) (subst Short behind h) (sym behind ∙ e ∙ other) in
+    let first = told_named a b (flat_map named_text xs ++ s) (flat_map named_text ys ++ t) (All-head IsShown a.1 (values_of xs) p) (All-head IsShown b.1 (values_of ys) q) (subst Short behind h) (sym behind ∙ e ∙ other) in
     let lengths : length xs ≡ length ys = omega (arith, l) in
-    let rest = told_exports xs ys s t (All-tail Shown a xs p) (All-tail Shown b ys q) lengths first.2 first.1 in
+    let rest = told_exports xs ys s t (All-tail IsShown a.1 (values_of xs) p) (All-tail IsShown b.1 (values_of ys) q) lengths first.2 first.1 in
     (ap (λ (x : List ℕ × Export). x ∷ xs) first.0 ∙ ap (λ (zs : Exports). b ∷ zs) rest.0, rest.1, rest.2)
 
 -- ---- summaries

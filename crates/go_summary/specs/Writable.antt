@@ -1,6 +1,7 @@
 -- Summaries whose texts tell them.
 use Rattle.std.specs.Prelude.{◌≡◌, ◌<◌, ◌^◌, IsTrue, length, None}
 use Rattle.std.specs.List.{All}
+use Rattle.std.specs.Map.{values_of}
 use Rattle.go_const.specs.Constants.{fits}
 use Rattle.go_const.specs.declared.constant.Const.{Const}
 use Rattle.go_const.specs.declared.constant.Const.TheVariants.{Integer, Text, Bool as Truth}
@@ -49,5 +50,5 @@ IsShown (type' t) = IsWritable t
 
 -- so are all exports, and the text's length has 64 bits
 pub record IsWritten (s : Summary) : Type 0 where
-  pub exports : All (λ e. IsShown e.1) s.exports
+  pub exports : All IsShown (values_of s.exports)
   pub sized : length (summary_text s) < 2 ^ 64

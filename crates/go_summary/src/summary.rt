@@ -1,5 +1,5 @@
 //! What the importers of a package know of it.
-ghost use Rattle.std.specs.Prelude.{◌≡◌, IfOk};
+ghost use Rattle.std.specs.Prelude.{◌≡◌, ◌<◌, ◌^◌, IfOk, length};
 ghost use Rattle.std.specs.Option.{option_map};
 ghost use Rattle.go_typed.specs.Views.{typed_of};
 ghost use Rattle.go_summary.specs.Exports.{look_up};
@@ -83,7 +83,8 @@ impl Summary {
 
     /// The text that stands for the summary in digests.
     pub fn text(&self) -> &[u8]
-        ensures { result.now ≡ summary_text self.now }
+        ensures value { result.now ≡ summary_text self.now }
+        ensures sized { length (summary_text self.now) < 2 ^ 64 }
     {
         self.text.as_slice()
     }

@@ -1,4 +1,4 @@
-use Rattle.go_summary.proofs.Found.{ascends, found}
+use Rattle.go_summary.proofs.Found.{ascends, found, shown}
 use Rattle.go_summary.proofs.law.law_exports.Goals as goal
 
 pub returns-clause-ordered : goal.returns-clause-ordered
@@ -6,3 +6,6 @@ returns-clause-ordered c = ascends
 
 pub returns-clause-found : goal.returns-clause-found
 returns-clause-found c = found
+
+pub returns-clause-shown : goal.returns-clause-shown
+returns-clause-shown c = shown

@@ -1,0 +1,5 @@
+//! Tests of summaries: what is exported, and the texts.
+#![tactic(auto)]
+
+#[cfg(test)]
+mod tests;
