@@ -17,18 +17,22 @@ enum Order {
     Random,
 }
 
-// How many paths there are, and in which order they are written first: a page holds at most 64.
-const ROWS: [(u64, Order); 6] = [
+// How many paths are written first, and in which order: a page holds at most 64.
+const ROWS: [(u32, Order); 10] = [
     (63, Order::Ascending),
     (64, Order::Ascending),
     (65, Order::Ascending),
+    (63, Order::Descending),
+    (64, Order::Descending),
     (65, Order::Descending),
+    (63, Order::Random),
+    (64, Order::Random),
     (65, Order::Random),
     (130, Order::Random),
 ];
 
 // How many turns the replicas take after that.
-const TURNS: usize = 40;
+const TURNS: usize = 100;
 
 /// The registers of a replica, and a map of what they hold.
 #[derive(Drop)]
@@ -145,8 +149,24 @@ fn turn(
     Ok(())
 }
 
-/// The first replica writes all paths, and then all take turns.
-fn play(rt: &impl Abort, alloc: Global, paths: u64, order: Order) -> Result<(), Fail> {
+/// The numbers below a count, in that order.
+fn ordered(alloc: Global, count: u32, order: Order) -> Result<Vec<u64>, Fail> {
+    let mut numbers = Vec::new(alloc);
+    let mut seed = u64::from(count);
+    for number in 0..u64::from(count) {
+        seed = next(seed);
+        let at = match order {
+            Order::Ascending => numbers.len(),
+            Order::Descending => 0,
+            Order::Random => (seed % (number + 1)) as usize,
+        };
+        numbers.insert(at.min(numbers.len()), number)?;
+    }
+    Ok(numbers)
+}
+
+/// Four replicas, of which the first wrote paths with these numbers.
+fn begin(alloc: Global, numbers: &[u64]) -> Result<Vec<Pair>, Fail> {
     let mut pairs = Vec::new(alloc);
     for number in 1..5u32 {
         pairs.push(Pair {
@@ -155,29 +175,46 @@ fn play(rt: &impl Abort, alloc: Global, paths: u64, order: Order) -> Result<(), 
             plain: BTreeMap::new(alloc),
         })?;
     }
-    let mut seed = paths;
-    for step in 0..paths {
-        seed = next(seed);
-        let number = match order {
-            Order::Ascending => step,
-            Order::Descending => paths - step,
-            Order::Random => seed,
-        };
+    for number in numbers {
         if let Some(pair) = pairs.get_mut(0) {
-            edit(alloc, pair, number, seed)?;
+            edit(alloc, pair, *number, *number)?;
         }
     }
+    Ok(pairs)
+}
+
+/// The last replica gives all others what it holds, and becomes the first.
+fn give(rt: &impl Abort, pairs: &mut Vec<Pair>) -> Result<(), Fail> {
+    let Some(giver) = pairs.pop() else {
+        return Ok(());
+    };
+    for pair in pairs.iter_mut() {
+        merge(pair, &giver)?;
+        compare(rt, pair)?;
+    }
+    pairs.insert(0, giver)?;
+    Ok(())
+}
+
+/// The first replica writes so many paths, then all take turns, and each gives what it holds.
+fn play(rt: &impl Abort, alloc: Global, count: u32, order: Order) -> Result<(), Fail> {
+    let numbers = ordered(alloc, count, order)?;
+    let mut pairs = begin(alloc, &numbers)?;
+    let mut seed = u64::from(count);
     for _ in 0..TURNS {
         seed = next(seed);
-        turn(rt, alloc, &mut pairs, paths, seed)?;
+        turn(rt, alloc, &mut pairs, u64::from(count) + 2, seed)?;
+    }
+    for _ in 0..4 {
+        give(rt, &mut pairs)?;
     }
     Ok(())
 }
 
 #[test]
 fn pages_hold_what_plain_maps_hold(rt: HostRuntime) -> Result<(), Fail> {
-    for (paths, order) in ROWS {
-        play(&rt, rt.alloc(), paths, order)?;
+    for (count, order) in ROWS {
+        play(&rt, rt.alloc(), count, order)?;
     }
     Ok(())
 }
