@@ -1,7 +1,7 @@
 -- What the object of a package is linked to means what the package means.
-use Rattle.std.proofs.Common.{◌≡◌, ℕ, ◌+◌, Bool, true, false, not, List, [], ◌∷◌, ◌++◌, map, length, Option, Some, None, refl, sym, ap, ◌∙◌, cond, append-nil}
+use Rattle.std.proofs.Common.{◌≡◌, ℕ, ◌+◌, Bool, true, false, not, List, [], ◌∷◌, ◌++◌, map, Option, Some, None, refl, sym, ap, ◌∙◌, cond, append-nil}
 use Rattle.std.specs.Prelude.{codes, slice_get, ◌&&◌, ◌||◌, is_some, ◌↔◌, if◌then◌else◌}
-use Rattle.std.specs.List.{All, filter, find, flat_map, list_any, position_or_len, prefix_len}
+use Rattle.std.specs.List.{filter, find, flat_map, list_any, position_or_len, prefix_len}
 use Rattle.std.specs.Option.{option_map}
 use Rattle.std.specs.Str.{bytes_eq}
 use Rattle.std.proofs.lemmas.List.{map-append}
