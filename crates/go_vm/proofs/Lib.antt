@@ -1,4 +1,5 @@
 pub mod Coming
 pub mod Handed
 pub mod Rows
+pub mod Together
 pub mod Views

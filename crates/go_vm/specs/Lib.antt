@@ -3,3 +3,4 @@ pub mod Open
 pub mod Outcomes
 pub mod Told
 pub mod View
+pub mod Ahead

@@ -1,6 +1,7 @@
 //! The virtual machine: runs images.
 #![tactic(auto)]
 
+mod ahead;
 mod frames;
 mod inside;
 mod line;

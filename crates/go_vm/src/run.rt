@@ -3,10 +3,12 @@ ghost use Rattle.std.specs.Prelude.{◌≡◌, List, ◌∷◌, true, false, IfO
 ghost use Rattle.std.specs.List.{list_all};
 ghost use Rattle.go_code.specs.declared.image.Start.{Start as AStart};
 ghost use Rattle.go_code.specs.Lines.{cell_fits};
+ghost use Rattle.go_vm.specs.Ahead.{Went};
 ghost use Rattle.go_vm.specs.Answers.{Answers, AnswersFrom, ComesTo};
 ghost use Rattle.go_vm.specs.Told.{state_of, between, left_by};
 ghost use Rattle.go_vm.specs.declared.run.RunError.TheVariants.{Memory};
 
+use crate::ahead::obey_ahead;
 use crate::frames::Frames;
 use crate::machine::{Begun, Exit, Flow, World, begin, one_step};
 use go_cells::slot::Slot;
@@ -68,6 +70,22 @@ impl From<AllocError> for RunError {
     }
 }
 
+/// Goes on by several instructions together, or by one.
+#[inline(always)]
+fn advance<'a>(
+    alloc: Global,
+    frames: &mut Frames<'a>,
+    world: &mut World,
+    image: &'a Image,
+) -> Result<Flow, AllocError>
+    ensures { IfOk result (λ flow. (starts : List AStart) → Went image.now (state_of frames.old starts world.old) flow (state_of frames.new starts world.new)) }
+{
+    if obey_ahead(frames)? {
+        return Ok(Flow::GoesOn);
+    }
+    one_step(alloc, frames, world, image)
+}
+
 /// Goes on until the start step is left whose frames are open.
 fn finish<'a>(
     alloc: Global,
@@ -78,7 +96,7 @@ fn finish<'a>(
     ensures { IfOk result (λ exit. (starts : List AStart) → ComesTo image.now (state_of frames.entry starts world.old) (left_by exit (between starts world.new))) }
 {
     loop {
-        match one_step(alloc, &mut frames, world, image)? {
+        match advance(alloc, &mut frames, world, image)? {
             Flow::GoesOn => {}
             Flow::Leaves(exit) => return Ok(exit),
         }
