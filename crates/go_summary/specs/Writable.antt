@@ -30,11 +30,12 @@ value_kind (basics.Integer i) = kinds.Int
 value_kind (basics.Untyped kinds.Rune) = kinds.Int
 value_kind (basics.Untyped kind) = kind
 
--- the value is of the kind of the type, and an integer has 128 bits
+-- an integer has 128 bits
 abbrev pub IsSmall : Const → Type 0
 IsSmall (Integer z) = IsTrue (fits None z)
 IsSmall c = Unit {0}
 
+-- the value is of the kind of the type's values
 pub record IsValue (t : Type') (c : Const) : Type 0 where
   pub of : Basic
   pub is : underlying t ≡ basic of
