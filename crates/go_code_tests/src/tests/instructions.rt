@@ -51,6 +51,11 @@ static OTHERS: &str = "\
 1: v:i7 ; v:tab ; v:b1 ; f:0.0 gl:0.3 p:3 i:1 t:z gs:0.2 i:1 gL:0.2 p:2 b:0 i:1 gS:1.1 gl:0.3 p:3 r:0 ; @:0 | ended 7 ab true/z true/1 z false/
 1: f:0.0 i:0 move:3 i:2 index:4.5 p:1 i:-1 move:1 p:1 r:0 ; @:0 | ended 13/0/
 1: f:0.0 i:10 i:11 i:20 i:21 i:30 i:31 i:1 pick:3.2 p:2 i:1 i:2 i:3 i:4 part:4.1.2 p:2 i:0 pick:1.0 p:0 r:0 ; @:0 | ended 20 21/2 3//
+1: f:0.7 i:10 i:11 i:20 i:21 i:30 i:31 s:0.6 i:2 s:6.1 l:0.6 l:6.1 pick:3.2 p:2 l:0.6 i:0 pick:3.2 p:2 l:0.6 part:6.3.2 p:2 r:0 ; @:0 | ended 30 31/10 11/21 30/
+1: f:0.2 i:1 i:2 s:0.2 t:a p:1 l:0.2 i:2 pick:2.1 p:1 r:0 ; @:0 | index a/
+1: f:0.2 l:0.2 i:-1 pick:2.1 p:1 r:0 ; @:0 | index \n\\
+1: f:0.2 l:0.3 i:1 pick:3.1 p:1 r:0 ; @:0 | bad code
+1: f:0.2 i:9223372036854775807 s:0.1 l:0.1 i:1 +:int p:1 l:0.1 i:2 *:int l:0.1 i:-1 -:int p:2 l:0.1 l:1.1 >: p:1 r:0 ; @:0 | ended -9223372036854775808/-2 -9223372036854775808/true/
 1: f:0.0 i:0 j:2 i:1 p:1 i:2 p:2 b:1 jt:1 i:3 i:4 p:1 b:0 jt:1 i:5 i:6 p:1 b:0 jf:1 i:7 i:8 p:1 b:1 jf:1 i:9 i:9 p:2 r:0 ; @:0 | ended 0 2/4/6/8/9 9/
 5: f:0.1 j:6 l:0.1 p:1 l:0.1 i:1 +:int s:0.1 l:0.1 i:3 <: loop:10 r:0 ; @:0 | ended 0/1/2/
 4: f:0.1 j:6 l:0.1 p:1 l:0.1 i:1 +:int s:0.1 l:0.1 i:3 <: loop:10 r:0 ; @:0 | ended 0/1/2/
@@ -130,6 +135,6 @@ fn integers_are_wrapped(rt: HostRuntime) -> Result<(), AllocError> {
 #[test]
 fn instructions_do_what_their_rows_say(rt: HostRuntime) -> Result<(), AllocError> {
     let told = differing(rt.alloc(), OTHERS)?;
-    assert!(rt; told.as_str() == "78 rows agree");
+    assert!(rt; told.as_str() == "83 rows agree");
     Ok(())
 }
