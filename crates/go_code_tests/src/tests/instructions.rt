@@ -53,7 +53,7 @@ static OTHERS: &str = "\
 1: f:0.0 i:10 i:11 i:20 i:21 i:30 i:31 i:1 pick:3.2 p:2 i:1 i:2 i:3 i:4 part:4.1.2 p:2 i:0 pick:1.0 p:0 r:0 ; @:0 | ended 20 21/2 3//
 1: f:0.7 i:10 i:11 i:20 i:21 i:30 i:31 s:0.6 i:2 s:6.1 l:0.6 l:6.1 pick:3.2 p:2 l:0.6 i:0 pick:3.2 p:2 l:0.6 part:6.3.2 p:2 r:0 ; @:0 | ended 30 31/10 11/21 30/
 1: f:0.2 i:1 i:2 s:0.2 t:a p:1 l:0.2 i:2 pick:2.1 p:1 r:0 ; @:0 | index a/
-1: f:0.2 l:0.2 i:-1 pick:2.1 p:1 r:0 ; @:0 | index \n\\
+1: f:0.2 l:0.2 i:-1 pick:2.1 p:1 r:0 ; @:0 | index \n\
 1: f:0.2 l:0.3 i:1 pick:3.1 p:1 r:0 ; @:0 | bad code
 1: f:0.2 i:9223372036854775807 s:0.1 l:0.1 i:1 +:int p:1 l:0.1 i:2 *:int l:0.1 i:-1 -:int p:2 l:0.1 l:1.1 >: p:1 r:0 ; @:0 | ended -9223372036854775808/-2 -9223372036854775808/true/
 1: f:0.0 i:0 j:2 i:1 p:1 i:2 p:2 b:1 jt:1 i:3 i:4 p:1 b:0 jt:1 i:5 i:6 p:1 b:0 jf:1 i:7 i:8 p:1 b:1 jf:1 i:9 i:9 p:2 r:0 ; @:0 | ended 0 2/4/6/8/9 9/
