@@ -46,25 +46,25 @@ static OTHERS: &str = "\
 1: f:0.0 i:1 t:x i:2 i:1 t:x i:2 same:3 i:1 t:x i:2 i:1 t:y i:2 same:3 i:1 t:1 same:1 i:0 b:0 same:1 same:0 p:5 r:0 ; @:0 | ended true false false false true/
 1: f:0.0 b:1 not:0 b:0 not:0 p:2 r:0 ; @:0 | ended false true/
 1: f:0.0 t:abc i:0 at: t:abc i:2 at: t:abc long: t: long: t:ab t:cd join: t: t: join: p:6 r:0 ; @:0 | ended 97 99 3 0 abcd /
-1: f:0.0 i:1 i:2 i:3 pop:2 p:1 i:7 i:8 times:2.3 p:6 i:5 times:1.0 p:0 pop:0 r:0 ; @:0 | ended 1/7 8 7 8 7 8//
+1: f:0.0 i:1 i:2 i:3 o:2 p:1 i:7 i:8 x:2.3 p:6 i:5 x:1.0 p:0 o:0 r:0 ; @:0 | ended 1/7 8 7 8 7 8//
 1: f:0.4 i:5 i:6 s:1.2 l:0.4 p:4 i:2 L:0.2 p:2 i:9 i:1 S:2.1 l:0.4 p:4 i:8 i:0 S:0.1 l:0.1 p:1 r:0 ; @:0 | ended 0 5 6 0/6 0/0 5 6 9/8/
-1: v:i7 ; v:tab ; v:b1 ; f:0.0 gl:0.3 p:3 i:1 t:z gs:0.2 i:1 gL:0.2 p:2 b:0 i:1 gS:1.1 gl:0.3 p:3 r:0 ; @:0 | ended 7 ab true/z true/1 z false/
-1: f:0.0 i:0 move:3 i:2 index:4.5 p:1 i:-1 move:1 p:1 r:0 ; @:0 | ended 13/0/
-1: f:0.0 i:10 i:11 i:20 i:21 i:30 i:31 i:1 pick:3.2 p:2 i:1 i:2 i:3 i:4 part:4.1.2 p:2 i:0 pick:1.0 p:0 r:0 ; @:0 | ended 20 21/2 3//
-1: f:0.7 i:10 i:11 i:20 i:21 i:30 i:31 s:0.6 i:2 s:6.1 l:0.6 l:6.1 pick:3.2 p:2 l:0.6 i:0 pick:3.2 p:2 l:0.6 part:6.3.2 p:2 r:0 ; @:0 | ended 30 31/10 11/21 30/
-1: f:0.2 i:1 i:2 s:0.2 t:a p:1 l:0.2 i:2 pick:2.1 p:1 r:0 ; @:0 | index a/
-1: f:0.2 l:0.2 i:-1 pick:2.1 p:1 r:0 ; @:0 | index \n\
-1: f:0.2 l:0.3 i:1 pick:3.1 p:1 r:0 ; @:0 | bad code
+1: v:i7 ; v:tab ; v:b1 ; f:0.0 g:0.3 p:3 i:1 t:z k:0.2 i:1 G:0.2 p:2 b:0 i:1 K:1.1 g:0.3 p:3 r:0 ; @:0 | ended 7 ab true/z true/1 z false/
+1: f:0.0 i:0 m:3 i:2 n:4.5 p:1 i:-1 m:1 p:1 r:0 ; @:0 | ended 13/0/
+1: f:0.0 i:10 i:11 i:20 i:21 i:30 i:31 i:1 P:3.2 p:2 i:1 i:2 i:3 i:4 q:4.1.2 p:2 i:0 P:1.0 p:0 r:0 ; @:0 | ended 20 21/2 3//
+1: f:0.7 i:10 i:11 i:20 i:21 i:30 i:31 s:0.6 i:2 s:6.1 l:0.6 l:6.1 P:3.2 p:2 l:0.6 i:0 P:3.2 p:2 l:0.6 q:6.3.2 p:2 r:0 ; @:0 | ended 30 31/10 11/21 30/
+1: f:0.2 i:1 i:2 s:0.2 t:a p:1 l:0.2 i:2 P:2.1 p:1 r:0 ; @:0 | index a/
+1: f:0.2 l:0.2 i:-1 P:2.1 p:1 r:0 ; @:0 | index \n\
+1: f:0.2 l:0.3 i:1 P:3.1 p:1 r:0 ; @:0 | bad code
 1: f:0.2 i:9223372036854775807 s:0.1 l:0.1 i:1 +:int p:1 l:0.1 i:2 *:int l:0.1 i:-1 -:int p:2 l:0.1 l:1.1 >: p:1 r:0 ; @:0 | ended -9223372036854775808/-2 -9223372036854775808/true/
-1: f:0.0 i:0 j:2 i:1 p:1 i:2 p:2 b:1 jt:1 i:3 i:4 p:1 b:0 jt:1 i:5 i:6 p:1 b:0 jf:1 i:7 i:8 p:1 b:1 jf:1 i:9 i:9 p:2 r:0 ; @:0 | ended 0 2/4/6/8/9 9/
-5: f:0.1 j:6 l:0.1 p:1 l:0.1 i:1 +:int s:0.1 l:0.1 i:3 <: loop:10 r:0 ; @:0 | ended 0/1/2/
-4: f:0.1 j:6 l:0.1 p:1 l:0.1 i:1 +:int s:0.1 l:0.1 i:3 <: loop:10 r:0 ; @:0 | ended 0/1/2/
-3: f:0.1 j:6 l:0.1 p:1 l:0.1 i:1 +:int s:0.1 l:0.1 i:3 <: loop:10 r:0 ; @:0 | cut 0/1/
-2: f:0.1 j:6 l:0.1 p:1 l:0.1 i:1 +:int s:0.1 l:0.1 i:3 <: loop:10 r:0 ; @:0 | cut 0/
-1: f:0.1 j:6 l:0.1 p:1 l:0.1 i:1 +:int s:0.1 l:0.1 i:3 <: loop:10 r:0 ; @:0 | cut \n\
-0: f:0.1 j:6 l:0.1 p:1 l:0.1 i:1 +:int s:0.1 l:0.1 i:3 <: loop:10 r:0 ; @:0 | cut \n\
-2: s:1 l:0.1 p:1 l:0.1 i:1 +:int s:0.1 l:0.1 i:3 <: loop:10 r:0 | ended 0/1/2/
-1: s:1 l:0.1 p:1 l:0.1 i:1 +:int s:0.1 l:0.1 i:3 <: loop:10 r:0 | cut 0/1/
+1: f:0.0 i:0 j:2 i:1 p:1 i:2 p:2 b:1 y:1 i:3 i:4 p:1 b:0 y:1 i:5 i:6 p:1 b:0 z:1 i:7 i:8 p:1 b:1 z:1 i:9 i:9 p:2 r:0 ; @:0 | ended 0 2/4/6/8/9 9/
+5: f:0.1 j:6 l:0.1 p:1 l:0.1 i:1 +:int s:0.1 l:0.1 i:3 <: w:10 r:0 ; @:0 | ended 0/1/2/
+4: f:0.1 j:6 l:0.1 p:1 l:0.1 i:1 +:int s:0.1 l:0.1 i:3 <: w:10 r:0 ; @:0 | ended 0/1/2/
+3: f:0.1 j:6 l:0.1 p:1 l:0.1 i:1 +:int s:0.1 l:0.1 i:3 <: w:10 r:0 ; @:0 | cut 0/1/
+2: f:0.1 j:6 l:0.1 p:1 l:0.1 i:1 +:int s:0.1 l:0.1 i:3 <: w:10 r:0 ; @:0 | cut 0/
+1: f:0.1 j:6 l:0.1 p:1 l:0.1 i:1 +:int s:0.1 l:0.1 i:3 <: w:10 r:0 ; @:0 | cut \n\
+0: f:0.1 j:6 l:0.1 p:1 l:0.1 i:1 +:int s:0.1 l:0.1 i:3 <: w:10 r:0 ; @:0 | cut \n\
+2: s:1 l:0.1 p:1 l:0.1 i:1 +:int s:0.1 l:0.1 i:3 <: w:10 r:0 | ended 0/1/2/
+1: s:1 l:0.1 p:1 l:0.1 i:1 +:int s:0.1 l:0.1 i:3 <: w:10 r:0 | cut 0/1/
 1: f:0.0 t:a p:1 i:1 i:0 /:int p:1 r:0 ; @:0 | divide a/
 1: f:0.0 t:a p:1 i:1 i:0 %:uint8 p:1 r:0 ; @:0 | divide a/
 1: f:0.0 t:a p:1 i:1 i:-1 <<:int p:1 r:0 ; @:0 | shift a/
@@ -72,15 +72,15 @@ static OTHERS: &str = "\
 1: f:0.0 t:a p:1 t:ab i:2 at: p:1 r:0 ; @:0 | index a/
 1: f:0.0 t:a p:1 t:ab i:-1 at: p:1 r:0 ; @:0 | index a/
 1: f:0.0 t:a p:1 t: i:18446744073709551615 at: p:1 r:0 ; @:0 | index a/
-1: f:0.0 t:a p:1 i:0 i:4 index:4.5 p:1 r:0 ; @:0 | index a/
-1: f:0.0 t:a p:1 i:0 i:-1 index:4.5 p:1 r:0 ; @:0 | index a/
-1: f:0.0 t:a p:1 i:5 i:6 i:2 pick:2.1 p:1 r:0 ; @:0 | index a/
-1: f:0.0 t:a p:1 i:0 pick:0.7 p:1 r:0 ; @:0 | index a/
-1: f:0.0 t:a p:1 t:no panic: p:1 r:0 ; @:0 | user a/
-2: f:0.0 t:a p:1 t:no c:1 r:0 ; f:1.1 l:0.1 panic: ; @:0 | user a/
-100: f:0.2 t:x s:0.1 l:0.1 l:0.1 join: s:0.1 l:1.1 i:1 +:int s:1.1 l:1.1 i:24 <: loop:12 l:0.1 long: p:1 l:0.1 t: join: long: p:1 l:0.1 t:y join: r:0 ; @:0 | long 16777216/16777216/
-1: f:0.0 pop:1 ; @:0 | bad code
-1: f:0.0 i:1 times:2.1 ; @:0 | bad code
+1: f:0.0 t:a p:1 i:0 i:4 n:4.5 p:1 r:0 ; @:0 | index a/
+1: f:0.0 t:a p:1 i:0 i:-1 n:4.5 p:1 r:0 ; @:0 | index a/
+1: f:0.0 t:a p:1 i:5 i:6 i:2 P:2.1 p:1 r:0 ; @:0 | index a/
+1: f:0.0 t:a p:1 i:0 P:0.7 p:1 r:0 ; @:0 | index a/
+1: f:0.0 t:a p:1 t:no !: p:1 r:0 ; @:0 | user a/
+2: f:0.0 t:a p:1 t:no c:1 r:0 ; f:1.1 l:0.1 !: ; @:0 | user a/
+100: f:0.2 t:x s:0.1 l:0.1 l:0.1 join: s:0.1 l:1.1 i:1 +:int s:1.1 l:1.1 i:24 <: w:12 l:0.1 long: p:1 l:0.1 t: join: long: p:1 l:0.1 t:y join: r:0 ; @:0 | long 16777216/16777216/
+1: f:0.0 o:1 ; @:0 | bad code
+1: f:0.0 i:1 x:2.1 ; @:0 | bad code
 1: f:0.2 l:1.2 ; @:0 | bad code
 1: f:0.2 l:3.0 ; @:0 | bad code
 1: f:0.2 i:1 s:2.1 ; @:0 | bad code
@@ -89,20 +89,20 @@ static OTHERS: &str = "\
 1: f:0.2 i:-1 L:1.1 ; @:0 | bad code
 1: f:0.2 b:1 L:1.1 ; @:0 | bad code
 1: f:0.2 i:7 i:18446744073709551615 S:1.1 ; @:0 | bad code
-1: v:i1 ; f:0.0 gl:0.2 ; @:0 | bad code
-1: v:i1 ; f:0.0 i:1 gL:0.1 ; @:0 | bad code
-1: v:i1 ; f:0.0 gs:0.1 ; @:0 | bad code
+1: v:i1 ; f:0.0 g:0.2 ; @:0 | bad code
+1: v:i1 ; f:0.0 i:1 G:0.1 ; @:0 | bad code
+1: v:i1 ; f:0.0 k:0.1 ; @:0 | bad code
 1: v:i18446744073709551616 ; f:0.0 r:0 ; @:0 | bad code
 0: v:i-9223372036854775809 ; | bad code
-1: f:0.0 i:18446744073709551615 move:1 ; @:0 | bad code
-1: f:0.0 i:-9223372036854775808 move:18446744073709551615 p:1 r:0 ; @:0 | ended 9223372036854775807/
-1: f:0.0 b:1 move:1 ; @:0 | bad code
-1: f:0.0 i:0 i:18446744073709551614 index:18446744073709551615.2 ; @:0 | bad code
-1: f:0.0 i:0 b:0 index:1.1 ; @:0 | bad code
-1: f:0.0 i:1 pick:1.1 ; @:0 | bad code
-1: f:0.0 i:1 pick:18446744073709551615.18446744073709551615 ; @:0 | bad code
-1: f:0.0 i:1 i:2 part:2.1.2 ; @:0 | bad code
-1: f:0.0 i:1 part:2.0.1 ; @:0 | bad code
+1: f:0.0 i:18446744073709551615 m:1 ; @:0 | bad code
+1: f:0.0 i:-9223372036854775808 m:18446744073709551615 p:1 r:0 ; @:0 | ended 9223372036854775807/
+1: f:0.0 b:1 m:1 ; @:0 | bad code
+1: f:0.0 i:0 i:18446744073709551614 n:18446744073709551615.2 ; @:0 | bad code
+1: f:0.0 i:0 b:0 n:1.1 ; @:0 | bad code
+1: f:0.0 i:1 P:1.1 ; @:0 | bad code
+1: f:0.0 i:1 P:18446744073709551615.18446744073709551615 ; @:0 | bad code
+1: f:0.0 i:1 i:2 q:2.1.2 ; @:0 | bad code
+1: f:0.0 i:1 q:2.0.1 ; @:0 | bad code
 1: f:0.0 i:1 +:int ; @:0 | bad code
 1: f:0.0 i:1 b:1 +:int ; @:0 | bad code
 1: f:0.0 t:a i:1 <: ; @:0 | bad code
@@ -114,15 +114,15 @@ static OTHERS: &str = "\
 1: f:0.0 i:1 i:2 i:3 same:2 ; @:0 | bad code
 1: f:0.0 same:9223372036854775808 ; @:0 | bad code
 1: f:0.0 j:2 r:0 ; @:0 | bad code
-1: f:0.0 b:1 jt:9 r:0 ; @:0 | bad code
-1: f:0.0 b:0 jt:9 r:0 ; @:0 | ended \n\
-1: f:0.0 b:0 jf:9 r:0 ; @:0 | bad code
-1: f:0.0 b:1 loop:3 r:0 ; @:0 | bad code
-1: f:0.0 b:1 loop:2 r:0 ; @:0 | cut \n\
-1: f:0.0 i:1 loop:2 r:0 ; @:0 | bad code
-1: f:0.0 jt:0 r:0 ; @:0 | bad code
-1: f:0.0 i:1 panic: ; @:0 | bad code
-1: f:0.0 panic: ; @:0 | bad code
+1: f:0.0 b:1 y:9 r:0 ; @:0 | bad code
+1: f:0.0 b:0 y:9 r:0 ; @:0 | ended \n\
+1: f:0.0 b:0 z:9 r:0 ; @:0 | bad code
+1: f:0.0 b:1 w:3 r:0 ; @:0 | bad code
+1: f:0.0 b:1 w:2 r:0 ; @:0 | cut \n\
+1: f:0.0 i:1 w:2 r:0 ; @:0 | bad code
+1: f:0.0 y:0 r:0 ; @:0 | bad code
+1: f:0.0 i:1 !: ; @:0 | bad code
+1: f:0.0 !: ; @:0 | bad code
 ";
 
 #[test]

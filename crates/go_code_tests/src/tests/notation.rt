@@ -88,81 +88,114 @@ fn integer_operator(name: &str, kind: IntKind) -> Option<Operator> {
             return Some(Operator::Arithmetic(*operator, kind));
         }
     }
-    match name {
-        "<<" => Some(Operator::Shift(ShiftOperator::Left, kind)),
-        ">>" => Some(Operator::Shift(ShiftOperator::Right, kind)),
-        "minus" => Some(Operator::Negate(kind)),
-        "flip" => Some(Operator::Complement(kind)),
-        "to" => Some(Operator::Convert(kind)),
+    match first_byte(name) {
+        b'<' => Some(Operator::Shift(ShiftOperator::Left, kind)),
+        b'>' => Some(Operator::Shift(ShiftOperator::Right, kind)),
+        b'm' => Some(Operator::Negate(kind)),
+        b'f' => Some(Operator::Complement(kind)),
+        b't' => Some(Operator::Convert(kind)),
         _ => None,
     }
 }
 
 /// The operator of a name, which isn't on integers alone.
 fn other_operator(name: &str, count: usize) -> Option<Operator> {
-    match name {
-        "not" => Some(Operator::Not),
-        "<" => Some(Operator::Compare(ComparisonOperator::Less)),
-        "<=" => Some(Operator::Compare(ComparisonOperator::LessOrEqual)),
-        ">" => Some(Operator::Compare(ComparisonOperator::Greater)),
-        ">=" => Some(Operator::Compare(ComparisonOperator::GreaterOrEqual)),
-        "same" => Some(Operator::Equal(count)),
-        "at" => Some(Operator::Text(TextOperator::At)),
-        "long" => Some(Operator::Text(TextOperator::Length)),
-        "join" => Some(Operator::Text(TextOperator::Join)),
+    static OTHERS: [(&str, Operator); 8] = [
+        ("not", Operator::Not),
+        ("<", Operator::Compare(ComparisonOperator::Less)),
+        ("<=", Operator::Compare(ComparisonOperator::LessOrEqual)),
+        (">", Operator::Compare(ComparisonOperator::Greater)),
+        (">=", Operator::Compare(ComparisonOperator::GreaterOrEqual)),
+        ("at", Operator::Text(TextOperator::At)),
+        ("long", Operator::Text(TextOperator::Length)),
+        ("join", Operator::Text(TextOperator::Join)),
+    ];
+    for (text, operator) in &OTHERS {
+        if *text == name {
+            return Some(*operator);
+        }
+    }
+    Some(Operator::Equal(count))
+}
+
+/// The first byte of a name.
+fn first_byte(name: &str) -> u8 {
+    match name.as_bytes().first() {
+        Some(byte) => *byte,
+        None => 0,
+    }
+}
+
+/// What loads and stores: `l`, `s` and at an offset `L`, `S` the cells of the frame, `g`, `k`, `G`,
+/// `K` those of the package variables.
+fn access<R>(name: &str, first: usize, count: usize) -> Option<Instr<R>> {
+    match first_byte(name) {
+        b'l' => Some(Instr::Local(AccessInstr::Load { first, count })),
+        b's' => Some(Instr::Local(AccessInstr::Store { first, count })),
+        b'L' => Some(Instr::Local(AccessInstr::LoadAt { first, count })),
+        b'S' => Some(Instr::Local(AccessInstr::StoreAt { first, count })),
+        b'g' => Some(Instr::Global(AccessInstr::Load { first, count })),
+        b'k' => Some(Instr::Global(AccessInstr::Store { first, count })),
+        b'G' => Some(Instr::Global(AccessInstr::LoadAt { first, count })),
+        b'K' => Some(Instr::Global(AccessInstr::StoreAt { first, count })),
         _ => None,
     }
 }
 
-/// What loads and stores: `l`, `s` and at an offset `L`, `S`.
-fn access(name: &str, first: usize, count: usize) -> Option<AccessInstr> {
-    match name {
-        "l" => Some(AccessInstr::Load { first, count }),
-        "s" => Some(AccessInstr::Store { first, count }),
-        "L" => Some(AccessInstr::LoadAt { first, count }),
-        "S" => Some(AccessInstr::StoreAt { first, count }),
-        _ => None,
-    }
-}
-
-/// An instruction whose numbers are known: cells of the frame by `l`, `s`, `L`, `S`, those of the
-/// package variables by the same behind a `g`, parts by `move`, `index`, `pick`, `part`, jumps.
-fn numbered<R>(name: &str, first: usize, second: usize, third: usize) -> Option<Instr<R>> {
-    if let Some(instr) = access(name, first, second) {
-        return Some(Instr::Local(instr));
-    }
-    if let Some(global) = name.strip_prefix("g") {
-        return Some(Instr::Global(access(global, first, second)?));
-    }
-    match name {
-        "pop" => Some(Instr::Frame(FrameInstr::Pop(first))),
-        "times" => Some(Instr::Frame(FrameInstr::Repeat {
+/// What is about the stack and about parts: `o` pops, `x` repeats, `m` moves, `n` is an index, `P`
+/// picks, `q` keeps a part.
+fn shaping<R>(name: &str, first: usize, count: usize, third: usize) -> Option<Instr<R>> {
+    match first_byte(name) {
+        b'o' => Some(Instr::Frame(FrameInstr::Pop(first))),
+        b'x' => Some(Instr::Frame(FrameInstr::Repeat {
             count: first,
-            times: second,
+            times: count,
         })),
-        "move" => Some(Instr::Part(PartInstr::Move(first))),
-        "index" => Some(Instr::Part(PartInstr::Index {
+        b'm' => Some(Instr::Part(PartInstr::Move(first))),
+        b'n' => Some(Instr::Part(PartInstr::Index {
             count: first,
-            size: second,
+            size: count,
         })),
-        "pick" => Some(Instr::Part(PartInstr::Pick {
+        b'P' => Some(Instr::Part(PartInstr::Pick {
             count: first,
-            size: second,
+            size: count,
         })),
-        "part" => Some(Instr::Part(PartInstr::Part {
+        b'q' => Some(Instr::Part(PartInstr::Part {
             whole: first,
-            first: second,
+            first: count,
             count: third,
         })),
-        "j" => Some(Instr::Jump(JumpInstr::Jump(first))),
-        "jt" => Some(Instr::Jump(JumpInstr::JumpIf(first))),
-        "jf" => Some(Instr::Jump(JumpInstr::JumpIfNot(first))),
-        "loop" => Some(Instr::Jump(JumpInstr::LoopIf(first))),
-        "p" => Some(Instr::Output(OutputInstr::Print(first))),
-        "panic" => Some(Instr::Output(OutputInstr::Panic)),
-        "r" => Some(Instr::Calls(CallInstr::Return(first))),
-        _ => Some(Instr::Operate(other_operator(name, first)?)),
+        _ => None,
     }
+}
+
+/// What leads elsewhere: `j` jumps, `y` if true and `z` if false, `w` loops, `p` prints, `!`
+/// panics, `r` returns.
+fn leading<R>(name: &str, first: usize) -> Option<Instr<R>> {
+    match first_byte(name) {
+        b'j' => Some(Instr::Jump(JumpInstr::Jump(first))),
+        b'y' => Some(Instr::Jump(JumpInstr::JumpIf(first))),
+        b'z' => Some(Instr::Jump(JumpInstr::JumpIfNot(first))),
+        b'w' => Some(Instr::Jump(JumpInstr::LoopIf(first))),
+        b'p' => Some(Instr::Output(OutputInstr::Print(first))),
+        b'!' => Some(Instr::Output(OutputInstr::Panic)),
+        b'r' => Some(Instr::Calls(CallInstr::Return(first))),
+        _ => None,
+    }
+}
+
+/// An instruction whose numbers are known: by one letter, or else an operator by its name.
+fn numbered<R>(name: &str, first: usize, second: usize, third: usize) -> Option<Instr<R>> {
+    if name.len() > 1 || name == "<" || name == ">" {
+        return Some(Instr::Operate(other_operator(name, first)?));
+    }
+    if let Some(instr) = access(name, first, second) {
+        return Some(instr);
+    }
+    if let Some(instr) = shaping(name, first, second, third) {
+        return Some(instr);
+    }
+    leading(name, first)
 }
 
 /// An instruction that refers to no function: a cell is pushed by `i`, `b` or `t`; an operator
