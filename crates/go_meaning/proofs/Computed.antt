@@ -6,7 +6,7 @@ use Rattle.go_const.specs.declared.operator.UnaryOperator.TheVariants.{Negative}
 use Rattle.go_const.specs.declared.operator.ArithmeticOperator.TheVariants.{Add, Divide, Remainder}
 use Rattle.go_const.specs.declared.operator.ComparisonOperator.TheVariants.{Less, Equal}
 use Rattle.go_types.specs.declared.types.Basic.TheVariants as basics
-use Rattle.go_types.specs.declared.types.Integer.TheVariants as integers
+use Rattle.go_const.specs.declared.kind.IntKind.TheVariants as integers
 use Rattle.go_types.specs.Types as types
 use Rattle.go_types.specs.Types.{Type'}
 use Rattle.go_code.specs.declared.cell.Cell.{Cell}

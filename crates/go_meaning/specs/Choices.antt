@@ -18,7 +18,7 @@ use Rattle.go_code.specs.declared.operator.TextOperator.TheVariants.{Join}
 use Rattle.go_code.specs.Operators.{Operated, Gives, Senseless, operands, operate}
 use Rattle.go_typed.specs.declared.expression.Operator.{Operator}
 use Rattle.go_typed.specs.declared.expression.Operator.TheVariants.{Arithmetic as arithmetic, Shift as shift, Comparison as comparison}
-use Rattle.go_meaning.specs.Values.{Value, single, flat, kind_of, if_gives}
+use Rattle.go_meaning.specs.Values.{Value, single, flat, if_gives}
 
 -- a constant's cell
 abbrev pub cell_of : Const → Cell
@@ -30,23 +30,23 @@ cell_of (consts.Bool b) = Truth b
 -- the operators of cells, one behind the other, at an underlying type
 abbrev pub unary_operators : Type' → UnaryOperator → List code.Operator
 unary_operators s Negation = on_cells.Not ∷ []
-unary_operators (basic (basics.Integer i)) Negative = on_cells.Negate (kind_of i) ∷ []
-unary_operators (basic (basics.Integer i)) Complement = on_cells.Complement (kind_of i) ∷ []
+unary_operators (basic (basics.Integer i)) Negative = on_cells.Negate i ∷ []
+unary_operators (basic (basics.Integer i)) Complement = on_cells.Complement i ∷ []
 unary_operators s op = []
 
 abbrev pub binary_operators : Type' → Operator → List code.Operator
 binary_operators s (comparison Equal) = on_cells.Equal (cells s) ∷ []
 binary_operators s (comparison NotEqual) = on_cells.Equal (cells s) ∷ on_cells.Not ∷ []
 binary_operators s (comparison op) = on_cells.Compare op ∷ []
-binary_operators (basic (basics.Integer i)) (arithmetic op) = on_cells.Arithmetic op (kind_of i) ∷ []
-binary_operators (basic (basics.Integer i)) (shift op) = on_cells.Shift op (kind_of i) ∷ []
+binary_operators (basic (basics.Integer i)) (arithmetic op) = on_cells.Arithmetic op i ∷ []
+binary_operators (basic (basics.Integer i)) (shift op) = on_cells.Shift op i ∷ []
 binary_operators (basic basics.String) (arithmetic Add) = on_cells.Text Join ∷ []
 binary_operators s op = []
 
 -- https://go.dev/ref/spec#Conversions
 -- a number becomes one of an integer type; any other value stays as it is
 abbrev pub conversion_operators : Type' → List code.Operator
-conversion_operators (basic (basics.Integer i)) = on_cells.Convert (kind_of i) ∷ []
+conversion_operators (basic (basics.Integer i)) = on_cells.Convert i ∷ []
 conversion_operators s = []
 
 -- an operator of cells takes as many as it has operands

@@ -2,12 +2,8 @@
 use Rattle.std.specs.Prelude.{ℕ, zero, suc, Bool, true, false, ◌&&◌, nat_eq, List, [], ◌∷◌, ◌++◌, length, replicate, ℤ, pos, negsuc, Option, Some, None}
 use Rattle.std.specs.List.{list_all}
 use Rattle.go_const.specs.Constants.{fits}
-use Rattle.go_const.specs.declared.kind.IntKind.{IntKind}
-use Rattle.go_const.specs.declared.kind.IntKind.TheVariants as ints
 use Rattle.go_types.specs.declared.types.Basic.{Basic}
 use Rattle.go_types.specs.declared.types.Basic.TheVariants as basics
-use Rattle.go_types.specs.declared.types.Integer.{Integer}
-use Rattle.go_types.specs.declared.types.Integer.TheVariants as integers
 use Rattle.go_types.specs.declared.types.Untyped.TheVariants as kinds
 use Rattle.go_types.specs.Types.{Type', basic, array, struct, named, Fields, no_fields, field}
 use Rattle.go_code.specs.declared.cell.Cell.{Cell}
@@ -45,24 +41,12 @@ abbrev mutual
 
 -- ---- types
 
-abbrev pub kind_of : Integer → IntKind
-kind_of integers.Int = ints.Int
-kind_of integers.Int8 = ints.Int8
-kind_of integers.Int16 = ints.Int16
-kind_of integers.Int32 = ints.Int32
-kind_of integers.Int64 = ints.Int64
-kind_of integers.Uint = ints.Uint
-kind_of integers.Uint8 = ints.Uint8
-kind_of integers.Uint16 = ints.Uint16
-kind_of integers.Uint32 = ints.Uint32
-kind_of integers.Uint64 = ints.Uint64
-
 -- a cell is a value of a basic type
 abbrev pub is_basic : Basic → Cell → Bool
 is_basic basics.Bool (Truth b) = true
 is_basic (basics.Untyped kinds.Bool) (Truth b) = true
 is_basic basics.String (Text t) = true
-is_basic (basics.Integer i) (Int z) = fits (Some (kind_of i)) z
+is_basic (basics.Integer i) (Int z) = fits (Some i) z
 is_basic b c = false
 
 -- https://go.dev/ref/spec#Types

@@ -4,9 +4,9 @@ use Rattle.std.specs.Prelude.{◌==◌}
 use Rattle.std.specs.Fmt.{decimal}
 use Rattle.std.proofs.lemmas.Fmt.{decimal_by_steps, decimal_injective}
 use Rattle.std.proofs.lemmas.List.{append_cancel_left}
+use Rattle.go_const.specs.declared.kind.IntKind.TheVariants as integers
 use Rattle.go_types.specs.declared.types.Basic.{Basic}
 use Rattle.go_types.specs.declared.types.Basic.TheVariants as basics
-use Rattle.go_types.specs.declared.types.Integer.TheVariants as integers
 use Rattle.go_types.specs.declared.types.Untyped.TheVariants as kinds
 use Rattle.go_types.specs.Types.{Type', basic, array, struct, named, Fields, no_fields, field}
 use Rattle.go_types.specs.Texts.{basic_text, name_text, type_text, fields_text, Lacks, IsWritable, AreWritable}

@@ -4,24 +4,24 @@ ghost use Rattle.std.specs.Fmt.{decimal};
 ghost use Rattle.go_types.specs.Views.{type_of, fields_in};
 ghost use Rattle.go_types.specs.Texts.{basic_text, type_text, name_text, fields_text};
 
-use crate::types::{Basic, Field, GoType, Integer, Untyped};
+use crate::types::{Basic, Field, GoType, IntKind, Untyped};
 use std::alloc::{AllocError, Global};
 
 /// The name of an integer type.
-fn integer_name(of: Integer) -> &'static str
+fn integer_name(of: IntKind) -> &'static str
     ensures { result.now ≡ basic_text (Basic.Integer of) }
 {
     match of {
-        Integer::Int => "int",
-        Integer::Int8 => "int8",
-        Integer::Int16 => "int16",
-        Integer::Int32 => "int32",
-        Integer::Int64 => "int64",
-        Integer::Uint => "uint",
-        Integer::Uint8 => "uint8",
-        Integer::Uint16 => "uint16",
-        Integer::Uint32 => "uint32",
-        Integer::Uint64 => "uint64",
+        IntKind::Int => "int",
+        IntKind::Int8 => "int8",
+        IntKind::Int16 => "int16",
+        IntKind::Int32 => "int32",
+        IntKind::Int64 => "int64",
+        IntKind::Uint => "uint",
+        IntKind::Uint8 => "uint8",
+        IntKind::Uint16 => "uint16",
+        IntKind::Uint32 => "uint32",
+        IntKind::Uint64 => "uint64",
     }
 }
 

@@ -2,33 +2,9 @@
 ghost use Rattle.std.specs.Prelude.{◌≡◌, IfOk};
 ghost use Rattle.go_types.specs.Views.{type_of};
 
+pub use go_const::kind::IntKind;
 use std::alloc::AllocError;
 use std::sync::Arc;
-
-/// The integer types. [Numeric types](https://go.dev/ref/spec#Numeric_types)
-#[derive(Clone, Copy, PartialEq, Eq)]
-pub enum Integer {
-    /// `int`, which has 64 bits.
-    Int,
-    /// `int8`.
-    Int8,
-    /// `int16`.
-    Int16,
-    /// `int32`, and `rune`.
-    Int32,
-    /// `int64`.
-    Int64,
-    /// `uint`, which has 64 bits.
-    Uint,
-    /// `uint8`, and `byte`.
-    Uint8,
-    /// `uint16`.
-    Uint16,
-    /// `uint32`.
-    Uint32,
-    /// `uint64`.
-    Uint64,
-}
 
 /// The kinds of constants and comparisons without a type. [Constants](https://go.dev/ref/spec#Constants)
 #[derive(Clone, Copy, PartialEq, Eq)]
@@ -51,7 +27,7 @@ pub enum Basic {
     /// `string`.
     String,
     /// An integer type.
-    Integer(Integer),
+    Integer(IntKind),
     /// The type of a constant or a comparison that has none yet.
     Untyped(Untyped),
 }

@@ -1,6 +1,6 @@
 //! Types, written as words with a space between each two: the name of a basic type, or a type
 //! that is made of the types before it.
-use go_types::types::{Basic, Field, GoType, Integer, Named, Untyped};
+use go_types::types::{Basic, Field, GoType, IntKind, Named, Untyped};
 use std::alloc::{AllocError, Global};
 use std::sync::Arc;
 
@@ -9,16 +9,16 @@ fn basic(name: &str) -> Result<GoType, AllocError> {
     let basics = [
         ("bool", Basic::Bool),
         ("string", Basic::String),
-        ("int", Basic::Integer(Integer::Int)),
-        ("int8", Basic::Integer(Integer::Int8)),
-        ("int16", Basic::Integer(Integer::Int16)),
-        ("int32", Basic::Integer(Integer::Int32)),
-        ("int64", Basic::Integer(Integer::Int64)),
-        ("uint", Basic::Integer(Integer::Uint)),
-        ("uint8", Basic::Integer(Integer::Uint8)),
-        ("uint16", Basic::Integer(Integer::Uint16)),
-        ("uint32", Basic::Integer(Integer::Uint32)),
-        ("uint64", Basic::Integer(Integer::Uint64)),
+        ("int", Basic::Integer(IntKind::Int)),
+        ("int8", Basic::Integer(IntKind::Int8)),
+        ("int16", Basic::Integer(IntKind::Int16)),
+        ("int32", Basic::Integer(IntKind::Int32)),
+        ("int64", Basic::Integer(IntKind::Int64)),
+        ("uint", Basic::Integer(IntKind::Uint)),
+        ("uint8", Basic::Integer(IntKind::Uint8)),
+        ("uint16", Basic::Integer(IntKind::Uint16)),
+        ("uint32", Basic::Integer(IntKind::Uint32)),
+        ("uint64", Basic::Integer(IntKind::Uint64)),
         ("untyped_bool", Basic::Untyped(Untyped::Bool)),
         ("untyped_int", Basic::Untyped(Untyped::Int)),
         ("untyped_rune", Basic::Untyped(Untyped::Rune)),
