@@ -3,10 +3,12 @@ use Rattle.std.proofs.Common.{◌≡◌, ◌≢◌, Option, Some, None, List, []
 use Rattle.std.specs.Prelude.{option_map, map}
 use Rattle.go_text.specs.declared.place.Place.{Place}
 use Rattle.go_text.specs.declared.fault.FaultKind.{FaultKind}
-use Rattle.go_ast.specs.Trees.{TypeExpr, named, qualified, array, struct, Fields, no_fields, field, Expr, name, integer, rune, string, parenthesized, composite_lit, conversion, selector, index, call, unary, binary, Exprs, no_exprs, some_exprs, place_of}
+use Rattle.go_ast.specs.Trees.{TypeExpr, named, qualified, array, struct, Fields, no_fields, field, Expr, name, integer, rune, string, parenthesized, composite_lit, conversion, selector, index, call, unary, binary, Exprs, no_exprs, some_exprs, Elements, no_elements, element, Element, expression_element, value_element, place_of}
 use Rattle.go_expr.specs.Known.{Verdict, Fine, Breaks, Passed, Scope, look_up}
-use Rattle.go_expr.specs.Rules.{type_due, array_of, declared_field, struct_of, value, unpackaged, literal, selected, binary_of, unary_of, converted, called}
-use Rattle.go_expr.specs.Verdicts.{fine, asked, both, joined, qualified_known, operand, callee, verdict, operands, type_verdict, fields_known, broken, operand_broken, callee_broken, struct_place, faults, operands_faults, type_faults, fields_faults}
+use Rattle.go_types.specs.Types.{Type'}
+use Rattle.go_typed.specs.Trees.{Expr as Typed}
+use Rattle.go_expr.specs.Rules.{fine, valued, type_due, array_of, declared_field, struct_of, value_due, unpackaged, literal, literal_of, untyped_literal, element_type, selected, index_of, binary_of, unary_of, converted, called}
+use Rattle.go_expr.specs.Verdicts.{asked, both, asked_both, joined, qualified_known, operand, callee, verdict, operands, elements, element_verdict, type_verdict, fields_known, broken, operand_broken, callee_broken, struct_place, faults, operands_faults, elements_faults, element_faults, type_faults, fields_faults}
 
 abbrev IsKnown : {A : Type 0} → Option A → Type 0
 IsKnown {A} o = (x : A) × (o ≡ Some x)
@@ -20,10 +22,18 @@ part : {A B : Type 0} (rule : A → Verdict B) (o : Option A) → IsKnown (fine 
 part rule None k = cc
 part rule (Some x) k = (x, refl)
 
+plain : (v : Verdict Typed) → IsKnown (fine (valued v)) → IsKnown (fine v)
+plain (Fine e) k = (e, refl)
+plain (Breaks kind) k = cc
+plain Passed k = cc
+
 parts : {A B : Type 0} (a : Option A) (b : Option B) → IsKnown (both a b) → IsKnown a × IsKnown b
 parts None b k = cc
 parts (Some x) None k = cc
 parts (Some x) (Some y) k = ((x, refl), (y, refl))
+
+two : {A B C : Type 0} (rule : A → B → Verdict C) (a : Option A) (b : Option B) → IsKnown (fine (asked_both rule a b)) → IsKnown a × IsKnown b
+two rule a b k = parts a b (part (λ k. rule k.0 k.1) (both a b) k)
 
 joined_parts : {A : Type 0} (xs ys : Option (List A)) → IsKnown (joined xs ys) → IsKnown xs × IsKnown ys
 joined_parts None ys k = cc
@@ -48,10 +58,10 @@ none_of_five vs ws xs ys zs c d e f g = none (vs ++ ws ++ xs ++ ys) zs (none_of_
 
 -- where a value is due, and where anything but a package is
 value_unbroken : (s : Scope) (e : Expr) → IsKnown (operand (verdict s e)) → operand_broken e (verdict s e) ≡ []
-value_unbroken s e k = own (place_of e) (asked value (fine (verdict s e))) k
+value_unbroken s e k = own (place_of e) (asked value_due (fine (verdict s e))) k
 
-valued : (s : Scope) (e : Expr) → IsKnown (operand (verdict s e)) → IsKnown (fine (verdict s e))
-valued s e k = part value (fine (verdict s e)) k
+valued_in : (s : Scope) (e : Expr) → IsKnown (operand (verdict s e)) → IsKnown (fine (verdict s e))
+valued_in s e k = part value_due (fine (verdict s e)) k
 
 callee_unbroken : (s : Scope) (e : Expr) → IsKnown (fine (callee (verdict s e))) → callee_broken e (verdict s e) ≡ []
 callee_unbroken s e k = own (place_of e) (callee (verdict s e)) k
@@ -62,44 +72,63 @@ called_on s e k = part unpackaged (fine (verdict s e)) k
 mutual
   clean : (s : Scope) (e : Expr) → IsKnown (fine (verdict s e)) → faults s e ≡ []
   clean s (name p x) k = own p (look_up x s.names) k
-  clean s (integer p text) k = own p (literal text) k
+  clean s (integer p text) k = own p (valued (literal text)) k
   clean s (rune p z) k = refl
   clean s (string p bytes) k = refl
   clean s (parenthesized p e) k = none (faults s e) (callee_broken e (verdict s e)) (clean s e (called_on s e k)) (callee_unbroken s e k)
-  clean s (composite_lit p t q es) k = refl
+  clean s (composite_lit p t q es) k =
+      let due = element_type (fine (type_verdict s t)) in
+      let ks = two (literal_of s.path) (fine (type_verdict s t)) (elements s due es) (plain (asked_both (literal_of s.path) (fine (type_verdict s t)) (elements s due es)) k) in
+      none_of_three (type_faults s t) (elements_faults s due es) _ (type_clean s t ks.0) (elements_clean s due es ks.1) (own p (verdict s (composite_lit p t q es)) k)
   clean s (conversion p t e) k =
-      let ks = parts (fine (type_verdict s t)) (operand (verdict s e)) (part (λ k. converted k.0 k.1) (both (fine (type_verdict s t)) (operand (verdict s e))) k) in
-      none_of_four (type_faults s t) (faults s e) (operand_broken e (verdict s e)) _ (type_clean s t ks.0) (clean s e (valued s e ks.1)) (value_unbroken s e ks.1) (own p (verdict s (conversion p t e)) k)
-  clean s (selector p e x) k = none (faults s e) _ (clean s e (part (selected x.text) (fine (verdict s e)) k)) (own p (verdict s (selector p e x)) k)
-  clean s (index p e i) k = refl
+      let ks = two converted (fine (type_verdict s t)) (operand (verdict s e)) (plain (asked_both converted (fine (type_verdict s t)) (operand (verdict s e))) k) in
+      none_of_four (type_faults s t) (faults s e) (operand_broken e (verdict s e)) _ (type_clean s t ks.0) (clean s e (valued_in s e ks.1)) (value_unbroken s e ks.1) (own p (verdict s (conversion p t e)) k)
+  clean s (selector p e x) k = none (faults s e) _ (clean s e (part (selected s.path x.text) (fine (verdict s e)) k)) (own p (verdict s (selector p e x)) k)
+  clean s (index p e i) k =
+      let ks = two index_of (operand (verdict s e)) (operand (verdict s i)) (plain (asked_both index_of (operand (verdict s e)) (operand (verdict s i))) k) in
+      none_of_five (faults s e) (operand_broken e (verdict s e)) (faults s i) (operand_broken i (verdict s i)) _
+      (clean s e (valued_in s e ks.0)) (value_unbroken s e ks.0) (clean s i (valued_in s i ks.1)) (value_unbroken s i ks.1) (own p (verdict s (index p e i)) k)
   clean s (call p f es) k =
-      let ks = parts (fine (callee (verdict s f))) (operands s es) (part (λ k. called k.0 k.1) (both (fine (callee (verdict s f))) (operands s es)) k) in
+      let ks = two called (fine (callee (verdict s f))) (operands s es) k in
       none_of_four (faults s f) (callee_broken f (verdict s f)) (operands_faults s es) _ (clean s f (called_on s f ks.0)) (callee_unbroken s f ks.0) (operands_clean s es ks.1) (own p (verdict s (call p f es)) k)
   clean s (unary p op e) k =
-      let known = part (unary_of op) (operand (verdict s e)) k in
-      none_of_three (faults s e) (operand_broken e (verdict s e)) _ (clean s e (valued s e known)) (value_unbroken s e known) (own p (verdict s (unary p op e)) k)
+      let known = part (unary_of op) (operand (verdict s e)) (plain (asked (unary_of op) (operand (verdict s e))) k) in
+      none_of_three (faults s e) (operand_broken e (verdict s e)) _ (clean s e (valued_in s e known)) (value_unbroken s e known) (own p (verdict s (unary p op e)) k)
   clean s (binary p op a b) k =
-      let ks = parts (operand (verdict s a)) (operand (verdict s b)) (part (λ k. binary_of op k.0 k.1) (both (operand (verdict s a)) (operand (verdict s b))) k) in
+      let ks = two (binary_of op) (operand (verdict s a)) (operand (verdict s b)) (plain (asked_both (binary_of op) (operand (verdict s a)) (operand (verdict s b))) k) in
       none_of_five (faults s a) (operand_broken a (verdict s a)) (faults s b) (operand_broken b (verdict s b)) _
-      (clean s a (valued s a ks.0)) (value_unbroken s a ks.0) (clean s b (valued s b ks.1)) (value_unbroken s b ks.1) (own p (verdict s (binary p op a b)) k)
+      (clean s a (valued_in s a ks.0)) (value_unbroken s a ks.0) (clean s b (valued_in s b ks.1)) (value_unbroken s b ks.1) (own p (verdict s (binary p op a b)) k)
 
   operands_clean : (s : Scope) (es : Exprs) → IsKnown (operands s es) → operands_faults s es ≡ []
   operands_clean s no_exprs k = refl
   operands_clean s (some_exprs e es) k =
       let ks = joined_parts (option_map (λ v. v ∷ []) (operand (verdict s e))) (operands s es) k in
       let known = mapped (λ v. v ∷ []) (operand (verdict s e)) ks.0 in
-      none_of_three (faults s e) (operand_broken e (verdict s e)) (operands_faults s es) (clean s e (valued s e known)) (value_unbroken s e known) (operands_clean s es ks.1)
+      none_of_three (faults s e) (operand_broken e (verdict s e)) (operands_faults s es) (clean s e (valued_in s e known)) (value_unbroken s e known) (operands_clean s es ks.1)
+
+  elements_clean : (s : Scope) (of : Verdict Type') (es : Elements) → IsKnown (elements s of es) → elements_faults s of es ≡ []
+  elements_clean s of no_elements k = refl
+  elements_clean s of (element key v es) k =
+      let ks = joined_parts (option_map _ (fine (element_verdict s of v))) (elements s of es) k in
+      none (element_faults s of v) (elements_faults s of es) (element_clean s of v (mapped _ (fine (element_verdict s of v)) ks.0)) (elements_clean s of es ks.1)
+
+  element_clean : (s : Scope) (of : Verdict Type') (v : Element) → IsKnown (fine (element_verdict s of v)) → element_faults s of v ≡ []
+  element_clean s of (expression_element e) k = none (faults s e) (operand_broken e (verdict s e)) (clean s e (valued_in s e k)) (value_unbroken s e k)
+  element_clean s of (value_element p es) k =
+      let due = element_type (fine of) in
+      let known = part (untyped_literal s.path of) (elements s due es) k in
+      none (elements_faults s due es) _ (elements_clean s due es known) (own p (element_verdict s of (value_element p es)) k)
 
   type_clean : (s : Scope) (t : TypeExpr) → IsKnown (fine (type_verdict s t)) → type_faults s t ≡ []
   type_clean s (named p x) k =
       none (broken p (look_up x.text s.names)) _ (own p (look_up x.text s.names) (part type_due (fine (look_up x.text s.names)) k)) (own p (type_verdict s (named p x)) k)
   type_clean s (qualified p m n) k =
       let known = part type_due (fine (qualified_known s m n)) k in
-      none_of_three (broken p (look_up m.text s.names)) (broken p (qualified_known s m n)) _ (own p (look_up m.text s.names) (part (selected n.text) (fine (look_up m.text s.names)) known))
+      none_of_three (broken p (look_up m.text s.names)) (broken p (qualified_known s m n)) _ (own p (look_up m.text s.names) (part (selected s.path n.text) (fine (look_up m.text s.names)) known))
       (own p (qualified_known s m n) known) (own p (type_verdict s (qualified p m n)) k)
   type_clean s (array p e t) k =
-      let ks = parts (operand (verdict s e)) (fine (type_verdict s t)) (part (λ k. array_of k.0 k.1) (both (operand (verdict s e)) (fine (type_verdict s t))) k) in
-      none_of_four (faults s e) (operand_broken e (verdict s e)) (type_faults s t) _ (clean s e (valued s e ks.0)) (value_unbroken s e ks.0) (type_clean s t ks.1) (own p (type_verdict s (array p e t)) k)
+      let ks = two array_of (operand (verdict s e)) (fine (type_verdict s t)) k in
+      none_of_four (faults s e) (operand_broken e (verdict s e)) (type_faults s t) _ (clean s e (valued_in s e ks.0)) (value_unbroken s e ks.0) (type_clean s t ks.1) (own p (type_verdict s (array p e t)) k)
   type_clean s (struct p fs) k =
       none (fields_faults s fs) _ (fields_clean s fs (part struct_of (fields_known s fs) k)) (own (struct_place p fs) (type_verdict s (struct p fs)) k)
 

@@ -1,5 +1,8 @@
 pub mod Digits
+pub mod Elements
 pub mod Fineness
+pub mod Gathering
 pub mod Lists
 pub mod Lookups
 pub mod Nodes
+pub mod Numbers

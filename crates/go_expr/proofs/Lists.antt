@@ -1,9 +1,13 @@
 -- Lists on the way through a loop.
-use Rattle.std.proofs.Common.{◌≡◌, ℕ, suc, ◌+◌, ◌<◌, ◌≤◌, Option, Some, None, List, [], ◌∷◌, ◌++◌, length, drop, get_or, refl, sym, ap, ◌∙◌, append_assoc, append-nil, add-one}
+use Rattle.std.proofs.Common.{◌≡◌, ℕ, suc, ◌+◌, ◌<◌, ◌≤◌, Option, Some, None, List, [], ◌∷◌, ◌++◌, length, drop, get_or, Bor, refl, sym, ap, ◌∙◌, append_assoc, append-nil, add-one}
 use Rattle.std.proofs.Math.Seq.{drop-cons}
 use Rattle.std.proofs.lemmas.List.{drop_all}
 use Rattle.go_text.specs.declared.place.Place.{Place}
 use Rattle.go_text.specs.declared.fault.FaultKind.{FaultKind}
+use Rattle.std.specs.Prelude.{option_copied, option_map}
+use Rattle.go_expr.specs.declared.error.ExprError.{ExprError}
+use Rattle.go_expr.specs.declared.error.ExprError.TheVariants.{Faulty, Memory}
+use Rattle.go_expr.specs.Seen.{Fails}
 use Rattle.go_expr.specs.Verdicts.{joined}
 
 -- those that are left begin with the next
@@ -31,3 +35,13 @@ none_joined (Some done) = ap Some (append-nil done)
 -- what is known at the end of a loop
 pub joined_done : {A X : Type 0} (xs : List X) (i : ℕ) (done all : Option (List A)) (known : List X → Option (List A)) → length xs ≤ i → known [] ≡ Some [] → all ≡ joined done (known (drop i xs)) → all ≡ done
 joined_done xs i done all known end none is = is ∙ ap (λ l. joined done (known l)) (drop_all i xs end) ∙ ap (joined done) none ∙ none_joined done
+
+-- what is wrong first with the first part of a node
+pub fails_front : (e : ExprError) (fs gs : List (Place × FaultKind)) → Fails e fs → Fails e (fs ++ gs)
+fails_front Memory fs gs h = tt
+fails_front (Faulty p kind) fs gs h = (h.0 ++ gs, ap (λ l. l ++ gs) h.1)
+
+-- what is lent, as what it is
+pub copied : {X Y : Type 0} (f : X → Y) (o : Option (Bor X)) → option_map (λ r. f r.now) o ≡ option_map f (option_copied o)
+copied f None = refl
+copied f (Some r) = refl

@@ -3,19 +3,21 @@ use Rattle.std.specs.Prelude.{ℕ, Bool, true, false, List, [], ◌∷◌, ◌++
 use Rattle.std.specs.Map.{lookup}
 use Rattle.go_text.specs.declared.fault.FaultKind.{FaultKind}
 use Rattle.go_text.specs.declared.fault.FaultKind.TheVariants.{Undeclared, LeftOut}
-use Rattle.go_const.specs.declared.constant.Const.{Const}
 use Rattle.go_const.specs.declared.constant.Const.TheVariants.{Bool as Truth}
+use Rattle.go_const.specs.declared.kind.IntKind.TheVariants as integers
 use Rattle.go_types.specs.declared.types.Basic.{Basic}
 use Rattle.go_types.specs.declared.types.Basic.TheVariants as basics
-use Rattle.go_types.specs.declared.types.Integer.TheVariants as integers
 use Rattle.go_types.specs.declared.types.Untyped.TheVariants as kinds
 use Rattle.go_types.specs.Texts.{basic_text}
 use Rattle.go_types.specs.Types.{Type', basic}
+use Rattle.go_typed.specs.Trees.{Symbol, Expr, Exprs, constant}
 
--- what a name declares: a constant of a type, which is an untyped one where it has none yet; a type; or the functions Println of the library, len and panic
+-- what a name declares, or an expression is: a value, as its typed expression; a type; a function, by its symbol and the types of its parameters and of
+-- its results; or the functions Println of the library, len and panic
 pub data Declared : Type 0 where
-  constant : Type' → Const → Declared
+  value : Expr → Declared
   type' : Type' → Declared
+  function : Symbol → List Type' → List Type' → Declared
   println : Declared
   length' : Declared
   panic' : Declared
@@ -28,8 +30,10 @@ pub data Known : Type 0 where
   declared : Declared → Known
   -- an imported package, by the names that it exports
   package' : Names → Known
-  -- a call of Println with operands
-  printed : List (Type' × Const) → Known
+  -- a call of a function that has no result or several, of these types; a call of Println with operands; a call of panic
+  results : List Type' → Symbol → Exprs → Known
+  printed : Exprs → Known
+  panicked : Expr → Known
 
 -- Of a node: it is fine, and this is known of it; it breaks a rule; or it is passed over, since a part of it isn't fine or no rule is known of its form.
 pub data Verdict (A : Type 0) : Type 0 where
@@ -68,7 +72,7 @@ left_out =
     ∷ codes "nil" ∷ codes "print" ∷ codes "println" ∷ codes "real" ∷ codes "recover" ∷ codes "uintptr" ∷ []
 
 abbrev pub truth : Bool → Verdict Known
-truth b = Fine (declared (constant (basic (basics.Untyped kinds.Bool)) (Truth b)))
+truth b = Fine (declared (value (constant (basic (basics.Untyped kinds.Bool)) (Truth b))))
 
 abbrev pub others : List (List ℕ × Verdict Known)
 others = (codes "true", truth true) ∷ (codes "false", truth false) ∷ (codes "len", Fine (declared length')) ∷ (codes "panic", Fine (declared panic')) ∷ []

@@ -1,14 +1,16 @@
 -- What the rules say of a node whose parts are fine, in the order of the Go specification's sections.
-use Rattle.std.specs.Prelude.{ℕ, pos, negsuc, Bool, true, false, ◌&&◌, not, nat_eq, nat_le, bytes_eq, if◌then◌else◌, List, [], ◌∷◌, length, map, codes, Option, Some, None, option_map, unwrap_or, Result, Ok, Err}
+use Rattle.std.specs.Prelude.{ℕ, suc, pos, negsuc, Bool, true, false, ◌&&◌, ◌||◌, not, nat_eq, nat_le, nat_lt, bytes_eq, if◌then◌else◌, List, [], ◌∷◌, ◌++◌, length, map, codes, is_some, Option, Some, None, option_map, unwrap_or, Result, Ok, Err}
 use Rattle.std.specs.Char.{is_digit}
-use Rattle.std.specs.List.{filter, list_all, list_any}
+use Rattle.std.specs.List.{filter, filter_map, find, flat_map, list_all, list_any, slice_get, zip}
 use Rattle.std.specs.Map.{lookup}
+use Rattle.std.specs.Ordering.{int_eq}
 use Rattle.std.specs.Str.{chars}
 use Rattle.std.specs.Str.Parse.{digits_value}
 use Rattle.ucd_category.specs.GeneralCategory.{general_category, general_category_eq}
 use Rattle.ucd_category.specs.declared.GeneralCategory.TheVariants.{UppercaseLetter}
 use Rattle.go_text.specs.declared.fault.FaultKind.{FaultKind}
-use Rattle.go_text.specs.declared.fault.FaultKind.TheVariants.{LeftOut, Size, Redeclared, Undeclared, Mismatch, Range, Constant, DivideByZero, Assign, Count, Unexported}
+use Rattle.go_text.specs.declared.fault.FaultKind.TheVariants.{LeftOut, Size, Redeclared, Undeclared, Mismatch, Range, Constant, DivideByZero, Index, Assign, Count, Unexported}
+use Rattle.go_text.specs.Faults.{fault_number}
 use Rattle.go_scan.specs.Numbers.{is_either}
 use Rattle.go_ast.specs.Trees as trees
 use Rattle.go_ast.specs.declared.expression.UnaryOperator as signs
@@ -16,11 +18,11 @@ use Rattle.go_ast.specs.declared.expression.UnaryOperator.TheVariants as sign
 use Rattle.go_ast.specs.declared.expression.BinaryOperator as source
 use Rattle.go_ast.specs.declared.expression.BinaryOperator.TheVariants as operators
 use Rattle.go_const.specs.declared.constant.Const.{Const}
-use Rattle.go_const.specs.declared.constant.Const.TheVariants.{Integer, Text}
+use Rattle.go_const.specs.declared.constant.Const.TheVariants.{Integer, Text, Bool as Truth}
 use Rattle.go_const.specs.declared.error.ConstError.{ConstError}
 use Rattle.go_const.specs.declared.error.ConstError.TheVariants as errors
 use Rattle.go_const.specs.declared.kind.IntKind.{IntKind}
-use Rattle.go_const.specs.declared.kind.IntKind.TheVariants as int_kinds
+use Rattle.go_const.specs.declared.kind.IntKind.TheVariants as integers
 use Rattle.go_const.specs.declared.operator.UnaryOperator.{UnaryOperator}
 use Rattle.go_const.specs.declared.operator.UnaryOperator.TheVariants.{Positive, Negative, Complement, Negation}
 use Rattle.go_const.specs.declared.operator.ArithmeticOperator.TheVariants.{Add, Subtract, Multiply, Divide, Remainder, BitAnd, BitOr, BitXor, AndNot}
@@ -29,25 +31,62 @@ use Rattle.go_const.specs.declared.operator.BinaryOperator.{BinaryOperator}
 use Rattle.go_const.specs.declared.operator.BinaryOperator.TheVariants.{Arithmetic, Comparison, LogicalAnd, LogicalOr}
 use Rattle.go_const.specs.declared.operator.ShiftOperator.{ShiftOperator}
 use Rattle.go_const.specs.declared.operator.ShiftOperator.TheVariants.{Left, Right}
-use Rattle.go_const.specs.Constants.{fits, represent, unary, binary, shift}
-use Rattle.go_types.specs.declared.types.Integer as integer_types
-use Rattle.go_types.specs.declared.types.Integer.TheVariants as integers
+use Rattle.go_const.specs.Constants as constants
 use Rattle.go_types.specs.declared.types.Basic.TheVariants as basics
 use Rattle.go_types.specs.declared.types.Untyped.TheVariants as kinds
 use Rattle.go_types.specs.Types.{Type', basic, array, struct, Fields, no_fields, field}
-use Rattle.go_types.specs.Relations.{underlying, assignable, convertible}
+use Rattle.go_types.specs.Relations.{underlying, identical, assignable, convertible}
 use Rattle.go_types.specs.Sizes.{cells, nodes}
-use Rattle.go_expr.specs.Known.{constant, type', println, length', panic', Known, declared, package', printed, Verdict, Fine, Breaks, Passed, named}
+use Rattle.go_typed.specs.declared.expression.Operator.TheVariants as nodes
+use Rattle.go_typed.specs.Trees as typed
+use Rattle.go_typed.specs.Trees.{Symbol, Expr, Exprs, Parts, constant, expr_type, pack_exprs, pack_parts}
+use Rattle.go_expr.specs.Known.{value, type', function, println, length', panic', Known, declared, package', results, printed, panicked, Verdict, Fine, Breaks, Passed, named}
+
+-- ---- what rules say
+
+abbrev pub fine : {A : Type 0} → Verdict A → Option A
+fine v = elim v [ Fine x ↦ Some x | _ ↦ None ]
+
+-- a rule over what another gives
+abbrev pub checked : {A B : Type 0} → (A → Verdict B) → Verdict A → Verdict B
+checked rule v = elim v [ Fine x ↦ rule x | Breaks kind ↦ Breaks kind | Passed ↦ Passed ]
+
+-- an expression that has a value
+abbrev pub valued : Verdict Expr → Verdict Known
+valued v = checked (λ e. Fine (declared (value e))) v
+
+-- of several faults of a node the one of the least number is told
+abbrev pub lesser : Option FaultKind → Option FaultKind → Option FaultKind
+lesser None k = k
+lesser (Some k) None = Some k
+lesser (Some k) (Some l) = if nat_le (fault_number k) (fault_number l) then Some k else Some l
+
+abbrev pub least : List FaultKind → Option FaultKind
+least [] = None
+least (k ∷ ks) = lesser (Some k) (least ks)
+
+abbrev pub when : Bool → FaultKind → List FaultKind
+when b k = if b then k ∷ [] else []
+
+abbrev pub wrong : {A : Type 0} → Verdict A → List FaultKind
+wrong v = elim v [ Breaks k ↦ k ∷ [] | _ ↦ [] ]
+
+-- each of some, unless one breaks its rule or there are other faults
+abbrev pub each_unless : {A : Type 0} → List FaultKind → List (Verdict A) → Verdict (List A)
+each_unless ks vs = elim (least (ks ++ flat_map wrong vs)) [ None ↦ Fine (filter_map fine vs) | Some k ↦ Breaks k ]
+
+abbrev pub numbered : {A : Type 0} → ℕ → List A → List (ℕ × A)
+numbered n [] = []
+numbered n (x ∷ xs) = (n, x) ∷ numbered (suc n) xs
 
 -- ---- constants: https://go.dev/ref/spec#Constants
 
--- a constant of a type, or one that has an untyped type
-abbrev pub Value : Type 0
-Value = Type' × Const
+abbrev pub constant_in : Expr → Option Const
+constant_in e = elim e [ constant t c ↦ Some c | _ ↦ None ]
 
--- what is known of one that an operator gives, or what is wrong with it
-abbrev pub given : Type' → Result Const ConstError → Verdict Known
-given t (Ok c) = Fine (declared (constant t c))
+-- what an operator gives as a constant of a type, or what is wrong with it
+abbrev pub given : Type' → Result Const ConstError → Verdict Expr
+given t (Ok c) = Fine (constant t c)
 given t (Err errors.Mismatch) = Breaks Mismatch
 given t (Err errors.Range) = Breaks Range
 given t (Err errors.Constant) = Breaks Constant
@@ -55,44 +94,39 @@ given t (Err errors.Divide) = Breaks DivideByZero
 given t (Err errors.Memory) = Passed
 
 -- https://go.dev/ref/spec#Numeric_types
-abbrev pub kind_of : integer_types.Integer → IntKind
-kind_of integers.Int = int_kinds.Int
-kind_of integers.Int8 = int_kinds.Int8
-kind_of integers.Int16 = int_kinds.Int16
-kind_of integers.Int32 = int_kinds.Int32
-kind_of integers.Int64 = int_kinds.Int64
-kind_of integers.Uint = int_kinds.Uint
-kind_of integers.Uint8 = int_kinds.Uint8
-kind_of integers.Uint16 = int_kinds.Uint16
-kind_of integers.Uint32 = int_kinds.Uint32
-kind_of integers.Uint64 = int_kinds.Uint64
-
--- the integer type that a type's underlying one is
 abbrev pub int_kind : Type' → Option IntKind
-int_kind t = elim (underlying t) [ basic (basics.Integer i) ↦ Some (kind_of i) | _ ↦ None ]
+int_kind t = elim (underlying t) [ basic (basics.Integer kind) ↦ Some kind | _ ↦ None ]
+
+-- what types operators are defined on: those without a type count too
+abbrev pub is_integer : Type' → Bool
+is_integer t = elim (underlying t) [ basic (basics.Integer i) ↦ true | basic (basics.Untyped kinds.Int) ↦ true | basic (basics.Untyped kinds.Rune) ↦ true | _ ↦ false ]
+
+abbrev pub is_string : Type' → Bool
+is_string t = elim (underlying t) [ basic basics.String ↦ true | basic (basics.Untyped kinds.String) ↦ true | _ ↦ false ]
+
+abbrev pub is_bool : Type' → Bool
+is_bool t = elim (underlying t) [ basic basics.Bool ↦ true | basic (basics.Untyped kinds.Bool) ↦ true | _ ↦ false ]
+
+abbrev pub is_untyped : Type' → Bool
+is_untyped t = elim t [ basic (basics.Untyped kind) ↦ true | _ ↦ false ]
+
+abbrev pub int : Type'
+int = basic (basics.Integer integers.Int)
+
+abbrev pub uint : Type'
+uint = basic (basics.Integer integers.Uint)
+
+abbrev pub string : Type'
+string = basic basics.String
 
 -- https://go.dev/ref/spec#Representability
 abbrev pub in_kind : Option IntKind → Const → Bool
-in_kind (Some kind) (Integer z) = fits (Some kind) z
+in_kind (Some kind) (Integer z) = constants.fits (Some kind) z
 in_kind kind c = true
 
-abbrev pub lies_in : Type' → Const → Bool
-lies_in t c = in_kind (int_kind t) c
-
--- a constant as one of a type, where the types allow it
-abbrev pub taken : Bool → FaultKind → Type' → Const → Verdict Known
-taken allowed wrong t c = if not allowed then Breaks wrong else (if lies_in t c then Fine (declared (constant t c)) else Breaks Range)
-
--- the type that a constant takes where none is due
-abbrev pub default_type : Type' → Type'
-default_type (basic (basics.Untyped kinds.Bool)) = basic basics.Bool
-default_type (basic (basics.Untyped kinds.Int)) = basic (basics.Integer integers.Int)
-default_type (basic (basics.Untyped kinds.Rune)) = basic (basics.Integer integers.Int32)
-default_type (basic (basics.Untyped kinds.String)) = basic basics.String
-default_type t = t
-
-abbrev pub defaulted : Value → Value
-defaulted x = (default_type x.0, x.1)
+-- what isn't constant does
+abbrev pub lies_in : Type' → Expr → Bool
+lies_in t e = elim (constant_in e) [ None ↦ true | Some c ↦ in_kind (int_kind t) c ]
 
 -- ---- types
 
@@ -104,10 +138,12 @@ abbrev pub is_small : Type' → Bool
 is_small t = nat_le (nodes t) 65536 && nat_le (cells t) 65536
 
 -- https://go.dev/ref/spec#Array_types
-abbrev pub array_of : Value → Type' → Verdict Type'
-array_of (t, Integer (pos n)) of = if nat_le n 65536 && is_small (array n of) then Fine (array n of) else Breaks Size
-array_of (t, Integer (negsuc n)) of = Breaks Range
-array_of _ of = Breaks Mismatch
+abbrev pub array_of : Expr → Type' → Verdict Type'
+array_of size of = elim (constant_in size) [
+  | Some (Integer (pos n)) ↦ if nat_le n 65536 && is_small (array n of) then Fine (array n of) else Breaks Size
+  | Some (Integer (negsuc n)) ↦ Breaks Range
+  | _ ↦ Breaks Mismatch
+]
 
 -- https://go.dev/ref/spec#Exported_identifiers
 abbrev pub is_exported : List ℕ → Bool
@@ -127,6 +163,10 @@ abbrev pub packed : FieldList → Fields
 packed [] = no_fields
 packed (f ∷ fs) = field f.0 (f.1).0 (f.1).1 (packed fs)
 
+abbrev pub listed : Fields → FieldList
+listed no_fields = []
+listed (field path x t fs) = (path, (x, t)) ∷ listed fs
+
 abbrev pub differ : List (List ℕ) → Bool
 differ [] = true
 differ (x ∷ xs) = not (list_any (bytes_eq x) xs) && differ xs
@@ -138,16 +178,42 @@ struct_of fs =
     else (if not (is_small (struct (packed fs))) then Breaks Size
     else (if differ (field_names fs) then Fine (struct (packed fs)) else Breaks Redeclared))
 
--- https://go.dev/ref/spec#Assignability
-abbrev pub assigned : Type' → Value → Verdict Known
-assigned t x = taken (assignable x.0 t) Assign t x.1
+-- ---- values of types
 
--- ---- expressions
+-- a value as one of a type: a constant becomes one of that type, and another is converted, unless it has the type
+abbrev pub as_type : Type' → Expr → Expr
+as_type t e = elim (constant_in e) [ Some c ↦ constant t c | None ↦ if identical (expr_type e) t then e else typed.conversion t e ]
+
+-- https://go.dev/ref/spec#Assignability
+abbrev pub assigned : Type' → Expr → Verdict Expr
+assigned t e = if not (assignable (expr_type e) t) then Breaks Assign else (if lies_in t e then Fine (as_type t e) else Breaks Range)
+
+-- https://go.dev/ref/spec#Constants
+-- the type that a value takes where none is due
+abbrev pub default_type : Type' → Type'
+default_type (basic (basics.Untyped kinds.Bool)) = basic basics.Bool
+default_type (basic (basics.Untyped kinds.Int)) = int
+default_type (basic (basics.Untyped kinds.Rune)) = basic (basics.Integer integers.Int32)
+default_type (basic (basics.Untyped kinds.String)) = string
+default_type t = t
+
+abbrev pub settled : Expr → Expr
+settled e = as_type (default_type (expr_type e)) e
+
+abbrev pub defaulted : Expr → Verdict Expr
+defaulted e = assigned (default_type (expr_type e)) e
 
 -- https://go.dev/ref/spec#Operands
--- where a value is due, a constant is
-abbrev pub value : Known → Verdict Value
-value k = elim k [ declared (constant t c) ↦ Fine (t, c) | _ ↦ Breaks Mismatch ]
+abbrev pub value_due : Known → Verdict Expr
+value_due k = elim k [ declared (value e) ↦ Fine e | results ts s es ↦ Breaks Count | panicked e ↦ Breaks Count | _ ↦ Breaks Mismatch ]
+
+-- where a constant is due: https://go.dev/ref/spec#Constant_declarations
+abbrev pub constant_due : Expr → Verdict Expr
+constant_due e = if is_some (constant_in e) then Fine e else Breaks Mismatch
+
+-- of statements: https://go.dev/ref/spec#If_statements
+abbrev pub condition : Expr → Verdict Expr
+condition e = if is_bool (expr_type e) then defaulted e else Breaks Mismatch
 
 -- a package is due before a dot alone
 abbrev pub unpackaged : Known → Verdict Known
@@ -166,17 +232,180 @@ numeral bs = (10, bs)
 abbrev pub number_of : ℕ → List ℕ → ℕ
 number_of base digits = digits_value base (filter (λ b. is_digit b base) digits)
 
-abbrev pub literal : List ℕ → Verdict Known
-literal text = given (basic (basics.Untyped kinds.Int)) (represent None (pos (number_of (numeral text).0 (numeral text).1)))
+abbrev pub literal : List ℕ → Verdict Expr
+literal text = given (basic (basics.Untyped kinds.Int)) (constants.represent None (pos (number_of (numeral text).0 (numeral text).1)))
+
+-- ---- composite literals: https://go.dev/ref/spec#Composite_literals
+
+-- fields that a package sees
+abbrev pub is_visible : List ℕ → Option (List ℕ) → Bool
+is_visible path owner = elim owner [ None ↦ true | Some p ↦ bytes_eq path p ]
+
+-- the field of a name, with its number
+abbrev pub field_named : List ℕ → FieldList → Option (ℕ × (Option (List ℕ) × (List ℕ × Type')))
+field_named x fs = find (λ f. bytes_eq x ((f.1).1).0) (numbered 0 fs)
+
+-- elements, each with its key, if it has one
+abbrev pub ElementList : Type 0
+ElementList = List (Option (List ℕ) × Expr)
+
+abbrev pub keys : ElementList → List (List ℕ)
+keys es = filter_map (λ e. e.0) es
+
+abbrev pub key_fault : List ℕ → FieldList → List ℕ → List FaultKind
+key_fault path fs x = elim (field_named x fs) [ None ↦ Undeclared ∷ [] | Some f ↦ when (not (is_visible path (f.1).0)) Unexported ]
+
+abbrev pub any_keyed : ElementList → Bool
+any_keyed es = list_any (λ e. is_some e.0) es
+
+abbrev pub all_keyed : ElementList → Bool
+all_keyed es = list_all (λ e. is_some e.0) es
+
+-- the number and the type of the part that an element of a struct is for: that of its key, or the next in order
+abbrev pub field_slot : FieldList → ℕ → Option (List ℕ) → Option (ℕ × Type')
+field_slot fs n (Some x) = option_map (λ f. (f.0, ((f.1).1).1)) (field_named x fs)
+field_slot fs n None = option_map (λ f. (n, (f.1).1)) (slice_get fs n)
+
+-- an element as its part, if it is for one
+abbrev pub element_part : (ℕ → Option (List ℕ) → Option (ℕ × Type')) → ℕ → Option (List ℕ) × Expr → Verdict (ℕ × Expr)
+element_part slot n e = elim (slot n e.0) [ None ↦ Passed | Some p ↦ checked (λ x. Fine (p.0, x)) (assigned p.1 e.1) ]
+
+abbrev pub parts_by : (ℕ → Option (List ℕ) → Option (ℕ × Type')) → ElementList → List (Verdict (ℕ × Expr))
+parts_by slot es = map (λ k. element_part slot k.0 k.1) (numbered 0 es)
+
+abbrev pub array_parts : ℕ → Type' → ElementList → Verdict (List (ℕ × Expr))
+array_parts n of es = each_unless (when (any_keyed es) LeftOut ++ when (nat_lt n (length es)) Index) (parts_by (λ i key. Some (i, of)) es)
+
+-- all elements have keys, or there are as many as fields
+abbrev pub is_counted : FieldList → ElementList → Bool
+is_counted fs es = all_keyed es || (not (any_keyed es) && nat_eq (length es) (length fs))
+
+abbrev pub struct_faults : List ℕ → FieldList → ElementList → List FaultKind
+struct_faults path fs es =
+    flat_map (key_fault path fs) (keys es) ++ when (not (differ (keys es))) Redeclared ++ when (not (is_counted fs es)) Count
+    ++ when (not (all_keyed es) && not (list_all (λ f. is_visible path f.0) fs)) Unexported
+
+-- where they aren't counted right no element is for a part
+abbrev pub struct_slot : FieldList → ElementList → ℕ → Option (List ℕ) → Option (ℕ × Type')
+struct_slot fs es = if is_counted fs es then field_slot fs else (λ n key. None)
+
+abbrev pub struct_parts : List ℕ → FieldList → ElementList → Verdict (List (ℕ × Expr))
+struct_parts path fs es = each_unless (struct_faults path fs es) (parts_by (struct_slot fs es) es)
+
+abbrev pub parts_of : List ℕ → Type' → ElementList → Verdict (List (ℕ × Expr))
+parts_of path t es = elim (underlying t) [ array n of ↦ array_parts n of es | struct fs ↦ struct_parts path (listed fs) es | _ ↦ Breaks Mismatch ]
+
+abbrev pub literal_of : List ℕ → Type' → ElementList → Verdict Expr
+literal_of path t es = checked (λ parts. Fine (typed.literal t (pack_parts parts))) (parts_of path t es)
+
+-- one that leaves out its type; where none is due, since that of the literal around it isn't known, it is any value
+abbrev pub untyped_literal : List ℕ → Verdict Type' → ElementList → Verdict Expr
+untyped_literal path due es = elim due [ Fine t ↦ literal_of path t es | Breaks kind ↦ Breaks kind | Passed ↦ Fine (constant (basic basics.Bool) (Truth true)) ]
+
+-- the type of elements that leave it out: those of an array have its elements' type, and any other must be written
+abbrev pub element_type : Option Type' → Verdict Type'
+element_type o = elim o [ None ↦ Passed | Some t ↦ elim (underlying t) [ array n of ↦ Fine of | _ ↦ Breaks Mismatch ] ]
+
+-- ---- selectors, index expressions and calls
 
 -- https://go.dev/ref/spec#Selectors
-abbrev pub selected : List ℕ → Known → Verdict Known
-selected x (package' names) = if is_exported x then unwrap_or (option_map named (lookup (bytes_eq x) names)) (Breaks Undeclared) else Breaks Unexported
-selected x (declared (constant t c)) = Breaks Undeclared
-selected x _ = Breaks Mismatch
+abbrev pub fields_of : Type' → FieldList
+fields_of t = elim (underlying t) [ struct fs ↦ listed fs | _ ↦ [] ]
 
--- https://go.dev/ref/spec#Constant_expressions
--- an untyped constant takes the other's type: of two numbers that of a rune, where one is
+abbrev pub field_of : List ℕ → List ℕ → Expr → Verdict Expr
+field_of path x e = elim (field_named x (fields_of (expr_type e))) [
+  | None ↦ Breaks Undeclared
+  | Some f ↦ if is_visible path (f.1).0 then Fine (typed.field ((f.1).1).1 e f.0) else Breaks Unexported
+]
+
+abbrev pub selected : List ℕ → List ℕ → Known → Verdict Known
+selected path x k = elim k [
+  | package' names ↦ if is_exported x then unwrap_or (option_map named (lookup (bytes_eq x) names)) (Breaks Undeclared) else Breaks Unexported
+  | k ↦ valued (checked (field_of path x) (value_due k))
+]
+
+-- https://go.dev/ref/spec#Index_expressions
+-- a byte of a string, and an element of an array, and how many there are where that is known
+abbrev pub indexed_type : Type' → Option Type'
+indexed_type t = elim (underlying t) [ array n of ↦ Some of | _ ↦ if is_string t then Some (basic (basics.Integer integers.Uint8)) else None ]
+
+abbrev pub known_length : Expr → Option ℕ
+known_length e = elim (constant_in e) [ Some (Text bytes) ↦ Some (length bytes) | _ ↦ elim (underlying (expr_type e)) [ array n of ↦ Some n | _ ↦ None ] ]
+
+abbrev pub is_within : Option ℕ → Option Const → Bool
+is_within n (Some (Integer (negsuc i))) = false
+is_within (Some n) (Some (Integer (pos i))) = nat_lt i n
+is_within n c = true
+
+abbrev pub index_of : Expr → Expr → Verdict Expr
+index_of e i = elim (indexed_type (expr_type e)) [
+  | None ↦ Breaks Mismatch
+  | Some t ↦ if not (is_integer (expr_type i)) then Breaks Mismatch
+      else checked (λ i. if is_within (known_length e) (constant_in i) then Fine (typed.index t (settled e) i) else Breaks Index) (defaulted i)
+]
+
+-- https://go.dev/ref/spec#Conversions
+abbrev pub conversion_to : Type' → Expr → Expr
+conversion_to t e = elim (constant_in e) [ Some c ↦ constant t c | None ↦ typed.conversion t e ]
+
+abbrev pub converted : Type' → Expr → Verdict Expr
+converted t e = if not (convertible (expr_type e) t) then Breaks Mismatch else (if lies_in t e then Fine (conversion_to t e) else Breaks Range)
+
+-- https://go.dev/ref/spec#Length_and_capacity
+-- an operand of len that has to be evaluated
+abbrev mutual
+  pub holds_call : Expr → Bool
+  holds_call (constant t c) = false
+  holds_call (typed.local t n) = false
+  holds_call (typed.global t s) = false
+  holds_call (typed.field t e n) = holds_call e
+  holds_call (typed.index t e i) = holds_call e || holds_call i
+  holds_call (typed.length t e) = true
+  holds_call (typed.unary t op e) = holds_call e
+  holds_call (typed.binary t op a b) = holds_call a || holds_call b
+  holds_call (typed.both t a b) = holds_call a || holds_call b
+  holds_call (typed.either t a b) = holds_call a || holds_call b
+  holds_call (typed.conversion t e) = holds_call e
+  holds_call (typed.literal t parts) = part_holds_call parts
+  holds_call (typed.call t s es) = true
+
+  pub part_holds_call : Parts → Bool
+  part_holds_call typed.no_parts = false
+  part_holds_call (typed.part n e parts) = holds_call e || part_holds_call parts
+
+abbrev pub length_in : Expr → Verdict Expr
+length_in e = elim (underlying (expr_type e)) [
+  | array n of ↦ if holds_call e then Breaks Mismatch else Fine (constant int (Integer (pos n)))
+  | _ ↦ if is_string (expr_type e) then Fine (typed.length int e) else Breaks Mismatch
+]
+
+abbrev pub length_of : Expr → Verdict Expr
+length_of e = elim (constant_in e) [ Some (Text bytes) ↦ Fine (constant int (Integer (pos (length bytes)))) | _ ↦ length_in e ]
+
+-- https://go.dev/ref/spec#Calls
+abbrev pub one : List Expr → Verdict Expr
+one xs = elim xs [ x ∷ [] ↦ Fine x | _ ↦ Breaks Count ]
+
+abbrev pub function_call : Symbol → List Type' → List Expr → Known
+function_call s (t ∷ []) xs = declared (value (typed.call t s (pack_exprs xs)))
+function_call s ts xs = results ts s (pack_exprs xs)
+
+-- what Println prints
+abbrev pub printable : Expr → Verdict Expr
+printable e = if is_integer (expr_type e) || is_string (expr_type e) || is_bool (expr_type e) then defaulted e else Breaks Mismatch
+
+abbrev pub called : Known → List Expr → Verdict Known
+called (declared (type' t)) xs = valued (checked (converted t) (one xs))
+called (declared (function s ts rs)) xs =
+    if nat_eq (length ts) (length xs) then checked (λ ys. Fine (function_call s rs ys)) (each_unless [] (map (λ k. assigned k.0 k.1) (zip ts xs))) else Breaks Count
+called (declared println) xs = checked (λ ys. Fine (printed (pack_exprs ys))) (each_unless [] (map printable xs))
+called (declared length') xs = valued (checked length_of (one xs))
+called (declared panic') xs = checked (λ y. Fine (panicked y)) (checked (assigned string) (one xs))
+called _ xs = Breaks Mismatch
+
+-- ---- operators: https://go.dev/ref/spec#Operators
+
+-- an operand without a type takes the other's: of two numbers that of a rune, where one is
 abbrev pub takes : Type' → Type' → Bool
 takes (basic (basics.Untyped kinds.Int)) (basic (basics.Untyped kinds.Rune)) = true
 takes t u = assignable t u
@@ -184,27 +413,57 @@ takes t u = assignable t u
 abbrev pub common : Type' → Type' → Option Type'
 common t u = if takes u t then Some t else (if takes t u then Some u else None)
 
+abbrev pub is_defined : BinaryOperator → Type' → Bool
+is_defined (Arithmetic operator) t = is_integer t || (elim operator [ Add ↦ is_string t | _ ↦ false ])
+is_defined (Comparison operator) t = is_integer t || is_string t || (elim operator [ Equal ↦ true | NotEqual ↦ true | _ ↦ false ])
+is_defined LogicalAnd t = is_bool t
+is_defined LogicalOr t = is_bool t
+
+-- the type of what the operator gives of operands of a type, and what it gives
 abbrev pub result_type : BinaryOperator → Type' → Type'
 result_type operator t = elim operator [ Comparison c ↦ basic (basics.Untyped kinds.Bool) | _ ↦ t ]
 
--- of several things that are wrong the first is told: the kind, the operands' range, the value
-abbrev pub within : Bool → Verdict Known → Verdict Known
-within inside (Breaks Mismatch) = Breaks Mismatch
-within false v = Breaks Range
-within true v = v
+abbrev pub operation : BinaryOperator → Type' → Expr → Expr → Expr
+operation (Arithmetic operator) = λ t. typed.binary t (nodes.Arithmetic operator)
+operation (Comparison operator) = λ t. typed.binary t (nodes.Comparison operator)
+operation LogicalAnd = typed.both
+operation LogicalOr = typed.either
 
-abbrev pub combined : BinaryOperator → Value → Value → Verdict Known
-combined operator x y = elim (common x.0 y.0) [
+abbrev pub divides_by_zero : BinaryOperator → Option Const → Bool
+divides_by_zero (Arithmetic operator) (Some (Integer z)) = constants.divides operator && int_eq z (pos 0)
+divides_by_zero operator c = false
+
+-- of operands of a type that the operator is defined on
+abbrev pub operated : BinaryOperator → Type' → Expr → Expr → Option Const → Option Const → Verdict Expr
+operated operator t x y (Some c) (Some d) = given (result_type operator t) (constants.binary operator (int_kind t) c d)
+operated operator t x y c d =
+    if divides_by_zero operator d then Breaks DivideByZero else Fine (operation operator (result_type operator t) (as_type t x) (as_type t y))
+
+-- the type that both operands are taken as
+abbrev pub operand_type : BinaryOperator → Expr → Expr → Verdict Type'
+operand_type operator x y = elim (common (expr_type x) (expr_type y)) [
   | None ↦ Breaks Mismatch
-  | Some t ↦ within (lies_in t x.1 && lies_in t y.1) (given (result_type operator t) (binary operator (int_kind t) x.1 y.1))
+  | Some t ↦ if not (is_defined operator t) then Breaks Mismatch else (if lies_in t x && lies_in t y then Fine t else Breaks Range)
 ]
 
--- a shift has the type of what is shifted
-abbrev pub shifted : ShiftOperator → Value → Value → Verdict Known
-shifted operator x count = given x.0 (shift operator (int_kind x.0) x.1 count.1)
+abbrev pub combined : BinaryOperator → Expr → Expr → Verdict Expr
+combined operator x y = checked (λ t. operated operator t x y (constant_in x) (constant_in y)) (operand_type operator x y)
 
--- https://go.dev/ref/spec#Operators
-abbrev pub binary_of : source.BinaryOperator → Value → Value → Verdict Known
+-- a shift has the type of what is shifted; of what isn't constant the count is a uint, unless it has a type
+abbrev pub counted_by : Expr → Expr
+counted_by count = if is_untyped (expr_type count) then as_type uint count else count
+
+abbrev pub shift_of : ShiftOperator → Expr → Expr → Option Const → Option Const → Verdict Expr
+shift_of operator x count (Some c) (Some d) = given (expr_type x) (constants.shift operator (int_kind (expr_type x)) c d)
+shift_of operator x count c d =
+    if lies_in uint count then Fine (typed.binary (expr_type x) (nodes.Shift operator) x (counted_by count)) else Breaks Range
+
+abbrev pub shifted : ShiftOperator → Expr → Expr → Verdict Expr
+shifted operator x count =
+    if is_untyped (expr_type x) && not (is_some (constant_in count)) then Breaks LeftOut
+    else (if is_integer (expr_type x) && is_integer (expr_type count) then shift_of operator x count (constant_in x) (constant_in count) else Breaks Mismatch)
+
+abbrev pub binary_of : source.BinaryOperator → Expr → Expr → Verdict Expr
 binary_of operators.Multiply = combined (Arithmetic Multiply)
 binary_of operators.Divide = combined (Arithmetic Divide)
 binary_of operators.Remainder = combined (Arithmetic Remainder)
@@ -231,26 +490,13 @@ operator_of sign.Negative = Negative
 operator_of sign.Negation = Negation
 operator_of sign.Complement = Complement
 
-abbrev pub unary_of : signs.UnaryOperator → Value → Verdict Known
-unary_of operator x = given x.0 (unary (operator_of operator) (int_kind x.0) x.1)
+abbrev pub is_operand : signs.UnaryOperator → Type' → Bool
+is_operand operator t = elim operator [ sign.Negation ↦ is_bool t | _ ↦ is_integer t ]
 
--- https://go.dev/ref/spec#Conversions
-abbrev pub converted : Type' → Value → Verdict Known
-converted t x = taken (convertible x.0 t) Mismatch t x.1
-
--- https://go.dev/ref/spec#Length_and_capacity
-abbrev pub length_of : Value → Verdict Known
-length_of (t, Text bytes) = Fine (declared (constant (basic (basics.Integer integers.Int)) (Integer (pos (length bytes)))))
-length_of _ = Breaks Mismatch
-
--- https://go.dev/ref/spec#Calls
-abbrev pub one : {A : Type 0} → (Value → Verdict A) → List Value → Verdict A
-one rule xs = elim xs [ x ∷ [] ↦ rule x | _ ↦ Breaks Count ]
-
--- a call of panic has no rule so far
-abbrev pub called : Known → List Value → Verdict Known
-called (declared (type' t)) xs = one (converted t) xs
-called (declared println) xs = if list_all (λ x. lies_in x.0 x.1) (map defaulted xs) then Fine (printed (map defaulted xs)) else Breaks Range
-called (declared length') xs = one length_of xs
-called (declared panic') xs = Passed
-called _ xs = Breaks Mismatch
+abbrev pub unary_of : signs.UnaryOperator → Expr → Verdict Expr
+unary_of operator e =
+    if not (is_operand operator (expr_type e)) then Breaks Mismatch
+    else (elim (constant_in e) [
+      | Some c ↦ given (expr_type e) (constants.unary (operator_of operator) (int_kind (expr_type e)) c)
+      | None ↦ Fine (typed.unary (expr_type e) (operator_of operator) e)
+    ])

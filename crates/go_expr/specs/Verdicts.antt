@@ -3,16 +3,14 @@ use Rattle.std.specs.Prelude.{◌++◌, pos, bytes_eq, List, [], ◌∷◌, map,
 use Rattle.std.specs.List.{find}
 use Rattle.go_text.specs.declared.place.Place.{Place}
 use Rattle.go_text.specs.declared.fault.FaultKind.{FaultKind}
-use Rattle.go_ast.specs.Trees.{Name, TypeExpr, named, qualified, array, struct, Fields, no_fields, field, Expr, name, integer, rune, string, parenthesized, conversion, selector, call, unary, binary, Exprs, no_exprs, some_exprs, place_of}
+use Rattle.go_ast.specs.Trees.{Name, TypeExpr, named, qualified, array, struct, Fields, no_fields, field, Expr, name, integer, rune, string, parenthesized, composite_lit, conversion, selector, index, call, unary, binary, Exprs, no_exprs, some_exprs, Elements, no_elements, element, Element, expression_element, value_element, place_of}
 use Rattle.go_const.specs.declared.constant.Const.TheVariants.{Integer, Text}
 use Rattle.go_types.specs.declared.types.Basic.TheVariants as basics
 use Rattle.go_types.specs.declared.types.Untyped.TheVariants as kinds
 use Rattle.go_types.specs.Types.{Type', basic}
-use Rattle.go_expr.specs.Known.{Known, constant, declared, Verdict, Fine, Breaks, Passed, Scope, look_up}
-use Rattle.go_expr.specs.Rules.{Value, type_due, array_of, FieldList, declared_field, struct_of, value, unpackaged, literal, selected, binary_of, unary_of, converted, called}
-
-abbrev pub fine : {A : Type 0} → Verdict A → Option A
-fine v = elim v [ Fine x ↦ Some x | _ ↦ None ]
+use Rattle.go_typed.specs.Trees.{Expr as Typed, constant}
+use Rattle.go_expr.specs.Known.{Known, Verdict, Fine, Breaks, Passed, Scope, look_up}
+use Rattle.go_expr.specs.Rules.{fine, valued, type_due, array_of, FieldList, declared_field, struct_of, value_due, unpackaged, literal, ElementList, literal_of, untyped_literal, element_type, selected, index_of, binary_of, unary_of, converted, called}
 
 -- a rule over parts, which is asked where they are fine
 abbrev pub asked : {A B : Type 0} → (A → Verdict B) → Option A → Verdict B
@@ -27,44 +25,56 @@ both _ _ = None
 abbrev pub joined : {A : Type 0} → Option (List A) → Option (List A) → Option (List A)
 joined xs ys = option_map (λ k. k.0 ++ k.1) (both xs ys)
 
--- what a call is, by its callee and its arguments
-abbrev pub call_of : Option Known → Option (List Value) → Verdict Known
-call_of f xs = asked (λ k. called k.0 k.1) (both f xs)
+-- a rule over two parts
+abbrev pub asked_both : {A B C : Type 0} → (A → B → Verdict C) → Option A → Option B → Verdict C
+asked_both rule x y = asked (λ k. rule k.0 k.1) (both x y)
 
 -- what a qualified name finds
 abbrev pub qualified_known : Scope → Name → Name → Verdict Known
-qualified_known s m n = asked (selected n.text) (fine (look_up m.text s.names))
+qualified_known s m n = asked (selected s.path n.text) (fine (look_up m.text s.names))
 
 -- what is known where a value is due, and where anything but a package is
-abbrev pub operand : Verdict Known → Option Value
-operand v = fine (asked value (fine v))
+abbrev pub operand : Verdict Known → Option Typed
+operand v = fine (asked value_due (fine v))
 
 abbrev pub callee : Verdict Known → Verdict Known
 callee v = asked unpackaged (fine v)
 
--- what expressions and types are; composite literals and index expressions are passed over
+-- what expressions and types are
 abbrev mutual
   pub verdict : Scope → Expr → Verdict Known
   verdict s (name p x) = look_up x s.names
-  verdict s (integer p text) = literal text
-  verdict s (rune p z) = Fine (declared (constant (basic (basics.Untyped kinds.Rune)) (Integer (pos z))))
-  verdict s (string p bytes) = Fine (declared (constant (basic (basics.Untyped kinds.String)) (Text bytes)))
+  verdict s (integer p text) = valued (literal text)
+  verdict s (rune p z) = valued (Fine (constant (basic (basics.Untyped kinds.Rune)) (Integer (pos z))))
+  verdict s (string p bytes) = valued (Fine (constant (basic (basics.Untyped kinds.String)) (Text bytes)))
   verdict s (parenthesized p e) = callee (verdict s e)
-  verdict s (selector p e x) = asked (selected x.text) (fine (verdict s e))
-  verdict s (conversion p t e) = asked (λ k. converted k.0 k.1) (both (fine (type_verdict s t)) (operand (verdict s e)))
-  verdict s (call p f es) = call_of (fine (callee (verdict s f))) (operands s es)
-  verdict s (unary p op e) = asked (unary_of op) (operand (verdict s e))
-  verdict s (binary p op a b) = asked (λ k. binary_of op k.0 k.1) (both (operand (verdict s a)) (operand (verdict s b)))
-  verdict s _ = Passed
+  verdict s (composite_lit p t q es) =
+      valued (asked_both (literal_of s.path) (fine (type_verdict s t)) (elements s (element_type (fine (type_verdict s t))) es))
+  verdict s (selector p e x) = asked (selected s.path x.text) (fine (verdict s e))
+  verdict s (index p e i) = valued (asked_both index_of (operand (verdict s e)) (operand (verdict s i)))
+  verdict s (conversion p t e) = valued (asked_both converted (fine (type_verdict s t)) (operand (verdict s e)))
+  verdict s (call p f es) = asked_both called (fine (callee (verdict s f))) (operands s es)
+  verdict s (unary p op e) = valued (asked (unary_of op) (operand (verdict s e)))
+  verdict s (binary p op a b) = valued (asked_both (binary_of op) (operand (verdict s a)) (operand (verdict s b)))
 
-  pub operands : Scope → Exprs → Option (List Value)
+  pub operands : Scope → Exprs → Option (List Typed)
   operands s no_exprs = Some []
   operands s (some_exprs e es) = joined (option_map (λ v. v ∷ []) (operand (verdict s e))) (operands s es)
+
+  -- elements of a literal, by the type of those that leave it out
+  pub elements : Scope → Verdict Type' → Elements → Option ElementList
+  elements s of no_elements = Some []
+  elements s of (element key v es) =
+      joined (option_map (λ e. (option_map (λ (n : Name). n.text) key, e) ∷ []) (fine (element_verdict s of v))) (elements s of es)
+
+  pub element_verdict : Scope → Verdict Type' → Element → Verdict Typed
+  element_verdict s of (expression_element e) = asked value_due (fine (verdict s e))
+  element_verdict s of (value_element p es) = asked (untyped_literal s.path of) (elements s (element_type (fine of)) es)
 
   pub type_verdict : Scope → TypeExpr → Verdict Type'
   type_verdict s (named p x) = asked type_due (fine (look_up x.text s.names))
   type_verdict s (qualified p m n) = asked type_due (fine (qualified_known s m n))
-  type_verdict s (array p e t) = asked (λ k. array_of k.0 k.1) (both (operand (verdict s e)) (fine (type_verdict s t)))
+  type_verdict s (array p e t) = asked_both array_of (operand (verdict s e)) (fine (type_verdict s t))
   type_verdict s (struct p fs) = asked struct_of (fields_known s fs)
 
   pub fields_known : Scope → Fields → Option FieldList
@@ -77,7 +87,7 @@ broken p v = elim v [ Breaks kind ↦ (p, kind) ∷ [] | _ ↦ [] ]
 
 -- that of an expression where a value is due, and where anything but a package is
 abbrev pub operand_broken : Expr → Verdict Known → List (Place × FaultKind)
-operand_broken e v = broken (place_of e) (asked value (fine v))
+operand_broken e v = broken (place_of e) (asked value_due (fine v))
 
 abbrev pub callee_broken : Expr → Verdict Known → List (Place × FaultKind)
 callee_broken e v = broken (place_of e) (callee v)
@@ -93,7 +103,11 @@ struct_place p (field names t fs) = unwrap_or (first_blank names) (struct_place 
 abbrev mutual
   pub faults : Scope → Expr → List (Place × FaultKind)
   faults s (parenthesized p e) = faults s e ++ callee_broken e (verdict s e)
+  faults s (composite_lit p t q es) =
+      type_faults s t ++ elements_faults s (element_type (fine (type_verdict s t))) es ++ broken p (verdict s (composite_lit p t q es))
   faults s (selector p e x) = faults s e ++ broken p (verdict s (selector p e x))
+  faults s (index p e i) =
+      faults s e ++ operand_broken e (verdict s e) ++ faults s i ++ operand_broken i (verdict s i) ++ broken p (verdict s (index p e i))
   faults s (conversion p t e) = type_faults s t ++ faults s e ++ operand_broken e (verdict s e) ++ broken p (verdict s (conversion p t e))
   faults s (call p f es) = faults s f ++ callee_broken f (verdict s f) ++ operands_faults s es ++ broken p (verdict s (call p f es))
   faults s (unary p op e) = faults s e ++ operand_broken e (verdict s e) ++ broken p (verdict s (unary p op e))
@@ -104,6 +118,15 @@ abbrev mutual
   pub operands_faults : Scope → Exprs → List (Place × FaultKind)
   operands_faults s no_exprs = []
   operands_faults s (some_exprs e es) = faults s e ++ operand_broken e (verdict s e) ++ operands_faults s es
+
+  pub elements_faults : Scope → Verdict Type' → Elements → List (Place × FaultKind)
+  elements_faults s of no_elements = []
+  elements_faults s of (element key v es) = element_faults s of v ++ elements_faults s of es
+
+  -- one that leaves out its type is a node of its own, at its brace
+  pub element_faults : Scope → Verdict Type' → Element → List (Place × FaultKind)
+  element_faults s of (expression_element e) = faults s e ++ operand_broken e (verdict s e)
+  element_faults s of (value_element p es) = elements_faults s (element_type (fine of)) es ++ broken p (element_verdict s of (value_element p es))
 
   pub type_faults : Scope → TypeExpr → List (Place × FaultKind)
   type_faults s (named p x) = broken p (look_up x.text s.names) ++ broken p (type_verdict s (named p x))

@@ -1,31 +1,45 @@
 //! Calls. [Calls](https://go.dev/ref/spec#Calls)
-ghost use Rattle.std.specs.Prelude.{◌≡◌, IfOk, map};
+ghost use Rattle.std.specs.Prelude.{◌≡◌, [], IfOk, map};
+ghost use Rattle.std.specs.List.{zip};
 ghost use Rattle.std.specs.Option.{option_map};
-ghost use Rattle.go_expr.specs.Known.{declared, println};
-ghost use Rattle.go_expr.specs.Rules.{value, unpackaged, length_of, called};
-ghost use Rattle.go_expr.specs.Verdicts.{asked, call_of};
-ghost use Rattle.go_expr.specs.Seen.{known_of, value_of, all_of, all_default, alone_in, AnswersAt};
+ghost use Rattle.go_types.specs.Views.{type_of};
+ghost use Rattle.go_typed.specs.Views.{expr_of};
+ghost use Rattle.go_expr.specs.Known as known;
+ghost use Rattle.go_expr.specs.Rules.{assigned, conversion_to, converted, each_unless, function_call, length_in, length_of, one, printable, called, unpackaged, valued, value_due};
+ghost use Rattle.go_expr.specs.Verdicts.{asked, asked_both};
+ghost use Rattle.go_expr.specs.Seen.{known_of, function_of, all_of, AnswersAt, Gives};
 
-use crate::conversion::{converted, defaulted, is_in_range};
-use crate::error::ExprError;
-use crate::known::{Declared, Known, Value};
+use crate::error::{ExprError, RuleError};
+use crate::evaluation::holds_call;
+use crate::gather::Gathered;
+use crate::known::{Function, Known};
+use crate::node::{call, constant, constant_in, conversion, length, type_in};
+use crate::selector::{value_at, value_due};
+use crate::value::{
+    assigned, defaulted, int, is_bool, is_integer, is_string, lies_in, string, take_constant,
+};
 use go_const::constant::Const;
 use go_text::fault::FaultKind;
 use go_text::place::Place;
-use go_types::types::{Basic, GoType, Integer};
+use go_typed::expression::TypedExpr;
+use go_types::relations::{convertible, underlying};
+use go_types::types::GoType;
 use std::alloc::{AllocError, Global};
 
-/// The constant that is known at a place where a value is due.
+/// The value that is known at a place where one is due.
 /// [Operands](https://go.dev/ref/spec#Operands)
-pub(crate) fn value_due(place: Place, known: Option<Known<'_>>) -> Result<Option<Value>, ExprError>
-    ensures { AnswersAt value_of result place (asked value (option_map known_of known.entry)) }
+pub(crate) fn operand_at(
+    place: Place,
+    known: Option<Known<'_>>,
+) -> Result<Option<TypedExpr>, ExprError>
+    ensures { AnswersAt expr_of result place (asked value_due (option_map known_of known.entry)) }
 {
     let Some(known) = known else {
         return Ok(None);
     };
-    match known {
-        Known::Declared(Declared::Constant(of, constant)) => Ok(Some(Value { of, constant })),
-        _ => Err(ExprError::Faulty(place, FaultKind::Mismatch)),
+    match value_due(known) {
+        Ok(value) => Ok(Some(value)),
+        Err(error) => Err(error.at(place)),
     }
 }
 
@@ -37,104 +51,243 @@ pub(crate) fn not_package<'a>(
     ensures { AnswersAt known_of result place (asked unpackaged (option_map known_of known.entry)) }
 {
     match known {
-        Some(Known::Package(_)) => { Err(ExprError::Faulty(place, FaultKind::Mismatch)) }
+        Some(Known::Package(_)) => Err(ExprError::Faulty(place, FaultKind::Mismatch)),
         known => Ok(known),
     }
 }
 
-/// Constants as ones of the types that they take where none is due, where each lies in its own;
-/// `None` where one doesn't.
-fn all_defaulted(alloc: Global, values: Vec<Value>) -> Result<Option<Vec<Value>>, AllocError>
-    ensures { IfOk result (λ all. option_map (all_of value_of) all ≡ all_default (map value_of values.items)) }
+/// A conversion of a value to a type: a constant becomes one of the type. `Mismatch` where it can't
+/// be converted, `Range` where a constant lies outside.
+/// [Conversions](https://go.dev/ref/spec#Conversions)
+pub(crate) fn converted(alloc: Global, of: GoType, value: TypedExpr) -> Result<TypedExpr, RuleError>
+    ensures { Gives expr_of result (converted (type_of of) (expr_of value)) }
 {
-    let mut all = Vec::with_capacity(alloc, values.len())?;
-    for value in values {
-        let value = defaulted(value);
-        if !is_in_range(&value) {
-            return Ok(None);
-        }
-        all.push(value)?;
+    if !convertible(type_in(&value), &of) {
+        return Err(RuleError::Broken(FaultKind::Mismatch));
     }
-    Ok(Some(all))
+    if !lies_in(&of, &value) {
+        return Err(RuleError::Broken(FaultKind::Range));
+    }
+    Ok(conversion_to(alloc, of, value)?)
 }
 
-/// A call of Println at a place.
-fn printed<'a>(
+/// A value that is converted to a type: a constant becomes one of the type.
+fn conversion_to(alloc: Global, of: GoType, value: TypedExpr) -> Result<TypedExpr, AllocError>
+    ensures { IfOk result (λ e. expr_of e ≡ conversion_to (type_of of) (expr_of value)) }
+{
+    match take_constant(value) {
+        Ok(value) => Ok(constant(of, value)),
+        Err(value) => conversion(alloc, of, value),
+    }
+}
+
+/// A conversion at a place, where the type and the value are known.
+pub(crate) fn conversion_at<'a>(
     alloc: Global,
     place: Place,
-    arguments: Vec<Value>,
+    of: Option<GoType>,
+    value: Option<TypedExpr>,
 ) -> Result<Option<Known<'a>>, ExprError>
-    ensures { AnswersAt known_of result place (called (declared println) (map value_of arguments.items)) }
+    ensures { AnswersAt known_of result place (valued (asked_both converted (option_map type_of of) (option_map expr_of value))) }
 {
-    match all_defaulted(alloc, arguments)? {
-        Some(operands) => Ok(Some(Known::Printed(operands))),
-        None => Err(ExprError::Faulty(place, FaultKind::Range)),
-    }
+    let Some(of) = of else {
+        return Ok(None);
+    };
+    let Some(value) = value else {
+        return Ok(None);
+    };
+    value_at(place, converted(alloc, of, value))
 }
 
-/// The length of a constant, which a string alone has.
-/// [Length and capacity](https://go.dev/ref/spec#Length_and_capacity)
-fn length_of<'a>(place: Place, value: Value) -> Result<Option<Known<'a>>, ExprError>
-    ensures { AnswersAt known_of result place (length_of (value_of value)) }
+/// The length of a value that isn't constant, or of an array.
+fn length_in(alloc: Global, value: TypedExpr) -> Result<TypedExpr, RuleError>
+    ensures { Gives expr_of result (length_in (expr_of value)) }
 {
-    match &value.constant {
-        Const::Text(text) => {
-            let length = text.bytes().len() as i128;
-            let of = GoType::Basic(Basic::Integer(Integer::Int));
-            Ok(Some(Known::Declared(Declared::Constant(of, Const::Integer(length)))))
+    if let GoType::Array(length, _) = underlying(type_in(&value)) {
+        if holds_call(&value) {
+            return Err(RuleError::Broken(FaultKind::Mismatch));
         }
-        _ => Err(ExprError::Faulty(place, FaultKind::Mismatch)),
+        return Ok(constant(int(), Const::Integer(i128::from(*length))));
     }
+    if !is_string(type_in(&value)) {
+        return Err(RuleError::Broken(FaultKind::Mismatch));
+    }
+    Ok(length(alloc, int(), value)?)
 }
 
-/// The one of some arguments, if they are one.
-fn one(arguments: Vec<Value>) -> Option<Value>
-    ensures { option_map value_of result ≡ alone_in (map value_of arguments.items) }
+/// The length of a value. `Mismatch` where it is no string and no array, or an array that has to be
+/// evaluated, since a call stands in it.
+/// [Length and capacity](https://go.dev/ref/spec#Length_and_capacity)
+fn length_of(alloc: Global, value: TypedExpr) -> Result<TypedExpr, RuleError>
+    ensures { Gives expr_of result (length_of (expr_of value)) }
+{
+    if let Some(Const::Text(text)) = constant_in(&value) {
+        let length = text.bytes().len() as i128;
+        return Ok(constant(int(), Const::Integer(length)));
+    }
+    length_in(alloc, value)
+}
+
+/// The one of some arguments. `Count` where they aren't one.
+fn one(arguments: Vec<TypedExpr>) -> Result<TypedExpr, RuleError>
+    ensures { Gives expr_of result (one (map expr_of arguments.items)) }
 {
     let mut arguments = arguments;
-    let last = arguments.pop()?;
-    if arguments.is_empty() {
-        Some(last)
-    } else {
-        None
+    match arguments.pop() {
+        Some(last) if arguments.is_empty() => Ok(last),
+        _ => Err(RuleError::Broken(FaultKind::Count)),
     }
 }
 
-/// A call at a place of what is known with arguments.
-fn called_with<'a>(
+/// Arguments as ones of the types of parameters, which are as many.
+fn all_assigned(
     alloc: Global,
-    place: Place,
-    callee: Known<'a>,
-    arguments: Vec<Value>,
-) -> Result<Option<Known<'a>>, ExprError>
-    ensures { AnswersAt known_of result place (called (known_of callee.entry) (map value_of arguments.items)) }
+    parameters: &[GoType],
+    arguments: Vec<TypedExpr>,
+) -> Result<Vec<TypedExpr>, RuleError>
+    ensures { Gives (all_of expr_of) result (each_unless [] (map (λ k. assigned k.0 k.1) (zip (map type_of parameters.now) (map expr_of arguments.items)))) }
+{
+    let mut all = Gathered::new(alloc, None);
+    let mut rest = arguments.into_iter();
+    for of in parameters {
+        let Some(argument) = rest.next() else {
+            return all.finish();
+        };
+        all.add(assigned(alloc, of.copy()?, argument))?;
+    }
+    all.finish()
+}
+
+/// Types of equal contents. An `Err` only where memory ran out.
+fn copied(alloc: Global, types: &[GoType]) -> Result<Vec<GoType>, AllocError>
+    ensures { IfOk result (λ copy. map type_of copy.items ≡ map type_of types.now) }
+{
+    let mut all = Vec::with_capacity(alloc, types.len())?;
+    for of in types {
+        all.push(of.copy()?)?;
+    }
+    Ok(all)
+}
+
+/// A call of a function with arguments that its parameters take.
+fn function_call<'a>(
+    alloc: Global,
+    function: &Function,
+    arguments: Vec<TypedExpr>,
+) -> Result<Known<'a>, AllocError>
+    ensures { IfOk result (λ k. known_of k ≡ function_call function.now.symbol (map type_of function.now.results.items) (map expr_of arguments.items)) }
+{
+    let symbol = function.symbol.copy()?;
+    if let [of] = function.results.as_slice() {
+        return Ok(Known::Value(call(of.copy()?, symbol, arguments)));
+    }
+    let types = copied(alloc, &function.results)?;
+    Ok(Known::Results(types, symbol, arguments))
+}
+
+/// What a call of a function with arguments is. `Count` where they aren't as many as its
+/// parameters; else what is wrong with the arguments.
+fn function_called<'a>(
+    alloc: Global,
+    function: &Function,
+    arguments: Vec<TypedExpr>,
+) -> Result<Known<'a>, RuleError>
+    ensures { Gives known_of result (called (known.declared (function_of function.now)) (map expr_of arguments.items)) }
+{
+    if function.parameters.len() != arguments.len() {
+        return Err(RuleError::Broken(FaultKind::Count));
+    }
+    let arguments = all_assigned(alloc, &function.parameters, arguments)?;
+    Ok(function_call(alloc, function, arguments)?)
+}
+
+/// A value that Println prints, as one of the type that it takes where none is due. `Mismatch`
+/// where it is no integer, string or truth value.
+fn printable(alloc: Global, value: TypedExpr) -> Result<TypedExpr, RuleError>
+    ensures { Gives expr_of result (printable (expr_of value)) }
+{
+    let of = type_in(&value);
+    if !(is_integer(of) || is_string(of) || is_bool(of)) {
+        return Err(RuleError::Broken(FaultKind::Mismatch));
+    }
+    defaulted(alloc, value)
+}
+
+/// The operands of a call of Println.
+fn all_printable(alloc: Global, arguments: Vec<TypedExpr>) -> Result<Vec<TypedExpr>, RuleError>
+    ensures { Gives (all_of expr_of) result (each_unless [] (map printable (map expr_of arguments.items))) }
+{
+    let mut all = Gathered::new(alloc, None);
+    for argument in arguments {
+        all.add(printable(alloc, argument))?;
+    }
+    all.finish()
+}
+
+/// A conversion of arguments to a type. `Count` where they aren't one.
+fn type_called<'a>(
+    alloc: Global,
+    of: GoType,
+    arguments: Vec<TypedExpr>,
+) -> Result<Known<'a>, RuleError>
+    ensures { Gives known_of result (called (known.declared (known.type' (type_of of))) (map expr_of arguments.items)) }
+{
+    let value = one(arguments)?;
+    Ok(Known::Value(converted(alloc, of, value)?))
+}
+
+/// The length of arguments. `Count` where they aren't one.
+fn length_called<'a>(alloc: Global, arguments: Vec<TypedExpr>) -> Result<Known<'a>, RuleError>
+    ensures { Gives known_of result (called (known.declared known.length') (map expr_of arguments.items)) }
+{
+    let value = one(arguments)?;
+    Ok(Known::Value(length_of(alloc, value)?))
+}
+
+/// A call of panic with arguments. `Count` where they aren't one; else what is wrong with the one as
+/// a string. [Handling panics](https://go.dev/ref/spec#Handling_panics)
+fn panic_called<'a>(alloc: Global, arguments: Vec<TypedExpr>) -> Result<Known<'a>, RuleError>
+    ensures { Gives known_of result (called (known.declared known.panic') (map expr_of arguments.items)) }
+{
+    let value = one(arguments)?;
+    Ok(Known::Panicked(assigned(alloc, string(), value)?))
+}
+
+/// What a call of what is known with arguments is. `Mismatch` where that can't be called.
+fn called<'a>(
+    alloc: Global,
+    callee: Known<'_>,
+    arguments: Vec<TypedExpr>,
+) -> Result<Known<'a>, RuleError>
+    ensures { Gives known_of result (called (known_of callee.entry) (map expr_of arguments.items)) }
 {
     match callee {
-        Known::Declared(Declared::Println) => printed(alloc, place, arguments),
-        Known::Declared(Declared::Type(of)) => match one(arguments) {
-            Some(value) => converted(place, of, value),
-            None => Err(ExprError::Faulty(place, FaultKind::Count)),
-        },
-        Known::Declared(Declared::Length) => match one(arguments) {
-            Some(value) => length_of(place, value),
-            None => Err(ExprError::Faulty(place, FaultKind::Count)),
-        },
-        Known::Declared(Declared::Panic) => Ok(None),
-        _ => Err(ExprError::Faulty(place, FaultKind::Mismatch)),
+        Known::Type(of) => type_called(alloc, of, arguments),
+        Known::Function(function) => function_called(alloc, &function, arguments),
+        Known::Println => Ok(Known::Printed(all_printable(alloc, arguments)?)),
+        Known::Length => length_called(alloc, arguments),
+        Known::Panic => panic_called(alloc, arguments),
+        _ => Err(RuleError::Broken(FaultKind::Mismatch)),
     }
 }
 
 /// A call at a place, where its callee and its arguments are known.
-pub(crate) fn called<'a>(
+pub(crate) fn call_at<'a>(
     alloc: Global,
     place: Place,
-    callee: Option<Known<'a>>,
-    arguments: Option<Vec<Value>>,
+    callee: Option<Known<'_>>,
+    arguments: Option<Vec<TypedExpr>>,
 ) -> Result<Option<Known<'a>>, ExprError>
-    ensures { AnswersAt known_of result place (call_of (option_map known_of callee.entry) (option_map (all_of value_of) arguments)) }
+    ensures { AnswersAt known_of result place (asked_both called (option_map known_of callee.entry) (option_map (all_of expr_of) arguments)) }
 {
-    match (callee, arguments) {
-        (Some(callee), Some(arguments)) => called_with(alloc, place, callee, arguments),
-        _ => Ok(None),
+    let Some(callee) = callee else {
+        return Ok(None);
+    };
+    let Some(arguments) = arguments else {
+        return Ok(None);
+    };
+    match called(alloc, callee, arguments) {
+        Ok(known) => Ok(Some(known)),
+        Err(error) => Err(error.at(place)),
     }
 }

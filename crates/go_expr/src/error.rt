@@ -1,6 +1,8 @@
 //! Why an expression isn't given.
 ghost use Rattle.std.specs.Prelude.{◌≡◌};
+ghost use Rattle.go_expr.specs.Seen.{LocatedAt};
 ghost use Rattle.go_expr.specs.declared.error.ExprError.TheVariants.{Memory};
+ghost use Rattle.go_expr.specs.declared.error.RuleError.TheVariants.{Memory as RuleMemory};
 
 use go_text::fault::FaultKind;
 use go_text::place::Place;
@@ -31,5 +33,44 @@ impl From<AllocError> for ExprError {
 
     fn from(_e: AllocError) -> ExprError {
         ExprError::Memory
+    }
+}
+
+/// Why a rule gives nothing of a node, wherever it stands.
+#[derive(Clone, Copy, Debug, Drop, Error)]
+pub enum RuleError {
+    /// The node breaks the rule; of several faults it is the one of the least number.
+    #[error("the rule is broken")]
+    Broken(FaultKind),
+    /// Memory ran out.
+    #[error("out of memory")]
+    Memory,
+}
+
+impl RuleError {
+    /// The same of a node at a place.
+    pub fn at(self, place: Place) -> ExprError
+        ensures { LocatedAt place self result }
+    {
+        match self {
+            RuleError::Broken(kind) => ExprError::Faulty(place, kind),
+            RuleError::Memory => ExprError::Memory,
+        }
+    }
+}
+
+impl<T: Drop> From<AllocFailed<T>> for RuleError {
+    ghost from_gives = { λ _ e. e ≡ RuleMemory };
+
+    fn from(_e: AllocFailed<T>) -> RuleError {
+        RuleError::Memory
+    }
+}
+
+impl From<AllocError> for RuleError {
+    ghost from_gives = { λ _ e. e ≡ RuleMemory };
+
+    fn from(_e: AllocError) -> RuleError {
+        RuleError::Memory
     }
 }

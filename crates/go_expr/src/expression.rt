@@ -1,25 +1,30 @@
 //! The checker of expressions and types.
 ghost use Rattle.std.specs.Prelude.{◌≡◌, ◌++◌, [], ◌∷◌, map, IfOk};
 ghost use Rattle.std.specs.Option.{option_map};
-ghost use Rattle.go_ast.specs.Trees.{struct, pack_fields};
-ghost use Rattle.go_ast.specs.Views.{expr_of, exprs_in, type_of as type_tree, field_of as field_tree};
+ghost use Rattle.go_ast.specs.Trees.{Name as NameTree, struct, pack_fields};
+ghost use Rattle.go_ast.specs.Views.{expr_of as expr_tree, exprs_in, value_of as element_tree, type_of as type_tree, field_of as field_tree};
 ghost use Rattle.go_types.specs.Views.{type_of};
-ghost use Rattle.go_expr.specs.Verdicts.{fine, joined, call_of, broken, operand, callee, verdict, operands, type_verdict, fields_known, operand_broken, callee_broken, faults, operands_faults, type_faults, fields_faults};
-ghost use Rattle.go_expr.specs.Seen.{known_of, value_of, field_of, scope_of, all_of, Answers};
+ghost use Rattle.go_typed.specs.Views.{expr_of};
+ghost use Rattle.go_expr.specs.Rules.{fine, called, element_type};
+ghost use Rattle.go_expr.specs.Verdicts.{asked_both, joined, broken, operand, callee, verdict, operands, elements as elements_known, element_verdict, type_verdict, fields_known, operand_broken, callee_broken, faults, operands_faults, elements_faults, element_faults, type_faults, fields_faults};
+ghost use Rattle.go_expr.specs.Seen.{known_of, element_of, elements_in, literal_verdict, due_of, field_of, scope_of, all_of, Answers};
 
-use crate::call::{called, not_package, value_due};
-use crate::conversion::conversion;
+use crate::call::{call_at, conversion_at, not_package, operand_at};
+use crate::composite::{Due, Element, element_type, literal_at, untyped_literal_at};
 use crate::error::ExprError;
-use crate::known::{Known, Value};
-use crate::literal::{literal, text_constant, untyped};
-use crate::operator::{binary_constant, unary_constant};
+use crate::known::Known;
+use crate::literal::{literal, rune, text_constant};
+use crate::operator::{binary_at, unary_at};
 use crate::scope::Scope;
-use crate::selector::selected;
-use crate::type_expr::{array_type, struct_place, struct_type, type_due, with_fields};
-use go_ast::expression::{Expr, ExprKind, Field as FieldExpr, TypeExpr, TypeKind};
-use go_const::constant::Const;
+use crate::selector::{index_at, selected, value_at};
+use crate::type_expr::{array_type, struct_place, struct_type, type_at, with_fields};
+use go_ast::expression::{
+    Element as ElementExpr, ElementValue, Expr, ExprKind, Field as FieldExpr, TypeExpr, TypeKind,
+};
+use go_ast::name::Name;
 use go_text::place::Place;
-use go_types::types::{Field, GoType, Untyped};
+use go_typed::expression::TypedExpr;
+use go_types::types::{Field, GoType};
 use std::alloc::{AllocError, Global};
 
 /// What is known of an expression, where no part of it was passed over, or the first fault in it.
@@ -30,25 +35,31 @@ pub fn check_expr<'a>(
     scope: &Scope<'a>,
     e: &Expr,
 ) -> Result<Option<Known<'a>>, ExprError>
-    ensures { Answers known_of result (faults (scope_of scope.now) (expr_of e.now)) (fine (verdict (scope_of scope.now) (expr_of e.now))) }
+    ensures { Answers known_of result (faults (scope_of scope.now) (expr_tree e.now)) (fine (verdict (scope_of scope.now) (expr_tree e.now))) }
 {
     match &e.kind {
         ExprKind::Name(name) => scope.look_up(e.place, name.as_str()),
-        ExprKind::Integer(digits) => literal(e.place, digits.as_str()),
-        ExprKind::Rune(value) => Ok(Some(untyped(
-            Untyped::Rune,
-            Const::Integer(i128::from(*value)),
-        ))),
-        ExprKind::String(bytes) => text_constant(alloc, bytes),
+        ExprKind::Integer(digits) => value_at(e.place, literal(digits.as_str())),
+        ExprKind::Rune(value) => Ok(Some(Known::Value(rune(*value)))),
+        ExprKind::String(bytes) => Ok(Some(Known::Value(text_constant(alloc, bytes)?))),
         ExprKind::Parenthesized(inside) => check_unpackaged(alloc, scope, inside),
+        ExprKind::CompositeLit(of, _, elements) => {
+            let of = check_type(alloc, scope, of)?;
+            check_literal(alloc, scope, elements, e.place, of)
+        }
         ExprKind::Selector(operand, field) => {
             let operand = check_expr(alloc, scope, operand)?;
-            selected(e.place, field.text(), operand)
+            selected(alloc, e.place, scope.path(), field.text(), operand)
+        }
+        ExprKind::Index(operand, index) => {
+            let operand = check_operand(alloc, scope, operand)?;
+            let index = check_operand(alloc, scope, index)?;
+            index_at(alloc, e.place, operand, index)
         }
         ExprKind::Conversion(of, operand) => {
             let of = check_type(alloc, scope, of)?;
             let operand = check_operand(alloc, scope, operand)?;
-            conversion(e.place, of, operand)
+            conversion_at(alloc, e.place, of, operand)
         }
         ExprKind::Call(callee, arguments) => {
             let callee = check_unpackaged(alloc, scope, callee)?;
@@ -56,15 +67,91 @@ pub fn check_expr<'a>(
         }
         ExprKind::Unary(operator, operand) => {
             let operand = check_operand(alloc, scope, operand)?;
-            unary_constant(e.place, *operator, operand)
+            unary_at(alloc, e.place, *operator, operand)
         }
         ExprKind::Binary(operator, left, right) => {
             let left = check_operand(alloc, scope, left)?;
             let right = check_operand(alloc, scope, right)?;
-            binary_constant(alloc, e.place, *operator, left, right)
+            binary_at(alloc, e.place, *operator, left, right)
         }
-        _ => Ok(None),
     }
+}
+
+/// What is known of a literal at a place of a type, where that is known, or the first fault in its
+/// elements or of the literal.
+#[cycle(check)]
+fn check_literal<'a>(
+    alloc: Global,
+    scope: &Scope<'a>,
+    elements: &[ElementExpr],
+    place: Place,
+    of: Option<GoType>,
+) -> Result<Option<Known<'a>>, ExprError>
+    ensures { Answers known_of result (elements_faults (scope_of scope.now) (element_type (option_map type_of of)) (elements_in elements.now) ++ broken place (literal_verdict (scope_of scope.now) (option_map type_of of) (elements_in elements.now))) (fine (literal_verdict (scope_of scope.now) (option_map type_of of) (elements_in elements.now))) }
+{
+    let elements = check_elements(alloc, scope, elements, element_type(of.as_ref()))?;
+    literal_at(alloc, place, scope.path(), of, elements)
+}
+
+/// The elements of a literal in their order, where all are known, or the first fault in them; those
+/// that leave out their type take the type that is due.
+#[cycle(check)]
+fn check_elements<'e>(
+    alloc: Global,
+    scope: &Scope<'_>,
+    elements: &'e [ElementExpr],
+    due: Due<'_>,
+) -> Result<Option<Vec<Element<'e>>>, ExprError>
+    ensures { Answers (all_of element_of) result (elements_faults (scope_of scope.now) (due_of due.entry) (elements_in elements.now)) (elements_known (scope_of scope.now) (due_of due.entry) (elements_in elements.now)) }
+{
+    let mut all = Some(Vec::new(alloc));
+    for element in elements {
+        let value = check_element(alloc, scope, &element.value, due)?;
+        all = with_element(all, &element.key, value)?;
+    }
+    Ok(all)
+}
+
+/// The value of an element of a literal, or the first fault in it.
+#[cycle(check)]
+#[tactic(auto, unfolding(go_ast::specs::Views::expr_of, go_ast::specs::Views::value_of))]
+fn check_element(
+    alloc: Global,
+    scope: &Scope<'_>,
+    element: &ElementValue,
+    due: Due<'_>,
+) -> Result<Option<TypedExpr>, ExprError>
+    ensures { Answers expr_of result (element_faults (scope_of scope.now) (due_of due.entry) (element_tree element.now)) (fine (element_verdict (scope_of scope.now) (due_of due.entry) (element_tree element.now))) }
+{
+    match element {
+        ElementValue::Expression(e) => check_operand(alloc, scope, e),
+        ElementValue::Value(place, elements) => {
+            let elements = check_elements(alloc, scope, elements, element_type(due.known()))?;
+            untyped_literal_at(alloc, *place, scope.path(), due, elements)
+        }
+    }
+}
+
+/// Adds an element with its key behind others, where all are known.
+fn with_element<'e>(
+    all: Option<Vec<Element<'e>>>,
+    key: &'e Option<Name>,
+    value: Option<TypedExpr>,
+) -> Result<Option<Vec<Element<'e>>>, AllocError>
+    ensures { IfOk result (λ more. option_map (all_of element_of) more ≡ joined (option_map (all_of element_of) all.entry) (option_map (λ e. (option_map (λ (n : NameTree). n.text) key.now, e) ∷ []) (option_map expr_of value))) }
+{
+    let Some(mut all) = all else {
+        return Ok(None);
+    };
+    let Some(value) = value else {
+        return Ok(None);
+    };
+    let key = match key {
+        Some(name) => Some(name.text()),
+        None => None,
+    };
+    all.push(Element { key, value })?;
+    Ok(Some(all))
 }
 
 /// What is known of a call at a place of a callee with some arguments, or the first fault in the
@@ -77,43 +164,47 @@ fn check_call<'a>(
     callee: Option<Known<'a>>,
     arguments: &[Expr],
 ) -> Result<Option<Known<'a>>, ExprError>
-    ensures { Answers known_of result (operands_faults (scope_of scope.now) (exprs_in arguments.now) ++ broken place (call_of (option_map known_of callee.entry) (operands (scope_of scope.now) (exprs_in arguments.now)))) (fine (call_of (option_map known_of callee.entry) (operands (scope_of scope.now) (exprs_in arguments.now)))) }
+    ensures { Answers known_of result (operands_faults (scope_of scope.now) (exprs_in arguments.now) ++ broken place (asked_both called (option_map known_of callee.entry) (operands (scope_of scope.now) (exprs_in arguments.now)))) (fine (asked_both called (option_map known_of callee.entry) (operands (scope_of scope.now) (exprs_in arguments.now)))) }
 {
     let arguments = check_operands(alloc, scope, arguments)?;
-    called(alloc, place, callee, arguments)
+    call_at(alloc, place, callee, arguments)
 }
 
 /// What is known of an expression where anything but a package is due, or the first fault in it.
 #[cycle(check)]
-fn check_unpackaged<'a>(
+pub fn check_unpackaged<'a>(
     alloc: Global,
     scope: &Scope<'a>,
     e: &Expr,
 ) -> Result<Option<Known<'a>>, ExprError>
-    ensures { Answers known_of result (faults (scope_of scope.now) (expr_of e.now) ++ callee_broken (expr_of e.now) (verdict (scope_of scope.now) (expr_of e.now))) (fine (callee (verdict (scope_of scope.now) (expr_of e.now)))) }
+    ensures { Answers known_of result (faults (scope_of scope.now) (expr_tree e.now) ++ callee_broken (expr_tree e.now) (verdict (scope_of scope.now) (expr_tree e.now))) (fine (callee (verdict (scope_of scope.now) (expr_tree e.now)))) }
 {
     let known = check_expr(alloc, scope, e)?;
     not_package(e.place, known)
 }
 
-/// The constant that an operand is, or the first fault in it.
+/// The value of an operand, or the first fault in it.
 #[cycle(check)]
-pub fn check_operand(alloc: Global, scope: &Scope<'_>, e: &Expr) -> Result<Option<Value>, ExprError>
-    ensures { Answers value_of result (faults (scope_of scope.now) (expr_of e.now) ++ operand_broken (expr_of e.now) (verdict (scope_of scope.now) (expr_of e.now))) (operand (verdict (scope_of scope.now) (expr_of e.now))) }
+pub fn check_operand(
+    alloc: Global,
+    scope: &Scope<'_>,
+    e: &Expr,
+) -> Result<Option<TypedExpr>, ExprError>
+    ensures { Answers expr_of result (faults (scope_of scope.now) (expr_tree e.now) ++ operand_broken (expr_tree e.now) (verdict (scope_of scope.now) (expr_tree e.now))) (operand (verdict (scope_of scope.now) (expr_tree e.now))) }
 {
     let known = check_expr(alloc, scope, e)?;
-    value_due(e.place, known)
+    operand_at(e.place, known)
 }
 
-/// The constants that operands are, in their order, where all are known, or the first fault in
+/// The values of operands, in their order, where all are known, or the first fault in
 /// them.
 #[cycle(check)]
 pub fn check_operands(
     alloc: Global,
     scope: &Scope<'_>,
     expressions: &[Expr],
-) -> Result<Option<Vec<Value>>, ExprError>
-    ensures { Answers (all_of value_of) result (operands_faults (scope_of scope.now) (exprs_in expressions.now)) (operands (scope_of scope.now) (exprs_in expressions.now)) }
+) -> Result<Option<Vec<TypedExpr>>, ExprError>
+    ensures { Answers (all_of expr_of) result (operands_faults (scope_of scope.now) (exprs_in expressions.now)) (operands (scope_of scope.now) (exprs_in expressions.now)) }
 {
     let mut all = Some(Vec::with_capacity(alloc, expressions.len())?);
     for e in expressions {
@@ -123,20 +214,21 @@ pub fn check_operands(
     Ok(all)
 }
 
-/// Adds a constant behind others, where all are known.
+/// Adds a value behind others, where all are known.
 fn with_value(
-    all: Option<Vec<Value>>,
-    value: Option<Value>,
-) -> Result<Option<Vec<Value>>, AllocError>
-    ensures { IfOk result (λ more. option_map (all_of value_of) more ≡ joined (option_map (all_of value_of) all) (option_map (λ v. v ∷ []) (option_map value_of value))) }
+    all: Option<Vec<TypedExpr>>,
+    value: Option<TypedExpr>,
+) -> Result<Option<Vec<TypedExpr>>, AllocError>
+    ensures { IfOk result (λ more. option_map (all_of expr_of) more ≡ joined (option_map (all_of expr_of) all) (option_map (λ v. v ∷ []) (option_map expr_of value))) }
 {
-    match (all, value) {
-        (Some(mut all), Some(value)) => {
-            all.push(value)?;
-            Ok(Some(all))
-        }
-        _ => Ok(None),
-    }
+    let Some(mut all) = all else {
+        return Ok(None);
+    };
+    let Some(value) = value else {
+        return Ok(None);
+    };
+    all.push(value)?;
+    Ok(Some(all))
 }
 
 /// The type that is written, with all that it stands on, where that is known, or the first fault in it.
@@ -152,12 +244,12 @@ pub fn check_type(
     match &of.kind {
         TypeKind::Named(name) => {
             let known = scope.look_up(of.place, name.text())?;
-            type_due(of.place, known)
+            type_at(of.place, known)
         }
         TypeKind::Qualified(package, name) => {
             let package = scope.look_up(of.place, package.text())?;
-            let known = selected(of.place, name.text(), package)?;
-            type_due(of.place, known)
+            let known = selected(alloc, of.place, scope.path(), name.text(), package)?;
+            type_at(of.place, known)
         }
         TypeKind::Array(length, element) => {
             let length = check_operand(alloc, scope, length)?;

@@ -2,7 +2,8 @@
 ghost use Rattle.std.specs.Prelude.{◌≡◌, ◌≢◌, [], None};
 ghost use Rattle.go_ast.specs.Trees.{Expr, TypeExpr};
 ghost use Rattle.go_expr.specs.Known.{Scope};
-ghost use Rattle.go_expr.specs.Verdicts.{fine, verdict, faults, type_verdict, type_faults};
+ghost use Rattle.go_expr.specs.Rules.{fine};
+ghost use Rattle.go_expr.specs.Verdicts.{verdict, faults, type_verdict, type_faults};
 
 /// Nothing is known of what has a fault, so that what stands on it is passed over.
 pub fn law_faulty_is_unknown()

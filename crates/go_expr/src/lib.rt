@@ -1,15 +1,19 @@
-//! What expressions and types are: constants, exact and with their types, and types written out.
+//! What expressions and types are: typed trees, constants exact, and types written out.
 #![tactic(auto)]
 
 mod call;
-pub mod conversion;
+mod composite;
 pub mod error;
+mod evaluation;
 pub mod expression;
+pub mod gather;
 pub mod known;
 pub mod law;
 mod literal;
-mod operator;
+pub mod node;
+pub mod operator;
 pub mod scope;
-mod selector;
+pub mod selector;
 mod type_expr;
 mod universe;
+pub mod value;

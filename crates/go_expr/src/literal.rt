@@ -1,20 +1,21 @@
 //! Literals. [Integer literals](https://go.dev/ref/spec#Integer_literals)
-ghost use Rattle.std.specs.Prelude.{◌≡◌, ◌≤◌, ◌<◌, ◌^◌, pos, SomeIff, Some, []};
-ghost use Rattle.go_const.specs.declared.constant.Const.TheVariants.{Text as AText};
+ghost use Rattle.std.specs.Prelude.{◌≡◌, ◌≤◌, ◌<◌, ◌^◌, pos, SomeIff, IfOk};
+ghost use Rattle.go_const.specs.declared.constant.Const.TheVariants.{Integer as AnInteger, Text as AText};
 ghost use Rattle.go_types.specs.declared.types.Basic.TheVariants as basics;
 ghost use Rattle.go_types.specs.declared.types.Untyped.TheVariants as kinds;
 ghost use Rattle.go_types.specs.Types.{basic};
-ghost use Rattle.go_expr.specs.Known as known;
+ghost use Rattle.go_typed.specs.Trees.{constant};
+ghost use Rattle.go_typed.specs.Views.{expr_of};
 ghost use Rattle.go_expr.specs.Rules.{numeral, number_of, literal};
-ghost use Rattle.go_expr.specs.Seen.{known_of, Answers, AnswersAt};
+ghost use Rattle.go_expr.specs.Seen.{Gives};
 
-use crate::error::ExprError;
-use crate::known::{Declared, Known};
+use crate::error::RuleError;
+use crate::node::constant;
 use go_const::constant::{Const, Text};
 use go_text::fault::FaultKind;
-use go_text::place::Place;
+use go_typed::expression::TypedExpr;
 use go_types::types::{Basic, GoType, Untyped};
-use std::alloc::Global;
+use std::alloc::{AllocError, Global};
 
 /// The base of an integer literal, and its digits with underscores among them.
 fn numeral(text: &[u8]) -> (u32, &[u8])
@@ -49,28 +50,35 @@ fn number_of(base: u32, digits: &[u8]) -> Option<i128>
 }
 
 /// A constant that has no type, of a kind.
-pub(crate) fn untyped<'a>(kind: Untyped, constant: Const) -> Known<'a>
-    ensures { known_of result ≡ known.declared (known.constant (basic (basics.Untyped kind)) constant) }
+pub(crate) fn untyped(kind: Untyped, value: Const) -> TypedExpr
+    ensures { expr_of result ≡ constant (basic (basics.Untyped kind)) value }
 {
-    Known::Declared(Declared::Constant(GoType::Basic(Basic::Untyped(kind)), constant))
+    constant(GoType::Basic(Basic::Untyped(kind)), value)
 }
 
-/// What an integer literal at a place is, or its fault.
-pub(crate) fn literal<'a>(place: Place, text: &str) -> Result<Option<Known<'a>>, ExprError>
-    ensures { AnswersAt known_of result place (literal text.now) }
+/// What an integer literal is. `Constant` where it is 2^127 or more.
+pub(crate) fn literal(text: &str) -> Result<TypedExpr, RuleError>
+    ensures { Gives expr_of result (literal text.now) }
 {
     let (base, digits) = numeral(text.as_bytes());
     match number_of(base, digits) {
-        Some(number) => Ok(Some(untyped(Untyped::Int, Const::Integer(number)))),
-        None => Err(ExprError::Faulty(place, FaultKind::Constant)),
+        Some(number) => Ok(untyped(Untyped::Int, Const::Integer(number))),
+        None => Err(RuleError::Broken(FaultKind::Constant)),
     }
+}
+
+/// What a rune literal is. [Rune literals](https://go.dev/ref/spec#Rune_literals)
+pub(crate) fn rune(value: u32) -> TypedExpr
+    ensures { expr_of result ≡ constant (basic (basics.Untyped kinds.Rune)) (AnInteger (pos value)) }
+{
+    untyped(Untyped::Rune, Const::Integer(i128::from(value)))
 }
 
 /// What a string literal is. An `Err` only where memory ran out.
 /// [String literals](https://go.dev/ref/spec#String_literals)
-pub(crate) fn text_constant<'a>(alloc: Global, bytes: &[u8]) -> Result<Option<Known<'a>>, ExprError>
-    ensures { Answers known_of result [] (Some (known.declared (known.constant (basic (basics.Untyped kinds.String)) (AText bytes.now)))) }
+pub(crate) fn text_constant(alloc: Global, bytes: &[u8]) -> Result<TypedExpr, AllocError>
+    ensures { IfOk result (λ e. expr_of e ≡ constant (basic (basics.Untyped kinds.String)) (AText bytes.now)) }
 {
     let text = Text::new(Vec::from_slice(alloc, bytes)?)?;
-    Ok(Some(untyped(Untyped::String, Const::Text(text))))
+    Ok(untyped(Untyped::String, Const::Text(text)))
 }

@@ -1,18 +1,22 @@
-//! What operators give of constants.
-//! [Constant expressions](https://go.dev/ref/spec#Constant_expressions)
-ghost use Rattle.std.specs.Prelude.{◌≡◌, Err};
+//! What operators give. [Operators](https://go.dev/ref/spec#Operators)
+ghost use Rattle.std.specs.Prelude.{◌≡◌, Err, IfOk};
 ghost use Rattle.std.specs.Option.{option_map};
 ghost use Rattle.go_const.specs.declared.error.ConstError.TheVariants as errors;
 ghost use Rattle.go_const.specs.declared.operator.BinaryOperator.TheVariants.{Arithmetic, Comparison};
 ghost use Rattle.go_types.specs.Views.{type_of};
-ghost use Rattle.go_expr.specs.declared.error.ExprError.TheVariants.{Memory};
-ghost use Rattle.go_expr.specs.Rules.{given, takes, common, result_type, within, combined, shifted, binary_of, operator_of, unary_of};
-ghost use Rattle.go_expr.specs.Verdicts.{asked, both};
-ghost use Rattle.go_expr.specs.Seen.{known_of, value_of, operated, AnswersAt};
+ghost use Rattle.go_typed.specs.Views.{expr_of};
+ghost use Rattle.go_expr.specs.declared.error.RuleError.TheVariants.{Memory};
+ghost use Rattle.go_expr.specs.Rules.{valued, constant_in, as_type, given, takes, common, is_defined, result_type, operation, divides_by_zero, operated, operand_type, combined, counted_by, shift_of, shifted, binary_of, operator_of, is_operand, unary_of};
+ghost use Rattle.go_expr.specs.Verdicts.{asked, asked_both};
+ghost use Rattle.go_expr.specs.Seen.{known_of, does, AnswersAt, Gives};
 
-use crate::conversion::{int_kind, lies_in};
-use crate::error::ExprError;
-use crate::known::{Declared, Known, Value};
+use crate::error::{ExprError, RuleError};
+use crate::known::Known;
+use crate::node::{
+    binary as binary_node, both, constant, constant_in, either, type_in, unary as unary_node,
+};
+use crate::selector::value_at;
+use crate::value::{as_type, int_kind, is_bool, is_integer, is_string, is_untyped, lies_in, uint};
 use go_ast::expression::{BinaryOperator as Binary, UnaryOperator as Unary};
 use go_const::binary::binary;
 use go_const::constant::Const;
@@ -24,49 +28,27 @@ use go_const::shift::shift;
 use go_const::unary::unary;
 use go_text::fault::FaultKind;
 use go_text::place::Place;
+use go_typed::expression::{Operator, TypedExpr};
 use go_types::relations::assignable;
 use go_types::types::{Basic, GoType, Untyped};
-use std::alloc::Global;
+use std::alloc::{AllocError, Global};
 
-/// What an operator gives at a place, as a constant of a type, or what is wrong with it.
-fn given<'a>(
-    place: Place,
-    of: GoType,
-    constant: Result<Const, ConstError>,
-) -> Result<Option<Known<'a>>, ExprError>
-    ensures answer { AnswersAt known_of result place (given (type_of of) constant) }
-    ensures memory { constant ≡ Err errors.Memory → result ≡ Err Memory }
+/// What an operator gives as a constant of a type, or what is wrong with it.
+fn given(of: GoType, value: Result<Const, ConstError>) -> Result<TypedExpr, RuleError>
+    ensures answer { Gives expr_of result (given (type_of of) value) }
+    ensures memory { value ≡ Err errors.Memory → result ≡ Err Memory }
 {
-    let kind = match constant {
-        Ok(constant) => return Ok(Some(Known::Declared(Declared::Constant(of, constant)))),
+    Err(RuleError::Broken(match value {
+        Ok(value) => return Ok(constant(of, value)),
         Err(ConstError::Mismatch) => FaultKind::Mismatch,
         Err(ConstError::Range) => FaultKind::Range,
         Err(ConstError::Constant) => FaultKind::Constant,
         Err(ConstError::Divide) => FaultKind::DivideByZero,
-        Err(ConstError::Memory) => return Err(ExprError::Memory),
-    };
-    Err(ExprError::Faulty(place, kind))
+        Err(ConstError::Memory) => return Err(RuleError::Memory),
+    }))
 }
 
-/// The same, where the operands lie in their type or don't.
-fn within<'a>(
-    place: Place,
-    inside: bool,
-    of: GoType,
-    constant: Result<Const, ConstError>,
-) -> Result<Option<Known<'a>>, ExprError>
-    ensures answer { AnswersAt known_of result place (within inside (given (type_of of) constant)) }
-    ensures memory { constant ≡ Err errors.Memory → result ≡ Err Memory }
-{
-    match constant {
-        Err(ConstError::Memory) => Err(ExprError::Memory),
-        Err(ConstError::Mismatch) => Err(ExprError::Faulty(place, FaultKind::Mismatch)),
-        constant if inside => given(place, of, constant),
-        _ => Err(ExprError::Faulty(place, FaultKind::Range)),
-    }
-}
-
-/// Whether a constant of one type takes another in an operation.
+/// Whether an operand of one type takes another in an operation.
 fn takes(of: &GoType, other: &GoType) -> bool
     ensures { result ≡ takes (type_of of.now) (type_of other.now) }
 {
@@ -80,15 +62,29 @@ fn takes(of: &GoType, other: &GoType) -> bool
 }
 
 /// The type that two operands both have or take, if there is one.
-fn common(a: GoType, b: GoType) -> Option<GoType>
-    ensures { option_map type_of result ≡ common (type_of a) (type_of b) }
+fn common<'a>(a: &'a GoType, b: &'a GoType) -> Option<&'a GoType>
+    ensures { option_map (λ t. type_of t.now) result ≡ common (type_of a.now) (type_of b.now) }
 {
-    if takes(&b, &a) {
+    if takes(b, a) {
         Some(a)
-    } else if takes(&a, &b) {
+    } else if takes(a, b) {
         Some(b)
     } else {
         None
+    }
+}
+
+/// Whether an operator is defined on operands of a type.
+fn is_defined(operator: BinaryOperator, of: &GoType) -> bool
+    ensures { result ≡ is_defined operator (type_of of.now) }
+{
+    match operator {
+        BinaryOperator::Arithmetic(ArithmeticOperator::Add) => is_integer(of) || is_string(of),
+        BinaryOperator::Arithmetic(_) => is_integer(of),
+        BinaryOperator::Comparison(ComparisonOperator::Equal | ComparisonOperator::NotEqual) =>
+            true,
+        BinaryOperator::Comparison(_) => is_integer(of) || is_string(of),
+        BinaryOperator::LogicalAnd | BinaryOperator::LogicalOr => is_bool(of),
     }
 }
 
@@ -102,35 +98,164 @@ fn result_type(operator: BinaryOperator, of: GoType) -> GoType
     }
 }
 
-/// What an operator gives at a place of two constants, as ones of the type that both have.
-fn combined<'a>(
+/// An operator between two operands of a type that it takes, by the type of what it gives.
+fn operator_node(
     alloc: Global,
-    place: Place,
     operator: BinaryOperator,
-    x: Value,
-    y: Value,
-) -> Result<Option<Known<'a>>, ExprError>
-    ensures { AnswersAt known_of result place (combined operator (value_of x) (value_of y)) }
+    of: GoType,
+    x: TypedExpr,
+    y: TypedExpr,
+) -> Result<TypedExpr, AllocError>
+    ensures { IfOk result (λ e. expr_of e ≡ operation operator (type_of of) (expr_of x) (expr_of y)) }
 {
-    let Some(of) = common(x.of, y.of) else {
-        return Err(ExprError::Faulty(place, FaultKind::Mismatch));
-    };
-    let inside = lies_in(&of, &x.constant) && lies_in(&of, &y.constant);
-    let constant = binary(alloc, operator, int_kind(&of), &x.constant, &y.constant);
-    within(place, inside, result_type(operator, of), constant)
+    match operator {
+        BinaryOperator::Arithmetic(operator) => {
+            binary_node(alloc, of, Operator::Arithmetic(operator), x, y)
+        }
+        BinaryOperator::Comparison(operator) => {
+            binary_node(alloc, of, Operator::Comparison(operator), x, y)
+        }
+        BinaryOperator::LogicalAnd => both(alloc, of, x, y),
+        BinaryOperator::LogicalOr => either(alloc, of, x, y),
+    }
 }
 
-/// What a shift gives at a place of a constant by a count, of the constant's type.
-fn shifted<'a>(
-    place: Place,
-    operator: ShiftOperator,
-    x: Value,
-    count: Value,
-) -> Result<Option<Known<'a>>, ExprError>
-    ensures { AnswersAt known_of result place (shifted operator (value_of x) (value_of count)) }
+/// A value as one of a type that is used again.
+fn taken_as(alloc: Global, of: &GoType, value: TypedExpr) -> Result<TypedExpr, AllocError>
+    ensures { IfOk result (λ e. expr_of e ≡ as_type (type_of of.now) (expr_of value)) }
 {
-    let constant = shift(operator, int_kind(&x.of), &x.constant, &count.constant);
-    given(place, x.of, constant)
+    as_type(alloc, of.copy()?, value)
+}
+
+/// An operator between two operands, as ones of a type.
+fn applied(
+    alloc: Global,
+    operator: BinaryOperator,
+    of: GoType,
+    x: TypedExpr,
+    y: TypedExpr,
+) -> Result<TypedExpr, AllocError>
+    ensures { IfOk result (λ e. expr_of e ≡ operation operator (result_type operator (type_of of)) (as_type (type_of of) (expr_of x)) (as_type (type_of of) (expr_of y))) }
+{
+    let x = taken_as(alloc, &of, x)?;
+    let y = taken_as(alloc, &of, y)?;
+    operator_node(alloc, operator, result_type(operator, of), x, y)
+}
+
+/// Whether an operator divides an integer by a constant that is zero.
+fn divides_by_zero(operator: BinaryOperator, divisor: Option<&Const>) -> bool
+    ensures { result ≡ divides_by_zero operator (option_map (λ c. c.now) divisor.entry) }
+{
+    match (operator, divisor) {
+        (BinaryOperator::Arithmetic(operator), Some(Const::Integer(divisor))) => {
+            operator.divides() && *divisor == 0
+        }
+        _ => false,
+    }
+}
+
+/// What an operator gives of two operands of a type that it is defined on.
+fn operated(
+    alloc: Global,
+    operator: BinaryOperator,
+    of: GoType,
+    x: TypedExpr,
+    y: TypedExpr,
+) -> Result<TypedExpr, RuleError>
+    ensures { Gives expr_of result (operated operator (type_of of) (expr_of x) (expr_of y) (constant_in (expr_of x)) (constant_in (expr_of y))) }
+{
+    if let (Some(c), Some(d)) = (constant_in(&x), constant_in(&y)) {
+        let value = binary(alloc, operator, int_kind(&of), c, d);
+        return given(result_type(operator, of), value);
+    }
+    if divides_by_zero(operator, constant_in(&y)) {
+        return Err(RuleError::Broken(FaultKind::DivideByZero));
+    }
+    Ok(applied(alloc, operator, of, x, y)?)
+}
+
+/// The type that both operands of an operator are taken as. `Mismatch` where they have none in
+/// common or the operator isn't defined on it, `Range` where a constant lies outside.
+pub fn operand_type(
+    operator: BinaryOperator,
+    x: &TypedExpr,
+    y: &TypedExpr,
+) -> Result<GoType, RuleError>
+    ensures { Gives type_of result (operand_type operator (expr_of x.now) (expr_of y.now)) }
+{
+    let Some(of) = common(type_in(x), type_in(y)) else {
+        return Err(RuleError::Broken(FaultKind::Mismatch));
+    };
+    if !is_defined(operator, of) {
+        return Err(RuleError::Broken(FaultKind::Mismatch));
+    }
+    if !lies_in(of, x) || !lies_in(of, y) {
+        return Err(RuleError::Broken(FaultKind::Range));
+    }
+    Ok(of.copy()?)
+}
+
+/// What an operator gives of two operands, as ones of the type that both have or take.
+fn combined(
+    alloc: Global,
+    operator: BinaryOperator,
+    x: TypedExpr,
+    y: TypedExpr,
+) -> Result<TypedExpr, RuleError>
+    ensures { Gives expr_of result (combined operator (expr_of x) (expr_of y)) }
+{
+    let of = operand_type(operator, &x, &y)?;
+    operated(alloc, operator, of, x, y)
+}
+
+/// A count of a shift, which is a uint where it has no type.
+fn counted_by(alloc: Global, count: TypedExpr) -> Result<TypedExpr, AllocError>
+    ensures { IfOk result (λ e. expr_of e ≡ counted_by (expr_of count)) }
+{
+    if is_untyped(type_in(&count)) {
+        as_type(alloc, uint(), count)
+    } else {
+        Ok(count)
+    }
+}
+
+/// What a shift gives of an integer by a count that is one.
+fn shift_of(
+    alloc: Global,
+    operator: ShiftOperator,
+    x: TypedExpr,
+    count: TypedExpr,
+) -> Result<TypedExpr, RuleError>
+    ensures { Gives expr_of result (shift_of operator (expr_of x) (expr_of count) (constant_in (expr_of x)) (constant_in (expr_of count))) }
+{
+    let of = type_in(&x).copy()?;
+    if let (Some(c), Some(d)) = (constant_in(&x), constant_in(&count)) {
+        let value = shift(operator, int_kind(&of), c, d);
+        return given(of, value);
+    }
+    if !lies_in(&uint(), &count) {
+        return Err(RuleError::Broken(FaultKind::Range));
+    }
+    let count = counted_by(alloc, count)?;
+    Ok(binary_node(alloc, of, Operator::Shift(operator), x, count)?)
+}
+
+/// What a shift gives of a value by a count, of the value's type.
+fn shifted(
+    alloc: Global,
+    operator: ShiftOperator,
+    x: TypedExpr,
+    count: TypedExpr,
+) -> Result<TypedExpr, RuleError>
+    ensures { Gives expr_of result (shifted operator (expr_of x) (expr_of count)) }
+{
+    if is_untyped(type_in(&x)) && constant_in(&count).is_none() {
+        return Err(RuleError::Broken(FaultKind::LeftOut));
+    }
+    if !is_integer(type_in(&x)) || !is_integer(type_in(&count)) {
+        return Err(RuleError::Broken(FaultKind::Mismatch));
+    }
+    shift_of(alloc, operator, x, count)
 }
 
 /// What an operator between two operands does.
@@ -143,20 +268,20 @@ enum Operation {
 }
 
 fn arithmetic(operator: ArithmeticOperator) -> Operation
-    ensures { operated result ≡ combined (Arithmetic operator) }
+    ensures { does result ≡ combined (Arithmetic operator) }
 {
     Operation::Combines(BinaryOperator::Arithmetic(operator))
 }
 
 fn comparison(operator: ComparisonOperator) -> Operation
-    ensures { operated result ≡ combined (Comparison operator) }
+    ensures { does result ≡ combined (Comparison operator) }
 {
     Operation::Combines(BinaryOperator::Comparison(operator))
 }
 
 /// What an operator does.
 fn operation_of(operator: Binary) -> Operation
-    ensures { operated result ≡ binary_of operator }
+    ensures { does result ≡ binary_of operator }
 {
     match operator {
         Binary::Multiply => arithmetic(ArithmeticOperator::Multiply),
@@ -181,26 +306,26 @@ fn operation_of(operator: Binary) -> Operation
     }
 }
 
-/// What an operator at a place gives of two constants, where both are known.
-pub(crate) fn binary_constant<'a>(
+/// What an operator gives of two values. `Mismatch` where it isn't defined on them; `Range` where
+/// an operand that is constant lies outside the other's type, what is constant lies outside its
+/// own, or the count of a shift is no uint; `Constant` where what is constant and has no type lies
+/// outside 128 bits; `DivideByZero`; `LeftOut` where what has no type is shifted by a count that
+/// isn't constant.
+pub fn binary_of(
     alloc: Global,
-    place: Place,
     operator: Binary,
-    x: Option<Value>,
-    y: Option<Value>,
-) -> Result<Option<Known<'a>>, ExprError>
-    ensures { AnswersAt known_of result place (asked (λ k. binary_of operator k.0 k.1) (both (option_map value_of x) (option_map value_of y))) }
+    x: TypedExpr,
+    y: TypedExpr,
+) -> Result<TypedExpr, RuleError>
+    ensures { Gives expr_of result (binary_of operator (expr_of x) (expr_of y)) }
 {
-    let (Some(x), Some(y)) = (x, y) else {
-        return Ok(None);
-    };
     match operation_of(operator) {
-        Operation::Combines(operator) => combined(alloc, place, operator, x, y),
-        Operation::Shifts(operator) => shifted(place, operator, x, y),
+        Operation::Combines(operator) => combined(alloc, operator, x, y),
+        Operation::Shifts(operator) => shifted(alloc, operator, x, y),
     }
 }
 
-/// What an operator in front of a constant does.
+/// What an operator in front of an operand does.
 fn unary_operator(operator: Unary) -> UnaryOperator
     ensures { result ≡ operator_of operator }
 {
@@ -212,17 +337,63 @@ fn unary_operator(operator: Unary) -> UnaryOperator
     }
 }
 
-/// What an operator at a place gives of a constant, where that is known.
-pub(crate) fn unary_constant<'a>(
+/// Whether an operator in front of an operand is defined on a type.
+fn is_operand(operator: Unary, of: &GoType) -> bool
+    ensures { result ≡ is_operand operator (type_of of.now) }
+{
+    match operator {
+        Unary::Negation => is_bool(of),
+        _ => is_integer(of),
+    }
+}
+
+/// What an operator gives in front of a value. `Mismatch` where it isn't defined on it; `Range`
+/// and `Constant` where what is constant lies outside.
+pub(crate) fn unary_of(alloc: Global, operator: Unary, x: TypedExpr) -> Result<TypedExpr, RuleError>
+    ensures { Gives expr_of result (unary_of operator (expr_of x)) }
+{
+    if !is_operand(operator, type_in(&x)) {
+        return Err(RuleError::Broken(FaultKind::Mismatch));
+    }
+    let of = type_in(&x).copy()?;
+    let operator = unary_operator(operator);
+    if let Some(c) = constant_in(&x) {
+        let value = unary(operator, int_kind(&of), c);
+        return given(of, value);
+    }
+    Ok(unary_node(alloc, of, operator, x)?)
+}
+
+/// What an operator at a place gives of two values, where both are known.
+pub(crate) fn binary_at<'a>(
+    alloc: Global,
     place: Place,
-    operator: Unary,
-    x: Option<Value>,
+    operator: Binary,
+    x: Option<TypedExpr>,
+    y: Option<TypedExpr>,
 ) -> Result<Option<Known<'a>>, ExprError>
-    ensures { AnswersAt known_of result place (asked (unary_of operator) (option_map value_of x)) }
+    ensures { AnswersAt known_of result place (valued (asked_both (binary_of operator) (option_map expr_of x) (option_map expr_of y))) }
 {
     let Some(x) = x else {
         return Ok(None);
     };
-    let constant = unary(unary_operator(operator), int_kind(&x.of), &x.constant);
-    given(place, x.of, constant)
+    let Some(y) = y else {
+        return Ok(None);
+    };
+    value_at(place, binary_of(alloc, operator, x, y))
+}
+
+/// What an operator in front of a value gives at a place, where the value is known.
+pub(crate) fn unary_at<'a>(
+    alloc: Global,
+    place: Place,
+    operator: Unary,
+    x: Option<TypedExpr>,
+) -> Result<Option<Known<'a>>, ExprError>
+    ensures { AnswersAt known_of result place (valued (asked (unary_of operator) (option_map expr_of x))) }
+{
+    match x {
+        Some(x) => value_at(place, unary_of(alloc, operator, x)),
+        None => Ok(None),
+    }
 }

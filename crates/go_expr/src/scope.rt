@@ -2,13 +2,15 @@
 ghost use Rattle.std.specs.Prelude.{◌≡◌, ◌++◌, bytes_eq, map};
 ghost use Rattle.std.specs.Map.{lookup};
 ghost use Rattle.std.specs.Option.{option_map};
-ghost use Rattle.go_expr.specs.Known.{Fine, look_up, universe};
-ghost use Rattle.go_expr.specs.Seen.{known_of, import_of, names_in, scope_of, package_names, iota_of, counted, AnswersAt};
+ghost use Rattle.go_expr.specs.Known.{Fine, look_up, named, universe};
+ghost use Rattle.go_expr.specs.Seen.{known_of, import_of, declared_of, names_in, local_names, locals_of, scope_of, package_names, iota_of, counted, AnswersAt};
 
 use crate::error::ExprError;
 use crate::known::{Declared, Known, Names, named};
+use crate::node::constant;
 use crate::universe::predeclared;
 use go_const::constant::Const;
+use go_scope::scopes::Scopes;
 use go_text::place::Place;
 use go_types::types::{Basic, GoType, Untyped};
 
@@ -29,6 +31,7 @@ pub struct Scope<'a> {
     imports: &'a [Import<'a>],
     declared: &'a Names,
     iota: Option<u64>,
+    locals: Option<&'a Scopes<Option<Declared>>>,
 }
 
 /// What an import's name finds among imports.
@@ -60,6 +63,27 @@ impl<'a> Scope<'a> {
             imports,
             declared,
             iota,
+            locals: None,
+        }
+    }
+
+    /// The scope of a place in a function: of blocks, whose names hide those of the file.
+    #[tactic(auto, unfolding(crate::specs::Seen::scope_of))]
+    pub fn in_blocks(
+        path: &'a str,
+        imports: &'a [Import<'a>],
+        declared: &'a Names,
+        iota: Option<u64>,
+        locals: &'a Scopes<Option<Declared>>,
+    ) -> Scope<'a>
+        ensures { scope_of result ≡ record { path = path.now; names = locals_of locals.now ++ names_in imports.now declared.now iota } }
+    {
+        Scope {
+            path,
+            imports,
+            declared,
+            iota,
+            locals: Some(locals),
         }
     }
 
@@ -73,8 +97,20 @@ impl<'a> Scope<'a> {
 
     /// What a name at a place finds, or its fault.
     /// [Declarations and scope](https://go.dev/ref/spec#Declarations_and_scope)
+    #[tactic(auto, unfolding(crate::specs::Seen::scope_of))]
     pub(crate) fn look_up(&self, place: Place, name: &str) -> Result<Option<Known<'a>>, ExprError>
         ensures { AnswersAt known_of result place (look_up name.now (scope_of self.now).names) }
+    {
+        match local(self.locals, name) {
+            Some(declared) => named(place, declared),
+            None => self.look_up_outside(place, name),
+        }
+    }
+
+    /// What a name at a place finds that no block declares, or its fault.
+    #[tactic(auto, unfolding(crate::specs::Seen::names_in))]
+    fn look_up_outside(&self, place: Place, name: &str) -> Result<Option<Known<'a>>, ExprError>
+        ensures { AnswersAt known_of result place (look_up name.now (names_in self.now.imports.now self.now.declared.now self.now.iota)) }
     {
         match imported(self.imports, name) {
             Some(known) => Ok(Some(known)),
@@ -83,12 +119,25 @@ impl<'a> Scope<'a> {
     }
 }
 
+/// What a name of a block declares.
+fn local<'a>(
+    locals: Option<&'a Scopes<Option<Declared>>>,
+    name: &str,
+) -> Option<&'a Option<Declared>>
+    ensures { option_map (λ o. named (option_map declared_of o.now)) result ≡ lookup (bytes_eq name.now) (local_names (option_map (λ e. e.now) locals.entry)) }
+{
+    match locals {
+        Some(locals) => locals.look_up(name),
+        None => None,
+    }
+}
+
 /// A number as a constant that has no type.
 fn number<'a>(number: u64) -> Known<'a>
     ensures { Fine (known_of result) ≡ counted number }
 {
     let of = GoType::Basic(Basic::Untyped(Untyped::Int));
-    Known::Declared(Declared::Constant(of, Const::Integer(i128::from(number))))
+    Known::Value(constant(of, Const::Integer(i128::from(number))))
 }
 
 /// What a name at a place finds that no import declares, or its fault.

@@ -6,33 +6,46 @@ ghost use Rattle.go_ast.specs.Trees.{pack_fields};
 ghost use Rattle.go_ast.specs.Views.{field_of as field_tree};
 ghost use Rattle.go_types.specs.Types.{struct};
 ghost use Rattle.go_types.specs.Views.{type_of};
+ghost use Rattle.go_typed.specs.Views.{expr_of};
 ghost use Rattle.go_expr.specs.Rules.{type_due, is_small, array_of, declared_field, field_names, packed, differ, struct_of};
-ghost use Rattle.go_expr.specs.Verdicts.{asked, both, joined, first_blank, struct_place};
-ghost use Rattle.go_expr.specs.Seen.{known_of, value_of, field_of, all_of, AnswersAt};
+ghost use Rattle.go_expr.specs.Verdicts.{asked, asked_both, joined, first_blank, struct_place};
+ghost use Rattle.go_expr.specs.Seen.{known_of, field_of, all_of, AnswersAt, Gives};
 
-use crate::error::ExprError;
-use crate::known::{Declared, Known, Value};
+use crate::error::{ExprError, RuleError};
+use crate::known::Known;
+use crate::node::constant_in;
 use crate::selector::is_exported;
 use go_ast::expression::Field as FieldExpr;
 use go_ast::name::Name;
 use go_const::constant::Const;
 use go_text::fault::FaultKind;
 use go_text::place::Place;
+use go_typed::expression::TypedExpr;
 use go_types::sizes::{cells, nodes};
 use go_types::types::{Field, GoType};
 use std::alloc::{AllocError, Global};
 use std::sync::Arc;
 
+/// The type that is known where one is due; `Mismatch` where none is.
+fn type_due(known: Known<'_>) -> Result<GoType, RuleError>
+    ensures { Gives type_of result (type_due (known_of known.entry)) }
+{
+    match known {
+        Known::Type(of) => Ok(of),
+        _ => Err(RuleError::Broken(FaultKind::Mismatch)),
+    }
+}
+
 /// The type that is known at a place where a type is due.
-pub(crate) fn type_due(place: Place, known: Option<Known<'_>>) -> Result<Option<GoType>, ExprError>
+pub(crate) fn type_at(place: Place, known: Option<Known<'_>>) -> Result<Option<GoType>, ExprError>
     ensures { AnswersAt type_of result place (asked type_due (option_map known_of known.entry)) }
 {
     let Some(known) = known else {
         return Ok(None);
     };
-    match known {
-        Known::Declared(Declared::Type(of)) => Ok(Some(of)),
-        _ => Err(ExprError::Faulty(place, FaultKind::Mismatch)),
+    match type_due(known) {
+        Ok(of) => Ok(Some(of)),
+        Err(error) => Err(error.at(place)),
     }
 }
 
@@ -47,21 +60,21 @@ fn is_small(of: &GoType) -> bool
 fn array_of(
     alloc: Global,
     place: Place,
-    length: &Value,
+    length: &TypedExpr,
     of: GoType,
 ) -> Result<Option<GoType>, ExprError>
-    ensures { AnswersAt type_of result place (array_of (value_of length.now) (type_of of)) }
+    ensures { AnswersAt type_of result place (array_of (expr_of length.now) (type_of of)) }
 {
-    let Const::Integer(length) = length.constant else {
+    let Some(Const::Integer(length)) = constant_in(length) else {
         return Err(ExprError::Faulty(place, FaultKind::Mismatch));
     };
-    if length < 0 {
+    if *length < 0 {
         return Err(ExprError::Faulty(place, FaultKind::Range));
     }
-    if length > 65_536 {
+    if *length > 65_536 {
         return Err(ExprError::Faulty(place, FaultKind::Size));
     }
-    let array = GoType::Array(length as u32, Arc::new(alloc, of)?);
+    let array = GoType::Array(*length as u32, Arc::new(alloc, of)?);
     if !is_small(&array) {
         return Err(ExprError::Faulty(place, FaultKind::Size));
     }
@@ -73,15 +86,18 @@ fn array_of(
 pub(crate) fn array_type(
     alloc: Global,
     place: Place,
-    length: Option<Value>,
+    length: Option<TypedExpr>,
     of: Option<GoType>,
 ) -> Result<Option<GoType>, ExprError>
-    ensures { AnswersAt type_of result place (asked (λ k. array_of k.0 k.1) (both (option_map value_of length) (option_map type_of of))) }
+    ensures { AnswersAt type_of result place (asked_both array_of (option_map expr_of length) (option_map type_of of)) }
 {
-    match (length, of) {
-        (Some(length), Some(of)) => array_of(alloc, place, &length, of),
-        _ => Ok(None),
-    }
+    let Some(length) = length else {
+        return Ok(None);
+    };
+    let Some(of) = of else {
+        return Ok(None);
+    };
+    array_of(alloc, place, &length, of)
 }
 
 /// A field of a struct of the package at a path.
@@ -111,7 +127,10 @@ pub(crate) fn with_fields(
 ) -> Result<Option<Vec<Field>>, AllocError>
     ensures { IfOk result (λ more. option_map (all_of field_of) more ≡ joined (option_map (all_of field_of) all) (option_map (λ t. map (declared_field path.now t) names.now) (option_map type_of of))) }
 {
-    let (Some(mut all), Some(of)) = (all, of) else {
+    let Some(mut all) = all else {
+        return Ok(None);
+    };
+    let Some(of) = of else {
         return Ok(None);
     };
     for name in names {

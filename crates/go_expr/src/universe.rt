@@ -9,11 +9,12 @@ ghost use Rattle.go_expr.specs.Known.{Fine, Breaks, look_up, basic_types, left_o
 ghost use Rattle.go_expr.specs.Seen.{known_of, AnswersAt};
 
 use crate::error::ExprError;
-use crate::known::{Declared, Known};
+use crate::known::Known;
+use crate::node::constant;
 use go_const::constant::Const;
 use go_text::fault::FaultKind;
 use go_text::place::Place;
-use go_types::types::{Basic, GoType, Integer, Untyped};
+use go_types::types::{Basic, GoType, IntKind, Untyped};
 
 /// The basic type of a name.
 fn basic_named(name: &str) -> Option<Basic>
@@ -22,18 +23,18 @@ fn basic_named(name: &str) -> Option<Basic>
     Some(match name {
         "bool" => Basic::Bool,
         "string" => Basic::String,
-        "int" => Basic::Integer(Integer::Int),
-        "int8" => Basic::Integer(Integer::Int8),
-        "int16" => Basic::Integer(Integer::Int16),
-        "int32" => Basic::Integer(Integer::Int32),
-        "int64" => Basic::Integer(Integer::Int64),
-        "uint" => Basic::Integer(Integer::Uint),
-        "uint8" => Basic::Integer(Integer::Uint8),
-        "uint16" => Basic::Integer(Integer::Uint16),
-        "uint32" => Basic::Integer(Integer::Uint32),
-        "uint64" => Basic::Integer(Integer::Uint64),
-        "byte" => Basic::Integer(Integer::Uint8),
-        "rune" => Basic::Integer(Integer::Int32),
+        "int" => Basic::Integer(IntKind::Int),
+        "int8" => Basic::Integer(IntKind::Int8),
+        "int16" => Basic::Integer(IntKind::Int16),
+        "int32" => Basic::Integer(IntKind::Int32),
+        "int64" => Basic::Integer(IntKind::Int64),
+        "uint" => Basic::Integer(IntKind::Uint),
+        "uint8" => Basic::Integer(IntKind::Uint8),
+        "uint16" => Basic::Integer(IntKind::Uint16),
+        "uint32" => Basic::Integer(IntKind::Uint32),
+        "uint64" => Basic::Integer(IntKind::Uint64),
+        "byte" => Basic::Integer(IntKind::Uint8),
+        "rune" => Basic::Integer(IntKind::Int32),
         _ => return None,
     })
 }
@@ -77,7 +78,7 @@ fn truth<'a>(value: bool) -> Known<'a>
     ensures { Fine (known_of result) ≡ truth value }
 {
     let of = GoType::Basic(Basic::Untyped(Untyped::Bool));
-    Known::Declared(Declared::Constant(of, Const::Bool(value)))
+    Known::Value(constant(of, Const::Bool(value)))
 }
 
 /// What one of the names of values and functions finds.
@@ -87,8 +88,8 @@ fn other_named<'a>(name: &str) -> Option<Known<'a>>
     match name {
         "true" => Some(truth(true)),
         "false" => Some(truth(false)),
-        "len" => Some(Known::Declared(Declared::Length)),
-        "panic" => Some(Known::Declared(Declared::Panic)),
+        "len" => Some(Known::Length),
+        "panic" => Some(Known::Panic),
         _ => None,
     }
 }
@@ -111,7 +112,7 @@ pub(crate) fn predeclared<'a>(place: Place, name: &str) -> Result<Option<Known<'
     ensures { AnswersAt known_of result place (look_up name.now universe) }
 {
     match basic_named(name) {
-        Some(basic) => Ok(Some(Known::Declared(Declared::Type(GoType::Basic(basic))))),
+        Some(basic) => Ok(Some(Known::Type(GoType::Basic(basic)))),
         None => left_out_or_other(place, name),
     }
 }

@@ -10,8 +10,8 @@ pub returns : goal.returns
 returns c =
     let path = c.args.path.now in
     let names = c.args.names.now in
-    let of = type_of c.in-Some-Some.of in
+    let of = type_of c.in-Some-of.of in
     let done = map field_of c.loop-name.all.items in
-    let ends : done ≡ map field_of c.in-Some-Some.all.items ++ map (declared_field path of) names =
+    let ends : done ≡ map field_of c.in-Some.all.items ++ map (declared_field path of) names =
     sym (append-nil done) ∙ ap (λ (l : List Name). done ++ map (declared_field path of) l) (sym (drop_all c.loop-name.name-index names c.loop-name-test.false)) ∙ c.loop-name.invariant.done in
-    rw (c.in-Some-Some.is-0, c.in-Some-Some.is-1) (ap Some ends)
+    rw (c.in-Some.is, c.in-Some-of.is) (ap Some ends)

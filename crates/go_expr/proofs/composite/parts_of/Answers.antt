@@ -1,0 +1,26 @@
+use Rattle.std.proofs.Common.{◌≡◌, List, ℕ, map, sym, ap, ◌∙◌, subst}
+use Rattle.go_types.proofs.Rows.{struct_type}
+use Rattle.go_types.specs.Types.{Type', array, struct}
+use Rattle.go_types.specs.Relations.{underlying}
+use Rattle.go_types.specs.Views.{type_of, fields_in}
+use Rattle.go_text.specs.declared.fault.FaultKind.TheVariants.{Mismatch}
+use Rattle.go_typed.specs.Trees.{Expr}
+use Rattle.go_typed.specs.Views.{part_of}
+use Rattle.go_expr.specs.Known.{Verdict, Breaks}
+use Rattle.go_expr.specs.Rules.{ElementList, listed, array_parts, struct_parts}
+use Rattle.go_expr.specs.Seen.{all_of, element_of, field_of, Gives}
+use Rattle.go_expr.proofs.Nodes.{fields_listed}
+use Rattle.go_expr.proofs.composite.parts_of.Goals as goal
+
+abbrev of_type : List ℕ → ElementList → Type' → Verdict (List (ℕ × Expr))
+of_type path es u = elim u [ array n of ↦ array_parts n of es | struct fs ↦ struct_parts path (listed fs) es | _ ↦ Breaks Mismatch ]
+
+pub returns-in-Struct : goal.returns-in-Struct
+returns-in-Struct c =
+    let fields = c.in-Struct.fields in
+    let path = c.args.path.now in
+    let es = map element_of c.args.elements.items in
+    let seen : underlying (type_of c.args.of.now) ≡ struct (fields_in fields.value.items) = sym c.underlying.ensures ∙ ap type_of c.in-Struct.is ∙ struct_type fields in
+    let same : c.deref-in-Struct-2.result.now ≡ fields.value.items = cc in
+    let whole = ap (of_type path es) seen ∙ ap (λ fs. struct_parts path fs es) (fields_listed fields.value.items ∙ ap (map field_of) (sym same)) in
+    subst (λ (v : Verdict (List (ℕ × Expr))). Gives (all_of part_of) c.struct_parts.result v) (sym whole) c.struct_parts.ensures

@@ -1,0 +1,29 @@
+use Rattle.std.proofs.Common.{◌≡◌, ◌+◌, ◌<◌, Bool, true, List, length, drop, sym, ap, ◌∙◌, arith}
+use Rattle.std.specs.Prelude.{◌||◌}
+use Rattle.go_types.specs.Views.{type_of}
+use Rattle.go_typed.proofs.Rows.{literal_seen}
+use Rattle.go_typed.specs.Trees.{literal}
+use Rattle.go_typed.specs.Views.{expr_of, parts_in}
+use Rattle.go_typed.specs.declared.expression.TypedExprKind.{TypedExprKind}
+use Rattle.go_typed.specs.declared.expression.TypedPart.{TypedPart}
+use Rattle.go_expr.specs.Rules.{holds_call, part_holds_call}
+use Rattle.go_expr.proofs.Lists.{left}
+use Rattle.go_expr.proofs.evaluation.+evaluation.Goals as goal
+
+pub holds_call-returns-in-Literal : goal.holds_call-returns-in-Literal
+holds_call-returns-in-Literal t c =
+    let of = c.args.value.now.of in
+    let seen : expr_of c.args.value.now ≡ literal (type_of of) (parts_in c.deref-in-Literal.result.now) =
+    ap (λ (k : TypedExprKind). expr_of (record { of = of; kind = k })) c.in-Literal.is ∙ literal_seen of c.in-Literal.parts
+    ∙ ap (λ (l : List TypedPart). literal (type_of of) (parts_in l)) (sym c.deref-in-Literal.ensures.value) in
+    c.part_holds_call.ensures ∙ ap holds_call (sym seen)
+
+pub part_holds_call-returns-then-holds_call : goal.part_holds_call-returns-then-holds_call
+part_holds_call-returns-then-holds_call t c =
+    let parts = c.args.parts.now in
+    let i = c.loop-part.part-index in
+    let p = c.part-item.result in
+    let within : i < length parts = omega arith in
+    let here : holds_call (expr_of p.value) ≡ true = cc in
+    sym (ap (λ (b : Bool). b || part_holds_call (parts_in (drop (i + 1) parts))) here)
+    ∙ sym (ap (λ (l : List TypedPart). part_holds_call (parts_in l)) (left parts i p within c.part-item.is)) ∙ c.loop-part.invariant

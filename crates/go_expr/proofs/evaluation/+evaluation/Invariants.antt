@@ -1,0 +1,7 @@
+use Rattle.std.proofs.Common.{◌≡◌, drop}
+use Rattle.go_typed.specs.Views.{parts_in}
+use Rattle.go_expr.specs.Rules.{part_holds_call}
+use Rattle.go_expr.proofs.evaluation.+evaluation.Given as goal
+
+abbrev pub invariant-part_holds_call-loop-part : goal.invariant-part_holds_call-loop-part
+invariant-part_holds_call-loop-part l = part_holds_call (parts_in (drop l.part-index l.parts)) ≡ part_holds_call (parts_in l.parts)

@@ -1,0 +1,191 @@
+//! Nodes of typed trees.
+ghost use Rattle.std.specs.Prelude.{◌≡◌, IfOk, option_copied};
+ghost use Rattle.go_types.specs.Views.{type_of};
+ghost use Rattle.go_typed.specs.Trees as typed;
+ghost use Rattle.go_typed.specs.Trees.{expr_type};
+ghost use Rattle.go_typed.specs.Views.{expr_of, exprs_in, parts_in};
+ghost use Rattle.go_expr.specs.Rules.{constant_in};
+
+use go_const::constant::Const;
+use go_const::operator::UnaryOperator;
+use go_typed::expression::{Operator, TypedExpr, TypedExprKind, TypedPart};
+use go_typed::symbol::Symbol;
+use go_types::types::GoType;
+use std::alloc::{AllocError, Global};
+
+/// The type of a value.
+#[tactic(auto, using(go_typed::proofs::Rows::type_seen))]
+pub fn type_in(value: &TypedExpr) -> &GoType
+    ensures { type_of result.now ≡ expr_type (expr_of value.now) }
+{
+    &value.of
+}
+
+/// The constant that a value is, if it is one.
+#[tactic(auto, unfolding(go_typed::specs::Views::expr_of))]
+pub fn constant_in(value: &TypedExpr) -> Option<&Const>
+    ensures { option_copied result ≡ constant_in (expr_of value.now) }
+{
+    match &value.kind {
+        TypedExprKind::Constant(constant) => Some(constant),
+        _ => None,
+    }
+}
+
+/// A constant of a type.
+#[tactic(auto, unfolding(go_typed::specs::Views::expr_of))]
+pub fn constant(of: GoType, value: Const) -> TypedExpr
+    ensures { expr_of result ≡ typed.constant (type_of of) value }
+{
+    TypedExpr {
+        of,
+        kind: TypedExprKind::Constant(value),
+    }
+}
+
+/// A local variable of a type, by its number.
+#[tactic(auto, unfolding(go_typed::specs::Views::expr_of))]
+pub(crate) fn local(of: GoType, number: usize) -> TypedExpr
+    ensures { expr_of result ≡ typed.local (type_of of) number }
+{
+    TypedExpr {
+        of,
+        kind: TypedExprKind::Local(number),
+    }
+}
+
+/// A package's variable of a type.
+#[tactic(auto, unfolding(go_typed::specs::Views::expr_of))]
+pub(crate) fn global(of: GoType, symbol: Symbol) -> TypedExpr
+    ensures { expr_of result ≡ typed.global (type_of of) symbol }
+{
+    TypedExpr {
+        of,
+        kind: TypedExprKind::Global(symbol),
+    }
+}
+
+/// The field of a number.
+#[tactic(auto, using(go_typed::proofs::Rows::field_seen))]
+pub(crate) fn field(
+    alloc: Global,
+    of: GoType,
+    x: TypedExpr,
+    number: usize,
+) -> Result<TypedExpr, AllocError>
+    ensures { IfOk result (λ e. expr_of e ≡ typed.field (type_of of) (expr_of x) number) }
+{
+    let kind = TypedExprKind::Field(Box::new(alloc, x)?, number);
+    Ok(TypedExpr { of, kind })
+}
+
+/// An element of an array, or a byte of a string.
+#[tactic(auto, using(go_typed::proofs::Rows::index_seen))]
+pub(crate) fn index(
+    alloc: Global,
+    of: GoType,
+    x: TypedExpr,
+    i: TypedExpr,
+) -> Result<TypedExpr, AllocError>
+    ensures { IfOk result (λ e. expr_of e ≡ typed.index (type_of of) (expr_of x) (expr_of i)) }
+{
+    let kind = TypedExprKind::Index(Box::new(alloc, x)?, Box::new(alloc, i)?);
+    Ok(TypedExpr { of, kind })
+}
+
+/// The length of a string.
+#[tactic(auto, using(go_typed::proofs::Rows::length_seen))]
+pub(crate) fn length(alloc: Global, of: GoType, x: TypedExpr) -> Result<TypedExpr, AllocError>
+    ensures { IfOk result (λ e. expr_of e ≡ typed.length (type_of of) (expr_of x)) }
+{
+    let kind = TypedExprKind::Length(Box::new(alloc, x)?);
+    Ok(TypedExpr { of, kind })
+}
+
+/// An operator before its operand.
+#[tactic(auto, using(go_typed::proofs::Rows::unary_seen))]
+pub(crate) fn unary(
+    alloc: Global,
+    of: GoType,
+    operator: UnaryOperator,
+    x: TypedExpr,
+) -> Result<TypedExpr, AllocError>
+    ensures { IfOk result (λ e. expr_of e ≡ typed.unary (type_of of) operator (expr_of x)) }
+{
+    let kind = TypedExprKind::Unary(operator, Box::new(alloc, x)?);
+    Ok(TypedExpr { of, kind })
+}
+
+/// An operator between two operands.
+#[tactic(auto, using(go_typed::proofs::Rows::binary_seen))]
+pub(crate) fn binary(
+    alloc: Global,
+    of: GoType,
+    operator: Operator,
+    x: TypedExpr,
+    y: TypedExpr,
+) -> Result<TypedExpr, AllocError>
+    ensures { IfOk result (λ e. expr_of e ≡ typed.binary (type_of of) operator (expr_of x) (expr_of y)) }
+{
+    let kind = TypedExprKind::Binary(operator, Box::new(alloc, x)?, Box::new(alloc, y)?);
+    Ok(TypedExpr { of, kind })
+}
+
+/// Whether two operands both hold.
+#[tactic(auto, using(go_typed::proofs::Rows::both_seen))]
+pub(crate) fn both(
+    alloc: Global,
+    of: GoType,
+    x: TypedExpr,
+    y: TypedExpr,
+) -> Result<TypedExpr, AllocError>
+    ensures { IfOk result (λ e. expr_of e ≡ typed.both (type_of of) (expr_of x) (expr_of y)) }
+{
+    let kind = TypedExprKind::Both(Box::new(alloc, x)?, Box::new(alloc, y)?);
+    Ok(TypedExpr { of, kind })
+}
+
+/// Whether one of two operands holds.
+#[tactic(auto, using(go_typed::proofs::Rows::either_seen))]
+pub(crate) fn either(
+    alloc: Global,
+    of: GoType,
+    x: TypedExpr,
+    y: TypedExpr,
+) -> Result<TypedExpr, AllocError>
+    ensures { IfOk result (λ e. expr_of e ≡ typed.either (type_of of) (expr_of x) (expr_of y)) }
+{
+    let kind = TypedExprKind::Either(Box::new(alloc, x)?, Box::new(alloc, y)?);
+    Ok(TypedExpr { of, kind })
+}
+
+/// A conversion.
+#[tactic(auto, using(go_typed::proofs::Rows::conversion_seen))]
+pub(crate) fn conversion(alloc: Global, of: GoType, x: TypedExpr) -> Result<TypedExpr, AllocError>
+    ensures { IfOk result (λ e. expr_of e ≡ typed.conversion (type_of of) (expr_of x)) }
+{
+    let kind = TypedExprKind::Conversion(Box::new(alloc, x)?);
+    Ok(TypedExpr { of, kind })
+}
+
+/// An array or a struct of some parts.
+#[tactic(auto, using(go_typed::proofs::Rows::literal_seen))]
+pub(crate) fn literal(of: GoType, parts: Vec<TypedPart>) -> TypedExpr
+    ensures { expr_of result ≡ typed.literal (type_of of) (parts_in parts.items) }
+{
+    TypedExpr {
+        of,
+        kind: TypedExprKind::Literal(parts),
+    }
+}
+
+/// A call that has one result.
+#[tactic(auto, using(go_typed::proofs::Rows::call_seen))]
+pub(crate) fn call(of: GoType, symbol: Symbol, arguments: Vec<TypedExpr>) -> TypedExpr
+    ensures { expr_of result ≡ typed.call (type_of of) symbol (exprs_in arguments.items) }
+{
+    TypedExpr {
+        of,
+        kind: TypedExprKind::Call(symbol, arguments),
+    }
+}

@@ -1,0 +1,5 @@
+//! Tests of the checker of expressions and types.
+#![tactic(auto)]
+
+#[cfg(test)]
+mod tests;
