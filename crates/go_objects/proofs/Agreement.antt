@@ -1,14 +1,15 @@
 -- Scopes that find the same for each name that a tree uses give it one verdict.
-use Rattle.std.proofs.Common.{◌≡◌, ℕ, suc, Bool, true, false, List, [], ◌∷◌, ◌++◌, map, refl, ap, ◌∙◌}
+use Rattle.std.proofs.Common.{◌≡◌, ℕ, suc, Bool, true, false, List, [], ◌∷◌, ◌++◌, Option, map, refl, ap, ◌∙◌}
 use Rattle.std.specs.Prelude.{option_map}
 use Rattle.std.specs.List.{Contains}
 use Rattle.ws_reach.proofs.Reached.{contains_get, get_contains}
-use Rattle.go_ast.specs.Trees.{TypeExpr, named, qualified, array, struct, Fields, no_fields, field, Expr, name, integer, rune, string, parenthesized, composite_lit, conversion, selector, index, call, unary, binary, Exprs, no_exprs, some_exprs}
+use Rattle.go_ast.specs.Trees.{Name, TypeExpr, named, qualified, array, struct, Fields, no_fields, field, Expr, name, integer, rune, string, parenthesized, composite_lit, conversion, selector, index, call, unary, binary, Exprs, no_exprs, some_exprs, Elements, no_elements, element, Element, expression_element, value_element}
 use Rattle.go_types.specs.Types.{Type'}
-use Rattle.go_scope.specs.Names.{Used, in_type, in_fields, in_expr, in_exprs}
+use Rattle.go_scope.specs.Names.{Used, in_type, in_fields, in_expr, in_exprs, in_elements, in_element}
+use Rattle.go_typed.specs.Trees.{Expr as Typed}
 use Rattle.go_expr.specs.Known.{Known, Verdict, Scope, look_up}
-use Rattle.go_expr.specs.Rules.{type_due, array_of, declared_field, struct_of, selected, unary_of, binary_of, converted}
-use Rattle.go_expr.specs.Verdicts.{fine, asked, both, joined, call_of, operand, callee, verdict, operands, type_verdict, fields_known}
+use Rattle.go_expr.specs.Rules.{fine, checked, valued, type_due, array_of, declared_field, struct_of, value_due, ElementList, literal_of, untyped_literal, element_type, selected, index_of, unary_of, binary_of, converted, called}
+use Rattle.go_expr.specs.Verdicts.{asked, asked_both, joined, operand, callee, verdict, operands, elements, element_verdict, type_verdict, fields_known}
 
 -- at each name that is used
 abbrev Agree : Scope → Scope → List Used → Type 0
@@ -35,6 +36,16 @@ agree s r (u ∷ us) h =
     let names = map (λ (u : Used). u.0) us in
     (h u.0 (get_contains (u.0 ∷ names) 0 u.0 refl), agree s r us (λ x c. h x (behind names u.0 x c)))
 
+-- a rule over two parts that are the same
+by_both : {A B C : Type 0} (rule : A → B → Verdict C) (a b : Option A) (c d : Option B) → a ≡ b → c ≡ d → asked_both rule a c ≡ asked_both rule b d
+by_both rule a b c d e f = ap (λ x. asked_both rule x c) e ∙ ap (asked_both rule b) f
+
+by_value : (rule : Typed → Typed → Verdict Typed) (a b c d : Verdict Known) → a ≡ b → c ≡ d → valued (asked_both rule (operand a) (operand c)) ≡ valued (asked_both rule (operand b) (operand d))
+by_value rule a b c d e f = ap valued (by_both rule (operand a) (operand b) (operand c) (operand d) (ap operand e) (ap operand f))
+
+by_joined : {A : Type 0} (a b c d : Option (List A)) → a ≡ b → c ≡ d → joined a c ≡ joined b d
+by_joined a b c d e f = ap (λ x. joined x c) e ∙ ap (joined b) f
+
 mutual
   same : (s r : Scope) → s.path ≡ r.path → (dotted : Bool) (e : Expr) → Agree s r (in_expr dotted e) → verdict s e ≡ verdict r e
   same s r p dotted (name q x) h = h.0
@@ -42,40 +53,54 @@ mutual
   same s r p dotted (rune q z) h = refl
   same s r p dotted (string q bytes) h = refl
   same s r p dotted (parenthesized q e) h = ap callee (same s r p false e h)
-  same s r p dotted (composite_lit q t b es) h = refl
+  same s r p dotted (composite_lit q t b es) h =
+      let of : fine (type_verdict s t) ≡ fine (type_verdict r t) = ap fine (same_type s r p t (first s r (in_type t) (in_elements es) h)) in
+      ap (λ path. valued (asked_both (literal_of path) (fine (type_verdict s t)) (elements s (element_type (fine (type_verdict s t))) es))) p
+      ∙ ap valued (by_both (literal_of r.path) _ _ _ _ of
+      (ap (λ o. elements s (element_type o) es) of ∙ same_elements s r p (element_type (fine (type_verdict r t))) es (second s r (in_type t) (in_elements es) h)))
   same s r p dotted (conversion q t e) h =
-      ap (λ (v : Verdict Type'). asked (λ k. converted k.0 k.1) (both (fine v) (operand (verdict s e)))) (same_type s r p t (first s r (in_type t) (in_expr false e) h))
-      ∙ ap (λ (v : Verdict Known). asked (λ k. converted k.0 k.1) (both (fine (type_verdict r t)) (operand v))) (same s r p false e (second s r (in_type t) (in_expr false e) h))
-  same s r p dotted (selector q e x) h = ap (λ (v : Verdict Known). asked (selected x.text) (fine v)) (same s r p true e h)
-  same s r p dotted (index q e i) h = refl
+      ap valued (by_both converted _ _ _ _ (ap fine (same_type s r p t (first s r (in_type t) (in_expr false e) h))) (ap operand (same s r p false e (second s r (in_type t) (in_expr false e) h))))
+  same s r p dotted (selector q e x) h =
+      ap (λ path. asked (selected path x.text) (fine (verdict s e))) p ∙ ap (λ (v : Verdict Known). asked (selected r.path x.text) (fine v)) (same s r p true e h)
+  same s r p dotted (index q e i) h = by_value index_of _ _ _ _ (same s r p false e (first s r (in_expr false e) (in_expr false i) h)) (same s r p false i (second s r (in_expr false e) (in_expr false i) h))
   same s r p dotted (call q f es) h =
-      ap (λ (v : Verdict Known). call_of (fine (callee v)) (operands s es)) (same s r p false f (first s r (in_expr false f) (in_exprs es) h))
-      ∙ ap (call_of (fine (callee (verdict r f)))) (same_operands s r p es (second s r (in_expr false f) (in_exprs es) h))
-  same s r p dotted (unary q op e) h = ap (λ (v : Verdict Known). asked (unary_of op) (operand v)) (same s r p false e h)
-  same s r p dotted (binary q op a b) h =
-      ap (λ (v : Verdict Known). asked (λ k. binary_of op k.0 k.1) (both (operand v) (operand (verdict s b)))) (same s r p false a (first s r (in_expr false a) (in_expr false b) h))
-      ∙ ap (λ (v : Verdict Known). asked (λ k. binary_of op k.0 k.1) (both (operand (verdict r a)) (operand v))) (same s r p false b (second s r (in_expr false a) (in_expr false b) h))
+      by_both called _ _ _ _ (ap (λ v. fine (callee v)) (same s r p false f (first s r (in_expr false f) (in_exprs es) h))) (same_operands s r p es (second s r (in_expr false f) (in_exprs es) h))
+  same s r p dotted (unary q op e) h = ap (λ (v : Verdict Known). valued (asked (unary_of op) (operand v))) (same s r p false e h)
+  same s r p dotted (binary q op a b) h = by_value (binary_of op) _ _ _ _ (same s r p false a (first s r (in_expr false a) (in_expr false b) h)) (same s r p false b (second s r (in_expr false a) (in_expr false b) h))
 
   same_operands : (s r : Scope) → s.path ≡ r.path → (es : Exprs) → Agree s r (in_exprs es) → operands s es ≡ operands r es
   same_operands s r p no_exprs h = refl
   same_operands s r p (some_exprs e es) h =
-      ap (λ (v : Verdict Known). joined (option_map (λ x. x ∷ []) (operand v)) (operands s es)) (same s r p false e (first s r (in_expr false e) (in_exprs es) h))
-      ∙ ap (joined (option_map (λ x. x ∷ []) (operand (verdict r e)))) (same_operands s r p es (second s r (in_expr false e) (in_exprs es) h))
+      by_joined _ _ _ _ (ap (λ (v : Verdict Known). option_map (λ x. x ∷ []) (operand v)) (same s r p false e (first s r (in_expr false e) (in_exprs es) h)))
+      (same_operands s r p es (second s r (in_expr false e) (in_exprs es) h))
+
+  same_elements : (s r : Scope) → s.path ≡ r.path → (of : Verdict Type') (es : Elements) → Agree s r (in_elements es) → elements s of es ≡ elements r of es
+  same_elements s r p of no_elements h = refl
+  same_elements s r p of (element key e es) h =
+      by_joined _ _ _ _ (ap (λ (v : Verdict Typed). option_map (λ e. (option_map (λ (n : Name). n.text) key, e) ∷ []) (fine v)) (same_element s r p of e (first s r (in_element e) (in_elements es) h)))
+      (same_elements s r p of es (second s r (in_element e) (in_elements es) h))
+
+  same_element : (s r : Scope) → s.path ≡ r.path → (of : Verdict Type') (e : Element) → Agree s r (in_element e) → element_verdict s of e ≡ element_verdict r of e
+  same_element s r p of (expression_element e) h = ap (λ (v : Verdict Known). asked value_due (fine v)) (same s r p false e h)
+  same_element s r p of (value_element q es) h =
+      ap (λ path. asked (untyped_literal path of) (elements s (element_type (fine of)) es)) p
+      ∙ ap (λ (o : Option ElementList). asked (untyped_literal r.path of) o) (same_elements s r p (element_type (fine of)) es h)
 
   same_type : (s r : Scope) → s.path ≡ r.path → (t : TypeExpr) → Agree s r (in_type t) → type_verdict s t ≡ type_verdict r t
   same_type s r p (named q x) h = ap (λ (v : Verdict Known). asked type_due (fine v)) h.0
-  same_type s r p (qualified q m n) h = ap (λ (v : Verdict Known). asked type_due (fine (asked (selected n.text) (fine v)))) h.0
+  same_type s r p (qualified q m n) h =
+      ap (λ path. asked type_due (fine (asked (selected path n.text) (fine (look_up m.text s.names))))) p
+      ∙ ap (λ (v : Verdict Known). asked type_due (fine (asked (selected r.path n.text) (fine v)))) h.0
   same_type s r p (array q e t) h =
-      ap (λ (v : Verdict Known). asked (λ k. array_of k.0 k.1) (both (operand v) (fine (type_verdict s t)))) (same s r p false e (first s r (in_expr false e) (in_type t) h))
-      ∙ ap (λ (v : Verdict Type'). asked (λ k. array_of k.0 k.1) (both (operand (verdict r e)) (fine v))) (same_type s r p t (second s r (in_expr false e) (in_type t) h))
+      by_both array_of _ _ _ _ (ap operand (same s r p false e (first s r (in_expr false e) (in_type t) h))) (ap fine (same_type s r p t (second s r (in_expr false e) (in_type t) h)))
   same_type s r p (struct q fs) h = ap (asked struct_of) (same_fields s r p fs h)
 
   same_fields : (s r : Scope) → s.path ≡ r.path → (fs : Fields) → Agree s r (in_fields fs) → fields_known s fs ≡ fields_known r fs
   same_fields s r p no_fields h = refl
   same_fields s r p (field names t fs) h =
       ap (λ (path : List ℕ). joined (option_map (λ k. map (declared_field path k) names) (fine (type_verdict s t))) (fields_known s fs)) p
-      ∙ ap (λ (v : Verdict Type'). joined (option_map (λ k. map (declared_field r.path k) names) (fine v)) (fields_known s fs)) (same_type s r p t (first s r (in_type t) (in_fields fs) h))
-      ∙ ap (joined (option_map (λ k. map (declared_field r.path k) names) (fine (type_verdict r t)))) (same_fields s r p fs (second s r (in_type t) (in_fields fs) h))
+      ∙ by_joined _ _ _ _ (ap (λ (v : Verdict Type'). option_map (λ k. map (declared_field r.path k) names) (fine v)) (same_type s r p t (first s r (in_type t) (in_fields fs) h)))
+      (same_fields s r p fs (second s r (in_type t) (in_fields fs) h))
 
 pub verdict_same : (s r : Scope) (e : Expr) → s.path ≡ r.path → AgreeOn s r (in_expr false e) → verdict s e ≡ verdict r e
 verdict_same s r e p h = same s r p false e (agree s r (in_expr false e) h)

@@ -7,7 +7,7 @@ use Rattle.indexmap.specs.IndexMap.{set_value_at}
 use Rattle.ws_reach.proofs.Reached.{contains_get, get_contains}
 use Rattle.go_scope.specs.Order.{GroundedIn, Grounded, Ordered, Once}
 use Rattle.go_expr.specs.Known.{Declared, Names, Known, Verdict}
-use Rattle.go_expr.specs.Verdicts.{fine}
+use Rattle.go_expr.specs.Rules.{fine}
 use Rattle.go_objects.specs.Objects.{Object}
 use Rattle.go_objects.specs.Table.{Package, rows, object_verdict, declared_in, IsTable}
 use Rattle.go_objects.proofs.Groundedness.{is_grounded}

@@ -5,6 +5,7 @@ pub mod Groundedness
 pub mod Lookups
 pub mod Needs
 pub mod Pairs
+pub mod Signatures
 pub mod Silence
 pub mod Standing
 pub mod Written

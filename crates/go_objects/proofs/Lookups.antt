@@ -1,24 +1,25 @@
 -- What names find by a package's table, and that what is known of an object depends on its needs alone.
 use Rattle.std.proofs.Common.{◌≡◌, ℕ, zero, suc, ◌<◌, Bool, true, false, not, List, [], ◌∷◌, ◌++◌, Option, Some, None, map, length, refl, sym, ap, ◌∙◌, subst, inl, inr, arith}
-use Rattle.std.specs.Prelude.{option_map, unwrap_or, bytes_eq}
-use Rattle.std.specs.List.{slice_get, cons_option, filter, filter_map, Contains}
+use Rattle.std.specs.Prelude.{if◌then◌else◌, option_map, unwrap_or, bytes_eq}
+use Rattle.std.specs.List.{slice_get, cons_option, filter, filter_map, flat_map, Contains}
 use Rattle.std.specs.Map.{lookup}
 use Rattle.std.proofs.lemmas.Bool.{cases_Bool}
 use Rattle.std.proofs.lemmas.List.{map-append}
 use Rattle.std.proofs.lemmas.List.Elements.{Contains-append_left, Contains-append_right}
-use Rattle.go_text.specs.declared.fault.FaultKind.TheVariants.{Undeclared}
+use Rattle.go_text.specs.declared.fault.FaultKind.TheVariants.{Undeclared, Redeclared}
 use Rattle.ws_reach.specs.Reach.{Edge, EdgesStayWithin}
 use Rattle.ws_reach.proofs.Reached.{contains_get, get_contains}
-use Rattle.go_ast.specs.Trees.{Name}
+use Rattle.go_ast.specs.Trees.{TypeExpr, Expr, Parameter}
 use Rattle.go_types.specs.Types.{Type'}
+use Rattle.go_typed.specs.Trees.{Symbol, expr_type}
 use Rattle.go_scope.specs.Names.{Used, in_type, in_expr}
-use Rattle.go_expr.specs.Known.{Names, Known, declared, package', Verdict, Fine, Breaks, Scope, named as known_name, look_up, universe}
-use Rattle.go_expr.specs.Known as known_of
-use Rattle.go_expr.specs.Rules.{assigned}
+use Rattle.go_expr.specs.Known.{Names, Known, declared, function, package', Verdict, Fine, Breaks, Scope, named as known_name, look_up, universe}
+use Rattle.go_expr.specs.Rules.{fine, valued, constant_due, default_type, differ}
+use Rattle.go_expr.specs.Rules as rules
 use Rattle.go_expr.specs.Seen.{iota_of}
-use Rattle.go_expr.specs.Verdicts.{fine, asked, both, operand, verdict, type_verdict}
-use Rattle.go_objects.specs.Objects.{Form, Object, constant, type', other}
-use Rattle.go_objects.specs.Table.{Package, used_by, number_of, imports_at, is_hidden, needs, rows, scope_at, named_type, object_verdict}
+use Rattle.go_expr.specs.Verdicts.{asked, asked_both, joined, operand, verdict, type_verdict}
+use Rattle.go_objects.specs.Objects.{Form, Object, constant, type', typed_variable, valued_variable, result_variable, function', other}
+use Rattle.go_objects.specs.Table.{Package, used_by, in_written, number_of, imports_at, is_hidden, needs, rows, scope_at, value_of, named_type, result_type, variable, types_known, parameters_known, parameter_names, iota_in, form_verdict, object_verdict}
 use Rattle.go_objects.proofs.Agreement.{AgreeOn, verdict_same, type_verdict_same}
 
 abbrev Found : Type 0
@@ -128,34 +129,53 @@ needed p o x n c shows is =
     let m = picked names (λ y. not (is_hidden (imports_at p o.file) y)) (number_of p.objects) c.0 x n (contains_get names x c) (ap not shows) is in
     get_contains (needs p o) m.0 n m.1
 
-abbrev AgreeAt : Package → Names → Names → ℕ → List Used → Type 0
-AgreeAt p t u file us = (iota : Option ℕ) → AgreeOn (scope_at p t file iota) (scope_at p u file iota) us
+front : (s r : Scope) (us vs : List Used) → AgreeOn s r (us ++ vs) → AgreeOn s r us
+front s r us vs h = λ x c.
+    h x (subst (λ (l : List (List ℕ)). Contains l x) (sym (map-append (λ (w : Used). w.0) us vs)) (Contains-append_left (map (λ (w : Used). w.0) us) (map (λ (w : Used). w.0) vs) x c))
 
-front : (p : Package) (t u : Names) (file : ℕ) (us vs : List Used) → AgreeAt p t u file (us ++ vs) → AgreeAt p t u file us
-front p t u file us vs h = λ iota x c.
-    h iota x (subst (λ (l : List (List ℕ)). Contains l x) (sym (map-append (λ (w : Used). w.0) us vs)) (Contains-append_left (map (λ (w : Used). w.0) us) (map (λ (w : Used). w.0) vs) x c))
+back : (s r : Scope) (us vs : List Used) → AgreeOn s r (us ++ vs) → AgreeOn s r vs
+back s r us vs h = λ x c.
+    h x (subst (λ (l : List (List ℕ)). Contains l x) (sym (map-append (λ (w : Used). w.0) us vs)) (Contains-append_right (map (λ (w : Used). w.0) us) (map (λ (w : Used). w.0) vs) x c))
 
-back : (p : Package) (t u : Names) (file : ℕ) (us vs : List Used) → AgreeAt p t u file (us ++ vs) → AgreeAt p t u file vs
-back p t u file us vs h = λ iota x c.
-    h iota x (subst (λ (l : List (List ℕ)). Contains l x) (sym (map-append (λ (w : Used). w.0) us vs)) (Contains-append_right (map (λ (w : Used). w.0) us) (map (λ (w : Used). w.0) vs) x c))
+same_value : (s r : Scope) → s.path ≡ r.path → (t : Option TypeExpr) (e : Expr) → AgreeOn s r (in_written t ++ in_expr false e) → value_of s t e ≡ value_of r t e
+same_value s r p None e h = ap operand (verdict_same s r e p h)
+same_value s r p (Some t) e h =
+    ap (λ (v : Verdict Type'). fine (asked_both rules.assigned (fine v) (operand (verdict s e)))) (type_verdict_same s r t p (front s r (in_type t) (in_expr false e) h))
+    ∙ ap (λ (v : Verdict Known). fine (asked_both rules.assigned (fine (type_verdict r t)) (operand v))) (verdict_same s r e p (back s r (in_type t) (in_expr false e) h))
 
-same_form : (p : Package) (t u : Names) (file : ℕ) (n : Name) (f : Form) → AgreeAt p t u file (used_by f) →
-    object_verdict p t (record { file = file; name = n; form = f }) ≡ object_verdict p u (record { file = file; name = n; form = f })
-same_form p t u file n (constant None e iota) h =
-    ap (λ (v : Verdict Known). asked (λ w. Fine (declared (known_of.constant w.0 w.1))) (operand v)) (verdict_same (scope_at p t file (Some iota)) (scope_at p u file (Some iota)) e refl (h (Some iota)))
-same_form p t u file n (constant (Some a) e iota) h =
-    let s = scope_at p t file (Some iota) in
-    let r = scope_at p u file (Some iota) in
-    ap (λ (v : Verdict Type'). asked (λ k. assigned k.0 k.1) (both (fine v) (operand (verdict s e)))) (type_verdict_same s r a refl (front p t u file (in_type a) (in_expr false e) h (Some iota)))
-    ∙ ap (λ (v : Verdict Known). asked (λ k. assigned k.0 k.1) (both (fine (type_verdict r a)) (operand v))) (verdict_same s r e refl (back p t u file (in_type a) (in_expr false e) h (Some iota)))
-same_form p t u file n (type' a) h =
-    ap (λ (v : Verdict Type'). asked (named_type p.path n.text) (fine v)) (type_verdict_same (scope_at p t file None) (scope_at p u file None) a refl (h None))
-same_form p t u file n (other ts es) h = refl
+same_types : (s r : Scope) → s.path ≡ r.path → (ts : List TypeExpr) → AgreeOn s r (flat_map in_type ts) → types_known s ts ≡ types_known r ts
+same_types s r p [] h = refl
+same_types s r p (t ∷ ts) h =
+    ap (λ (v : Verdict Type'). joined (option_map (λ t. t ∷ []) (fine v)) (types_known s ts)) (type_verdict_same s r t p (front s r (in_type t) (flat_map in_type ts) h))
+    ∙ ap (joined (option_map (λ t. t ∷ []) (fine (type_verdict r t)))) (same_types s r p ts (back s r (in_type t) (flat_map in_type ts) h))
+
+same_parameters : (s r : Scope) → s.path ≡ r.path → (ps : List Parameter) → AgreeOn s r (flat_map (λ (q : Parameter). in_type q.type) ps) → parameters_known s ps ≡ parameters_known r ps
+same_parameters s r p [] h = refl
+same_parameters s r p (q ∷ ps) h =
+    let rest = flat_map (λ (q : Parameter). in_type q.type) ps in
+    ap (λ (v : Verdict Type'). joined (option_map (λ t. map (λ n. t) q.names) (fine v)) (parameters_known s ps)) (type_verdict_same s r q.type p (front s r (in_type q.type) rest h))
+    ∙ ap (joined (option_map (λ t. map (λ n. t) q.names) (fine (type_verdict r q.type)))) (same_parameters s r p ps (back s r (in_type q.type) rest h))
+
+same_form : (s r : Scope) (x : Symbol) (f : Form) → s.path ≡ r.path → AgreeOn s r (used_by f) → form_verdict s x f ≡ form_verdict r x f
+same_form s r x (constant t e iota) p h = ap (λ v. valued (asked constant_due v)) (same_value s r p t e h)
+same_form s r x (type' t) p h = ap (λ (v : Verdict Type'). asked (named_type x.path x.name) (fine v)) (type_verdict_same s r t p h)
+same_form s r x (typed_variable t) p h = ap (λ (v : Verdict Type'). variable x (fine v)) (type_verdict_same s r t p h)
+same_form s r x (valued_variable e) p h = ap (λ (v : Verdict Known). variable x (option_map (λ e. default_type (expr_type e)) (operand v))) (verdict_same s r e p h)
+same_form s r x (result_variable number count e) p h = ap (λ (v : Verdict Known). variable x (result_type number count (fine v))) (verdict_same s r e p h)
+same_form s r x (function' ps ts) p h =
+    let parameters = flat_map (λ (q : Parameter). in_type q.type) ps in
+    ap (λ o. if differ (parameter_names ps) then asked_both (λ ts rs. Fine (declared (function x ts rs))) o (types_known s ts) else Breaks Redeclared)
+    (same_parameters s r p ps (front s r parameters (flat_map in_type ts) h))
+    ∙ ap (λ o. if differ (parameter_names ps) then asked_both (λ ts rs. Fine (declared (function x ts rs))) (parameters_known r ps) o else Breaks Redeclared)
+    (same_types s r p ts (back s r parameters (flat_map in_type ts) h))
+same_form s r x (other t es) p h = refl
 
 -- tables that agree at the needs of an object say the same of it
 pub same_object : (p : Package) (t u : Names) → Named p.objects t → Named p.objects u → (o : Object) → ((n : ℕ) → Contains (needs p o) n → slice_get t n ≡ slice_get u n) → object_verdict p t o ≡ object_verdict p u o
 same_object p t u nt nu o h =
-    same_form p t u o.file o.name o.form (λ iota x c. same_found p t u nt nu o.file iota x (λ n shows is. h n (needed p o x n c shows is)))
+    let iota = iota_in o.form in
+    same_form (scope_at p t o.file iota) (scope_at p u o.file iota) (record { path = p.path; name = o.name.text }) o.form refl
+    (λ x c. same_found p t u nt nu o.file iota x (λ n shows is. h n (needed p o x n c shows is)))
 
 -- ---- rows
 

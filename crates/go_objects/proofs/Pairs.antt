@@ -1,5 +1,5 @@
 -- Names with their values, and what is added to what was found.
-use Rattle.std.proofs.Common.{◌≡◌, ℕ, suc, false, nat_eq, is_some, option_copied, Bor, ◌+◌, ◌<◌, List, [], ◌∷◌, ◌++◌, Option, Some, None, map, length, drop, get_or, refl, sym, ap, ◌∙◌, append_assoc, add-one, drop-cons, arith}
+use Rattle.std.proofs.Common.{◌≡◌, ℕ, suc, false, nat_eq, option_copied, Bor, ◌+◌, ◌<◌, List, [], ◌∷◌, ◌++◌, Option, Some, None, map, length, drop, get_or, refl, sym, ap, ◌∙◌, append_assoc, add-one, drop-cons, arith}
 use Rattle.std.specs.Prelude.{option_map, unwrap_or}
 use Rattle.std.proofs.lemmas.List.{map-append, drop_all}
 use Rattle.go_ast.specs.Trees as trees
@@ -8,7 +8,7 @@ use Rattle.go_ast.specs.Views.{type_of, expr_of, exprs_in, if_some}
 use Rattle.go_ast.specs.declared.expression.Expr.{Expr}
 use Rattle.go_ast.specs.declared.expression.TypeExpr.{TypeExpr}
 use Rattle.go_objects.specs.Objects as objects
-use Rattle.go_objects.specs.Objects.{paired, unpaired, constants_of, variable, variables_of}
+use Rattle.go_objects.specs.Objects.{paired, unpaired, constants_of, valued_object, uncounted, result_objects, variables_of}
 use Rattle.go_objects.specs.declared.object.Object.{Object}
 use Rattle.go_objects.specs.Seen.{object_of}
 
@@ -64,13 +64,22 @@ pub constants_unpaired : (file iota : ℕ) (ns : List Name) (t : Option trees.Ty
 constants_unpaired file iota ns t es l =
     ap (λ (o : Option (List objects.Object)). unwrap_or o (unpaired file t (exprs_in es) ns)) (none_paired (λ n e. record { file = file; name = n; form = objects.constant t e iota }) ns es l)
 
-pub variables_paired : (file : ℕ) (ns : List Name) (es : List Expr) → length ns ≡ length es → variables_of file (record { names = ns; type = None; values = exprs_in es }) ≡ pairs (variable file) ns es
-variables_paired file ns es l = ap (λ (o : Option (List objects.Object)). unwrap_or o (unpaired file None (exprs_in es) ns)) (all_paired (variable file) ns es l)
+pub variables_paired : (file : ℕ) (ns : List Name) (es : List Expr) → length ns ≡ length es → variables_of file (record { names = ns; type = None; values = exprs_in es }) ≡ pairs (valued_object file) ns es
+variables_paired file ns es l = ap (λ (o : Option (List objects.Object)). unwrap_or o (uncounted file ns (exprs_in es))) (all_paired (valued_object file) ns es l)
 
-pub variables_unpaired : (file : ℕ) (ns : List Name) (t : Option TypeExpr) (es : List Expr) → is_some t ≡ false → (length ns ≡ length es → ⊥) →
-    variables_of file (record { names = ns; type = if_some type_of t; values = exprs_in es }) ≡ unpaired file None (exprs_in es) ns
-variables_unpaired file ns (Some t) es none l = cc
-variables_unpaired file ns None es none l = ap (λ (o : Option (List objects.Object)). unwrap_or o (unpaired file None (exprs_in es) ns)) (none_paired (variable file) ns es l)
+pub variables_unpaired : (file : ℕ) (ns : List Name) (es : List Expr) → (length ns ≡ length es → ⊥) →
+    variables_of file (record { names = ns; type = None; values = exprs_in es }) ≡ uncounted file ns (exprs_in es)
+variables_unpaired file ns es l = ap (λ (o : Option (List objects.Object)). unwrap_or o (uncounted file ns (exprs_in es))) (none_paired (valued_object file) ns es l)
+
+pub not_alone : (file : ℕ) (ns : List Name) (es : List Expr) → (length es ≡ 1 → ⊥) → uncounted file ns (exprs_in es) ≡ unpaired file None (exprs_in es) ns
+not_alone file ns [] l = refl
+not_alone file ns (e ∷ []) l = absurd (l refl)
+not_alone file ns (e ∷ f ∷ es) l = refl
+
+pub alone : (file : ℕ) (ns : List Name) (es : List Expr) (e : Expr) → length es ≡ 1 → e ≡ get_or es 0 e → uncounted file ns (exprs_in es) ≡ result_objects file (length ns) 0 (expr_of e) ns
+alone file ns [] e l is = absurd (omega (arith, l))
+alone file ns (f ∷ []) e l is = ap (λ (x : Expr). result_objects file (length ns) 0 (expr_of x) ns) (sym is)
+alone file ns (f ∷ g ∷ es) e l is = absurd (omega (arith, l))
 
 pub meant_own : (before : trees.ConstSpec) (ns : List Name) (t : Option trees.TypeExpr) (es : List Expr) → nat_eq (length es) 0 ≡ false →
     objects.meant before (record { names = ns; type = t; values = exprs_in es }) ≡ record { names = ns; type = t; values = exprs_in es }

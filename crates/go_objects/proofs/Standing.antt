@@ -21,3 +21,21 @@ pub stands : {S : Type 0} (p : Package) (imports : List Import) (known : IndexMa
 unfolding names_in
 stands p imports known file iota s is e =
     is ∙ ap (λ (l : List (List ℕ × Verdict Known)). record { path = p.path; names = l ++ (package_names known ++ (iota_of iota ++ universe)) }) (sym (imports_seen imports) ∙ ap packages e)
+
+abbrev Outside : Type 0
+Outside = Option ℕ → List (List ℕ × Verdict Known)
+
+abbrev pub outside_in : {S : Type 0} → List Import → IndexMap (String Global) (Option Declared) S → Outside
+outside_in imports known iota = names_in imports known iota
+
+abbrev pub outside_of : Package → Names → ℕ → Outside
+outside_of p known file iota = (scope_at p known file iota).names
+
+abbrev behind : {S : Type 0} → IndexMap (String Global) (Option Declared) S → List (List ℕ × Verdict Known) → Outside
+behind known l iota = l ++ (package_names known ++ (iota_of iota ++ universe))
+
+-- the names outside of a function, by the value of iota
+pub stands_outside : {S : Type 0} (p : Package) (imports : List Import) (known : IndexMap (String Global) (Option Declared) S) (file : ℕ) → imports_of imports ≡ imports_at p file →
+    outside_in imports known ≡ outside_of p (names_of known) file
+unfolding names_in
+stands_outside p imports known file e = ap (behind known) (sym (imports_seen imports) ∙ ap packages e)

@@ -1,15 +1,20 @@
 -- What a package declares: https://go.dev/ref/spec#Declarations_and_scope
-use Rattle.std.specs.Prelude.{ℕ, suc, ◌||◌, if◌then◌else◌, List, [], ◌∷◌, ◌++◌, map, codes, Option, Some, None, option_map, unwrap_or}
+use Rattle.std.specs.Prelude.{ℕ, suc, ◌||◌, if◌then◌else◌, List, [], ◌∷◌, ◌++◌, length, map, codes, Option, Some, None, option_map, unwrap_or}
 use Rattle.std.specs.List.{flat_map, list_any}
 use Rattle.std.specs.Str.{bytes_eq}
 use Rattle.go_ast.specs.Trees.{Name, TypeExpr, Expr, Exprs, no_exprs, some_exprs, ConstSpec, VarSpec, TypeSpec, constants, variables, types, Parameter, TopLevel, declared, function, File}
 
--- A constant has the type that is written, if one is, its own value, and the value of iota. Of what is no constant and no type, and
--- of a constant that has no value of its own, no more is known than what it stands on.
+-- A constant has the type that is written, if one is, its own value, and the value of iota. A variable has the type that is written;
+-- where none is, it has that of its own value, or it takes its place among as many results of a call. A function has a signature.
+-- Of constants and variables that have no values of their own no more is known than what they stand on.
 pub data Form : Type 0 where
   constant : Option TypeExpr → Expr → ℕ → Form
   type' : TypeExpr → Form
-  other : List TypeExpr → Exprs → Form
+  typed_variable : TypeExpr → Form
+  valued_variable : Expr → Form
+  result_variable : ℕ → ℕ → Expr → Form
+  function' : List Parameter → List TypeExpr → Form
+  other : Option TypeExpr → Exprs → Form
 
 -- what is declared: the number of its file, its name and its form
 pub record Object : Type 0 where
@@ -23,13 +28,9 @@ paired f [] no_exprs = Some []
 paired f (n ∷ ns) (some_exprs e es) = option_map (λ xs. f n e ∷ xs) (paired f ns es)
 paired f _ _ = None
 
-abbrev pub as_list : Option TypeExpr → List TypeExpr
-as_list None = []
-as_list (Some t) = t ∷ []
-
 -- names, each with all that stands in its specification
 abbrev pub unpaired : ℕ → Option TypeExpr → Exprs → List Name → List Object
-unpaired file t values = map (λ n. record { file = file; name = n; form = other (as_list t) values })
+unpaired file t values = map (λ n. record { file = file; name = n; form = other t values })
 
 -- https://go.dev/ref/spec#Constant_declarations
 -- a specification of constants without values means the type and the values of the one before
@@ -46,14 +47,27 @@ in_group file iota before [] = []
 in_group file iota before (s ∷ ss) = constants_of file iota (meant before s) ++ in_group file (suc iota) (meant before s) ss
 
 -- https://go.dev/ref/spec#Variable_declarations
-abbrev pub variable : ℕ → Name → Expr → Object
-variable file n e = record { file = file; name = n; form = other [] (some_exprs e no_exprs) }
+abbrev pub typed_object : ℕ → TypeExpr → Name → Object
+typed_object file t n = record { file = file; name = n; form = typed_variable t }
 
--- a variable stands on its type, and where none is written on its value
+abbrev pub valued_object : ℕ → Name → Expr → Object
+valued_object file n e = record { file = file; name = n; form = valued_variable e }
+
+-- names, each with its number among as many, and the call that gives them values
+abbrev pub result_objects : ℕ → ℕ → ℕ → Expr → List Name → List Object
+result_objects file count number e [] = []
+result_objects file count number e (n ∷ ns) =
+    record { file = file; name = n; form = result_variable number count e } ∷ result_objects file count (suc number) e ns
+
+-- where there aren't as many values as names, one may be a call
+abbrev pub uncounted : ℕ → List Name → Exprs → List Object
+uncounted file ns (some_exprs e no_exprs) = result_objects file (length ns) 0 e ns
+uncounted file ns es = unpaired file None es ns
+
 abbrev pub variables_of : ℕ → VarSpec → List Object
 variables_of file s = elim s.type [
-  | Some t ↦ unpaired file (Some t) no_exprs s.names
-  | None ↦ unwrap_or (paired (variable file) s.names s.values) (unpaired file None s.values s.names)
+  | Some t ↦ map (typed_object file t) s.names
+  | None ↦ unwrap_or (paired (valued_object file) s.names s.values) (uncounted file s.names s.values)
 ]
 
 -- https://go.dev/ref/spec#Type_declarations
@@ -64,10 +78,11 @@ abbrev pub objects_in : ℕ → TopLevel → List Object
 objects_in file (declared (constants p ss)) = in_group file 0 (record { names = []; type = None; values = no_exprs }) ss
 objects_in file (declared (variables p ss)) = flat_map (variables_of file) ss
 objects_in file (declared (types p ss)) = map (type_object file) ss
--- a function stands on its signature; init declares no name
+-- https://go.dev/ref/spec#Function_declarations
+-- init declares no name
 objects_in file (function f) =
     if bytes_eq f.name.text (codes "init") then []
-    else record { file = file; name = f.name; form = other (map (λ (p : Parameter). p.type) f.parameters ++ f.results) no_exprs } ∷ []
+    else record { file = file; name = f.name; form = function' f.parameters f.results } ∷ []
 
 abbrev pub objects_from : ℕ → List File → List Object
 objects_from file [] = []

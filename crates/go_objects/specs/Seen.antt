@@ -1,6 +1,6 @@
 -- How the code's objects stand for those of the definitions.
 use Rattle.std.specs.Prelude.{map, option_map}
-use Rattle.go_ast.specs.Views.{type_of, expr_of, exprs_in}
+use Rattle.go_ast.specs.Views.{type_of, expr_of, exprs_in, parameter_of}
 use Rattle.go_ast.specs.Trees as trees
 use Rattle.go_objects.specs.Objects as objects
 use Rattle.go_objects.specs.declared.declarations.Spec.{Spec}
@@ -11,7 +11,11 @@ use Rattle.go_objects.specs.declared.object.Object.{Object}
 abbrev pub form_of : Form → objects.Form
 form_of (forms.Constant t e iota) = objects.constant (option_map (λ t. type_of t.now) t) (expr_of e.now) iota
 form_of (forms.Type t) = objects.type' (type_of t.now)
-form_of (forms.Other ts es) = objects.other (map (λ t. type_of t.now) ts.items) (exprs_in es.now)
+form_of (forms.TypedVariable t) = objects.typed_variable (type_of t.now)
+form_of (forms.ValuedVariable e) = objects.valued_variable (expr_of e.now)
+form_of (forms.ResultVariable number count e) = objects.result_variable number count (expr_of e.now)
+form_of (forms.Function ps ts) = objects.function' (map parameter_of ps.now) (map type_of ts.now)
+form_of (forms.Other t es) = objects.other (option_map (λ t. type_of t.now) t) (exprs_in es.now)
 
 abbrev pub object_of : Object → objects.Object
 object_of o = record { file = o.file; name = o.name.now; form = form_of o.form }

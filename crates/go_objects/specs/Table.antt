@@ -1,16 +1,17 @@
 -- What is known of each object of a package, in whatever order they are declared.
-use Rattle.std.specs.Prelude.{◌≡◌, ℕ, suc, Bool, false, not, bytes_eq, if◌then◌else◌, List, [], ◌∷◌, ◌++◌, map, Option, Some, None, option_map, unwrap_or}
+use Rattle.std.specs.Prelude.{◌≡◌, ℕ, suc, Bool, false, not, nat_eq, bytes_eq, codes, length, if◌then◌else◌, List, [], ◌∷◌, ◌++◌, map, Option, Some, None, option_map, unwrap_or}
 use Rattle.std.specs.List.{slice_get, flat_map, filter, filter_map, list_any}
-use Rattle.go_text.specs.declared.fault.FaultKind.TheVariants.{Size}
-use Rattle.go_ast.specs.Trees.{TypeExpr, Expr}
+use Rattle.go_text.specs.declared.fault.FaultKind.TheVariants.{Size, Redeclared}
+use Rattle.go_ast.specs.Trees.{Name, TypeExpr, Expr, Parameter}
 use Rattle.go_types.specs.Types.{Type', named}
 use Rattle.go_types.specs.Relations.{underlying}
+use Rattle.go_typed.specs.Trees.{Symbol, Expr as Typed, global, expr_type}
 use Rattle.go_scope.specs.Names.{Used, in_type, in_expr, in_exprs}
 use Rattle.go_scope.specs.Order.{Grounded}
-use Rattle.go_expr.specs.Known.{Declared, Names, Known, type', constant, declared, package', Verdict, Fine, Breaks, Passed, Scope, named as known_name, universe}
-use Rattle.go_expr.specs.Rules.{is_small, assigned}
+use Rattle.go_expr.specs.Known.{Declared, value, type', function, Names, Known, declared, package', results, Verdict, Fine, Breaks, Passed, Scope, named as known_name, universe}
+use Rattle.go_expr.specs.Rules.{fine, valued, is_small, constant_due, assigned, default_type, differ}
 use Rattle.go_expr.specs.Seen.{iota_of}
-use Rattle.go_expr.specs.Verdicts.{fine, asked, both, operand, verdict, type_verdict}
+use Rattle.go_expr.specs.Verdicts.{asked, joined, asked_both, operand, verdict, type_verdict}
 use Rattle.go_objects.specs.Objects.{Form, Object}
 use Rattle.go_objects.specs.Objects as forms
 
@@ -22,11 +23,18 @@ pub record Package : Type 0 where
 
 -- ---- what stands on what
 
+abbrev pub in_written : Option TypeExpr → List Used
+in_written t = elim t [ None ↦ [] | Some t ↦ in_type t ]
+
+-- a function stands on its signature, a variable on its type, and where none is written on its value
 abbrev pub used_by : Form → List Used
-used_by (forms.constant None e iota) = in_expr false e
-used_by (forms.constant (Some t) e iota) = in_type t ++ in_expr false e
+used_by (forms.constant t e iota) = in_written t ++ in_expr false e
 used_by (forms.type' t) = in_type t
-used_by (forms.other ts es) = flat_map in_type ts ++ in_exprs es
+used_by (forms.typed_variable t) = in_type t
+used_by (forms.valued_variable e) = in_expr false e
+used_by (forms.result_variable number count e) = in_expr false e
+used_by (forms.function' ps ts) = flat_map (λ (p : Parameter). in_type p.type) ps ++ flat_map in_type ts
+used_by (forms.other t es) = in_written t ++ in_exprs es
 
 -- the number of the object of a name
 abbrev pub number_of : List Object → List ℕ → Option ℕ
@@ -59,20 +67,66 @@ scope_at p known file iota = record {
 }
 
 -- https://go.dev/ref/spec#Constant_declarations
+-- the value, as one of the type that is written, if one is
+abbrev pub value_of : Scope → Option TypeExpr → Expr → Option Typed
+value_of s None e = operand (verdict s e)
+value_of s (Some t) e = fine (asked_both assigned (fine (type_verdict s t)) (operand (verdict s e)))
+
 abbrev pub constant_verdict : Scope → Option TypeExpr → Expr → Verdict Known
-constant_verdict s None e = asked (λ v. Fine (declared (constant v.0 v.1))) (operand (verdict s e))
-constant_verdict s (Some t) e = asked (λ k. assigned k.0 k.1) (both (fine (type_verdict s t)) (operand (verdict s e)))
+constant_verdict s t e = valued (asked constant_due (value_of s t e))
 
 -- https://go.dev/ref/spec#Type_definitions
 abbrev pub named_type : List ℕ → List ℕ → Type' → Verdict Known
 named_type path name t = if is_small (named path name (underlying t)) then Fine (declared (type' (named path name (underlying t)))) else Breaks Size
 
-abbrev pub object_verdict : Package → Names → Object → Verdict Known
-object_verdict p known o = elim o.form [
-  | forms.constant t e iota ↦ constant_verdict (scope_at p known o.file (Some iota)) t e
-  | forms.type' t ↦ asked (named_type p.path o.name.text) (fine (type_verdict (scope_at p known o.file None) t))
-  | forms.other ts es ↦ Passed
+-- https://go.dev/ref/spec#Variable_declarations
+-- the type of one of as many results of a call
+abbrev pub result_type : ℕ → ℕ → Option Known → Option Type'
+result_type number count (Some (results ts f es)) = if nat_eq (length ts) count then slice_get ts number else None
+result_type number count k = None
+
+abbrev pub variable : Symbol → Option Type' → Verdict Known
+variable x t = asked (λ t. Fine (declared (value (global t x)))) t
+
+-- https://go.dev/ref/spec#Function_declarations
+-- the types in a signature, each once for every name, where all are known
+abbrev pub types_known : Scope → List TypeExpr → Option (List Type')
+types_known s [] = Some []
+types_known s (t ∷ ts) = joined (option_map (λ t. t ∷ []) (fine (type_verdict s t))) (types_known s ts)
+
+abbrev pub parameters_known : Scope → List Parameter → Option (List Type')
+parameters_known s [] = Some []
+parameters_known s (p ∷ ps) = joined (option_map (λ t. map (λ n. t) p.names) (fine (type_verdict s p.type))) (parameters_known s ps)
+
+-- names but the blank one, of which none stands twice among parameters
+abbrev pub own_names : List Name → List (List ℕ)
+own_names ns = filter (λ x. not (bytes_eq x (codes "_"))) (map (λ (n : Name). n.text) ns)
+
+abbrev pub parameter_names : List Parameter → List (List ℕ)
+parameter_names ps = flat_map (λ (p : Parameter). own_names p.names) ps
+
+abbrev pub function_verdict : Scope → Symbol → List Parameter → List TypeExpr → Verdict Known
+function_verdict s x ps ts =
+    if differ (parameter_names ps)
+    then asked_both (λ ts rs. Fine (declared (function x ts rs))) (parameters_known s ps) (types_known s ts) else Breaks Redeclared
+
+-- iota has a value in a constant alone: https://go.dev/ref/spec#Iota
+abbrev pub iota_in : Form → Option ℕ
+iota_in form = elim form [ forms.constant t e iota ↦ Some iota | _ ↦ None ]
+
+abbrev pub form_verdict : Scope → Symbol → Form → Verdict Known
+form_verdict s x form = elim form [
+  | forms.constant t e iota ↦ constant_verdict s t e
+  | forms.type' t ↦ asked (named_type x.path x.name) (fine (type_verdict s t))
+  | forms.typed_variable t ↦ variable x (fine (type_verdict s t))
+  | forms.valued_variable e ↦ variable x (option_map (λ e. default_type (expr_type e)) (operand (verdict s e)))
+  | forms.result_variable number count e ↦ variable x (result_type number count (fine (verdict s e)))
+  | forms.function' ps ts ↦ function_verdict s x ps ts
+  | forms.other t es ↦ Passed
 ]
+
+abbrev pub object_verdict : Package → Names → Object → Verdict Known
+object_verdict p known o = form_verdict (scope_at p known o.file (iota_in o.form)) (record { path = p.path; name = o.name.text }) o.form
 
 abbrev pub declared_in : Option Known → Option Declared
 declared_in (Some (declared d)) = Some d

@@ -1,17 +1,17 @@
 //! What the declarations of files declare, in their order, under names that may be blank or doubled.
-ghost use Rattle.std.specs.Prelude.{◌≡◌, ◌++◌, [], None, map, length, option_map, OnOk, IfOk};
+ghost use Rattle.std.specs.Prelude.{◌≡◌, ◌++◌, [], None, map, length, OnOk, IfOk};
 ghost use Rattle.std.specs.List.{flat_map};
 ghost use Rattle.go_ast.specs.Trees.{no_exprs};
 ghost use Rattle.go_ast.specs.Trees as trees;
-ghost use Rattle.go_ast.specs.Views.{type_of, exprs_in, const_of, var_of, type_spec_of, parameter_of, function_of, top_of, file_of};
+ghost use Rattle.go_ast.specs.Views.{type_of, expr_of, exprs_in, const_of, var_of, type_spec_of, function_of, top_of, file_of};
 ghost use Rattle.go_objects.specs.Objects as objects;
-ghost use Rattle.go_objects.specs.Objects.{as_list, unpaired, constants_of, in_group, variables_of, type_object, objects_in, objects_from};
+ghost use Rattle.go_objects.specs.Objects.{unpaired, constants_of, in_group, typed_object, result_objects, uncounted, variables_of, type_object, objects_in, objects_from};
 ghost use Rattle.go_objects.specs.Seen.{object_of, spec_of};
 
 use crate::object::{Form, Object};
 use go_ast::declaration::{ConstSpec, Decl, TypeSpec, VarSpec};
 use go_ast::expression::{Expr, TypeExpr};
-use go_ast::file::{File, Function, Parameter, TopLevel};
+use go_ast::file::{File, Function, TopLevel};
 use go_ast::name::Name;
 use std::alloc::{AllocError, Global};
 
@@ -24,13 +24,12 @@ pub(crate) fn all_objects<'a>(
 {
     let mut found = Vec::new(alloc);
     for (number, file) in files.iter().enumerate() {
-        add_file(alloc, number, *file, &mut found)?;
+        add_file(number, *file, &mut found)?;
     }
     Ok(found)
 }
 
 fn add_file<'a>(
-    alloc: Global,
     number: usize,
     file: &'a File,
     found: &mut Vec<Object<'a>>,
@@ -38,13 +37,12 @@ fn add_file<'a>(
     ensures { OnOk result (map object_of found.new.items ≡ map object_of found.old.items ++ flat_map (objects_in number) (file_of file.now).declarations) }
 {
     for top in &file.declarations {
-        add_objects(alloc, number, top, found)?;
+        add_objects(number, top, found)?;
     }
     Ok(())
 }
 
 fn add_objects<'a>(
-    alloc: Global,
     file: usize,
     top: &'a TopLevel,
     found: &mut Vec<Object<'a>>,
@@ -52,12 +50,10 @@ fn add_objects<'a>(
     ensures { OnOk result (map object_of found.new.items ≡ map object_of found.old.items ++ objects_in file (top_of top.now)) }
 {
     match top {
-        TopLevel::Declared(Decl::Constants(_, specs)) => add_group(alloc, file, specs, found),
-        TopLevel::Declared(Decl::Variables(_, specs)) => {
-            add_all_variables(alloc, file, specs, found)
-        }
+        TopLevel::Declared(Decl::Constants(_, specs)) => add_group(file, specs, found),
+        TopLevel::Declared(Decl::Variables(_, specs)) => add_all_variables(file, specs, found),
         TopLevel::Declared(Decl::Types(_, specs)) => add_types(file, specs, found),
-        TopLevel::Function(function) => add_function(alloc, file, function, found),
+        TopLevel::Function(function) => add_function(file, function, found),
     }
 }
 
@@ -90,7 +86,6 @@ pub fn meant<'a>(before: Spec<'a>, spec: &'a ConstSpec) -> Spec<'a>
 }
 
 fn add_group<'a>(
-    alloc: Global,
     file: usize,
     specs: &'a [ConstSpec],
     found: &mut Vec<Object<'a>>,
@@ -105,13 +100,12 @@ fn add_group<'a>(
     };
     for (iota, spec) in specs.iter().enumerate() {
         before = meant(before, spec);
-        add_constants(alloc, file, iota as u64, before, found)?;
+        add_constants(file, iota as u64, before, found)?;
     }
     Ok(())
 }
 
 fn add_constants<'a>(
-    alloc: Global,
     file: usize,
     iota: u64,
     spec: Spec<'a>,
@@ -122,7 +116,7 @@ fn add_constants<'a>(
     if spec.names.len() == spec.values.len() {
         add_paired_constants(file, iota, spec, found)
     } else {
-        add_unpaired(alloc, file, spec, found)
+        add_unpaired(file, spec, found)
     }
 }
 
@@ -151,7 +145,6 @@ fn add_paired_constants<'a>(
 
 // Each name with all that stands in its specification.
 fn add_unpaired<'a>(
-    alloc: Global,
     file: usize,
     spec: Spec<'a>,
     found: &mut Vec<Object<'a>>,
@@ -160,33 +153,15 @@ fn add_unpaired<'a>(
         ≡ map object_of found.old.items ++ unpaired file (spec_of spec.entry).type (spec_of spec.entry).values (spec_of spec.entry).names) }
 {
     for name in spec.names {
-        let types = as_list(alloc, spec.type_expr)?;
-        let values = spec.values;
-        found.push(Object {
-            file,
-            name,
-            form: Form::Other { types, values },
-        })?;
+        let form = Form::Other(spec.type_expr, spec.values);
+        found.push(Object { file, name, form })?;
     }
     Ok(())
 }
 
-fn as_list<'a>(
-    alloc: Global,
-    type_expr: Option<&'a TypeExpr>,
-) -> Result<Vec<&'a TypeExpr>, AllocError>
-    ensures { IfOk result (λ types. map (λ t. type_of t.now) types.items ≡ as_list (option_map (λ t. type_of t.now) type_expr.entry)) }
-{
-    let mut types = Vec::new(alloc);
-    if let Some(type_expr) = type_expr {
-        types.push(type_expr)?;
-    }
-    Ok(types)
-}
-
-// A variable stands on its type, and where none is written on its value.
+// Variables of a type that is written, or else each with its own value, or with its place among the
+// results of a call.
 fn add_variables<'a>(
-    alloc: Global,
     file: usize,
     spec: &'a VarSpec,
     found: &mut Vec<Object<'a>>,
@@ -194,29 +169,81 @@ fn add_variables<'a>(
     ensures { OnOk result (map object_of found.new.items ≡ map object_of found.old.items ++ variables_of file (var_of spec.now)) }
 {
     let names = spec.names.as_slice();
-    let type_expr = spec.type_expr.as_ref();
     let values = spec.values.as_slice();
-    if type_expr.is_some() {
-        let typed = Spec {
-            names,
-            type_expr,
-            values: &[],
-        };
-        return add_unpaired(alloc, file, typed, found);
+    match &spec.type_expr {
+        Some(type_expr) => add_typed_variables(file, names, type_expr, found),
+        None => add_valued_variables(file, names, values, found),
     }
+}
+
+fn add_typed_variables<'a>(
+    file: usize,
+    names: &'a [Name],
+    type_expr: &'a TypeExpr,
+    found: &mut Vec<Object<'a>>,
+) -> Result<(), AllocError>
+    ensures { OnOk result (map object_of found.new.items ≡ map object_of found.old.items ++ map (typed_object file (type_of type_expr.now)) names.now) }
+{
+    for name in names {
+        let form = Form::TypedVariable(type_expr);
+        found.push(Object { file, name, form })?;
+    }
+    Ok(())
+}
+
+fn add_valued_variables<'a>(
+    file: usize,
+    names: &'a [Name],
+    values: &'a [Expr],
+    found: &mut Vec<Object<'a>>,
+) -> Result<(), AllocError>
+    ensures { OnOk result (map object_of found.new.items
+        ≡ map object_of found.old.items ++ variables_of file (record { names = names.now; type = None; values = exprs_in values.now })) }
+{
     if names.len() == values.len() {
-        return add_paired_variables(alloc, file, names, values, found);
+        add_paired_variables(file, names, values, found)
+    } else {
+        add_uncounted(file, names, values, found)
+    }
+}
+
+// Where there aren't as many values as names, one may be a call.
+fn add_uncounted<'a>(
+    file: usize,
+    names: &'a [Name],
+    values: &'a [Expr],
+    found: &mut Vec<Object<'a>>,
+) -> Result<(), AllocError>
+    ensures { OnOk result (map object_of found.new.items ≡ map object_of found.old.items ++ uncounted file names.now (exprs_in values.now)) }
+{
+    if values.len() == 1 {
+        return add_result_variables(file, names, &values[0], found);
     }
     let untyped = Spec {
         names,
         type_expr: None,
         values,
     };
-    add_unpaired(alloc, file, untyped, found)
+    add_unpaired(file, untyped, found)
+}
+
+fn add_result_variables<'a>(
+    file: usize,
+    names: &'a [Name],
+    value: &'a Expr,
+    found: &mut Vec<Object<'a>>,
+) -> Result<(), AllocError>
+    ensures { OnOk result (map object_of found.new.items
+        ≡ map object_of found.old.items ++ result_objects file (length names.now) 0 (expr_of value.now) names.now) }
+{
+    for (number, name) in names.iter().enumerate() {
+        let form = Form::ResultVariable(number, names.len(), value);
+        found.push(Object { file, name, form })?;
+    }
+    Ok(())
 }
 
 fn add_paired_variables<'a>(
-    alloc: Global,
     file: usize,
     names: &'a [Name],
     values: &'a [Expr],
@@ -227,20 +254,13 @@ fn add_paired_variables<'a>(
         ≡ map object_of found.old.items ++ variables_of file (record { names = names.now; type = None; values = exprs_in values.now })) }
 {
     for (name, value) in names.iter().zip(values) {
-        found.push(Object {
-            file,
-            name,
-            form: Form::Other {
-                types: Vec::new(alloc),
-                values: std::slice::from_ref(value),
-            },
-        })?;
+        let form = Form::ValuedVariable(value);
+        found.push(Object { file, name, form })?;
     }
     Ok(())
 }
 
 fn add_all_variables<'a>(
-    alloc: Global,
     file: usize,
     specs: &'a [VarSpec],
     found: &mut Vec<Object<'a>>,
@@ -248,7 +268,7 @@ fn add_all_variables<'a>(
     ensures { OnOk result (map object_of found.new.items ≡ map object_of found.old.items ++ flat_map (variables_of file) (map var_of specs.now)) }
 {
     for spec in specs {
-        add_variables(alloc, file, spec, found)?;
+        add_variables(file, spec, found)?;
     }
     Ok(())
 }
@@ -272,7 +292,6 @@ fn add_types<'a>(
 
 // A function stands on its signature; init declares no name.
 fn add_function<'a>(
-    alloc: Global,
     file: usize,
     function: &'a Function,
     found: &mut Vec<Object<'a>>,
@@ -282,40 +301,10 @@ fn add_function<'a>(
     if function.name.text() == "init" {
         return Ok(());
     }
-    let types = signature_types(alloc, function)?;
     found.push(Object {
         file,
         name: &function.name,
-        form: Form::Other { types, values: &[] },
+        form: Form::Function(&function.parameters, &function.results),
     })?;
     Ok(())
-}
-
-// The types of a function's parameters, and those of its results.
-fn signature_types<'a>(
-    alloc: Global,
-    function: &'a Function,
-) -> Result<Vec<&'a TypeExpr>, AllocError>
-    ensures { IfOk result (λ types. map (λ t. type_of t.now) types.items
-        ≡ map (λ (p : trees.Parameter). p.type) (function_of function.now).parameters ++ (function_of function.now).results) }
-{
-    let mut types = parameter_types(alloc, &function.parameters)?;
-    for result_type in &function.results {
-        types.push(result_type)?;
-    }
-    Ok(types)
-}
-
-fn parameter_types<'a>(
-    alloc: Global,
-    parameters: &'a [Parameter],
-) -> Result<Vec<&'a TypeExpr>, AllocError>
-    ensures { IfOk result (λ types. map (λ t. type_of t.now) types.items
-        ≡ map (λ (p : trees.Parameter). p.type) (map parameter_of parameters.now)) }
-{
-    let mut types = Vec::new(alloc);
-    for parameter in parameters {
-        types.push(&parameter.type_expr)?;
-    }
-    Ok(types)
 }

@@ -1,24 +1,29 @@
 //! What is known of one object, by what is known of the others.
-ghost use Rattle.std.specs.Prelude.{◌≡◌, ℕ, ◌<◌, IfOk};
+ghost use Rattle.std.specs.Prelude.{◌≡◌, nat_eq, if◌then◌else◌, length, slice_get, Some, None, IfOk};
 ghost use Rattle.std.specs.Option.{option_map};
-ghost use Rattle.go_ast.specs.Views.{expr_of, type_of as type_tree};
+ghost use Rattle.go_ast.specs.Views.{expr_of as expr_tree, type_of as type_tree};
 ghost use Rattle.go_types.specs.Views.{type_of};
-ghost use Rattle.go_expr.specs.Rules.{assigned, is_small};
-ghost use Rattle.go_expr.specs.Verdicts.{fine, operand, verdict, type_verdict};
-ghost use Rattle.go_expr.specs.Seen.{declared_of, names_of, value_of, scope_of};
-ghost use Rattle.go_objects.specs.Table.{scope_at, constant_verdict, named_type, object_verdict, declared_in};
-ghost use Rattle.go_objects.specs.Seen.{object_of};
+ghost use Rattle.go_typed.specs.Trees.{expr_type};
+ghost use Rattle.go_typed.specs.Views.{expr_of};
+ghost use Rattle.go_expr.specs.Rules.{fine, valued, constant_due, is_small, default_type};
+ghost use Rattle.go_expr.specs.Verdicts.{operand, verdict, type_verdict};
+ghost use Rattle.go_expr.specs.Seen.{declared_of, names_of, scope_of};
+ghost use Rattle.go_objects.specs.Table.{scope_at, value_of, constant_verdict, named_type, result_type, variable, iota_in, form_verdict, object_verdict, declared_in};
+ghost use Rattle.go_objects.specs.Seen.{form_of, object_of};
 ghost use Rattle.go_objects.specs.Packages.{package_of};
 
 use crate::object::{Form, Object};
 use crate::package::{Package, imports_at};
+use crate::signature::function_in;
 use go_ast::expression::{Expr, TypeExpr};
-use go_expr::conversion::assigned;
-use go_expr::error::ExprError;
-use go_expr::expression::{check_operand, check_type};
-use go_expr::known::{Declared, Known, Names, Value};
+use go_expr::error::{ExprError, RuleError};
+use go_expr::expression::{check_expr, check_operand, check_type};
+use go_expr::known::{Declared, Known, Names};
+use go_expr::node::{constant_in as constant_of_value, type_in as type_of_value};
 use go_expr::scope::Scope;
-use go_text::place::Place;
+use go_expr::value::{assigned, default_type};
+use go_typed::expression::TypedExpr;
+use go_typed::symbol::Symbol;
 use go_types::relations::underlying;
 use go_types::sizes::{cells, nodes};
 use go_types::types::{GoType, Named};
@@ -36,23 +41,53 @@ pub(crate) fn declared_by(
     ensures { IfOk result (λ d. option_map declared_of d
         ≡ declared_in (fine (object_verdict (package_of «package».now) (names_of known.now) (object_of object.now)))) }
 {
-    match &object.form {
+    let scope = scope_in(package, known, object.file, iota_in(object.form));
+    declared_as(alloc, &scope, package.path, object.name.text(), object.form)
+}
+
+// The value that iota has in a form.
+fn iota_in(form: Form<'_>) -> Option<u64>
+    ensures { result ≡ iota_in (form_of form.entry) }
+{
+    match form {
+        Form::Constant { iota, .. } => Some(iota),
+        _ => None,
+    }
+}
+
+// What a name of a package declares by a form.
+fn declared_as(
+    alloc: Global,
+    scope: &Scope<'_>,
+    path: &str,
+    name: &str,
+    form: Form<'_>,
+) -> Result<Option<Declared>, AllocError>
+    ensures { IfOk result (λ d. option_map declared_of d
+        ≡ declared_in (fine (form_verdict (scope_of scope.now) (record { path = path.now; name = name.now }) (form_of form.entry)))) }
+{
+    match form {
         Form::Constant {
             type_expr,
             value,
-            iota,
-        } => {
-            let scope = scope_in(package, known, object.file, Some(*iota));
-            constant_in(alloc, &scope, *type_expr, *value)
+            ..
+        } => constant_in(alloc, scope, type_expr, value),
+        Form::Type(of) => match type_in(alloc, scope, of)? {
+            Some(of) => named_type(alloc, path, name, &of),
+            None => Ok(None),
+        },
+        Form::TypedVariable(of) => variable(alloc, path, name, type_in(alloc, scope, of)?),
+        Form::ValuedVariable(value) => {
+            variable(alloc, path, name, value_type(alloc, scope, value)?)
         }
-        Form::Type(of) => {
-            let scope = scope_in(package, known, object.file, None);
-            let Some(of) = type_in(alloc, &scope, *of)? else {
-                return Ok(None);
-            };
-            named_type(alloc, package.path, object.name.text(), &of)
+        Form::ResultVariable(number, count, value) => {
+            let of = result_type(alloc, scope, number, count, value)?;
+            variable(alloc, path, name, of)
         }
-        Form::Other { .. } => Ok(None),
+        Form::Function(parameters, results) => {
+            function_in(alloc, scope, path, name, parameters, results)
+        }
+        Form::Other(_, _) => Ok(None),
     }
 }
 
@@ -69,6 +104,7 @@ pub fn scope_in<'a>(
     Scope::new(package.path, imports_at(package, file), known, iota)
 }
 
+// A constant, by the type that is written, if one is, and its value.
 fn constant_in(
     alloc: Global,
     scope: &Scope<'_>,
@@ -76,49 +112,146 @@ fn constant_in(
     value: &Expr,
 ) -> Result<Option<Declared>, AllocError>
     ensures { IfOk result (λ d. option_map declared_of d
-        ≡ declared_in (fine (constant_verdict (scope_of scope.now) (option_map (λ t. type_tree t.now) type_expr.entry) (expr_of value.now)))) }
+        ≡ declared_in (fine (constant_verdict (scope_of scope.now) (option_map (λ t. type_tree t.now) type_expr.entry) (expr_tree value.now)))) }
 {
-    let Some(constant) = operand_in(alloc, scope, value)? else {
-        return Ok(None);
+    let value = match type_expr {
+        None => operand_in(alloc, scope, value)?,
+        Some(of) => assigned_in(alloc, scope, of, value)?,
     };
-    let Some(type_expr) = type_expr else {
-        return Ok(Some(Declared::Constant(constant.of, constant.constant)));
-    };
-    let Some(of) = type_in(alloc, scope, type_expr)? else {
-        return Ok(None);
-    };
-    assigned_in(value.place, of, constant)
+    match value {
+        Some(value) => declared_constant(&value),
+        None => Ok(None),
+    }
 }
 
-// The constant that an operand is, if it is known.
-fn operand_in(alloc: Global, scope: &Scope<'_>, value: &Expr) -> Result<Option<Value>, AllocError>
-    ensures { IfOk result (λ v. option_map value_of v ≡ operand (verdict (scope_of scope.now) (expr_of value.now))) }
+fn declared_constant(value: &TypedExpr) -> Result<Option<Declared>, AllocError>
+    ensures { IfOk result (λ d. option_map declared_of d ≡ declared_in (fine (valued (constant_due (expr_of value.now))))) }
+{
+    let Some(constant) = constant_of_value(value) else {
+        return Ok(None);
+    };
+    let of = type_of_value(value).copy()?;
+    Ok(Some(Declared::Constant(of, constant.copy()?)))
+}
+
+// The value that an operand is, as one of a type, if both are known and it is assignable.
+fn assigned_in(
+    alloc: Global,
+    scope: &Scope<'_>,
+    of: &TypeExpr,
+    value: &Expr,
+) -> Result<Option<TypedExpr>, AllocError>
+    ensures { IfOk result (λ v. option_map expr_of v ≡ value_of (scope_of scope.now) (Some (type_tree of.now)) (expr_tree value.now)) }
+{
+    let Some(of) = type_in(alloc, scope, of)? else {
+        return Ok(None);
+    };
+    let Some(value) = operand_in(alloc, scope, value)? else {
+        return Ok(None);
+    };
+    match assigned(alloc, of, value) {
+        Ok(value) => Ok(Some(value)),
+        Err(RuleError::Broken(_)) => Ok(None),
+        Err(RuleError::Memory) => Err(AllocError),
+    }
+}
+
+// A variable of a type, where that is known.
+fn variable(
+    alloc: Global,
+    path: &str,
+    name: &str,
+    of: Option<GoType>,
+) -> Result<Option<Declared>, AllocError>
+    ensures { IfOk result (λ d. option_map declared_of d
+        ≡ declared_in (fine (variable (record { path = path.now; name = name.now }) (option_map type_of of)))) }
+{
+    let Some(of) = of else {
+        return Ok(None);
+    };
+    Ok(Some(Declared::Global(of, symbol(alloc, path, name)?)))
+}
+
+/// What something that a package declares is known by. An `Err` only where memory ran out.
+pub(crate) fn symbol(alloc: Global, path: &str, name: &str) -> Result<Symbol, AllocError>
+    ensures { IfOk result (λ s. s ≡ record { path = path.now; name = name.now }) }
+{
+    let path = String::from_str(alloc, path)?;
+    let name = String::from_str(alloc, name)?;
+    Ok(Symbol::new(path, name))
+}
+
+// The type that a variable takes of its value, if that is known.
+fn value_type(alloc: Global, scope: &Scope<'_>, value: &Expr) -> Result<Option<GoType>, AllocError>
+    ensures { IfOk result (λ t. option_map type_of t
+        ≡ option_map (λ e. default_type (expr_type e)) (operand (verdict (scope_of scope.now) (expr_tree value.now)))) }
+{
+    match operand_in(alloc, scope, value)? {
+        Some(value) => Ok(Some(default_type(type_of_value(&value))?)),
+        None => Ok(None),
+    }
+}
+
+// The type of one of as many results of a call, if it has so many.
+fn result_type(
+    alloc: Global,
+    scope: &Scope<'_>,
+    number: usize,
+    count: usize,
+    value: &Expr,
+) -> Result<Option<GoType>, AllocError>
+    ensures { IfOk result (λ t. option_map type_of t ≡ result_type number count (fine (verdict (scope_of scope.now) (expr_tree value.now)))) }
+{
+    match check_expr(alloc, scope, value) {
+        Ok(Some(Known::Results(types, _, _))) => numbered_type(&types, number, count),
+        Ok(_) => Ok(None),
+        Err(ExprError::Faulty(_, _)) => Ok(None),
+        Err(ExprError::Memory) => Err(AllocError),
+    }
+}
+
+// The type of a number among as many.
+fn numbered_type(
+    types: &[GoType],
+    number: usize,
+    count: usize,
+) -> Result<Option<GoType>, AllocError>
+    ensures { IfOk result (λ t. option_map type_of t ≡ (if nat_eq (length types.now) count then option_map type_of (slice_get types.now number) else None)) }
+{
+    if types.len() != count {
+        return Ok(None);
+    }
+    match types.get(number) {
+        Some(of) => Ok(Some(of.copy()?)),
+        None => Ok(None),
+    }
+}
+
+// The value that an operand is, if it is known.
+fn operand_in(
+    alloc: Global,
+    scope: &Scope<'_>,
+    value: &Expr,
+) -> Result<Option<TypedExpr>, AllocError>
+    ensures { IfOk result (λ v. option_map expr_of v ≡ operand (verdict (scope_of scope.now) (expr_tree value.now))) }
 {
     match check_operand(alloc, scope, value) {
-        Ok(constant) => Ok(constant),
+        Ok(value) => Ok(value),
         Err(ExprError::Faulty(_, _)) => Ok(None),
         Err(ExprError::Memory) => Err(AllocError),
     }
 }
 
 // The type that is written, if it is known.
-fn type_in(alloc: Global, scope: &Scope<'_>, of: &TypeExpr) -> Result<Option<GoType>, AllocError>
+pub(crate) fn type_in(
+    alloc: Global,
+    scope: &Scope<'_>,
+    of: &TypeExpr,
+) -> Result<Option<GoType>, AllocError>
     ensures { IfOk result (λ t. option_map type_of t ≡ fine (type_verdict (scope_of scope.now) (type_tree of.now))) }
 {
     match check_type(alloc, scope, of) {
         Ok(found) => Ok(found),
-        Err(ExprError::Faulty(_, _)) => Ok(None),
-        Err(ExprError::Memory) => Err(AllocError),
-    }
-}
-
-// A constant as one of a type, if it is assignable.
-fn assigned_in(place: Place, of: GoType, value: Value) -> Result<Option<Declared>, AllocError>
-    ensures { IfOk result (λ d. option_map declared_of d ≡ declared_in (fine (assigned (type_of of) (value_of value)))) }
-{
-    match assigned(place, of, value) {
-        Ok(Some(Known::Declared(declared))) => Ok(Some(declared)),
-        Ok(_) => Ok(None),
         Err(ExprError::Faulty(_, _)) => Ok(None),
         Err(ExprError::Memory) => Err(AllocError),
     }

@@ -8,4 +8,5 @@ pub mod listing;
 pub mod object;
 pub mod objects;
 pub mod package;
+mod signature;
 pub mod table;

@@ -1,9 +1,10 @@
 //! What the files of a package declare.
 use go_ast::expression::{Expr, TypeExpr};
+use go_ast::file::Parameter;
 use go_ast::name::Name;
 
 /// How something is declared.
-#[derive(Drop)]
+#[derive(Clone, Copy)]
 pub enum Form<'a> {
     /// A constant: its type, if one is written, its own value, and the value of iota.
     Constant {
@@ -16,13 +17,18 @@ pub enum Form<'a> {
     },
     /// A type, by the type that it is made of.
     Type(&'a TypeExpr),
-    /// What is no constant and no type, or a constant without a value of its own: what it stands on.
-    Other {
-        /// The types that it stands on.
-        types: Vec<&'a TypeExpr>,
-        /// The values that it stands on.
-        values: &'a [Expr],
-    },
+    /// A variable of a type that is written.
+    TypedVariable(&'a TypeExpr),
+    /// A variable that has the type of its own value.
+    ValuedVariable(&'a Expr),
+    /// A variable that takes its place among as many results of a call: its number, their count,
+    /// and the call.
+    ResultVariable(usize, usize, &'a Expr),
+    /// A function, by its parameters and the types of its results.
+    Function(&'a [Parameter], &'a [TypeExpr]),
+    /// A constant or a variable that has no value of its own: the type that is written, if one is,
+    /// and the values that it stands on.
+    Other(Option<&'a TypeExpr>, &'a [Expr]),
 }
 
 /// Something that a package declares.

@@ -1,16 +1,18 @@
 //! A package, and which of its objects stand on which.
-ghost use Rattle.std.specs.Prelude.{◌≡◌, ◌++◌, map, false, IfOk, OnOk};
+ghost use Rattle.std.specs.Prelude.{◌≡◌, ◌++◌, map, false, option_map, IfOk, OnOk};
 ghost use Rattle.std.specs.List.{flat_map};
-ghost use Rattle.go_ast.specs.Views.{type_of, exprs_in};
+ghost use Rattle.go_ast.specs.Trees as trees;
+ghost use Rattle.go_ast.specs.Views.{type_of, exprs_in, parameter_of};
 ghost use Rattle.go_scope.specs.Names.{in_type, in_exprs, used};
 ghost use Rattle.ws_reach.specs.Reach.{EdgesStayWithin, rows_of};
-ghost use Rattle.go_objects.specs.Table.{used_by, is_hidden, imports_at, needs, rows};
+ghost use Rattle.go_objects.specs.Table.{in_written, used_by, is_hidden, imports_at, needs, rows};
 ghost use Rattle.go_objects.specs.Seen.{form_of, object_of};
 ghost use Rattle.go_objects.specs.Packages.{imports_of, package_of};
 
 use crate::object::{Form, Object};
 use crate::objects::Objects;
 use go_ast::expression::{Expr, TypeExpr};
+use go_ast::file::Parameter;
 use go_expr::scope::Import;
 use go_scope::names::{UsedName, add_names, add_type_names};
 use std::alloc::{AllocError, Global};
@@ -21,7 +23,7 @@ pub struct Package<'a> {
     /// Its path.
     pub path: &'a str,
     /// Of each file what its imports declare.
-    pub imports: &'a [Vec<Import<'a>>],
+    pub imports: Vec<Vec<Import<'a>>>,
     /// What its files declare.
     pub objects: Objects<'a>,
 }
@@ -48,7 +50,7 @@ fn needs(
     ensures { IfOk result (λ row. row.items ≡ needs (package_of «package».now) (object_of object.now)) }
 {
     let mut names = Vec::new(alloc);
-    add_used(&object.form, &mut names)?;
+    add_used(object.form, &mut names)?;
     let imports = imports_at(package, object.file);
     let mut row = Vec::new(alloc);
     for name in &names {
@@ -63,7 +65,7 @@ fn needs(
 }
 
 /// What the imports of a file declare.
-pub(crate) fn imports_at<'a, 'b>(package: &'b Package<'a>, file: usize) -> &'b [Import<'a>]
+pub fn imports_at<'a>(package: &'a Package<'a>, file: usize) -> &'a [Import<'a>]
     ensures { imports_of result.now ≡ imports_at (package_of «package».now) file }
 {
     match package.imports.get(file) {
@@ -85,39 +87,66 @@ fn is_hidden(imports: &[Import<'_>], name: &str) -> bool
 }
 
 // Adds the names that a form uses.
-fn add_used<'a>(form: &Form<'a>, names: &mut Vec<UsedName<'a>>) -> Result<(), AllocError>
-    ensures { OnOk result (map used names.new.items ≡ map used names.old.items ++ used_by (form_of form.now)) }
+fn add_used<'a>(form: Form<'a>, names: &mut Vec<UsedName<'a>>) -> Result<(), AllocError>
+    ensures { OnOk result (map used names.new.items ≡ map used names.old.items ++ used_by (form_of form.entry)) }
 {
     match form {
         Form::Constant {
-            type_expr: None,
-            value,
-            ..
-        } => add_names(*value, names),
-        Form::Constant {
-            type_expr: Some(type_expr),
+            type_expr,
             value,
             ..
         } => {
-            add_type_names(*type_expr, names)?;
-            add_names(*value, names)
+            add_written_names(type_expr, names)?;
+            add_names(value, names)
         }
-        Form::Type(of) => add_type_names(*of, names),
-        Form::Other { types, values } => {
-            add_all_type_names(types, names)?;
-            add_all_names(*values, names)
+        Form::Type(of) => add_type_names(of, names),
+        Form::TypedVariable(of) => add_type_names(of, names),
+        Form::ValuedVariable(value) => add_names(value, names),
+        Form::ResultVariable(_, _, value) => add_names(value, names),
+        Form::Function(parameters, results) => {
+            add_parameter_names(parameters, names)?;
+            add_all_type_names(results, names)
+        }
+        Form::Other(type_expr, values) => {
+            add_written_names(type_expr, names)?;
+            add_all_names(values, names)
         }
     }
 }
 
-fn add_all_type_names<'a>(
-    types: &[&'a TypeExpr],
+fn add_written_names<'a>(
+    type_expr: Option<&'a TypeExpr>,
     names: &mut Vec<UsedName<'a>>,
 ) -> Result<(), AllocError>
-    ensures { OnOk result (map used names.new.items ≡ map used names.old.items ++ flat_map in_type (map (λ t. type_of t.now) types.now)) }
+    ensures { OnOk result (map used names.new.items ≡ map used names.old.items ++ in_written (option_map (λ t. type_of t.now) type_expr.entry)) }
+{
+    match type_expr {
+        Some(type_expr) => add_type_names(type_expr, names),
+        None => Ok(()),
+    }
+}
+
+fn add_parameter_names<'a>(
+    parameters: &'a [Parameter],
+    names: &mut Vec<UsedName<'a>>,
+) -> Result<(), AllocError>
+    ensures { OnOk result (map used names.new.items
+        ≡ map used names.old.items ++ flat_map (λ (p : trees.Parameter). in_type p.type) (map parameter_of parameters.now)) }
+{
+    for parameter in parameters {
+        add_type_names(&parameter.type_expr, names)?;
+    }
+    Ok(())
+}
+
+fn add_all_type_names<'a>(
+    types: &'a [TypeExpr],
+    names: &mut Vec<UsedName<'a>>,
+) -> Result<(), AllocError>
+    ensures { OnOk result (map used names.new.items ≡ map used names.old.items ++ flat_map in_type (map type_of types.now)) }
 {
     for of in types {
-        add_type_names(*of, names)?;
+        add_type_names(of, names)?;
     }
     Ok(())
 }

@@ -3,7 +3,7 @@ ghost use Rattle.std.specs.Prelude.{◌≡◌, Some, None, slice_get, IfOk, OnOk
 ghost use Rattle.std.specs.Option.{option_map};
 ghost use Rattle.indexmap.specs.IndexMap.{set_value_at};
 ghost use Rattle.go_expr.specs.Seen.{declared_of, names_of};
-ghost use Rattle.go_expr.specs.Verdicts.{fine};
+ghost use Rattle.go_expr.specs.Rules.{fine};
 ghost use Rattle.go_objects.specs.Objects.{Object};
 ghost use Rattle.go_objects.specs.Table.{IsTable, object_verdict, declared_in};
 ghost use Rattle.go_objects.specs.Packages.{package_of};

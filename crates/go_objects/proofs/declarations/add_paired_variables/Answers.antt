@@ -1,10 +1,8 @@
-use Rattle.std.proofs.Common.{◌≡◌, ◌++◌, ◌∷◌, List, Bor, map, drop, length, sym, ap, ◌∙◌, arith}
+use Rattle.std.proofs.Common.{◌≡◌, ◌++◌, ◌∷◌, List, map, drop, length, refl, sym, ap, ◌∙◌, arith}
 use Rattle.std.proofs.lemmas.List.{append-nil, length_push}
 use Rattle.std.proofs.lemmas.Slice.Zip.{zip_turn, zip_end}
-use Rattle.go_ast.specs.Trees.{Exprs, no_exprs, some_exprs}
-use Rattle.go_ast.specs.Views.{type_of, expr_of, exprs_in}
-use Rattle.go_ast.specs.declared.expression.TypeExpr.{TypeExpr}
-use Rattle.go_objects.specs.Objects.{Object, other, variable}
+use Rattle.go_ast.specs.Views.{expr_of}
+use Rattle.go_objects.specs.Objects.{Object, valued_object}
 use Rattle.go_objects.specs.Seen.{object_of}
 use Rattle.go_objects.proofs.Pairs.{pairs, pairs_next, pairs_done, pushed, variables_paired}
 use Rattle.go_objects.proofs.declarations.add_paired_variables.Goals as goal
@@ -13,12 +11,11 @@ pub loop-name-preserved : goal.loop-name-preserved
 loop-name-preserved c =
     let names = c.args.names.now in
     let values = c.args.values.now in
-    let form = variable c.args.file in
-    let form_by : List (Bor TypeExpr) → Exprs → Object = λ ts es. record { file = c.args.file; name = c.in-Some.name.now; form = other (map (λ t. type_of t.now) ts) es } in
+    let form = valued_object c.args.file in
     let k = length c.loop-name.yielded in
     let turn = zip_turn names values c.loop-name.yielded c.into_iter-name-iterator.result c.loop-name.name-iterator c.next.new.self c.next.result (cc) (cc) c.loop-name.yielded_by (c.in-Some.name, c.in-Some.value) c.in-Some.is c.next.ensures.steps in
     pushed c.loop-name.found.items c.push.new.self.items _ (form c.in-Some.name.now (expr_of c.in-Some.value.now)) (pairs form (drop k names) (drop k values)) _ _ c.in_ok-push.ensures.items
-    (ap (λ es. form_by c.new.result.items (exprs_in es)) c.from_ref.ensures.value ∙ ap (λ ts. form_by ts (some_exprs (expr_of c.in-Some.value.now) no_exprs)) c.new.ensures.items)
+    refl
     (pairs_next form names values k c.in-Some.name.now c.in-Some.value.now turn.0 turn.1 (turn.2 _) (turn.3 _)
     ∙ ap (λ i. form c.in-Some.name.now (expr_of c.in-Some.value.now) ∷ pairs form (drop i names) (drop i values)) (sym (length_push c.loop-name.yielded (c.in-Some.name, c.in-Some.value))))
     c.loop-name.invariant
@@ -27,7 +24,7 @@ pub returns : goal.returns
 returns c =
     let names = c.args.names.now in
     let values = c.args.values.now in
-    let form = variable c.args.file in
+    let form = valued_object c.args.file in
     let finish = zip_end names values c.loop-name.yielded c.into_iter-name-iterator.result c.loop-name.name-iterator c.next.new.self c.next.result (cc) (cc) c.loop-name.yielded_by c.in-None.is c.next.ensures.steps in
     let all : length names ≡ length c.loop-name.yielded = omega (arith, finish, c.requires) in
     let old = map object_of c.args.found.now.items in

@@ -18,17 +18,6 @@ loop-object-preserved-in-Continue-branch-3 c =
     (before.numbered, before.firsts) left c.text-name.ensures (sym c.eq.ensures ∙ c.if-eq.false) absent c.in_ok-insert.ensures.keys c.in_ok-push.ensures.items in
     record { numbered = step.0; firsts = step.1 }
 
-pub loop-object-preserved-else-branch : goal.loop-object-preserved-else-branch
-loop-object-preserved-else-branch c =
-    let before = c.loop-object.invariant in
-    let keys = c.loop-object.names.keys in
-    let left : into_iter_items c.loop-object.object-iterator ≡ c.in-Some.object ∷ into_iter_items c.next.new.self = search rules in
-    let k = c.text-name.result in
-    let present = not_true c.in_ok-insert.field-0 (list_any (λ (y : Bor (List ℕ)). bytes_eq k.now y.now) keys) c.in_ok-insert.ensures.added c.if-branch.false in
-    let step = next_doubled keys c.insert.new.self.keys k c.loop-object.list.items c.in-Some.object (into_iter_items c.loop-object.object-iterator) (into_iter_items c.next.new.self) (objects_of (map (λ f. file_of f.now) c.args.files.now))
-    (before.numbered, before.firsts) left c.text-name.ensures present c.in_ok-insert.ensures.keys in
-    record { numbered = step.0; firsts = step.1 }
-
 pub loop-object-preserved : goal.loop-object-preserved
 loop-object-preserved c =
     let before = c.loop-object.invariant in

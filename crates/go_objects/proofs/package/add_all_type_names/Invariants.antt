@@ -6,5 +6,5 @@ use Rattle.go_objects.proofs.package.add_all_type_names.Given as goal
 
 abbrev pub invariant-loop-of : goal.invariant-loop-of
 invariant-loop-of l =
-    map used l.names.items ++ flat_map in_type (map (λ t. type_of t.now) (drop l.of-index l.types))
-    ≡ map used l.fn.names.items ++ flat_map in_type (map (λ t. type_of t.now) l.types)
+    map used l.names.items ++ flat_map in_type (map type_of (drop l.of-index l.types))
+    ≡ map used l.fn.names.items ++ flat_map in_type (map type_of l.types)
