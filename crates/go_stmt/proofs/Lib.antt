@@ -1,0 +1,15 @@
+pub mod Clauses
+pub mod Declaring
+pub mod Failing
+pub mod Functions
+pub mod Defining
+pub mod Leading
+pub mod Lefts
+pub mod Locals
+pub mod Lookups
+pub mod Meaning
+pub mod Sequences
+pub mod Shown
+pub mod Tests
+pub mod Naming
+pub mod Several

@@ -1,0 +1,53 @@
+-- Functions: https://go.dev/ref/spec#Function_declarations
+use Rattle.std.specs.Prelude.{length, drop, List, [], ◌∷◌, map, Option, None}
+use Rattle.std.specs.List.{flat_map}
+use Rattle.go_ast.specs.Trees.{Name, TypeExpr, Block, block, Parameter, Function}
+use Rattle.go_types.specs.Types.{Type'}
+use Rattle.go_typed.specs.Trees as typed
+use Rattle.go_typed.specs.Trees.{pack_stmts}
+use Rattle.go_expr.specs.Rules.{fine}
+use Rattle.go_expr.specs.Verdicts.{type_verdict, type_faults}
+use Rattle.go_stmt.specs.Scopes.{Env, Context, nothing, scope_in, declare_variable, Checked, still, given, follow, seen, appended, node, declaring}
+use Rattle.go_stmt.specs.Rules.{all_some, ended}
+use Rattle.go_stmt.specs.Statements.{names_at, list_at}
+
+-- parameters of a type: each has a number, also the blank one
+abbrev pub declare_parameters : List Name → Option Type' → Env → Env
+declare_parameters [] t env = env
+declare_parameters (n ∷ ns) t env = declare_parameters ns t (declare_variable n.text t env)
+
+-- types in the signature stand outside of the function
+abbrev pub type_at : Context → TypeExpr → Env → Checked Type'
+type_at c t env = (let s = scope_in c None nothing in still (type_faults s t) (fine (type_verdict s t)) env)
+
+abbrev pub parameter_at : Context → Parameter → Env → Checked (List Type')
+parameter_at c p env =
+    declaring (declare_parameters p.names (type_at c p.type env).known) (seen (λ k. map (λ n. k.1) k.0) (follow (names_at p.names) (type_at c p.type))) env
+
+abbrev pub parameters_at : Context → List Parameter → Env → Checked (List Type')
+parameters_at c [] env = given [] env
+parameters_at c (p ∷ ps) env = appended (parameter_at c p) (parameters_at c ps) env
+
+abbrev pub results_at : Context → List TypeExpr → Env → Checked (List Type')
+results_at c ts env =
+    (let s = scope_in c None nothing in still (flat_map (type_faults s) ts) (all_some (map (λ t. fine (type_verdict s t)) ts)) env)
+
+-- its results are due in its body, which ends at the closing brace
+abbrev pub body_at : Context → List TypeExpr → Block → Env → Checked (List Type' × List typed.Stmt)
+body_at c rs (block p ss q) env =
+    node q (λ k. ended k.0 k.1) (follow (results_at c rs) (list_at (record c { results = (results_at c rs env).known }) ss)) env
+
+-- its parameters are the first of its local variables
+abbrev pub function_of : Function → List Type' → List Type' × (List Type' × List typed.Stmt) → typed.Function
+function_of f types k = record {
+  name = f.name.text;
+  parameters = k.0;
+  results = (k.1).0;
+  locals = drop (length k.0) types;
+  body = pack_stmts (k.1).1;
+}
+
+unfoldable pub function_at : Context → Function → Checked typed.Function
+function_at c f =
+    let form = follow (parameters_at c f.parameters) (body_at c f.results f.body) in
+    seen (function_of f (form nothing).after.types) form nothing

@@ -1,0 +1,6 @@
+pub mod Functions
+pub mod Rules
+pub mod Scopes
+pub mod Seen
+pub mod Statements
+pub mod Terminating

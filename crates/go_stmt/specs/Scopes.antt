@@ -1,0 +1,134 @@
+-- What is in scope in a function, and its forms one behind another.
+use Rattle.std.specs.Prelude.{ℕ, Bool, if◌then◌else◌, bytes_eq, codes, length, List, [], ◌∷◌, ◌++◌, map, Option, Some, None, option_map}
+use Rattle.std.specs.List.{flat_map}
+use Rattle.std.specs.Map.{lookup}
+use Rattle.go_text.specs.declared.place.Place.{Place}
+use Rattle.go_text.specs.declared.fault.FaultKind.{FaultKind}
+use Rattle.go_types.specs.Types.{Type'}
+use Rattle.go_ast.specs.Trees.{Name}
+use Rattle.go_scope.specs.Scopes as scopes
+use Rattle.go_typed.specs.Trees.{local}
+use Rattle.go_expr.specs.Known.{Declared, value, Known, Verdict, named, Scope}
+use Rattle.go_expr.specs.Rules.{fine}
+use Rattle.go_expr.specs.Verdicts.{asked, both, broken}
+
+-- https://go.dev/ref/spec#Declarations_and_scope
+-- what the names in the blocks round a place declare, where that is known, and the types of the function's local variables so far, by their numbers
+pub record Env : Type 0 where
+  pub names : scopes.Env (Option Declared)
+  pub types : List Type'
+
+-- The path of the package, what names find outside of the function, by the value that iota has, and the function's results where they are known; and whether
+-- a break, a continue and a fallthrough may stand here.
+pub record Context : Type 0 where
+  pub path : List ℕ
+  pub outside : Option ℕ → List (List ℕ × Verdict Known)
+  pub results : Option (List Type')
+  pub breaks : Bool
+  pub continues : Bool
+  pub falls : Bool
+
+-- nothing is declared
+abbrev pub nothing : Env
+nothing = record { names = record { inner = []; outer = []; next = 0 }; types = [] }
+
+abbrev pub scope_in : Context → Option ℕ → Env → Scope
+scope_in c iota env = record {
+  path = c.path;
+  names = map (λ n. (n.0, named n.1)) (flat_map (λ block. block) (env.names.inner ∷ env.names.outer)) ++ c.outside iota;
+}
+
+-- into a block, and out of it again: variables keep their numbers
+abbrev pub enter : Env → Env
+enter env = record { names = scopes.enter env.names; types = env.types }
+
+abbrev pub leave : Env → Env
+leave env = record { names = scopes.leave env.names; types = env.types }
+
+abbrev pub is_blank : List ℕ → Bool
+is_blank x = bytes_eq x (codes "_")
+
+-- what the innermost block has under a name
+abbrev pub own : Env → Name → Option (Option Declared)
+own env n = lookup (bytes_eq n.text) env.names.inner
+
+-- the number of a variable there
+abbrev pub number_of : Env → Name → Option ℕ
+number_of env n = elim (own env n) [ Some (Some (value (local t number))) ↦ Some number | _ ↦ None ]
+
+-- a name more
+abbrev pub declare : List ℕ → Option Declared → Env → Env
+declare x d env = record { names = scopes.declare env.names x d; types = env.types }
+
+-- a variable more, which has the next number, where its type is known
+abbrev pub declare_variable : List ℕ → Option Type' → Env → Env
+declare_variable x None env = declare x None env
+declare_variable x (Some t) env = record { names = scopes.declare env.names x (Some (value (local t (length env.types)))); types = env.types ++ t ∷ [] }
+
+-- some names, each with what belongs to it, as far as that goes
+abbrev pub paired : {A : Type 0} → List Name → List (Option A) → List (Name × Option A)
+paired [] xs = []
+paired (n ∷ ns) [] = (n, None) ∷ paired ns []
+paired (n ∷ ns) (x ∷ xs) = (n, x) ∷ paired ns xs
+
+-- variables for those of some names that the block hasn't; the blank name has none
+abbrev pub declare_new : List (Name × Option Type') → Env → Env
+declare_new [] env = env
+declare_new ((n, t) ∷ ns) env =
+    declare_new ns (if is_blank n.text then env else (if scopes.is_own env.names n.text then env else declare_variable n.text t env))
+
+-- ---- forms one behind another
+
+abbrev pub Faults : Type 0
+Faults = List (Place × FaultKind)
+
+-- the faults in a form, in their order; what is known of it, where nothing in it is faulty or passed over; and what is in scope behind it
+pub record Checked (A : Type 0) : Type 0 where
+  pub faults : Faults
+  pub known : Option A
+  pub after : Env
+
+-- a form that declares nothing
+abbrev pub still : {A : Type 0} → Faults → Option A → Env → Checked A
+still faults known env = record { faults = faults; known = known; after = env }
+
+abbrev pub given : {A : Type 0} → A → Env → Checked A
+given x env = still [] (Some x) env
+
+-- one form, and another behind it
+abbrev pub follow : {A B : Type 0} → (Env → Checked A) → (Env → Checked B) → Env → Checked (A × B)
+follow first second env = record {
+  faults = (first env).faults ++ (second (first env).after).faults;
+  known = both (first env).known (second (first env).after).known;
+  after = (second (first env).after).after;
+}
+
+-- what is known of a form, seen as something else
+abbrev pub seen : {A B : Type 0} → (A → B) → (Env → Checked A) → Env → Checked B
+seen f form env = record { faults = (form env).faults; known = option_map f (form env).known; after = (form env).after }
+
+abbrev pub single : {A : Type 0} → (Env → Checked A) → Env → Checked (List A)
+single form = seen (λ x. x ∷ []) form
+
+abbrev pub appended : {A : Type 0} → (Env → Checked (List A)) → (Env → Checked (List A)) → Env → Checked (List A)
+appended first second = seen (λ k. k.0 ++ k.1) (follow first second)
+
+-- a node at a place behind its parts: its rule is asked where all of them are known
+abbrev pub node : {A B : Type 0} → Place → (A → Verdict B) → (Env → Checked A) → Env → Checked B
+node p rule parts env = record {
+  faults = (parts env).faults ++ broken p (asked rule (parts env).known);
+  known = fine (asked rule (parts env).known);
+  after = (parts env).after;
+}
+
+-- a block round a form
+abbrev pub inside : {A : Type 0} → (Env → Checked A) → Env → Checked A
+inside form env = record { faults = (form (enter env)).faults; known = (form (enter env)).known; after = leave (form (enter env)).after }
+
+-- a form that declares something
+abbrev pub declaring : {A : Type 0} → (Env → Env) → (Env → Checked A) → Env → Checked A
+declaring change form env = record { faults = (form env).faults; known = (form env).known; after = change env }
+
+-- a form that may be known or not
+abbrev pub perhaps : {A : Type 0} → (Env → Checked A) → Env → Checked (Option A)
+perhaps form env = record { faults = (form env).faults; known = Some (form env).known; after = (form env).after }

@@ -1,0 +1,112 @@
+-- How the code's values stand for those of the definitions, and what its answers say.
+use Rattle.std.specs.Prelude.{◌≡◌, Bool, ◌&&◌, not, List, [], map, Option, option_map, Result, Ok, Err, Vec, Box}
+use Rattle.std.specs.Global.{Global}
+use Rattle.go_text.specs.declared.place.Place.{Place}
+use Rattle.go_text.specs.declared.fault.FaultKind.{FaultKind}
+use Rattle.go_types.specs.Types.{Type'}
+use Rattle.go_types.specs.Views.{type_of}
+use Rattle.go_ast.specs.Trees as trees
+use Rattle.go_ast.specs.Views.{expr_of as expr_tree, exprs_in as exprs_trees, stmt_of as stmt_tree, if_some, if_boxed, simple_of, block_of, clause_of, type_of as type_tree}
+use Rattle.go_ast.specs.Machine.{pack_clauses}
+use Rattle.go_ast.specs.declared.statement.Stmt.{Stmt}
+use Rattle.go_ast.specs.declared.statement.Clause.{Clause}
+use Rattle.go_ast.specs.declared.statement.Simple.{Simple}
+use Rattle.go_ast.specs.declared.expression.Expr.{Expr}
+use Rattle.go_ast.specs.declared.statement.For.{For}
+use Rattle.go_ast.specs.declared.statement.Range.{Range}
+use Rattle.go_typed.specs.Trees as typed
+use Rattle.go_typed.specs.Views.{expr_of, exprs_in, stmt_of, clause_of as typed_clause}
+use Rattle.go_typed.specs.declared.expression.TypedExpr.{TypedExpr}
+use Rattle.go_typed.specs.declared.statement.TypedClause.{TypedClause}
+use Rattle.go_typed.specs.declared.statement.TypedStmt.{TypedStmt}
+use Rattle.go_expr.specs.declared.error.ExprError.{ExprError}
+use Rattle.go_expr.specs.declared.known.Declared.{Declared}
+use Rattle.go_expr.specs.Known as known
+use Rattle.go_expr.specs.Known.{Verdict, Fine, Breaks}
+use Rattle.go_expr.specs.Seen.{declared_of, names_in, Answers, Fails}
+use Rattle.go_scope.specs.Scopes as blocks
+use Rattle.go_stmt.specs.declared.constants.Spec.{Spec}
+use Rattle.go_stmt.specs.declared.env.Env as envs
+use Rattle.go_stmt.specs.declared.context.Context as contexts
+use Rattle.go_stmt.specs.declared.function.Inside.{Inside}
+use Rattle.go_stmt.specs.declared.values.Values as values
+use Rattle.go_stmt.specs.declared.values.Values.TheVariants as variants
+use Rattle.go_stmt.specs.Rules.{Clause as ClauseValue, Values, separate, together, no_values}
+use Rattle.go_stmt.specs.Scopes.{Env, Context, Checked}
+use Rattle.go_stmt.specs.Statements.{leads_on, in_clause, clause_at, list_at}
+
+-- names of blocks, each with what it declares where that is known
+abbrev pub shown_block : blocks.Block (Option Declared) → blocks.Block (Option known.Declared)
+shown_block block = map (λ n. (n.0, option_map declared_of n.1)) block
+
+abbrev pub env_of : envs.Env → Env
+env_of env = record {
+  names = record { inner = shown_block env.names.inner; outer = map shown_block env.names.outer; next = env.names.next };
+  types = map type_of env.types.items;
+}
+
+abbrev pub context_of : contexts.Context → Context
+context_of c = record {
+  path = c.path.now;
+  outside = λ iota. names_in c.imports.now c.declared.now iota;
+  results = option_map (λ ts. map type_of ts.now) c.results;
+  breaks = c.breaks;
+  continues = c.continues;
+  falls = c.falls;
+}
+
+abbrev pub trees_in : List Stmt → trees.Stmts
+trees_in ss = trees.pack_stmts (map stmt_tree ss)
+
+abbrev pub for_of : For → trees.Stmt
+for_of f = trees.for_statement f.place (if_boxed simple_of f.init) (if_boxed expr_tree f.condition) (if_boxed simple_of f.post) (block_of f.body)
+
+abbrev pub range_of : Range → trees.Stmt
+range_of r = trees.range_statement r.place r.name (expr_tree r.operand.value) (block_of r.body)
+
+abbrev pub clauses_trees : List Clause → trees.Clauses
+clauses_trees cs = pack_clauses (map clause_of cs)
+
+abbrev pub switch_of : Place → Option (Box Simple Global) → Option (Box Expr Global) → List Clause → trees.Stmt
+switch_of p before tag cs = trees.switch_statement p (if_boxed simple_of before) (if_boxed expr_tree tag) (clauses_trees cs)
+
+abbrev pub cases_tree : Option (Vec Expr Global) → Option trees.Exprs
+cases_tree cases = if_some (λ (es : Vec Expr Global). exprs_trees es.items) cases
+
+abbrev pub typed_in : Vec TypedStmt Global → List typed.Stmt
+typed_in v = map stmt_of v.items
+
+abbrev pub clauses_of : Vec TypedClause Global → List ClauseValue
+clauses_of v = map typed_clause v.items
+
+-- the value that cases are compared with, or what is wrong with it
+abbrev pub tag_of : Result TypedExpr FaultKind → Verdict typed.Expr
+tag_of (Ok e) = Fine (expr_of e)
+tag_of (Err kind) = Breaks kind
+
+-- the results and the statements of a function
+abbrev pub inside_of : Inside → List Type' × List typed.Stmt
+inside_of i = (map type_of i.results.items, typed_in i.statements)
+
+-- a clause of the code, behind a default or not, and the last one or not
+abbrev pub clause_in : Context → Option (Verdict typed.Expr) → Bool → Bool → Clause → Env → Checked ClauseValue
+clause_in c tag again last s =
+    (let ss = trees_in s.statements.items in clause_at c tag again (leads_on ss && not last) s.place (cases_tree s.values) (list_at (in_clause c (not last)) ss))
+
+-- what is known of a form, or the first fault in it
+abbrev pub Answered : {X Y : Type 0} → (X → Y) → Result (Option X) ExprError → Checked Y → Type 0
+Answered view result x = Answers view result x.faults x.known
+
+-- no fault, or the first one
+abbrev pub Finds : {X : Type 0} → Result X ExprError → List (Place × FaultKind) → Type 0
+Finds (Ok x) faults = faults ≡ []
+Finds (Err e) faults = Fails e faults
+
+abbrev pub values_seen : values.Values → Values
+values_seen (variants.Separate es) = separate (map expr_of es.items)
+values_seen (variants.Together ts f es) = together (map type_of ts.items) f (exprs_in es.items)
+values_seen variants.Nothing = no_values
+
+-- a specification of constants, by what it means
+abbrev pub spec_of : Spec → trees.ConstSpec
+spec_of s = record { names = s.names.now; type = option_map (λ t. type_tree t.now) s.of; values = exprs_trees s.values.now }

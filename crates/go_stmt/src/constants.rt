@@ -1,0 +1,288 @@
+//! Constants in functions. [Constant declarations](https://go.dev/ref/spec#Constant_declarations)
+ghost use Rattle.std.specs.Prelude.{◌≡◌, ◌++◌, List, [], Some, None, IfOk, OnOk, map, if◌then◌else◌};
+ghost use Rattle.std.specs.Option.{option_map};
+ghost use Rattle.go_text.specs.declared.place.Place.{Place};
+ghost use Rattle.go_text.specs.declared.fault.FaultKind.{FaultKind};
+ghost use Rattle.go_ast.specs.Trees as trees;
+ghost use Rattle.go_ast.specs.Trees.{no_exprs};
+ghost use Rattle.go_ast.specs.Views.{const_of};
+ghost use Rattle.go_types.specs.Views.{type_of};
+ghost use Rattle.go_typed.specs.Views.{expr_of, stmt_of};
+ghost use Rattle.go_expr.specs.Rules.{fine, assigned};
+ghost use Rattle.go_expr.specs.Verdicts.{asked, both, operand, verdict};
+ghost use Rattle.go_expr.specs.Seen.{all_of, declared_of, scope_of, AnswersAt, Fails};
+ghost use Rattle.go_stmt.specs.Scopes.{nothing, paired};
+ghost use Rattle.go_stmt.specs.Rules.{all_some, constants_of};
+ghost use Rattle.go_stmt.specs.Statements.{each_of, operands_faults, written_at, meant, is_repeated, declared_as, constant_in};
+ghost use Rattle.go_stmt.specs.Statements.{declare_constants, constants_at, group_at};
+ghost use Rattle.go_stmt.specs.Seen.{context_of, env_of, spec_of, typed_in, Answered, Finds};
+
+use crate::context::Context;
+use crate::control::joined;
+use crate::declaration::constants_of;
+use crate::env::Env;
+use crate::names::{check_names, place_at};
+use crate::simple::located;
+use crate::values::{all_known, check_each};
+use crate::variables::single;
+use go_ast::declaration::ConstSpec;
+use go_ast::expression::{Expr, TypeExpr};
+use go_ast::name::Name;
+use go_expr::error::{ExprError, RuleError};
+use go_expr::expression::check_type;
+use go_expr::known::Declared;
+use go_expr::node::{constant, constant_in, type_in};
+use go_expr::scope::Scope;
+use go_expr::value::assigned;
+use go_text::place::Place;
+use go_typed::expression::TypedExpr;
+use go_typed::statement::TypedStmt;
+use go_types::types::GoType;
+use std::alloc::{AllocError, Global};
+
+/// A specification of constants, with the type and the values that it means.
+#[derive(Clone, Copy)]
+pub(crate) struct Spec<'a> {
+    /// The names.
+    pub(crate) names: &'a [Name],
+    /// The type, if one is written.
+    pub(crate) of: Option<&'a TypeExpr>,
+    /// The values.
+    pub(crate) values: &'a [Expr],
+}
+
+/// What a specification means behind another: without values the type and the values of that one.
+fn meant<'a>(before: Spec<'a>, spec: &'a ConstSpec) -> Spec<'a>
+    ensures { spec_of result ≡ meant (spec_of before.entry) (const_of spec.now) }
+{
+    let names = spec.names.as_slice();
+    let values = spec.values.as_slice();
+    if values.is_empty() {
+        return Spec { names, ..before };
+    }
+    Spec {
+        names,
+        of: spec.type_expr.as_ref(),
+        values,
+    }
+}
+
+/// Whether a specification has no values of its own.
+#[tactic(auto, using(crate::proofs::Meaning::repeated_seen))]
+fn is_repeated(spec: &ConstSpec) -> bool
+    ensures { result ≡ is_repeated (const_of spec.now) }
+{
+    spec.values.is_empty()
+}
+
+/// What a name declares by a constant; nothing is known of one by another value.
+fn declared_as(value: &TypedExpr) -> Result<Option<Declared>, AllocError>
+    ensures { IfOk result (λ d. option_map declared_of d ≡ declared_as (Some (expr_of value.now))) }
+{
+    match constant_in(value) {
+        Some(constant) => {
+            let of = type_in(value).copy()?;
+            Ok(Some(Declared::Constant(of, constant.copy()?)))
+        }
+        None => Ok(None),
+    }
+}
+
+/// What a name declares by a constant of a type that is written.
+fn declared_by(
+    alloc: Global,
+    of: &GoType,
+    value: &TypedExpr,
+) -> Result<Option<Declared>, AllocError>
+    ensures { IfOk result (λ d. option_map declared_of d ≡ declared_as (fine (assigned (type_of of.now) (expr_of value.now)))) }
+{
+    let Some(known) = constant_in(value) else {
+        return Ok(None);
+    };
+    let copy = constant(type_in(value).copy()?, known.copy()?);
+    match assigned(alloc, of.copy()?, copy) {
+        Ok(value) => declared_as(&value),
+        Err(RuleError::Broken(_)) => Ok(None),
+        Err(RuleError::Memory) => Err(AllocError),
+    }
+}
+
+/// What names declare, each by its own value.
+fn all_declared(
+    alloc: Global,
+    values: &[Option<TypedExpr>],
+) -> Result<Vec<Option<Declared>>, AllocError>
+    ensures { IfOk result (λ all. map (option_map declared_of) all.items ≡ map declared_as (map (option_map expr_of) values.now)) }
+{
+    let mut all = Vec::with_capacity(alloc, values.len())?;
+    for value in values {
+        let declared = match value {
+            Some(value) => declared_as(value)?,
+            None => None,
+        };
+        all.push(declared)?;
+    }
+    Ok(all)
+}
+
+/// What names declare, each by its own value, as constants of a type that is written.
+fn all_declared_by(
+    alloc: Global,
+    of: &Option<GoType>,
+    values: &[Option<TypedExpr>],
+) -> Result<Vec<Option<Declared>>, AllocError>
+    ensures { IfOk result (λ all. map (option_map declared_of) all.items
+        ≡ map (λ e. declared_as (fine (asked (λ k. assigned k.0 k.1) (both (option_map type_of of.now) e)))) (map (option_map expr_of) values.now)) }
+{
+    let mut all = Vec::with_capacity(alloc, values.len())?;
+    for value in values {
+        let declared = match (of, value) {
+            (Some(of), Some(value)) => declared_by(alloc, of, value)?,
+            _ => None,
+        };
+        all.push(declared)?;
+    }
+    Ok(all)
+}
+
+/// What is known of constants that are declared.
+#[derive(Drop)]
+struct Parts {
+    /// The type that is written, where that is known; none where none is written.
+    written: Option<Option<GoType>>,
+    /// What the names declare, each where it is known.
+    declared: Vec<Option<Declared>>,
+    /// The values, where all are known.
+    values: Option<Vec<TypedExpr>>,
+}
+
+/// The type and the values of constants, in a scope in which iota has their value.
+#[tactic(auto, using(crate::proofs::Several::each_mapped))]
+fn check_parts(alloc: Global, scope: &Scope<'_>, spec: Spec<'_>) -> Result<Parts, ExprError>
+    ensures faults { let s = scope_of scope.now in let t = (spec_of spec.entry).type in
+        Finds result ((written_at s t nothing).faults ++ operands_faults s (spec_of spec.entry).values) }
+    ensures written { let s = scope_of scope.now in
+        IfOk result (λ p. option_map (option_map type_of) p.written ≡ (written_at s (spec_of spec.entry).type nothing).known) }
+    ensures declared { let s = scope_of scope.now in
+        IfOk result (λ p. map (option_map declared_of) p.declared.items ≡ each_of (constant_in s (spec_of spec.entry).type) (spec_of spec.entry).values) }
+    ensures values { let s = scope_of scope.now in
+        IfOk result (λ p. option_map (all_of expr_of) p.values ≡ all_some (each_of (λ e. operand (verdict s e)) (spec_of spec.entry).values)) }
+{
+    let Some(of) = spec.of else {
+        let values = check_each(alloc, scope, spec.values)?;
+        return Ok(Parts {
+            written: Some(None),
+            declared: all_declared(alloc, &values)?,
+            values: all_known(alloc, values)?,
+        });
+    };
+    let of = check_type(alloc, scope, of)?;
+    let values = check_each(alloc, scope, spec.values)?;
+    Ok(Parts {
+        declared: all_declared_by(alloc, &of, &values)?,
+        values: all_known(alloc, values)?,
+        written: of.map(|of| Some(of)),
+    })
+}
+
+/// The error of what is repeated, at the place of what repeats it.
+#[tactic(auto, using(crate::proofs::Locals::retold_first))]
+fn retold(error: ExprError, repeated: bool, place: Place) -> ExprError
+    ensures { (faults : List (Place × FaultKind)) → Fails error faults → Fails result (if repeated then map (λ f. (place, f.1)) faults else faults) }
+{
+    match error {
+        ExprError::Faulty(at, kind) => ExprError::Faulty(if repeated { place } else { at }, kind),
+        ExprError::Memory => ExprError::Memory,
+    }
+}
+
+/// Declares names by what each declares. An `Err` only where memory ran out.
+fn declare_each(
+    env: &mut Env,
+    names: &[Name],
+    declared: Vec<Option<Declared>>,
+) -> Result<(), AllocError>
+    ensures { OnOk result (env_of env.new ≡ declare_constants (paired names.now (map (option_map declared_of) declared.items)) (env_of env.old)) }
+{
+    let mut rest = declared.into_iter();
+    for name in names {
+        let one = match rest.next() {
+            Some(one) => one,
+            None => None,
+        };
+        env.declare(name, one)?;
+    }
+    Ok(())
+}
+
+/// A declaration of constants at a place, where the type and the values are known.
+fn constants_at(
+    alloc: Global,
+    place: Place,
+    names: &[Name],
+    written: Option<Option<GoType>>,
+    values: Option<Vec<TypedExpr>>,
+) -> Result<Option<TypedStmt>, ExprError>
+    ensures { AnswersAt stmt_of result place
+        (asked (λ k. constants_of names.now k.0 k.1) (both (option_map (option_map type_of) written) (option_map (all_of expr_of) values))) }
+{
+    let Some(of) = written else {
+        return Ok(None);
+    };
+    match values {
+        Some(values) => located(place, constants_of(alloc, names, of, values)),
+        None => Ok(None),
+    }
+}
+
+/// What the constants of one specification are, which repeats the one before or not.
+fn check_constants(
+    alloc: Global,
+    context: Context<'_>,
+    env: &mut Env,
+    place: Place,
+    iota: u64,
+    repeated: bool,
+    spec: Spec<'_>,
+) -> Result<Option<Vec<TypedStmt>>, ExprError>
+    ensures answer { Answered typed_in result (constants_at (context_of context.entry) place iota repeated (spec_of spec.entry) (env_of env.old)) }
+    ensures after { OnOk result (env_of env.new ≡ (constants_at (context_of context.entry) place iota repeated (spec_of spec.entry) (env_of env.old)).after) }
+{
+    check_names(env, spec.names)?;
+    let first = place_at(place, spec.names);
+    let parts = match check_parts(alloc, &env.scope(context, Some(iota)), spec) {
+        Ok(parts) => parts,
+        Err(error) => return Err(retold(error, repeated, first)),
+    };
+    declare_each(env, spec.names, parts.declared)?;
+    let statement = constants_at(alloc, first, spec.names, parts.written, parts.values)?;
+    Ok(single(alloc, statement)?)
+}
+
+/// What the constants of a declaration are.
+pub(crate) fn check_group(
+    alloc: Global,
+    context: Context<'_>,
+    env: &mut Env,
+    place: Place,
+    specs: &[ConstSpec],
+) -> Result<Option<Vec<TypedStmt>>, ExprError>
+    ensures answer { let none : trees.ConstSpec = record { names = []; type = None; values = no_exprs } in
+        Answered typed_in result (group_at (context_of context.entry) place 0 none (map const_of specs.now) (env_of env.old)) }
+    ensures after { let none : trees.ConstSpec = record { names = []; type = None; values = no_exprs } in
+        OnOk result (env_of env.new ≡ (group_at (context_of context.entry) place 0 none (map const_of specs.now) (env_of env.old)).after) }
+{
+    let mut before = Spec {
+        names: &[],
+        of: None,
+        values: &[],
+    };
+    let mut known = Some(Vec::new(alloc));
+    for (iota, spec) in specs.iter().enumerate() {
+        before = meant(before, spec);
+        let repeated = is_repeated(spec);
+        let more = check_constants(alloc, context, env, place, iota as u64, repeated, before)?;
+        known = joined(known, more)?;
+    }
+    Ok(known)
+}

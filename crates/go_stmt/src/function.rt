@@ -1,0 +1,273 @@
+//! Functions. [Function declarations](https://go.dev/ref/spec#Function_declarations)
+ghost use Rattle.std.specs.Prelude.{◌≡◌, ◌++◌, ◌∷◌, [], false, None, IfOk, OnOk, drop, length, map, option_map};
+ghost use Rattle.go_ast.specs.Views.{type_of as type_tree, block_of, parameter_of, function_of as function_tree};
+ghost use Rattle.go_types.specs.Views.{type_of};
+ghost use Rattle.go_typed.specs.Views.{function_of as typed_function};
+ghost use Rattle.go_expr.specs.Known.{Verdict};
+ghost use Rattle.go_expr.specs.Rules.{fine};
+ghost use Rattle.go_expr.specs.Verdicts.{asked, both, joined, type_verdict, type_faults};
+ghost use Rattle.go_expr.specs.Seen.{all_of, names_in, AnswersAt};
+ghost use Rattle.go_stmt.specs.Rules.{ended};
+ghost use Rattle.go_stmt.specs.Scopes.{nothing, scope_in};
+ghost use Rattle.go_stmt.specs.Functions.{declare_parameters, parameter_at, parameters_at, results_at, body_at, function_of, function_at};
+ghost use Rattle.go_stmt.specs.Seen.{context_of, env_of, typed_in, inside_of, Answered};
+
+use crate::context::Context;
+use crate::declaration::zeros_of;
+use crate::env::Env;
+use crate::names::check_names;
+use crate::statement::check_list;
+use crate::terminating::list_terminates;
+use go_ast::expression::TypeExpr;
+use go_ast::file::{Function, Parameter};
+use go_ast::name::Name;
+use go_ast::statement::Block;
+use go_expr::error::ExprError;
+use go_expr::expression::check_type;
+use go_expr::known::Names;
+use go_expr::scope::Import;
+use go_text::fault::FaultKind;
+use go_text::place::Place;
+use go_typed::package::TypedFunction;
+use go_typed::statement::TypedStmt;
+use go_types::types::GoType;
+use std::alloc::{AllocError, Global};
+
+/// The results and the statements of a function.
+#[derive(Drop)]
+pub(crate) struct Inside {
+    /// The types of the results.
+    results: Vec<GoType>,
+    /// The statements of the body.
+    statements: Vec<TypedStmt>,
+}
+
+/// Declares parameters of one type.
+fn declare_parameters(env: &mut Env, names: &[Name], of: &Option<GoType>) -> Result<(), AllocError>
+    ensures { OnOk result (env_of env.new ≡ declare_parameters names.now (option_map type_of of.now) (env_of env.old)) }
+{
+    for name in names {
+        let copy = match of {
+            Some(of) => Some(of.copy()?),
+            None => None,
+        };
+        env.declare_variable(name, copy)?;
+    }
+    Ok(())
+}
+
+/// The type of each of some parameters, where it is known.
+fn types_of(
+    alloc: Global,
+    of: Option<GoType>,
+    names: &[Name],
+) -> Result<Option<Vec<GoType>>, AllocError>
+    ensures { IfOk result (λ ts. option_map (all_of type_of) ts ≡ option_map (λ t. map (λ n. t) names.now) (option_map type_of of)) }
+{
+    match of {
+        Some(of) => Ok(Some(zeros_of(alloc, &of, names)?)),
+        None => Ok(None),
+    }
+}
+
+/// What parameters of one type are. Their type stands outside of the function.
+fn check_parameter(
+    alloc: Global,
+    context: Context<'_>,
+    env: &mut Env,
+    parameter: &Parameter,
+) -> Result<Option<Vec<GoType>>, ExprError>
+    ensures answer { Answered (all_of type_of) result (parameter_at (context_of context.entry) (parameter_of parameter.now) (env_of env.old)) }
+    ensures after { OnOk result (env_of env.new ≡ (parameter_at (context_of context.entry) (parameter_of parameter.now) (env_of env.old)).after) }
+{
+    check_names(env, &parameter.names)?;
+    let of = check_type(alloc, &context.outside(), &parameter.type_expr)?;
+    declare_parameters(env, &parameter.names, &of)?;
+    Ok(types_of(alloc, of, &parameter.names)?)
+}
+
+/// Types and others behind them, where all are known.
+fn with_types(
+    known: Option<Vec<GoType>>,
+    more: Option<Vec<GoType>>,
+) -> Result<Option<Vec<GoType>>, AllocError>
+    ensures { IfOk result (λ all. option_map (all_of type_of) all ≡ joined (option_map (all_of type_of) known) (option_map (all_of type_of) more)) }
+{
+    match (known, more) {
+        (Some(mut all), Some(mut more)) => {
+            all.append(&mut more)?;
+            Ok(Some(all))
+        }
+        _ => Ok(None),
+    }
+}
+
+/// What parameters are, one behind the other.
+fn check_parameters(
+    alloc: Global,
+    context: Context<'_>,
+    env: &mut Env,
+    parameters: &[Parameter],
+) -> Result<Option<Vec<GoType>>, ExprError>
+    ensures answer { Answered (all_of type_of) result (parameters_at (context_of context.entry) (map parameter_of parameters.now) (env_of env.old)) }
+    ensures after { OnOk result (env_of env.new ≡ (parameters_at (context_of context.entry) (map parameter_of parameters.now) (env_of env.old)).after) }
+{
+    let mut known = Some(Vec::new(alloc));
+    for parameter in parameters {
+        let more = check_parameter(alloc, context, env, parameter)?;
+        known = with_types(known, more)?;
+    }
+    Ok(known)
+}
+
+/// The types of results, where all are known. They stand outside of the function.
+fn check_results(
+    alloc: Global,
+    context: Context<'_>,
+    results: &[TypeExpr],
+) -> Result<Option<Vec<GoType>>, ExprError>
+    ensures { Answered (all_of type_of) result (results_at (context_of context.entry) (map type_tree results.now) nothing) }
+{
+    let scope = context.outside();
+    let mut known = Some(Vec::with_capacity(alloc, results.len())?);
+    for of in results {
+        let of = check_type(alloc, &scope, of)?;
+        known = with_type(known, of)?;
+    }
+    Ok(known)
+}
+
+/// Types and one behind them, where all are known.
+fn with_type(
+    known: Option<Vec<GoType>>,
+    more: Option<GoType>,
+) -> Result<Option<Vec<GoType>>, AllocError>
+    ensures { IfOk result (λ all. option_map (all_of type_of) all ≡
+        joined (option_map (all_of type_of) known) (option_map (λ t. t ∷ []) (option_map type_of more))) }
+{
+    match (known, more) {
+        (Some(mut all), Some(of)) => {
+            all.push(of)?;
+            Ok(Some(all))
+        }
+        _ => Ok(None),
+    }
+}
+
+/// The results and the statements of a body that ends at a place, where they are known. `NoReturn`
+/// where it may run off its end and there are results.
+/// [Terminating statements](https://go.dev/ref/spec#Terminating_statements)
+fn ended(
+    end: Place,
+    results: Option<Vec<GoType>>,
+    statements: Option<Vec<TypedStmt>>,
+) -> Result<Option<Inside>, ExprError>
+    ensures { AnswersAt inside_of result end (asked (λ k. ended k.0 k.1) (both (option_map (all_of type_of) results) (option_map typed_in statements))) }
+{
+    match (results, statements) {
+        (Some(results), Some(statements)) => {
+            if results.len() != 0 && !list_terminates(&statements) {
+                return Err(ExprError::Faulty(end, FaultKind::NoReturn));
+            }
+            Ok(Some(Inside {
+                results,
+                statements,
+            }))
+        }
+        _ => Ok(None),
+    }
+}
+
+/// What the results and the body of a function are.
+fn check_inside(
+    alloc: Global,
+    context: Context<'_>,
+    env: &mut Env,
+    results: &[TypeExpr],
+    body: &Block,
+) -> Result<Option<Inside>, ExprError>
+    ensures answer { Answered inside_of result (body_at (context_of context.entry) (map type_tree results.now) (block_of body.now) (env_of env.old)) }
+    ensures after { let inside = body_at (context_of context.entry) (map type_tree results.now) (block_of body.now) (env_of env.old) in
+        OnOk result (env_of env.new ≡ inside.after) }
+{
+    let results = check_results(alloc, context, results)?;
+    let statements = check_list(alloc, context.returning(&results), env, &body.statements)?;
+    ended(body.closing, results, statements)
+}
+
+/// The types behind the first ones.
+fn behind(types: Vec<GoType>, count: usize) -> Result<Vec<GoType>, AllocError>
+    ensures { IfOk result (λ rest. rest.items ≡ drop count types.items) }
+{
+    let mut types = types;
+    let at = count.min(types.len());
+    types.split_off(at)
+}
+
+/// The types of the local variables that are no parameters.
+fn locals_of(types: Vec<GoType>, parameters: &[GoType]) -> Result<Vec<GoType>, AllocError>
+    ensures { IfOk result (λ locals. map type_of locals.items ≡ drop (length (map type_of parameters.now)) (map type_of types.items)) }
+{
+    behind(types, parameters.len())
+}
+
+/// A function by its parts, where they are known, and the types of all its local variables.
+fn function_of(
+    alloc: Global,
+    function: &Function,
+    parameters: Option<Vec<GoType>>,
+    inside: Option<Inside>,
+    types: Vec<GoType>,
+) -> Result<Option<TypedFunction>, AllocError>
+    ensures { IfOk result (λ f. option_map typed_function f ≡
+        option_map (function_of (function_tree function.now) (map type_of types.items))
+        (both (option_map (all_of type_of) parameters) (option_map inside_of inside))) }
+{
+    match (parameters, inside) {
+        (Some(parameters), Some(inside)) => {
+            let locals = locals_of(types, &parameters)?;
+            Ok(Some(TypedFunction {
+                name: String::from_str(alloc, function.name.text())?,
+                parameters,
+                results: inside.results,
+                locals,
+                body: inside.statements,
+            }))
+        }
+        _ => Ok(None),
+    }
+}
+
+/// A function by its parameters, its results and its body, or the first fault in them. The imports of
+/// its file and what the package declares stand round it.
+#[tactic(auto, unfolding(crate::specs::Functions::function_at))]
+pub fn check_body<'a>(
+    alloc: Global,
+    path: &'a str,
+    imports: &'a [Import<'a>],
+    declared: &'a Names,
+    function: &Function,
+) -> Result<Option<TypedFunction>, ExprError>
+    ensures { Answered typed_function result (function_at (record {
+      path = path.now;
+      outside = λ iota. names_in imports.now declared.now iota;
+      results = None;
+      breaks = false;
+      continues = false;
+      falls = false;
+    }) (function_tree function.now)) }
+{
+    let context = Context {
+        path,
+        imports,
+        declared,
+        results: None,
+        breaks: false,
+        continues: false,
+        falls: false,
+    };
+    let mut env = Env::new(alloc);
+    let parameters = check_parameters(alloc, context, &mut env, &function.parameters)?;
+    let inside = check_inside(alloc, context, &mut env, &function.results, &function.body)?;
+    Ok(function_of(alloc, function, parameters, inside, env.into_types())?)
+}

@@ -1,0 +1,280 @@
+//! Switches: the value that cases are compared with, and clauses, by what their parts are.
+//! [Expression switches](https://go.dev/ref/spec#Expression_switches)
+ghost use Rattle.std.specs.Prelude.{◌≡◌, ◌++◌, ◌∷◌, [], ◌&&◌, ◌||◌, false, not, is_some, IfOk, map, option_map};
+ghost use Rattle.go_ast.specs.Views.{expr_of as expr_tree, if_boxed};
+ghost use Rattle.go_typed.specs.Trees as typed;
+ghost use Rattle.go_typed.specs.Views.{expr_of, stmt_of, clause_of as typed_clause, clauses_in};
+ghost use Rattle.go_expr.specs.Rules.{defaulted, each_unless};
+ghost use Rattle.go_expr.specs.Verdicts.{asked, both, joined};
+ghost use Rattle.go_expr.specs.Seen.{all_of, Gives, AnswersAt};
+ghost use Rattle.go_stmt.specs.Rules.{case_value, case_values, clause_of, switched};
+ghost use Rattle.go_stmt.specs.Statements.{leads_on, is_last, tag_at, cases_at};
+ghost use Rattle.go_stmt.specs.Seen.{context_of, env_of, trees_in, typed_in, cases_tree, clauses_trees, clauses_of, tag_of, Answered};
+
+use crate::context::{Context, all_empty};
+use crate::control::{check_value, located, with_last};
+use crate::env::Env;
+use go_ast::expression::Expr;
+use go_ast::statement::{Clause, Stmt};
+use go_const::constant::Const;
+use go_const::operator::{BinaryOperator, ComparisonOperator};
+use go_expr::error::{ExprError, RuleError};
+use go_expr::expression::check_operands;
+use go_expr::gather::Gathered;
+use go_expr::node::constant;
+use go_expr::operator::operand_type;
+use go_expr::value::{as_type, defaulted};
+use go_text::fault::FaultKind;
+use go_text::place::Place;
+use go_typed::expression::TypedExpr;
+use go_typed::statement::{TypedClause, TypedStmt};
+use go_types::types::{Basic, GoType};
+use std::alloc::{AllocError, Global};
+
+/// The value that cases are compared with, or what is wrong with it, which is a fault of the switch.
+pub(crate) type Tag = Result<TypedExpr, FaultKind>;
+
+/// A value as one of the type that it takes where none is due, or what is wrong with it.
+fn settled(alloc: Global, value: TypedExpr) -> Result<Tag, AllocError>
+    ensures { IfOk result (λ tag. tag_of tag ≡ defaulted (expr_of value)) }
+{
+    match defaulted(alloc, value) {
+        Ok(value) => Ok(Ok(value)),
+        Err(RuleError::Broken(kind)) => Ok(Err(kind)),
+        Err(RuleError::Memory) => Err(AllocError),
+    }
+}
+
+/// The value that cases are compared with. Without one it is true.
+pub(crate) fn check_tag(
+    alloc: Global,
+    context: Context<'_>,
+    env: &Env,
+    tag: &Option<Box<Expr>>,
+) -> Result<Option<Tag>, ExprError>
+    ensures { Answered tag_of result (tag_at (context_of context.entry) (if_boxed expr_tree tag.now) (env_of env.now)) }
+{
+    match tag {
+        Some(tag) => match check_value(alloc, context, env, tag)? {
+            Some(value) => Ok(Some(settled(alloc, value)?)),
+            None => Ok(None),
+        },
+        None => Ok(Some(Ok(constant(GoType::Basic(Basic::Bool), Const::Bool(true))))),
+    }
+}
+
+/// The values of a case, if it is no default.
+pub(crate) fn check_cases(
+    alloc: Global,
+    context: Context<'_>,
+    env: &Env,
+    cases: &Option<Vec<Expr>>,
+) -> Result<Option<Option<Vec<TypedExpr>>>, ExprError>
+    ensures { Answered (option_map (all_of expr_of)) result (cases_at (context_of context.entry) (cases_tree cases.now) (env_of env.now)) }
+{
+    match cases {
+        Some(cases) => match check_operands(alloc, &env.scope(context, None), cases)? {
+            Some(values) => Ok(Some(Some(values))),
+            None => Ok(None),
+        },
+        None => Ok(Some(None)),
+    }
+}
+
+/// A value of a case, as one of the type that it has in common with the tag. `Mismatch` where they
+/// have none, `Range` where it lies outside.
+fn case_value(alloc: Global, tag: &TypedExpr, value: TypedExpr) -> Result<TypedExpr, RuleError>
+    ensures { Gives expr_of result (case_value (expr_of tag.now) (expr_of value)) }
+{
+    let equal = BinaryOperator::Comparison(ComparisonOperator::Equal);
+    let of = operand_type(equal, tag, &value)?;
+    Ok(as_type(alloc, of, value)?)
+}
+
+fn compare_each(
+    alloc: Global,
+    tag: &TypedExpr,
+    values: Vec<TypedExpr>,
+) -> Result<Vec<TypedExpr>, RuleError>
+    ensures { Gives (all_of expr_of) result (each_unless [] (map (case_value (expr_of tag.now)) (map expr_of values.items))) }
+{
+    let mut all = Gathered::new(alloc, None);
+    for value in values {
+        all.add(case_value(alloc, tag, value))?;
+    }
+    all.finish()
+}
+
+/// The values of a case behind a comparison with the tag, unless that has a fault of its own.
+fn case_values(
+    alloc: Global,
+    tag: &Tag,
+    values: Vec<TypedExpr>,
+) -> Result<Vec<TypedExpr>, RuleError>
+    ensures { Gives (all_of expr_of) result (case_values (tag_of tag.now) (map expr_of values.items)) }
+{
+    match tag {
+        Ok(tag) => compare_each(alloc, tag, values),
+        Err(_) => Ok(values),
+    }
+}
+
+/// A case at a place, where the tag is known.
+fn case_at(
+    alloc: Global,
+    place: Place,
+    tag: &Option<Tag>,
+    falls: bool,
+    values: Vec<TypedExpr>,
+    body: Vec<TypedStmt>,
+) -> Result<Option<TypedClause>, ExprError>
+    ensures { AnswersAt typed_clause result place (clause_of (option_map tag_of tag.now) false falls (Some (map expr_of values.items)) (typed_in body)) }
+{
+    let Some(tag) = tag else {
+        return Ok(None);
+    };
+    match case_values(alloc, tag, values) {
+        Ok(values) => Ok(Some(TypedClause {
+            cases: Some(values),
+            body,
+            falls,
+        })),
+        Err(error) => Err(error.at(place)),
+    }
+}
+
+/// A default at a place, behind another or not.
+fn default_at(
+    place: Place,
+    again: bool,
+    falls: bool,
+    body: Vec<TypedStmt>,
+) -> Result<Option<TypedClause>, ExprError>
+    ensures { AnswersAt typed_clause result place (clause_of None again falls None (typed_in body)) }
+{
+    if again {
+        return Err(ExprError::Faulty(place, FaultKind::Branch));
+    }
+    Ok(Some(TypedClause {
+        cases: None,
+        body,
+        falls,
+    }))
+}
+
+/// A clause at a place, where its parts are known.
+pub(crate) fn clause(
+    alloc: Global,
+    place: Place,
+    tag: &Option<Tag>,
+    again: bool,
+    falls: bool,
+    values: Option<Option<Vec<TypedExpr>>>,
+    body: Option<Vec<TypedStmt>>,
+) -> Result<Option<TypedClause>, ExprError>
+    ensures { AnswersAt typed_clause result place
+        (asked (λ k. clause_of (option_map tag_of tag.now) again falls k.0 k.1)
+        (both (option_map (option_map (all_of expr_of)) values) (option_map typed_in body))) }
+{
+    match (values, body) {
+        (Some(Some(values)), Some(body)) => case_at(alloc, place, tag, falls, values, body),
+        (Some(None), Some(body)) => default_at(place, again, falls, body),
+        _ => Ok(None),
+    }
+}
+
+/// Whether the last statement that isn't empty is a fallthrough.
+/// [Fallthrough statements](https://go.dev/ref/spec#Fallthrough_statements)
+#[tactic(auto, unfolding(go_ast::specs::Views::stmt_of))]
+fn leads_on(statements: &[Stmt]) -> bool
+    ensures { result ≡ leads_on (trees_in statements.now) }
+{
+    for (i, s) in statements.iter().enumerate() {
+        if let Stmt::Fallthrough(_) = s {
+            if all_empty(&statements[i + 1..]) {
+                return true;
+            }
+        }
+    }
+    false
+}
+
+/// Whether a clause with some statements falls through: the last one doesn't.
+pub(crate) fn falls_through(statements: &[Stmt], last: bool) -> bool
+    ensures { result ≡ (leads_on (trees_in statements.now) && not last) }
+{
+    leads_on(statements) && !last
+}
+
+/// Whether a default stands before the clauses behind a clause.
+pub(crate) fn has_default(before: bool, clause: &Clause) -> bool
+    ensures { result ≡ (before || not (is_some (cases_tree clause.now.values))) }
+{
+    before || clause.values.is_none()
+}
+
+/// Whether no clause stands behind another.
+pub(crate) fn is_last(others: &[Clause]) -> bool
+    ensures { result ≡ is_last (clauses_trees others.now) }
+{
+    match others {
+        [] => true,
+        [_, ..] => false,
+    }
+}
+
+/// Clauses and one behind them, where all are known.
+pub(crate) fn with_clause(
+    known: Option<Vec<TypedClause>>,
+    more: Option<TypedClause>,
+) -> Result<Option<Vec<TypedClause>>, AllocError>
+    ensures { IfOk result (λ all. option_map clauses_of all ≡
+        joined (option_map clauses_of known) (option_map (λ c. c ∷ []) (option_map typed_clause more))) }
+{
+    match (known, more) {
+        (Some(mut all), Some(clause)) => {
+            all.push(clause)?;
+            Ok(Some(all))
+        }
+        _ => Ok(None),
+    }
+}
+
+#[tactic(auto, using(go_typed::proofs::StatementRows::switch_seen))]
+fn switch_over(tag: TypedExpr, clauses: Vec<TypedClause>) -> TypedStmt
+    ensures { stmt_of result ≡ typed.switch_statement (expr_of tag) (clauses_in clauses.items) }
+{
+    TypedStmt::Switch(tag, clauses)
+}
+
+/// A switch behind the statement before its tag.
+fn switch_behind(
+    before: Vec<TypedStmt>,
+    tag: Tag,
+    clauses: Vec<TypedClause>,
+) -> Result<Vec<TypedStmt>, RuleError>
+    ensures { Gives typed_in result (switched (typed_in before) (tag_of tag) (clauses_of clauses)) }
+{
+    match tag {
+        Ok(tag) => Ok(with_last(before, switch_over(tag, clauses))?),
+        Err(kind) => Err(RuleError::Broken(kind)),
+    }
+}
+
+/// A switch at a place, where its parts are known.
+pub(crate) fn switched(
+    place: Place,
+    before: Option<Vec<TypedStmt>>,
+    tag: Option<Tag>,
+    clauses: Option<Vec<TypedClause>>,
+) -> Result<Option<Vec<TypedStmt>>, ExprError>
+    ensures { AnswersAt typed_in result place
+        (asked (λ k. switched k.0 (k.1).0 (k.1).1) (both (option_map typed_in before) (both (option_map tag_of tag) (option_map clauses_of clauses)))) }
+{
+    match (before, tag, clauses) {
+        (Some(before), Some(tag), Some(clauses)) => {
+            located(place, switch_behind(before, tag, clauses))
+        }
+        _ => Ok(None),
+    }
+}
