@@ -10,12 +10,12 @@ use Rattle.go_scope.specs.Order.{DependsOnItself, Grounded}
 use Rattle.go_scope.proofs.Laws.{all_grounded}
 use Rattle.go_text.specs.declared.fault.FaultKind.TheVariants.{Redeclared, Recursive}
 use Rattle.go_ast.specs.Trees.{Name, TypeExpr, Expr, Exprs, no_exprs, some_exprs, ConstSpec, VarSpec, TypeSpec, constants, variables, types, TopLevel, declared, function, File}
-use Rattle.go_objects.specs.Objects.{Form, constant, other, Object, paired, unpaired, meant, constants_of, in_group, variables_of, type_object, objects_in, objects_from, firsts, objects_of}
+use Rattle.go_objects.specs.Objects.{Form, constant, valued_variable, Object, paired, unpaired, meant, constants_of, in_group, typed_object, result_objects, uncounted, variables_of, type_object, objects_in, objects_from, firsts, objects_of}
 use Rattle.go_objects.specs.Table.{number_of, rows}
 use Rattle.go_objects.specs.Numbers.{Numbered}
 use Rattle.go_objects.proofs.Firsts.{numbered_none, numbered_more}
 use Rattle.go_objects.proofs.Lookups.{length_rows, rows_stay}
-use Rattle.go_decl.specs.Faults.{Facts, Faults, AreRecursive, is_declared_by, name_faults, constants_faults, is_repeated, group_faults, type_spec_faults, top_faults, files_faults}
+use Rattle.go_decl.specs.Faults.{Facts, Faults, AreRecursive, is_declared_by, name_faults, constants_faults, is_repeated, group_faults, type_spec_faults, var_spec_faults, own_faults, top_faults, files_faults}
 
 none_front : {A : Type 0} (xs ys : List A) → xs ++ ys ≡ [] → xs ≡ []
 none_front [] ys h = refl
@@ -89,18 +89,42 @@ fine_group t file iota before (s ∷ ss) none =
     (fine_constants t file iota m (names_fine t file iota (is_repeated s) m.names m.type m.values (none_front own rest none)))
     (fine_group t file (suc iota) m ss (none_back own rest none))
 
+fine_typed : (t : Facts) (file : ℕ) (of : TypeExpr) (ns : List Name) → flat_map (name_faults t file) ns ≡ [] → AreFine t (map (typed_object file of) ns)
+fine_typed t file of [] none = tt
+fine_typed t file of (n ∷ ns) none = (
+  none_front (name_faults t file n) (flat_map (name_faults t file) ns) none,
+  fine_typed t file of ns (none_back (name_faults t file n) (flat_map (name_faults t file) ns) none),
+)
+
+fine_results : (t : Facts) (file count number : ℕ) (e : Expr) (ns : List Name) → flat_map (name_faults t file) ns ≡ [] → AreFine t (result_objects file count number e ns)
+fine_results t file count number e [] none = tt
+fine_results t file count number e (n ∷ ns) none = (
+  none_front (name_faults t file n) (flat_map (name_faults t file) ns) none,
+  fine_results t file count (suc number) e ns (none_back (name_faults t file n) (flat_map (name_faults t file) ns) none),
+)
+
+fine_uncounted : (t : Facts) (file : ℕ) (ns : List Name) (es : Exprs) → flat_map (name_faults t file) ns ≡ [] → AreFine t (uncounted file ns es)
+fine_uncounted t file ns no_exprs none = fine_unpaired t file None no_exprs ns none
+fine_uncounted t file ns (some_exprs e no_exprs) none = fine_results t file (length ns) 0 e ns none
+fine_uncounted t file ns (some_exprs e (some_exprs f es)) none = fine_unpaired t file None (some_exprs e (some_exprs f es)) ns none
+
 fine_variables : (t : Facts) (file : ℕ) (ns : List Name) (of : Option TypeExpr) (es : Exprs) → flat_map (name_faults t file) ns ≡ [] → AreFine t (variables_of file (record { names = ns; type = of; values = es }))
 fine_variables t file ns None es none =
-    fine_either t (paired (made file (λ e. other [] (some_exprs e no_exprs))) ns es) (unpaired file None es ns)
-    (λ xs is. fine_paired t file (λ e. other [] (some_exprs e no_exprs)) ns es xs none is) (fine_unpaired t file None es ns none)
-fine_variables t file ns (Some of) es none = fine_unpaired t file (Some of) no_exprs ns none
+    fine_either t (paired (made file valued_variable) ns es) (uncounted file ns es)
+    (λ xs is. fine_paired t file valued_variable ns es xs none is) (fine_uncounted t file ns es none)
+fine_variables t file ns (Some of) es none = fine_typed t file of ns none
 
-fine_all_variables : (t : Facts) (file : ℕ) (ss : List VarSpec) → flat_map (λ (s : VarSpec). flat_map (name_faults t file) s.names) ss ≡ [] → AreFine t (flat_map (variables_of file) ss)
+var_names_fine : (t : Facts) (file : ℕ) (ns : List Name) (of : Option TypeExpr) (es : Exprs) → var_spec_faults t file (record { names = ns; type = of; values = es }) ≡ [] → flat_map (name_faults t file) ns ≡ []
+var_names_fine t file [] of es none = refl
+var_names_fine t file (n ∷ ns) of es none = none_front (flat_map (name_faults t file) (n ∷ ns)) _ none
+
+fine_all_variables : (t : Facts) (file : ℕ) (ss : List VarSpec) → flat_map (var_spec_faults t file) ss ≡ [] → AreFine t (flat_map (variables_of file) ss)
 fine_all_variables t file [] none = tt
 fine_all_variables t file (s ∷ ss) none =
-    let own = flat_map (name_faults t file) s.names in
-    let rest = flat_map (λ (s : VarSpec). flat_map (name_faults t file) s.names) ss in
-    fine_both t (variables_of file s) (flat_map (variables_of file) ss) (fine_variables t file s.names s.type s.values (none_front own rest none)) (fine_all_variables t file ss (none_back own rest none))
+    let own = var_spec_faults t file s in
+    let rest = flat_map (var_spec_faults t file) ss in
+    fine_both t (variables_of file s) (flat_map (variables_of file) ss) (fine_variables t file s.names s.type s.values (var_names_fine t file s.names s.type s.values (none_front own rest none)))
+    (fine_all_variables t file ss (none_back own rest none))
 
 fine_types : (t : Facts) (file : ℕ) (ss : List TypeSpec) → flat_map (type_spec_faults t file) ss ≡ [] → AreFine t (map (type_object file) ss)
 fine_types t file [] none = tt
@@ -116,7 +140,7 @@ fine_top t file (declared (variables p ss)) none = fine_all_variables t file ss 
 fine_top t file (declared (types p ss)) none = fine_types t file ss none
 fine_top t file (function f) none = elim (cases_Bool (bytes_eq f.name.text (codes "init"))) [
   | inl init ↦ rw init tt
-  | inr named ↦ (let own : name_faults t file f.name ≡ [] = rw named at none in rw named (own, tt))
+  | inr named ↦ (let own : name_faults t file f.name ≡ [] = rw named at (none_front (own_faults t file f.name) _ none) in rw named (own, tt))
 ]
 
 fine_tops : (t : Facts) (file : ℕ) (tops : List TopLevel) → flat_map (top_faults t file) tops ≡ [] → AreFine t (flat_map (objects_in file) tops)

@@ -11,7 +11,7 @@ use Rattle.go_ast.specs.declared.expression.Expr.{Expr}
 use Rattle.go_ast.specs.declared.file.File.{File}
 use Rattle.go_expr.specs.declared.error.ExprError.{ExprError}
 use Rattle.go_expr.specs.Seen.{Fails}
-use Rattle.go_expr.proofs.Lists.{left}
+use Rattle.go_objects.proofs.Signatures.{next_of}
 use Rattle.go_objects.specs.Objects.{meant}
 use Rattle.go_decl.specs.declared.error.DeclError.{DeclError}
 use Rattle.go_decl.specs.declared.error.DeclError.TheVariants as errors
@@ -31,7 +31,7 @@ Numbered = List (ℕ × (Place × FaultKind))
 group_left : (t : Facts) (file : ℕ) (specs : List ConstSpec) (i : ℕ) (d : ConstSpec) (before means : trees.ConstSpec) (repeated : Bool) → i < length specs → d ≡ get_or specs i d → means ≡ meant before (const_of d) → repeated ≡ is_repeated (const_of d) →
     group_faults t file i before (map const_of (drop i specs)) ≡ constants_faults t file i repeated means ++ group_faults t file (suc i) means (map const_of (drop (i + 1) specs))
 group_left t file specs i d before means repeated lt is m r =
-    ap (λ (l : List ConstSpec). group_faults t file i before (map const_of l)) (left specs i d lt is)
+    ap (λ (l : List ConstSpec). group_faults t file i before (map const_of l)) (next_of specs i d d lt is)
     ∙ ap (λ (x : trees.ConstSpec). constants_faults t file i (is_repeated (const_of d)) x ++ group_faults t file (suc i) x (map const_of (drop (i + 1) specs))) (sym m)
     ∙ ap (λ b. constants_faults t file i b means ++ group_faults t file (suc i) means (map const_of (drop (i + 1) specs))) (sym r)
 
@@ -58,5 +58,5 @@ sooner_in (errors.Faulty file p kind) fs gs h = (h.0 ++ gs, ap (λ l. l ++ gs) h
 pub file_here : (e : DeclError) (t : Facts) (files : List (Bor File)) (i : ℕ) (d : Bor File) (all : Numbered) → i < length files → d ≡ get_or files i d → files_faults t i (map (λ f. file_of f.now) (drop i files)) ≡ all →
     FailsIn e (map (λ x. (i, x)) (flat_map (top_faults t i) (file_of d.now).declarations)) → FailsIn e all
 file_here e t files i d all lt is same h =
-    subst (FailsIn e) (sym (ap (λ (l : List (Bor File)). files_faults t i (map (λ f. file_of f.now) l)) (left files i d lt is)) ∙ same)
+    subst (FailsIn e) (sym (ap (λ (l : List (Bor File)). files_faults t i (map (λ f. file_of f.now) l)) (next_of files i d d lt is)) ∙ same)
     (sooner_in e _ (files_faults t (suc i) (map (λ f. file_of f.now) (drop (i + 1) files))) h)

@@ -1,3 +1,4 @@
+pub mod Contexts
 pub mod Faultless
 pub mod Groups
 pub mod Marks

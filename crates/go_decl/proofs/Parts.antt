@@ -1,16 +1,19 @@
 -- The parts of a specification of constants, and its faults.
-use Rattle.std.proofs.Common.{◌≡◌, ℕ, Bool, true, Option, Some, Result, List, [], ◌∷◌, ◌++◌, map, sym, ap, ◌∙◌, subst}
+use Rattle.std.proofs.Common.{◌≡◌, ℕ, Bool, true, Option, Some, None, Result, Ok, Err, List, [], ◌∷◌, ◌++◌, map, sym, ap, ◌∙◌, subst}
 use Rattle.std.specs.List.{slice_get, flat_map}
 use Rattle.go_text.specs.declared.place.Place.{Place}
 use Rattle.go_text.specs.declared.fault.FaultKind.{FaultKind}
 use Rattle.go_ast.specs.Trees as trees
 use Rattle.go_ast.specs.Trees.{Name, TypeExpr}
-use Rattle.go_expr.specs.Known.{Scope}
+use Rattle.go_expr.specs.Known.{Scope, Verdict}
 use Rattle.go_expr.specs.declared.error.ExprError.{ExprError}
 use Rattle.go_expr.specs.declared.error.ExprError.TheVariants.{Faulty, Memory}
-use Rattle.go_expr.specs.Seen.{Fails}
+use Rattle.go_expr.specs.declared.error.RuleError.{RuleError}
+use Rattle.go_expr.specs.declared.error.RuleError.TheVariants as rules
+use Rattle.go_expr.specs.Seen.{Fails, Gives, LocatedAt}
+use Rattle.go_expr.specs.Verdicts.{broken}
 use Rattle.go_objects.specs.Table.{scope_at}
-use Rattle.go_decl.specs.Faults.{Facts, Faults, name_faults, told_at, parts_faults, spec_broken, constants_faults}
+use Rattle.go_decl.specs.Faults.{Facts, Faults, name_faults, told_at, parts_faults, spec_broken, constants_faults, var_parts_faults, var_broken, var_spec_faults}
 use Rattle.go_decl.specs.Seen.{Finds}
 
 pub sooner : (e : ExprError) (fs gs : Faults) → Fails e fs → Fails e (fs ++ gs)
@@ -39,3 +42,38 @@ checked_spec r t file iota repeated (m ∷ ms) of es s n p first there stands na
     subst (λ (q : Place). Finds r (own ++ (told_at repeated q (parts_faults (scope_at t.package t.known file (Some iota)) spec) ++ spec_broken q (scope_at t.package t.known file (Some iota)) spec))) at
     (subst (λ (z : Scope). Finds r (own ++ (told_at repeated p (parts_faults z spec) ++ spec_broken p z spec))) stands
     (later r own (told_at repeated p (parts_faults s spec) ++ spec_broken p s spec) names (later r (told_at repeated p (parts_faults s spec)) (spec_broken p s spec) parts h)))
+
+-- variables likewise
+pub checked_variables : {X : Type 0} (r : Result X ExprError) (t : Facts) (file : ℕ) (ns : List Name) (of : Option TypeExpr) (es : trees.Exprs) (s : Scope) (n : Name) (p : Place) →
+    slice_get ns 0 ≡ Some n → p ≡ n.place → s ≡ scope_at t.package t.known file None → flat_map (name_faults t file) ns ≡ [] → var_parts_faults s (record { names = ns; type = of; values = es }) ≡ [] →
+    Finds r (var_broken p s (record { names = ns; type = of; values = es })) → Finds r (var_spec_faults t file (record { names = ns; type = of; values = es }))
+checked_variables r t file [] of es s n p first there stands names parts h = cc
+checked_variables r t file (m ∷ ms) of es s n p first there stands names parts h =
+    let spec : trees.VarSpec = record { names = m ∷ ms; type = of; values = es } in
+    let same : m ≡ n = cc in
+    let at : p ≡ m.place = there ∙ ap (λ (x : Name). x.place) (sym same) in
+    let own = flat_map (name_faults t file) (m ∷ ms) in
+    subst (λ (q : Place). Finds r (own ++ (var_parts_faults (scope_at t.package t.known file None) spec ++ var_broken q (scope_at t.package t.known file None) spec))) at
+    (subst (λ (z : Scope). Finds r (own ++ (var_parts_faults z spec ++ var_broken p z spec))) stands
+    (later r own (var_parts_faults s spec ++ var_broken p s spec) names (later r (var_parts_faults s spec) (var_broken p s spec) parts h)))
+
+-- a fault of the parts
+pub parts_fail : (e : ExprError) (t : Facts) (file : ℕ) (ns : List Name) (of : Option TypeExpr) (es : trees.Exprs) (s : Scope) (n : Name) →
+    slice_get ns 0 ≡ Some n → s ≡ scope_at t.package t.known file None → flat_map (name_faults t file) ns ≡ [] → Fails e (var_parts_faults s (record { names = ns; type = of; values = es })) →
+    Fails e (var_spec_faults t file (record { names = ns; type = of; values = es }))
+parts_fail e t file [] of es s n first stands names h = cc
+parts_fail e t file (m ∷ ms) of es s n first stands names h =
+    let spec : trees.VarSpec = record { names = m ∷ ms; type = of; values = es } in
+    let own = flat_map (name_faults t file) (m ∷ ms) in
+    let there = scope_at t.package t.known file None in
+    subst (λ (l : Faults). Fails e (l ++ (var_parts_faults there spec ++ var_broken m.place there spec))) (sym names)
+    (sooner e (var_parts_faults there spec) (var_broken m.place there spec) (subst (λ (z : Scope). Fails e (var_parts_faults z spec)) stands h))
+
+-- ---- what a rule says of a node, at its place
+
+pub unbroken : {X Y : Type 0} (view : X → Y) (p : Place) (x : X) (v : Verdict Y) → Gives view (Ok x) v → broken p v ≡ []
+unbroken view p x v given = ap (broken p) given
+
+pub located : {X Y : Type 0} (view : X → Y) (p : Place) (e : RuleError) (f : ExprError) (v : Verdict Y) → Gives view (Err e) v → LocatedAt p e f → Fails f (broken p v)
+located view p rules.Memory f v given at = subst (λ (x : ExprError). Fails x (broken p v)) (sym at) tt
+located view p (rules.Broken kind) f v given at = subst (λ (x : ExprError). Fails x (broken p v)) (sym at) ([], ap (broken p) given)

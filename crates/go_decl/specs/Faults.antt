@@ -1,16 +1,20 @@
 -- The faults of what the files of a package declare, in the order of the text.
-use Rattle.std.specs.Prelude.{ℕ, suc, Bool, true, false, ◌&&◌, not, IsTrue, ◌↔◌, nat_eq, bytes_eq, if◌then◌else◌, length, option_map, List, [], ◌∷◌, ◌++◌, map, codes, Option, Some, None}
-use Rattle.std.specs.List.{slice_get, flat_map, filter}
+use Rattle.std.specs.Prelude.{ℕ, suc, Bool, true, false, ◌&&◌, not, IsTrue, ◌↔◌, nat_eq, bytes_eq, if◌then◌else◌, option_map, List, [], ◌∷◌, ◌++◌, map, codes, Option, Some, None}
+use Rattle.std.specs.List.{slice_get, flat_map}
 use Rattle.go_text.specs.declared.place.Place.{Place}
 use Rattle.go_text.specs.declared.fault.FaultKind.{FaultKind}
-use Rattle.go_text.specs.declared.fault.FaultKind.TheVariants.{Redeclared, Range, Count, Recursive}
-use Rattle.go_ast.specs.Trees.{Name, TypeExpr, no_exprs, some_exprs, ConstSpec, VarSpec, TypeSpec, constants, variables, types, TopLevel, declared, function, File}
+use Rattle.go_text.specs.declared.fault.FaultKind.TheVariants.{Redeclared, Recursive}
+use Rattle.go_ast.specs.Trees.{Name, TypeExpr, no_exprs, some_exprs, ConstSpec, VarSpec, TypeSpec, constants, variables, types, Function, TopLevel, declared, function, File}
 use Rattle.ws_reach.specs.Worklist.{is_marked}
-use Rattle.go_scope.specs.Order.{DependsOnItself}
-use Rattle.go_expr.specs.Known.{Names, Known, Verdict, Scope}
-use Rattle.go_expr.specs.Rules.{Value, assigned}
-use Rattle.go_expr.specs.Verdicts.{fine, both, broken, operands, type_verdict, type_faults, operands_faults}
 use Rattle.go_types.specs.Types.{Type'}
+use Rattle.go_scope.specs.Order.{DependsOnItself}
+use Rattle.go_expr.specs.Known.{Names, Scope}
+use Rattle.go_expr.specs.Rules.{fine}
+use Rattle.go_expr.specs.Verdicts.{asked_both, broken, operands, type_verdict, type_faults, operands_faults}
+use Rattle.go_stmt.specs.Scopes.{Context}
+use Rattle.go_stmt.specs.Rules.{constants_of, variables_source}
+use Rattle.go_stmt.specs.Statements.{values_known, values_faults}
+use Rattle.go_stmt.specs.Functions.{function_at}
 use Rattle.go_objects.specs.Objects.{Object, meant, type_object}
 use Rattle.go_objects.specs.Table.{Package, number_of, scope_at, object_verdict}
 
@@ -45,28 +49,20 @@ name_faults t file n = elim (number_of t.package.objects n.text) [
 
 -- ---- constants: https://go.dev/ref/spec#Constant_declarations
 
-abbrev pub is_range : FaultKind → Bool
-is_range kind = elim kind [ Range ↦ true | _ ↦ false ]
-
--- of several things that are wrong with a node the one of the least number comes first: a range before assignability
-abbrev pub least_first : Place → List (Verdict Known) → Faults
-least_first p vs = flat_map (λ v. filter (λ f. is_range f.1) (broken p v)) vs ++ flat_map (λ v. filter (λ f. not (is_range f.1)) (broken p v)) vs
-
--- the rules of a specification itself: as many values as names, each assignable to the type that is written
-abbrev pub spec_rules : Place → List Name → Option Type' → List Value → Faults
-spec_rules p names of values = if not (nat_eq (length names) (length values)) then (p, Count) ∷ [] else (elim of [ None ↦ [] | Some t ↦ least_first p (map (assigned t) values) ])
-
 -- the type that is written, if one is, where it is known
 abbrev pub written_type : Scope → Option TypeExpr → Option (Option Type')
 written_type s t = elim t [ None ↦ Some None | Some t ↦ option_map Some (fine (type_verdict s t)) ]
 
--- they are asked where the type and all values are known
+-- as many values as names, all constant, each assignable to the type that is written
 abbrev pub spec_broken : Place → Scope → ConstSpec → Faults
-spec_broken p s spec = elim (both (written_type s spec.type) (operands s spec.values)) [ None ↦ [] | Some k ↦ spec_rules p spec.names k.0 k.1 ]
+spec_broken p s spec = broken p (asked_both (constants_of spec.names) (written_type s spec.type) (operands s spec.values))
+
+abbrev pub written_faults : Scope → Option TypeExpr → Faults
+written_faults s t = elim t [ None ↦ [] | Some t ↦ type_faults s t ]
 
 -- its type and its values
 abbrev pub parts_faults : Scope → ConstSpec → Faults
-parts_faults s spec = (elim spec.type [ None ↦ [] | Some t ↦ type_faults s t ]) ++ operands_faults s spec.values
+parts_faults s spec = written_faults s spec.type ++ operands_faults s spec.values
 
 -- faults of what is written for a specification before, and repeated, are those of the one that repeats it
 abbrev pub told_at : Bool → Place → Faults → Faults
@@ -94,12 +90,46 @@ abbrev pub type_spec_faults : Facts → ℕ → TypeSpec → Faults
 type_spec_faults t file s =
     name_faults t file s.name ++ (type_faults (scope_at t.package t.known file None) s.type ++ broken s.name.place (object_verdict t.package t.known (type_object file s)))
 
--- of variables and functions the names alone; init declares none
+-- https://go.dev/ref/spec#Variable_declarations
+abbrev pub var_parts_faults : Scope → VarSpec → Faults
+var_parts_faults s spec = written_faults s spec.type ++ values_faults s spec.values
+
+abbrev pub var_broken : Place → Scope → VarSpec → Faults
+var_broken p s spec = broken p (asked_both (variables_source spec.names) (written_type s spec.type) (values_known s spec.values))
+
+-- its names, then its type and its values, then itself, at its first name
+abbrev pub var_spec_faults : Facts → ℕ → VarSpec → Faults
+var_spec_faults t file spec = elim spec.names [
+  | [] ↦ []
+  | first ∷ others ↦ (let s = scope_at t.package t.known file None in
+      flat_map (name_faults t file) spec.names ++ (var_parts_faults s spec ++ var_broken first.place s spec))
+]
+
+-- https://go.dev/ref/spec#Function_declarations
+-- outside of a function there are the names of its file and of its package
+abbrev pub context_at : Facts → ℕ → Context
+context_at t file = record {
+  path = t.package.path;
+  outside = λ iota. (scope_at t.package t.known file iota).names;
+  results = None;
+  breaks = false;
+  continues = false;
+  falls = false;
+}
+
+-- init declares no name
+abbrev pub own_faults : Facts → ℕ → Name → Faults
+own_faults t file n = if bytes_eq n.text (codes "init") then [] else name_faults t file n
+
+-- its name, then its parameters, its results and its body
+abbrev pub function_faults : Facts → ℕ → Function → Faults
+function_faults t file f = own_faults t file f.name ++ (function_at (context_at t file) f).faults
+
 abbrev pub top_faults : Facts → ℕ → TopLevel → Faults
 top_faults t file (declared (constants p ss)) = group_faults t file 0 (record { names = []; type = None; values = no_exprs }) ss
 top_faults t file (declared (types p ss)) = flat_map (type_spec_faults t file) ss
-top_faults t file (declared (variables p ss)) = flat_map (λ (s : VarSpec). flat_map (name_faults t file) s.names) ss
-top_faults t file (function f) = if bytes_eq f.name.text (codes "init") then [] else name_faults t file f.name
+top_faults t file (declared (variables p ss)) = flat_map (var_spec_faults t file) ss
+top_faults t file (function f) = function_faults t file f
 
 -- those of files, each fault behind the number of its file
 abbrev pub files_faults : Facts → ℕ → List File → List (ℕ × (Place × FaultKind))

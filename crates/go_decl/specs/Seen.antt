@@ -1,20 +1,14 @@
 -- How the code's values stand for those of the definitions, and what its answers say.
-use Rattle.std.specs.Prelude.{◌≡◌, ℕ, not, List, [], ◌∷◌, Option, Some, None, Result, Ok, Err}
-use Rattle.std.specs.List.{filter}
+use Rattle.std.specs.Prelude.{◌≡◌, ℕ, List, [], ◌∷◌, Result, Ok, Err}
 use Rattle.go_text.specs.declared.place.Place.{Place}
 use Rattle.go_text.specs.declared.fault.FaultKind.{FaultKind}
-use Rattle.go_ast.specs.Trees.{Name, TypeExpr}
-use Rattle.go_expr.specs.Known.{Known, Verdict, Scope}
-use Rattle.go_expr.specs.Rules.{Value}
-use Rattle.go_types.specs.Types.{Type'}
-use Rattle.go_expr.specs.Verdicts.{broken, type_faults}
 use Rattle.go_expr.specs.declared.error.ExprError.{ExprError}
 use Rattle.go_expr.specs.Seen.{names_of, Fails}
 use Rattle.go_objects.specs.Packages.{package_of}
 use Rattle.go_decl.specs.declared.error.DeclError.{DeclError}
 use Rattle.go_decl.specs.declared.error.DeclError.TheVariants as errors
 use Rattle.go_decl.specs.declared.facts.Facts as facts
-use Rattle.go_decl.specs.Faults.{Facts, Faults, is_range, spec_rules}
+use Rattle.go_decl.specs.Faults.{Facts, Faults}
 
 unfoldable pub facts_of : facts.Facts → Facts
 facts_of f = record { «package» = package_of f.package.now; known = names_of f.known.now; recursive = f.recursive.items }
@@ -33,18 +27,3 @@ FailsIn (errors.Faulty file place kind) faults = (others : List (ℕ × (Place �
 abbrev pub FindsIn : {X : Type 0} → Result X DeclError → List (ℕ × (Place × FaultKind)) → Type 0
 FindsIn (Ok x) faults = faults ≡ []
 FindsIn (Err e) faults = FailsIn e faults
-
--- what is wrong with a specification, where its type and its values are known
-abbrev pub spec_known : Place → List Name → Option (Option Type' × List Value) → Faults
-spec_known p names o = elim o [ None ↦ [] | Some k ↦ spec_rules p names k.0 k.1 ]
-
--- a fault that is one of a range, and one that isn't
-abbrev pub range_broken : Place → Verdict Known → Faults
-range_broken p v = filter (λ f. is_range f.1) (broken p v)
-
-abbrev pub other_broken : Place → Verdict Known → Faults
-other_broken p v = filter (λ f. not (is_range f.1)) (broken p v)
-
--- the faults of the type that is written, if one is
-abbrev pub written_faults : Scope → Option TypeExpr → Faults
-written_faults s t = elim t [ None ↦ [] | Some t ↦ type_faults s t ]

@@ -1,32 +1,30 @@
 //! The faults of declarations of constants.
 ghost use Rattle.std.specs.Prelude.{◌≡◌, [], map, None, Ok, IfOk};
-ghost use Rattle.std.specs.List.{flat_map};
 ghost use Rattle.std.specs.Option.{option_map};
 ghost use Rattle.go_ast.specs.Trees.{no_exprs};
-ghost use Rattle.go_ast.specs.Views.{const_of, type_of as type_tree};
+ghost use Rattle.go_ast.specs.Views.{const_of};
 ghost use Rattle.go_types.specs.Views.{type_of};
-ghost use Rattle.go_expr.specs.Rules.{assigned};
-ghost use Rattle.go_expr.specs.Verdicts.{both, operands};
-ghost use Rattle.go_expr.specs.Seen.{scope_of, value_of, all_of, Fails};
+ghost use Rattle.go_typed.specs.Views.{expr_of};
+ghost use Rattle.go_expr.specs.Verdicts.{asked_both, broken, operands};
+ghost use Rattle.go_expr.specs.Seen.{scope_of, all_of, Fails};
+ghost use Rattle.go_stmt.specs.Rules.{constants_of};
 ghost use Rattle.go_objects.specs.Seen.{spec_of};
-ghost use Rattle.go_decl.specs.Faults.{Faults, least_first, written_type, parts_faults, told_at, constants_faults, group_faults};
-ghost use Rattle.go_decl.specs.Seen.{facts_of, Finds, spec_known, range_broken, other_broken, written_faults};
+ghost use Rattle.go_decl.specs.Faults.{Faults, written_type, parts_faults, told_at, constants_faults, group_faults};
+ghost use Rattle.go_decl.specs.Seen.{facts_of, Finds};
 
 use crate::facts::Facts;
 use crate::names::check_names;
+use crate::variables::check_written;
 use go_ast::declaration::ConstSpec;
-use go_ast::expression::TypeExpr;
 use go_ast::name::Name;
-use go_expr::conversion::lies_in;
 use go_expr::error::ExprError;
-use go_expr::expression::{check_operands, check_type};
-use go_expr::known::Value;
+use go_expr::expression::check_operands;
 use go_expr::scope::Scope;
 use go_objects::declarations::{Spec, meant};
 use go_objects::evaluation::scope_in;
-use go_text::fault::FaultKind;
+use go_stmt::declaration::constants_of;
 use go_text::place::Place;
-use go_types::relations::assignable;
+use go_typed::expression::TypedExpr;
 use go_types::types::GoType;
 use std::alloc::Global;
 
@@ -34,7 +32,7 @@ use std::alloc::Global;
 #[derive(Drop)]
 struct Parts {
     of: Option<Option<GoType>>,
-    values: Option<Vec<Value>>,
+    values: Option<Vec<TypedExpr>>,
 }
 
 /// The first fault of a group of constants in a file.
@@ -78,7 +76,7 @@ fn check_constants(
     check_names(facts, file, spec.names)?;
     let scope = scope_in(facts.package(), facts.known(), file, Some(iota));
     let parts = told_at(repeated, first.place(), check_parts(alloc, &scope, spec))?;
-    check_spec(first.place(), spec.names, parts)
+    check_spec(alloc, first.place(), spec.names, parts)
 }
 
 // An answer whose fault is told at a place, where what it speaks of is repeated there.
@@ -112,89 +110,25 @@ fn error_at(repeated: bool, place: Place, error: ExprError) -> ExprError
 fn check_parts(alloc: Global, scope: &Scope<'_>, spec: Spec<'_>) -> Result<Parts, ExprError>
     ensures faults { Finds result (parts_faults (scope_of scope.now) (spec_of spec.entry)) }
     ensures of { IfOk result (λ parts. option_map (option_map type_of) parts.of ≡ written_type (scope_of scope.now) (spec_of spec.entry).type) }
-    ensures values { IfOk result (λ parts. option_map (all_of value_of) parts.values ≡ operands (scope_of scope.now) (spec_of spec.entry).values) }
+    ensures values { IfOk result (λ parts. option_map (all_of expr_of) parts.values ≡ operands (scope_of scope.now) (spec_of spec.entry).values) }
 {
     let of = check_written(alloc, scope, spec.type_expr)?;
     let values = check_operands(alloc, scope, spec.values)?;
     Ok(Parts { of, values })
 }
 
-// The type that is written, if one is, where it is known.
-fn check_written(
-    alloc: Global,
-    scope: &Scope<'_>,
-    type_expr: Option<&TypeExpr>,
-) -> Result<Option<Option<GoType>>, ExprError>
-    ensures faults { Finds result (written_faults (scope_of scope.now) (option_map (λ t. type_tree t.now) type_expr.entry)) }
-    ensures of { IfOk result (λ of. option_map (option_map type_of) of ≡ written_type (scope_of scope.now) (option_map (λ t. type_tree t.now) type_expr.entry)) }
-{
-    let Some(type_expr) = type_expr else {
-        return Ok(Some(None));
-    };
-    match check_type(alloc, scope, type_expr)? {
-        Some(of) => Ok(Some(Some(of))),
-        None => Ok(None),
-    }
-}
-
-// The first fault of a specification itself, where its type and its values are known: `Count` where
-// they aren't as many as its names; then a constant outside the type comes before one that isn't
-// assignable to it.
-fn check_spec(place: Place, names: &[Name], parts: Parts) -> Result<(), ExprError>
-    ensures { Finds result (spec_known place names.now (both (option_map (option_map type_of) parts.of) (option_map (all_of value_of) parts.values))) }
+// The first fault of a specification itself, where its type and its values are known: `Mismatch`
+// where a value isn't constant, `Count` where they aren't as many as its names, then `Range` or
+// `Assign` where one isn't assignable to the type.
+#[tactic(auto, using(crate::proofs::Parts::located, crate::proofs::Parts::unbroken))]
+fn check_spec(alloc: Global, place: Place, names: &[Name], parts: Parts) -> Result<(), ExprError>
+    ensures { Finds result (broken place (asked_both (constants_of names.now) (option_map (option_map type_of) parts.of) (option_map (all_of expr_of) parts.values))) }
 {
     let (Some(of), Some(values)) = (parts.of, parts.values) else {
         return Ok(());
     };
-    if names.len() != values.len() {
-        return Err(ExprError::Faulty(place, FaultKind::Count));
+    match constants_of(alloc, names, of, values) {
+        Ok(_) => Ok(()),
+        Err(error) => Err(error.at(place)),
     }
-    match of {
-        Some(of) => check_assigned(place, &of, &values),
-        None => Ok(()),
-    }
-}
-
-// The first fault of constants as ones of a type.
-fn check_assigned(place: Place, of: &GoType, values: &[Value]) -> Result<(), ExprError>
-    ensures { Finds result (least_first place (map (assigned (type_of of.now)) (map value_of values.now))) }
-{
-    check_ranges(place, of, values)?;
-    check_assignable(place, of, values)
-}
-
-fn check_ranges(place: Place, of: &GoType, values: &[Value]) -> Result<(), ExprError>
-    ensures { Finds result (flat_map (range_broken place) (map (assigned (type_of of.now)) (map value_of values.now))) }
-{
-    for value in values {
-        check_range(place, of, value)?;
-    }
-    Ok(())
-}
-
-fn check_range(place: Place, of: &GoType, value: &Value) -> Result<(), ExprError>
-    ensures { Finds result (range_broken place (assigned (type_of of.now) (value_of value.now))) }
-{
-    if assignable(&value.of, of) && !lies_in(of, &value.constant) {
-        return Err(ExprError::Faulty(place, FaultKind::Range));
-    }
-    Ok(())
-}
-
-fn check_assignable(place: Place, of: &GoType, values: &[Value]) -> Result<(), ExprError>
-    ensures { Finds result (flat_map (other_broken place) (map (assigned (type_of of.now)) (map value_of values.now))) }
-{
-    for value in values {
-        check_one_assignable(place, of, value)?;
-    }
-    Ok(())
-}
-
-fn check_one_assignable(place: Place, of: &GoType, value: &Value) -> Result<(), ExprError>
-    ensures { Finds result (other_broken place (assigned (type_of of.now) (value_of value.now))) }
-{
-    if !assignable(&value.of, of) {
-        return Err(ExprError::Faulty(place, FaultKind::Assign));
-    }
-    Ok(())
 }

@@ -1,23 +1,24 @@
 //! The faults of what files declare.
 ghost use Rattle.std.specs.Prelude.{◌≡◌, map};
 ghost use Rattle.std.specs.List.{flat_map};
-ghost use Rattle.go_ast.specs.Trees as trees;
-ghost use Rattle.go_ast.specs.Views.{var_of, function_of, top_of, file_of};
-ghost use Rattle.go_decl.specs.Faults.{name_faults, top_faults, files_faults};
+ghost use Rattle.go_ast.specs.Views.{top_of, file_of};
+ghost use Rattle.go_decl.specs.Faults.{top_faults, files_faults};
 ghost use Rattle.go_decl.specs.Seen.{facts_of, Finds, FindsIn};
 
 use crate::constants::check_group;
 use crate::error::DeclError;
 use crate::facts::Facts;
-use crate::names::{check_name, check_names};
+use crate::functions::check_function;
 use crate::types::check_types;
-use go_ast::declaration::{Decl, VarSpec};
-use go_ast::file::{File, Function, TopLevel};
+use crate::variables::check_variables;
+use go_ast::declaration::Decl;
+use go_ast::file::{File, TopLevel};
 use go_expr::error::ExprError;
 use std::alloc::Global;
 
 /// The first fault of what the files of a package declare, in their order, with the number of its
-/// file. `Faulty` has the first node, parts before the whole and left to right, that breaks one of these rules, while ..
+/// file. `Faulty` has the first node, parts before the whole and left to right, that breaks a rule,
+/// while all that it stands on is known.
 pub fn check_declarations(
     alloc: Global,
     facts: &Facts<'_>,
@@ -68,27 +69,9 @@ pub fn check_top(
     match top {
         TopLevel::Declared(Decl::Constants(_, specs)) => check_group(alloc, facts, file, specs),
         TopLevel::Declared(Decl::Types(_, specs)) => check_types(alloc, facts, file, specs),
-        TopLevel::Declared(Decl::Variables(_, specs)) => check_variables(facts, file, specs),
-        TopLevel::Function(function) => check_function(facts, file, function),
+        TopLevel::Declared(Decl::Variables(_, specs)) => {
+            check_variables(alloc, facts, file, specs)
+        }
+        TopLevel::Function(function) => check_function(alloc, facts, file, function),
     }
-}
-
-// Of variables the names alone.
-fn check_variables(facts: &Facts<'_>, file: usize, specs: &[VarSpec]) -> Result<(), ExprError>
-    ensures { Finds result (flat_map (λ (s : trees.VarSpec). flat_map (name_faults (facts_of facts.now) file) s.names) (map var_of specs.now)) }
-{
-    for spec in specs {
-        check_names(facts, file, &spec.names)?;
-    }
-    Ok(())
-}
-
-// Of a function the name alone; init declares none.
-fn check_function(facts: &Facts<'_>, file: usize, function: &Function) -> Result<(), ExprError>
-    ensures { Finds result (top_faults (facts_of facts.now) file (trees.function (function_of function.now))) }
-{
-    if function.name.text() == "init" {
-        return Ok(());
-    }
-    check_name(facts, file, &function.name)
 }

@@ -5,6 +5,8 @@ mod constants;
 pub mod declarations;
 pub mod error;
 pub mod facts;
+mod functions;
 pub mod law;
 mod names;
 mod types;
+mod variables;

@@ -5,14 +5,16 @@ use Rattle.go_ast.specs.Views.{exprs_in}
 use Rattle.go_types.specs.Types.{Type'}
 use Rattle.go_types.specs.Views.{type_of}
 use Rattle.go_expr.specs.Known.{Names}
-use Rattle.go_expr.specs.Rules.{Value}
-use Rattle.go_expr.specs.Verdicts.{both, operands}
+use Rattle.go_typed.specs.Trees.{Expr}
+use Rattle.go_typed.specs.Views.{expr_of}
+use Rattle.go_expr.specs.Verdicts.{asked_both, broken, operands}
 use Rattle.go_expr.specs.declared.error.ExprError.{ExprError}
-use Rattle.go_expr.specs.Seen.{scope_of, names_of, value_of, all_of}
+use Rattle.go_expr.specs.Seen.{scope_of, names_of, all_of}
+use Rattle.go_stmt.specs.Rules.{constants_of}
 use Rattle.go_objects.specs.Table.{Package, scope_at}
 use Rattle.go_objects.specs.Seen.{spec_of}
 use Rattle.go_decl.specs.Faults.{Faults, parts_faults, written_type, spec_broken}
-use Rattle.go_decl.specs.Seen.{facts_of, Finds, spec_known}
+use Rattle.go_decl.specs.Seen.{facts_of, Finds}
 use Rattle.go_decl.specs.declared.constants.Parts.{Parts}
 use Rattle.go_decl.proofs.Parts.{checked_spec}
 use Rattle.go_decl.proofs.constants.check_constants.Goals as goal
@@ -35,11 +37,11 @@ returns c =
     let same : c.check_parts.result ≡ Ok parts = c.in_ok-parts.ensures.same in
     let of_is : option_map (option_map type_of) parts.of ≡ written_type s of =
     subst (λ (r : Result Parts ExprError). IfOk r (λ (x : Parts). option_map (option_map type_of) x.of ≡ written_type s of)) same c.check_parts.ensures.of in
-    let values_are : option_map (all_of value_of) parts.values ≡ operands s es =
-    subst (λ (r : Result Parts ExprError). IfOk r (λ (x : Parts). option_map (all_of value_of) x.values ≡ operands s es)) same c.check_parts.ensures.values in
-    let seen : spec_known c.place-2.result ns (both (option_map (option_map type_of) parts.of) (option_map (all_of value_of) parts.values)) ≡ spec_broken p s (spec_of spec) =
-    ap (λ (o : Option (Option Type')). spec_known c.place-2.result ns (both o (option_map (all_of value_of) parts.values))) of_is
-    ∙ ap (λ (o : Option (List Value)). spec_known c.place-2.result ns (both (written_type s of) o)) values_are
-    ∙ ap (λ (q : Place). spec_known q ns (both (written_type s of) (operands s es))) (c.place-2.ensures ∙ sym c.place.ensures) in
+    let values_are : option_map (all_of expr_of) parts.values ≡ operands s es =
+    subst (λ (r : Result Parts ExprError). IfOk r (λ (x : Parts). option_map (all_of expr_of) x.values ≡ operands s es)) same c.check_parts.ensures.values in
+    let seen : broken c.place-2.result (asked_both (constants_of ns) (option_map (option_map type_of) parts.of) (option_map (all_of expr_of) parts.values)) ≡ spec_broken p s (spec_of spec) =
+    ap (λ (o : Option (Option Type')). broken c.place-2.result (asked_both (constants_of ns) o (option_map (all_of expr_of) parts.values))) of_is
+    ∙ ap (λ (o : Option (List Expr)). broken c.place-2.result (asked_both (constants_of ns) (written_type s of) o)) values_are
+    ∙ ap (λ (q : Place). broken q (asked_both (constants_of ns) (written_type s of) (operands s es))) (c.place-2.ensures ∙ sym c.place.ensures) in
     checked_spec c.check_spec.result t c.args.file c.args.iota c.args.repeated ns of es s c.in-Some.first.now p (sym c.in-Some.ensures.value) c.place.ensures stands c.in_ok-check_names.ensures told
     (subst (λ (l : Faults). Finds c.check_spec.result l) seen c.check_spec.ensures)

@@ -1,0 +1,41 @@
+use Rattle.std.proofs.Common.{◌≡◌, Option, None, List, sym, ap, ◌∙◌, subst}
+use Rattle.std.specs.List.{slice_get, flat_map}
+use Rattle.std.specs.Option.{option_map}
+use Rattle.go_ast.specs.Trees.{Name}
+use Rattle.go_ast.specs.Views.{var_of}
+use Rattle.go_types.specs.Types.{Type'}
+use Rattle.go_types.specs.Views.{type_of}
+use Rattle.go_expr.specs.Known.{Names}
+use Rattle.go_expr.specs.Verdicts.{asked_both, broken}
+use Rattle.go_expr.specs.Seen.{scope_of, names_of}
+use Rattle.go_stmt.specs.Rules.{Values, variables_source}
+use Rattle.go_stmt.specs.Statements.{values_known}
+use Rattle.go_stmt.specs.Seen.{values_seen}
+use Rattle.go_objects.specs.Table.{Package, scope_at}
+use Rattle.go_decl.specs.Faults.{Faults, name_faults, written_type, var_broken}
+use Rattle.go_decl.specs.Seen.{facts_of, Finds}
+use Rattle.go_decl.proofs.Parts.{checked_variables}
+use Rattle.go_decl.proofs.variables.check_var_spec.Goals as goal
+
+pub returns : goal.returns
+returns c =
+    let t = facts_of c.args.facts.now in
+    let spec = var_of c.args.spec.now in
+    let s = scope_of c.scope_in-scope.result in
+    let p = c.place.result in
+    let stands : s ≡ scope_at t.package t.known c.args.file None =
+    c.scope_in-scope.ensures
+    ∙ ap (λ (x : Package). scope_at x (names_of c.known.result.now) c.args.file None) c.package.ensures
+    ∙ ap (λ (k : Names). scope_at t.package k c.args.file None) c.known.ensures in
+    let ns = spec.names in
+    let parts = c.in_ok-parts.parts in
+    let of_is : option_map (option_map type_of) parts.of ≡ written_type s spec.type = c.in_ok-parts.ensures.of in
+    let values_are : option_map values_seen parts.values ≡ values_known s spec.values = c.in_ok-parts.ensures.values in
+    let seen : broken p (asked_both (variables_source c.deref-3.result.now) (option_map (option_map type_of) parts.of) (option_map values_seen parts.values)) ≡ var_broken p s spec =
+    ap (λ (l : List Name). broken p (asked_both (variables_source l) (option_map (option_map type_of) parts.of) (option_map values_seen parts.values))) c.deref-3.ensures.value
+    ∙ ap (λ (o : Option (Option Type')). broken p (asked_both (variables_source ns) o (option_map values_seen parts.values))) of_is
+    ∙ ap (λ (o : Option Values). broken p (asked_both (variables_source ns) (written_type s spec.type) o)) values_are in
+    checked_variables c.check_source.result t c.args.file ns spec.type spec.values s c.in-Some.first.now p
+    (ap (λ (l : List Name). slice_get l 0) (sym c.deref.ensures.value) ∙ sym c.in-Some.ensures.value) c.place.ensures stands
+    (ap (λ (l : List Name). flat_map (name_faults t c.args.file) l) (sym c.deref-2.ensures.value) ∙ c.in_ok-check_names.ensures) c.in_ok-parts.ensures.faults
+    (subst (λ (l : Faults). Finds c.check_source.result l) seen c.check_source.ensures)

@@ -1,0 +1,57 @@
+//! The faults of functions.
+ghost use Rattle.std.specs.Prelude.{◌≡◌};
+ghost use Rattle.go_ast.specs.Views.{function_of};
+ghost use Rattle.go_typed.specs.Views.{function_of as typed_function};
+ghost use Rattle.go_stmt.specs.Seen.{Answered};
+ghost use Rattle.go_stmt.specs.Functions.{function_at};
+ghost use Rattle.go_decl.specs.Faults.{own_faults, context_at, function_faults};
+ghost use Rattle.go_decl.specs.Seen.{facts_of, Finds};
+
+use crate::facts::Facts;
+use crate::names::check_name;
+use go_ast::file::Function;
+use go_ast::name::Name;
+use go_expr::error::ExprError;
+use go_objects::package::imports_at;
+use go_stmt::function::check_body;
+use go_typed::package::TypedFunction;
+use std::alloc::Global;
+
+/// The first fault of a function in a file: of its name, of its parameters, of its results, or in
+/// its body. [Function declarations](https://go.dev/ref/spec#Function_declarations)
+pub(crate) fn check_function(
+    alloc: Global,
+    facts: &Facts<'_>,
+    file: usize,
+    function: &Function,
+) -> Result<(), ExprError>
+    ensures { Finds result (function_faults (facts_of facts.now) file (function_of function.now)) }
+{
+    check_own_name(facts, file, &function.name)?;
+    check_inside(alloc, facts, file, function)?;
+    Ok(())
+}
+
+// The fault of a function's name; init declares none.
+fn check_own_name(facts: &Facts<'_>, file: usize, name: &Name) -> Result<(), ExprError>
+    ensures { Finds result (own_faults (facts_of facts.now) file name.now) }
+{
+    if name.text() == "init" {
+        return Ok(());
+    }
+    check_name(facts, file, name)
+}
+
+// A function by its parameters, its results and its body, or the first fault in them.
+fn check_inside(
+    alloc: Global,
+    facts: &Facts<'_>,
+    file: usize,
+    function: &Function,
+) -> Result<Option<TypedFunction>, ExprError>
+    ensures { Answered typed_function result (function_at (context_at (facts_of facts.now) file) (function_of function.now)) }
+{
+    let package = facts.package();
+    let imports = imports_at(package, file);
+    check_body(alloc, package.path, imports, facts.known(), function)
+}

@@ -1,0 +1,113 @@
+//! The faults of declarations of variables.
+ghost use Rattle.std.specs.Prelude.{◌≡◌, map, IfOk};
+ghost use Rattle.std.specs.List.{flat_map};
+ghost use Rattle.std.specs.Option.{option_map};
+ghost use Rattle.go_ast.specs.Views.{var_of, type_of as type_tree};
+ghost use Rattle.go_types.specs.Views.{type_of};
+ghost use Rattle.go_expr.specs.Verdicts.{asked_both, broken};
+ghost use Rattle.go_expr.specs.Seen.{scope_of};
+ghost use Rattle.go_stmt.specs.Rules.{variables_source};
+ghost use Rattle.go_stmt.specs.Statements.{values_known};
+ghost use Rattle.go_stmt.specs.Seen.{values_seen};
+ghost use Rattle.go_decl.specs.Faults.{written_type, written_faults, var_parts_faults, var_spec_faults};
+ghost use Rattle.go_decl.specs.Seen.{facts_of, Finds};
+
+use crate::facts::Facts;
+use crate::names::check_names;
+use go_ast::declaration::VarSpec;
+use go_ast::expression::TypeExpr;
+use go_ast::name::Name;
+use go_expr::error::ExprError;
+use go_expr::expression::check_type;
+use go_expr::scope::Scope;
+use go_objects::evaluation::scope_in;
+use go_stmt::declaration::variables_source;
+use go_stmt::values::{Values, check_values};
+use go_text::place::Place;
+use go_types::types::GoType;
+use std::alloc::Global;
+
+/// The first fault of declarations of variables in a file.
+/// [Variable declarations](https://go.dev/ref/spec#Variable_declarations)
+pub(crate) fn check_variables(
+    alloc: Global,
+    facts: &Facts<'_>,
+    file: usize,
+    specs: &[VarSpec],
+) -> Result<(), ExprError>
+    ensures { Finds result (flat_map (var_spec_faults (facts_of facts.now) file) (map var_of specs.now)) }
+{
+    for spec in specs {
+        check_var_spec(alloc, facts, file, spec)?;
+    }
+    Ok(())
+}
+
+// The first fault of one specification: of its names, of its type, of its values, or its own.
+fn check_var_spec(
+    alloc: Global,
+    facts: &Facts<'_>,
+    file: usize,
+    spec: &VarSpec,
+) -> Result<(), ExprError>
+    ensures { Finds result (var_spec_faults (facts_of facts.now) file (var_of spec.now)) }
+{
+    let Some(first) = spec.names.first() else {
+        return Ok(());
+    };
+    check_names(facts, file, &spec.names)?;
+    let scope = scope_in(facts.package(), facts.known(), file, None);
+    let parts = check_parts(alloc, &scope, spec)?;
+    check_source(alloc, first.place(), &spec.names, parts)
+}
+
+// The type and the values of a specification, where they are known.
+#[derive(Drop)]
+struct Parts {
+    of: Option<Option<GoType>>,
+    values: Option<Values>,
+}
+
+// The type and the values of a specification, or the first fault in them.
+fn check_parts(alloc: Global, scope: &Scope<'_>, spec: &VarSpec) -> Result<Parts, ExprError>
+    ensures faults { Finds result (var_parts_faults (scope_of scope.now) (var_of spec.now)) }
+    ensures of { IfOk result (λ parts. option_map (option_map type_of) parts.of ≡ written_type (scope_of scope.now) (var_of spec.now).type) }
+    ensures values { IfOk result (λ parts. option_map values_seen parts.values ≡ values_known (scope_of scope.now) (var_of spec.now).values) }
+{
+    let of = check_written(alloc, scope, spec.type_expr.as_ref())?;
+    let values = check_values(alloc, scope, &spec.values)?.known;
+    Ok(Parts { of, values })
+}
+
+/// The type that is written, if one is, where it is known.
+pub(crate) fn check_written(
+    alloc: Global,
+    scope: &Scope<'_>,
+    type_expr: Option<&TypeExpr>,
+) -> Result<Option<Option<GoType>>, ExprError>
+    ensures faults { Finds result (written_faults (scope_of scope.now) (option_map (λ t. type_tree t.now) type_expr.entry)) }
+    ensures of { IfOk result (λ of. option_map (option_map type_of) of ≡ written_type (scope_of scope.now) (option_map (λ t. type_tree t.now) type_expr.entry)) }
+{
+    let Some(type_expr) = type_expr else {
+        return Ok(Some(None));
+    };
+    match check_type(alloc, scope, type_expr)? {
+        Some(of) => Ok(Some(Some(of))),
+        None => Ok(None),
+    }
+}
+
+// The fault of a specification itself, where its type and its values are known: `Count` where they
+// aren't as many as its names, then `Range` or `Assign` where one isn't assignable.
+#[tactic(auto, using(crate::proofs::Parts::located, crate::proofs::Parts::unbroken))]
+fn check_source(alloc: Global, place: Place, names: &[Name], parts: Parts) -> Result<(), ExprError>
+    ensures { Finds result (broken place (asked_both (variables_source names.now) (option_map (option_map type_of) parts.of) (option_map values_seen parts.values))) }
+{
+    let (Some(of), Some(values)) = (parts.of, parts.values) else {
+        return Ok(());
+    };
+    match variables_source(alloc, names, of, values) {
+        Ok(_) => Ok(()),
+        Err(error) => Err(error.at(place)),
+    }
+}

@@ -1,5 +1,0 @@
-//! Tests of the faults of declarations.
-#![tactic(auto)]
-
-#[cfg(test)]
-mod tests;

@@ -1,0 +1,4 @@
+pub mod Several
+pub mod Values
+pub mod Walks
+pub mod Whole

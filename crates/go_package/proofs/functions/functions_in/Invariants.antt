@@ -1,0 +1,14 @@
+use Rattle.std.proofs.Common.{◌≡◌, ◌++◌, [], drop, map}
+use Rattle.go_typed.specs.Views.{function_of}
+use Rattle.go_decl.specs.Faults.{files_faults}
+use Rattle.go_decl.specs.Seen.{facts_of}
+use Rattle.go_package.specs.Seen.{files_of}
+use Rattle.go_package.specs.Typed.{top_functions, of_files}
+use Rattle.go_package.proofs.functions.functions_in.Given as goal
+
+abbrev pub invariant-loop-number : goal.invariant-loop-number
+invariant-loop-number l = record {
+  none : files_faults (facts_of l.facts) l.number (files_of (drop l.number l.files)) ≡ [];
+  same : map function_of l.found.items ++ of_files (top_functions (facts_of l.facts)) l.number (files_of (drop l.number l.files))
+      ≡ of_files (top_functions (facts_of l.facts)) 0 (files_of l.files);
+}

@@ -1,0 +1,5 @@
+pub mod Imports
+pub mod Packages
+pub mod Seen
+pub mod Told
+pub mod Typed

@@ -1,0 +1,114 @@
+-- The first fault of a package.
+use Rattle.std.specs.Prelude.{◌≡◌, ℕ, suc, ◌&&◌, ◌||◌, not, Bool, bytes_eq, codes, is_some, if◌then◌else◌, List, [], ◌∷◌, ◌++◌, map, Option, Some, None}
+use Rattle.std.specs.List.{slice_get, flat_map, list_any}
+use Rattle.go_text.specs.declared.place.Place.{Place}
+use Rattle.go_text.specs.declared.fault.FaultKind.{FaultKind}
+use Rattle.go_text.specs.declared.fault.FaultKind.TheVariants.{Redeclared, UnusedImport, Main}
+use Rattle.go_ast.specs.Trees.{Name, TypeExpr, Expr, ConstSpec, VarSpec, TypeSpec, constants, variables, types, Function, TopLevel, declared, function, File}
+use Rattle.go_types.specs.Types.{Type'}
+use Rattle.go_typed.specs.Trees.{Expr as Typed}
+use Rattle.go_expr.specs.Known.{Names, Verdict, Fine, Scope}
+use Rattle.go_expr.specs.Rules.{checked, constant_due, assigned}
+use Rattle.go_expr.specs.Verdicts.{asked_both, operand, verdict, broken}
+use Rattle.go_uses.specs.Uses.{file_refers}
+use Rattle.go_objects.specs.Objects.{Object, constant, objects_of}
+use Rattle.go_objects.specs.Table.{Package, number_of, rows, scope_at, IsTable}
+use Rattle.go_decl.specs.Faults.{Facts, Faults, AreRecursive, written_type, top_faults}
+use Rattle.go_package.specs.Imports.{Importable, imports_in, imports_of}
+
+-- the package at a path: what its files import and declare
+abbrev pub package_in : List ℕ → List File → List Importable → Package
+package_in path files ps = record { path = path; imports = imports_of ps files; objects = objects_of files }
+
+-- what holds of a package: what is known of its names, and which of them depend on themselves
+pub record AreFacts (p : Package) (t : Facts) : Type 0 where
+  pub package_is : t.package ≡ p
+  pub known : IsTable p t.known
+  pub recursive : AreRecursive (rows p) t.recursive
+
+-- ---- imports: https://go.dev/ref/spec#Import_declarations
+
+-- an import's name is that of one before it or of a declaration of the package, or the file doesn't refer to it
+abbrev pub import_faults : Facts → File → List (List ℕ) → Place → List ℕ → Faults
+import_faults t file before p x =
+    if list_any (bytes_eq x) before || is_some (number_of t.package.objects x) then (p, Redeclared) ∷ []
+    else (if file_refers x file then [] else (p, UnusedImport) ∷ [])
+
+abbrev pub imports_faults : Facts → File → List (List ℕ) → List (Place × (List ℕ × Names)) → Faults
+imports_faults t file before [] = []
+imports_faults t file before (i ∷ is) = import_faults t file before i.0 (i.1).0 ++ imports_faults t file (before ++ (i.1).0 ∷ []) is
+
+-- ---- files: imports, then declarations in the order of the text
+
+abbrev pub file_faults : List Importable → Facts → ℕ → File → Faults
+file_faults ps t number file = imports_faults t file [] (imports_in ps file.imports) ++ flat_map (top_faults t number) file.declarations
+
+-- each fault behind the number of its file
+abbrev pub Numbered : Type 0
+Numbered = List (ℕ × (Place × FaultKind))
+
+abbrev pub each_file : (ℕ → File → Faults) → ℕ → List File → Numbered
+each_file faults number [] = []
+each_file faults number (f ∷ fs) = map (λ x. (number, x)) (faults number f) ++ each_file faults (suc number) fs
+
+-- ---- constants by themselves: https://go.dev/ref/spec#Constant_declarations
+
+-- A specification is asked where all of its values are known, so one that names a constant of its own that isn't fine is silent. So each
+-- constant is asked for itself behind the others: its value is constant, and assignable to the type that is written, if one is.
+abbrev pub own_constant : Option Type' → Typed → Verdict Typed
+own_constant t e = checked (λ e. elim t [ None ↦ Fine e | Some t ↦ assigned t e ]) (constant_due e)
+
+abbrev pub constant_faults : Scope → Place → Option TypeExpr → Expr → Faults
+constant_faults s p t e = broken p (asked_both own_constant (written_type s t) (operand (verdict s e)))
+
+abbrev pub object_faults : Facts → Object → Faults
+object_faults t o = elim o.form [ constant of e iota ↦ constant_faults (scope_at t.package t.known o.file (Some iota)) o.name.place of e | _ ↦ [] ]
+
+abbrev pub numbered_faults : Facts → Object → Numbered
+numbered_faults t o = map (λ x. (o.file, x)) (object_faults t o)
+
+abbrev pub constants_faults : Facts → Numbered
+constants_faults t = flat_map (numbered_faults t) t.package.objects
+
+-- ---- main and init: https://go.dev/ref/spec#Program_execution and https://go.dev/ref/spec#Package_initialization
+
+-- names that nothing has but functions without parameters and results
+abbrev pub is_reserved : List ℕ → Name → Bool
+is_reserved clause n = bytes_eq n.text (codes "init") || (bytes_eq clause (codes "main") && bytes_eq n.text (codes "main"))
+
+abbrev pub reserved_faults : List ℕ → Name → Faults
+reserved_faults clause n = if is_reserved clause n then (n.place, Main) ∷ [] else []
+
+abbrev pub function_faults : List ℕ → Function → Faults
+function_faults clause f = elim f.parameters [ [] ↦ elim f.results [ [] ↦ [] | t ∷ ts ↦ reserved_faults clause f.name ] | p ∷ ps ↦ reserved_faults clause f.name ]
+
+abbrev pub names_faults : List ℕ → TopLevel → Faults
+names_faults clause (declared (constants p ss)) = flat_map (λ (s : ConstSpec). flat_map (reserved_faults clause) s.names) ss
+names_faults clause (declared (variables p ss)) = flat_map (λ (s : VarSpec). flat_map (reserved_faults clause) s.names) ss
+names_faults clause (declared (types p ss)) = flat_map (λ (s : TypeSpec). reserved_faults clause s.name) ss
+names_faults clause (function f) = function_faults clause f
+
+-- a package that is named main has a function main
+abbrev pub absent_main_faults : Facts → Name → Numbered
+absent_main_faults t clause =
+    if bytes_eq clause.text (codes "main") && not (is_some (number_of t.package.objects (codes "main"))) then (0, (clause.place, Main)) ∷ [] else []
+
+-- a package is named by its first file's clause
+abbrev pub main_faults : Facts → List File → Numbered
+main_faults t [] = []
+main_faults t (f ∷ fs) =
+    each_file (λ number file. flat_map (names_faults f.package.text) file.declarations) 0 (f ∷ fs) ++ absent_main_faults t f.package
+
+-- ---- packages
+
+abbrev pub package_faults : List Importable → Facts → List File → Numbered
+package_faults ps t files = each_file (file_faults ps t) 0 files ++ (constants_faults t ++ main_faults t files)
+
+-- the fault of the package that some files are, if it has one
+pub record IsFaultIn (p : Package) (files : List File) (ps : List Importable) (fault : Option (ℕ × (Place × FaultKind))) : Type 0 where
+  pub facts : Facts
+  pub are : AreFacts p facts
+  pub first : slice_get (package_faults ps facts files) 0 ≡ fault
+
+abbrev pub IsFaultOf : List ℕ → List File → List Importable → Option (ℕ × (Place × FaultKind)) → Type 0
+IsFaultOf path files ps = IsFaultIn (package_in path files ps) files ps

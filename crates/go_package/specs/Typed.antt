@@ -1,0 +1,130 @@
+-- What a package without faults is: its typed tree, by what is known of its names.
+use Rattle.std.specs.Prelude.{◌≡◌, ℕ, suc, Bool, true, false, ◌&&◌, not, bytes_eq, codes, if◌then◌else◌, List, [], ◌∷◌, ◌++◌, map, Option, Some, None, unwrap_or}
+use Rattle.std.specs.List.{slice_get, filter, filter_map, flat_map}
+use Rattle.std.specs.Map.{lookup}
+use Rattle.go_ast.specs.Trees.{Name, Expr, Exprs, some_exprs, VarSpec, variables, TopLevel, declared, function, File}
+use Rattle.go_const.specs.declared.constant.Const.{Const}
+use Rattle.go_types.specs.Types.{Type'}
+use Rattle.go_typed.specs.Trees as typed
+use Rattle.go_typed.specs.Trees.{pack_exprs}
+use Rattle.go_scope.specs.Names.{Used, in_expr, in_exprs}
+use Rattle.go_expr.specs.Known.{Declared, value, type', Names}
+use Rattle.go_expr.specs.Known as known
+use Rattle.go_expr.specs.Rules.{fine}
+use Rattle.go_expr.specs.Verdicts.{asked_both}
+use Rattle.go_stmt.specs.Rules.{variables_source}
+use Rattle.go_stmt.specs.Statements.{values_known}
+use Rattle.go_stmt.specs.Functions.{function_at}
+use Rattle.go_objects.specs.Objects.{Object}
+use Rattle.go_objects.specs.Table.{Package, imports_at, is_hidden, scope_at}
+use Rattle.go_decl.specs.Faults.{Facts, written_type, context_at}
+use Rattle.go_package.specs.Imports.{Importable}
+use Rattle.go_package.specs.Packages.{AreFacts, package_faults}
+
+abbrev pub is_blank : Name → Bool
+is_blank n = bytes_eq n.text (codes "_")
+
+-- ---- names of the package, in declaration order
+
+abbrev pub constant_in : List ℕ × Option Declared → Option (List ℕ × (Type' × Const))
+constant_in n = elim n.1 [ Some (value (typed.constant t c)) ↦ Some (n.0, (t, c)) | _ ↦ None ]
+
+abbrev pub type_in : List ℕ × Option Declared → Option (List ℕ × Type')
+type_in n = elim n.1 [ Some (type' t) ↦ Some (n.0, t) | _ ↦ None ]
+
+abbrev pub constants_in : Names → List (List ℕ × (Type' × Const))
+constants_in names = filter_map constant_in names
+
+abbrev pub types_in : Names → List (List ℕ × Type')
+types_in names = filter_map type_in names
+
+-- what the package declares under a name, where that is known
+abbrev pub declared_at : Names → List ℕ → Option Declared
+declared_at names x = unwrap_or (lookup (bytes_eq x) names) None
+
+abbrev pub variable_in : List (List ℕ) → Object → Option Declared → Option typed.Variable
+variable_in files o d = elim d [
+  | Some (value (typed.global t x)) ↦ Some (record { name = o.name.text; of = t; file = unwrap_or (slice_get files o.file) []; place = o.name.place })
+  | _ ↦ None
+]
+
+abbrev pub variables_in : List (List ℕ) → Names → List Object → List typed.Variable
+variables_in files names os = filter_map (λ (o : Object). variable_in files o (declared_at names o.name.text)) os
+
+-- ---- https://go.dev/ref/spec#Package_initialization
+
+abbrev pub refers : Option Declared → Bool
+refers o = elim o [ Some (value (typed.global t x)) ↦ true | Some (known.function x ts rs) ↦ true | _ ↦ false ]
+
+-- the package's variables and functions among names that are used in a file
+abbrev pub is_reference : Facts → ℕ → List ℕ → Bool
+is_reference t file x = not (is_hidden (imports_at t.package file) x) && refers (declared_at t.known x)
+
+abbrev pub references : Facts → ℕ → List Used → List (List ℕ)
+references t file us = filter (is_reference t file) (map (λ u. u.0) us)
+
+abbrev pub own_name : Name → Option (List ℕ)
+own_name n = if is_blank n then None else Some n.text
+
+-- a variable that has its own value
+abbrev pub alone : Facts → ℕ → Name → Expr → typed.Expr → typed.Initialization
+alone t file n v e = record { variables = own_name n ∷ []; source = typed.each (pack_exprs (e ∷ [])); references = references t file (in_expr false v) }
+
+abbrev pub each_alone : Facts → ℕ → List Name → Exprs → typed.Exprs → List typed.Initialization
+each_alone t file (n ∷ ns) (some_exprs v vs) (typed.some_exprs e es) = alone t file n v e ∷ each_alone t file ns vs es
+each_alone t file ns vs es = []
+
+-- variables that one call gives values
+abbrev pub together : Facts → ℕ → VarSpec → typed.Source → typed.Initialization
+together t file spec source = record { variables = map own_name spec.names; source = source; references = references t file (in_exprs spec.values) }
+
+-- those without a value are zero
+abbrev pub initializations_by : Facts → ℕ → VarSpec → Option typed.Source → List typed.Initialization
+initializations_by t file spec source = elim source [
+  | Some (typed.each es) ↦ each_alone t file spec.names spec.values es
+  | Some (typed.results ts f es) ↦ together t file spec (typed.results ts f es) ∷ []
+  | _ ↦ []
+]
+
+abbrev pub spec_initializations : Facts → ℕ → VarSpec → List typed.Initialization
+spec_initializations t file spec =
+    let s = scope_at t.package t.known file None in
+    initializations_by t file spec (fine (asked_both (variables_source spec.names) (written_type s spec.type) (values_known s spec.values)))
+
+abbrev pub top_initializations : Facts → ℕ → TopLevel → List typed.Initialization
+top_initializations t file top = elim top [ declared (variables p ss) ↦ flat_map (spec_initializations t file) ss | _ ↦ [] ]
+
+-- a function of the blank name is checked alone
+abbrev pub top_functions : Facts → ℕ → TopLevel → List typed.Function
+top_functions t file top = elim top [
+  | function f ↦ elim (function_at (context_at t file) f).known [ None ↦ [] | Some g ↦ if is_blank f.name then [] else g ∷ [] ]
+  | _ ↦ []
+]
+
+-- ---- packages
+
+abbrev pub of_files : {A : Type 0} → (ℕ → TopLevel → List A) → ℕ → List File → List A
+of_files f number [] = []
+of_files f number (file ∷ files) = flat_map (f number) file.declarations ++ of_files f (suc number) files
+
+abbrev pub package_name : List File → List ℕ
+package_name files = elim files [ [] ↦ [] | f ∷ fs ↦ f.package.text ]
+
+-- by the names of the files
+abbrev pub typed_package : Facts → List (List ℕ) → List File → typed.Package
+typed_package t names files = record {
+  path = t.package.path;
+  name = package_name files;
+  constants = constants_in t.known;
+  types = types_in t.known;
+  variables = variables_in names t.known t.package.objects;
+  initializations = of_files (top_initializations t) 0 files;
+  functions = of_files (top_functions t) 0 files;
+}
+
+-- the typed package that some files are, which have no fault
+pub record IsTypedIn (p : Package) (files : List File) (ps : List Importable) (names : List (List ℕ)) (t : typed.Package) : Type 0 where
+  pub facts : Facts
+  pub are : AreFacts p facts
+  pub none : package_faults ps facts files ≡ []
+  pub is : t ≡ typed_package facts names files

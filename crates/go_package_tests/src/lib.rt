@@ -1,0 +1,5 @@
+//! Tests of the checker of packages.
+#![tactic(auto)]
+
+#[cfg(test)]
+mod tests;
