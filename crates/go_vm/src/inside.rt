@@ -1,17 +1,15 @@
 //! What instructions do that stay in the newest frame.
-ghost use Rattle.std.specs.Prelude.{◌≡◌, ℕ, ◌+◌, ◌-◌, ◌*◌, ◌∷◌, [], List, length, take, drop, Some, None, ◌≤◌, IfOk};
+ghost use Rattle.std.specs.Prelude.{◌≡◌, ℕ, ◌+◌, ◌*◌, ◌∷◌, [], length, take, drop, ◌≤◌, IfOk};
 ghost use Rattle.go_cells.specs.Told.{told_index, told_offset};
-ghost use Rattle.std.specs.Option.{option_map};
-ghost use Rattle.go_code.specs.Accesses.{access, loaded, stored, split_top, with_offset};
-ghost use Rattle.go_code.specs.declared.image.Start.{Start as AStart};
+ghost use Rattle.go_code.specs.Accesses.{access, loaded, stored, split_top};
 ghost use Rattle.go_code.specs.declared.instr.AccessInstr.TheVariants.{LoadAt, StoreAt};
 ghost use Rattle.go_code.specs.declared.instr.FrameInstr.TheVariants.{Push, Pop, Repeat};
 ghost use Rattle.go_code.specs.declared.instr.JumpInstr.TheVariants.{Jump, JumpIf, JumpIfNot, LoopIf};
 ghost use Rattle.go_code.specs.declared.instr.PartInstr.TheVariants.{Move, Index, Pick, Part};
-ghost use Rattle.go_code.specs.Machine.{came, frame_step, global_step, goes_with, jump_step, local_step, with_top};
+ghost use Rattle.go_code.specs.Machine.{frame_step, jump_step};
 ghost use Rattle.go_code.specs.Operators.{Gives, operands, operate};
-ghost use Rattle.go_code.specs.Parts.{part, part_cells, with_index};
-ghost use Rattle.go_vm.specs.Told.{state_of, told};
+ghost use Rattle.go_code.specs.Parts.{part, with_index};
+ghost use Rattle.go_vm.specs.Told.{Does, framed, on_locals, on_globals, on_top, parted, in_place};
 
 use crate::frames::Frames;
 use crate::machine::{Exit, Flow, World};
@@ -26,7 +24,7 @@ use std::alloc::{AllocError, Global};
 
 #[inline(always)]
 fn push_cell(frames: &mut Frames<'_>, world: &World, cell: &Cell) -> Result<Flow, AllocError>
-    ensures { IfOk result (λ flow. (starts : List AStart) → goes_with (state_of frames.old starts world.now) frames.old.callers (frame_step (Push cell.now) frames.old.newest) ≡ told flow (state_of frames.new starts world.now)) }
+    ensures { IfOk result (λ flow. Does (framed (frame_step (Push cell.now))) frames.old world.now flow frames.new world.now) }
 {
     let Some(slot) = Slot::of_cell(cell)? else {
         return Ok(Flow::Leaves(Exit::BadCode));
@@ -36,7 +34,7 @@ fn push_cell(frames: &mut Frames<'_>, world: &World, cell: &Cell) -> Result<Flow
 }
 
 fn pop_cells(frames: &mut Frames<'_>, world: &World, count: usize) -> Flow
-    ensures { (starts : List AStart) → goes_with (state_of frames.old starts world.now) frames.old.callers (frame_step (Pop count) frames.old.newest) ≡ told result (state_of frames.new starts world.now) }
+    ensures { Does (framed (frame_step (Pop count))) frames.old world.now result frames.new world.now }
 {
     if count > frames.height() {
         return Flow::Leaves(Exit::BadCode);
@@ -51,7 +49,7 @@ fn repeat_cells(
     count: usize,
     times: usize,
 ) -> Result<Flow, AllocError>
-    ensures { IfOk result (λ flow. (starts : List AStart) → goes_with (state_of frames.old starts world.now) frames.old.callers (frame_step (Repeat count times) frames.old.newest) ≡ told flow (state_of frames.new starts world.now)) }
+    ensures { IfOk result (λ flow. Does (framed (frame_step (Repeat count times))) frames.old world.now flow frames.new world.now) }
 {
     if count > frames.height() {
         return Ok(Flow::Leaves(Exit::BadCode));
@@ -67,7 +65,7 @@ pub(crate) fn obey_frame(
     world: &World,
     instr: &FrameInstr,
 ) -> Result<Flow, AllocError>
-    ensures { IfOk result (λ flow. (starts : List AStart) → goes_with (state_of frames.old starts world.now) frames.old.callers (frame_step instr.now frames.old.newest) ≡ told flow (state_of frames.new starts world.now)) }
+    ensures { IfOk result (λ flow. Does (framed (frame_step instr.now)) frames.old world.now flow frames.new world.now) }
 {
     match instr {
         FrameInstr::Push(cell) => push_cell(frames, world, cell),
@@ -82,7 +80,7 @@ fn load_local(
     first: usize,
     count: usize,
 ) -> Result<Flow, AllocError>
-    ensures { IfOk result (λ flow. (starts : List AStart) → goes_with (state_of frames.old starts world.now) frames.old.callers (option_map (local_step frames.old.newest) (loaded frames.old.newest.cells frames.old.newest.stack first count)) ≡ told flow (state_of frames.new starts world.now)) }
+    ensures { IfOk result (λ flow. Does (on_locals (λ cells stack. loaded cells stack first count)) frames.old world.now flow frames.new world.now) }
 {
     if first > frames.cells() || count > frames.cells() - first {
         return Ok(Flow::Leaves(Exit::BadCode));
@@ -92,7 +90,7 @@ fn load_local(
 }
 
 fn store_local(frames: &mut Frames<'_>, world: &World, first: usize, count: usize) -> Flow
-    ensures { (starts : List AStart) → goes_with (state_of frames.old starts world.now) frames.old.callers (option_map (local_step frames.old.newest) (stored frames.old.newest.cells first (split_top count frames.old.newest.stack))) ≡ told result (state_of frames.new starts world.now) }
+    ensures { Does (on_locals (λ cells stack. stored cells first (split_top count stack))) frames.old world.now result frames.new world.now }
 {
     if count > frames.height() || first > frames.cells() || count > frames.cells() - first {
         return Flow::Leaves(Exit::BadCode);
@@ -107,7 +105,7 @@ fn load_local_at(
     first: usize,
     count: usize,
 ) -> Result<Flow, AllocError>
-    ensures { IfOk result (λ flow. (starts : List AStart) → goes_with (state_of frames.old starts world.now) frames.old.callers (option_map (local_step frames.old.newest) (access (LoadAt first count) frames.old.newest.cells frames.old.newest.stack)) ≡ told flow (state_of frames.new starts world.now)) }
+    ensures { IfOk result (λ flow. Does (on_locals (access (LoadAt first count))) frames.old world.now flow frames.new world.now) }
 {
     let Some(offset) = frames.pop_offset() else {
         return Ok(Flow::Leaves(Exit::BadCode));
@@ -119,7 +117,7 @@ fn load_local_at(
 }
 
 fn store_local_at(frames: &mut Frames<'_>, world: &World, first: usize, count: usize) -> Flow
-    ensures { (starts : List AStart) → goes_with (state_of frames.old starts world.now) frames.old.callers (option_map (local_step frames.old.newest) (access (StoreAt first count) frames.old.newest.cells frames.old.newest.stack)) ≡ told result (state_of frames.new starts world.now) }
+    ensures { Does (on_locals (access (StoreAt first count))) frames.old world.now result frames.new world.now }
 {
     let Some(offset) = frames.pop_offset() else {
         return Flow::Leaves(Exit::BadCode);
@@ -137,7 +135,7 @@ pub(crate) fn obey_local(
     world: &World,
     instr: AccessInstr,
 ) -> Result<Flow, AllocError>
-    ensures { IfOk result (λ flow. (starts : List AStart) → goes_with (state_of frames.old starts world.now) frames.old.callers (option_map (local_step frames.old.newest) (access instr frames.old.newest.cells frames.old.newest.stack)) ≡ told flow (state_of frames.new starts world.now)) }
+    ensures { IfOk result (λ flow. Does (on_locals (access instr)) frames.old world.now flow frames.new world.now) }
 {
     match instr {
         AccessInstr::Load { first, count } => load_local(frames, world, first, count),
@@ -153,7 +151,7 @@ fn load_global(
     first: usize,
     count: usize,
 ) -> Result<Flow, AllocError>
-    ensures { IfOk result (λ flow. (starts : List AStart) → global_step (state_of frames.old starts world.now) frames.old.newest frames.old.callers (loaded world.now.globals.items frames.old.newest.stack first count) ≡ told flow (state_of frames.new starts world.now)) }
+    ensures { IfOk result (λ flow. Does (on_globals (λ cells stack. loaded cells stack first count)) frames.old world.now flow frames.new world.now) }
 {
     if first > world.globals.len() || count > world.globals.len() - first {
         return Ok(Flow::Leaves(Exit::BadCode));
@@ -163,7 +161,7 @@ fn load_global(
 }
 
 fn store_global(frames: &mut Frames<'_>, world: &mut World, first: usize, count: usize) -> Flow
-    ensures { (starts : List AStart) → global_step (state_of frames.old starts world.old) frames.old.newest frames.old.callers (stored world.old.globals.items first (split_top count frames.old.newest.stack)) ≡ told result (state_of frames.new starts world.new) }
+    ensures { Does (on_globals (λ cells stack. stored cells first (split_top count stack))) frames.old world.old result frames.new world.new }
 {
     let cells = world.globals.len();
     if count > frames.height() || first > cells || count > cells - first {
@@ -179,7 +177,7 @@ fn load_global_at(
     first: usize,
     count: usize,
 ) -> Result<Flow, AllocError>
-    ensures { IfOk result (λ flow. (starts : List AStart) → global_step (state_of frames.old starts world.now) frames.old.newest frames.old.callers (access (LoadAt first count) world.now.globals.items frames.old.newest.stack) ≡ told flow (state_of frames.new starts world.now)) }
+    ensures { IfOk result (λ flow. Does (on_globals (access (LoadAt first count))) frames.old world.now flow frames.new world.now) }
 {
     let Some(offset) = frames.pop_offset() else {
         return Ok(Flow::Leaves(Exit::BadCode));
@@ -192,7 +190,7 @@ fn load_global_at(
 }
 
 fn store_global_at(frames: &mut Frames<'_>, world: &mut World, first: usize, count: usize) -> Flow
-    ensures { (starts : List AStart) → global_step (state_of frames.old starts world.old) frames.old.newest frames.old.callers (access (StoreAt first count) world.old.globals.items frames.old.newest.stack) ≡ told result (state_of frames.new starts world.new) }
+    ensures { Does (on_globals (access (StoreAt first count))) frames.old world.old result frames.new world.new }
 {
     let Some(offset) = frames.pop_offset() else {
         return Flow::Leaves(Exit::BadCode);
@@ -211,7 +209,7 @@ pub(crate) fn obey_global(
     world: &mut World,
     instr: AccessInstr,
 ) -> Result<Flow, AllocError>
-    ensures { IfOk result (λ flow. (starts : List AStart) → global_step (state_of frames.old starts world.old) frames.old.newest frames.old.callers (access instr world.old.globals.items frames.old.newest.stack) ≡ told flow (state_of frames.new starts world.new)) }
+    ensures { IfOk result (λ flow. Does (on_globals (access instr)) frames.old world.old flow frames.new world.new) }
 {
     match instr {
         AccessInstr::Load { first, count } => load_global(frames, world, first, count),
@@ -229,7 +227,7 @@ pub(crate) fn obey_operator(
     world: &World,
     operator: Operator,
 ) -> Result<Flow, AllocError>
-    ensures { IfOk result (λ flow. (starts : List AStart) → with_top (split_top (operands operator) frames.old.newest.stack) (λ rest row. came (λ c. c ∷ []) (state_of frames.old starts world.now) frames.old.newest frames.old.callers rest (operate operator row)) ≡ told flow (state_of frames.new starts world.now)) }
+    ensures { IfOk result (λ flow. Does (on_top (operands operator) (λ c. c ∷ []) (operate operator)) frames.old world.now flow frames.new world.now) }
 {
     let Some(count) = operand_count(operator, frames.height()) else {
         return Ok(Flow::Leaves(Exit::BadCode));
@@ -245,7 +243,7 @@ pub(crate) fn obey_operator(
 }
 
 fn move_offset(frames: &mut Frames<'_>, world: &World, by: usize) -> Result<Flow, AllocError>
-    ensures { IfOk result (λ flow. (starts : List AStart) → with_top (split_top (part_cells (Move by)) frames.old.newest.stack) (λ rest row. came (λ cells. cells) (state_of frames.old starts world.now) frames.old.newest frames.old.callers rest (part (Move by) row)) ≡ told flow (state_of frames.new starts world.now)) }
+    ensures { IfOk result (λ flow. Does (parted (Move by)) frames.old world.now flow frames.new world.now) }
 {
     let Some([offset]) = frames.top(1) else {
         return Ok(Flow::Leaves(Exit::BadCode));
@@ -262,7 +260,7 @@ fn replace_by(
     answer: Operated,
 ) -> Result<Flow, AllocError>
     requires { count ≤ length frames.old.newest.stack }
-    ensures { IfOk result (λ flow. (starts : List AStart) → came (λ cells. cells) (state_of frames.old starts world.now) frames.old.newest frames.old.callers (take (length frames.old.newest.stack - count) frames.old.newest.stack) (told_offset answer) ≡ told flow (state_of frames.new starts world.now)) }
+    ensures { IfOk result (λ flow. Does (in_place count (told_offset answer)) frames.old world.now flow frames.new world.now) }
 {
     match answer {
         Operated::Gives(slot) => {
@@ -280,7 +278,7 @@ fn index_offset(
     count: usize,
     size: usize,
 ) -> Result<Flow, AllocError>
-    ensures { IfOk result (λ flow. (starts : List AStart) → with_top (split_top (part_cells (Index count size)) frames.old.newest.stack) (λ rest row. came (λ cells. cells) (state_of frames.old starts world.now) frames.old.newest frames.old.callers rest (part (Index count size) row)) ≡ told flow (state_of frames.new starts world.now)) }
+    ensures { IfOk result (λ flow. Does (parted (Index count size)) frames.old world.now flow frames.new world.now) }
 {
     let Some([offset, index]) = frames.top(2) else {
         return Ok(Flow::Leaves(Exit::BadCode));
@@ -299,7 +297,7 @@ fn picked_index(count: usize, size: usize, cells: &[Slot]) -> Indexed
 }
 
 fn pick_element(frames: &mut Frames<'_>, world: &World, count: usize, size: usize) -> Flow
-    ensures { (starts : List AStart) → with_top (split_top (part_cells (Pick count size)) frames.old.newest.stack) (λ rest row. came (λ cells. cells) (state_of frames.old starts world.now) frames.old.newest frames.old.callers rest (part (Pick count size) row)) ≡ told result (state_of frames.new starts world.now) }
+    ensures { Does (parted (Pick count size)) frames.old world.now result frames.new world.now }
 {
     let Some(whole) = picked_cells(count, size, frames.height()) else {
         return Flow::Leaves(Exit::BadCode);
@@ -321,7 +319,7 @@ fn keep_part(
     first: usize,
     count: usize,
 ) -> Flow
-    ensures { (starts : List AStart) → with_top (split_top (part_cells (Part whole first count)) frames.old.newest.stack) (λ rest row. came (λ cells. cells) (state_of frames.old starts world.now) frames.old.newest frames.old.callers rest (part (Part whole first count) row)) ≡ told result (state_of frames.new starts world.now) }
+    ensures { Does (parted (Part whole first count)) frames.old world.now result frames.new world.now }
 {
     if whole > frames.height() || first > whole || count > whole - first {
         return Flow::Leaves(Exit::BadCode);
@@ -337,7 +335,7 @@ pub(crate) fn obey_part(
     world: &World,
     instr: PartInstr,
 ) -> Result<Flow, AllocError>
-    ensures { IfOk result (λ flow. (starts : List AStart) → with_top (split_top (part_cells instr) frames.old.newest.stack) (λ rest row. came (λ cells. cells) (state_of frames.old starts world.now) frames.old.newest frames.old.callers rest (part instr row)) ≡ told flow (state_of frames.new starts world.now)) }
+    ensures { IfOk result (λ flow. Does (parted instr) frames.old world.now flow frames.new world.now) }
 {
     match instr {
         PartInstr::Move(by) => move_offset(frames, world, by),
@@ -352,7 +350,7 @@ pub(crate) fn obey_part(
 }
 
 fn jump_if(frames: &mut Frames<'_>, world: &World, count: usize) -> Flow
-    ensures { (starts : List AStart) → jump_step (JumpIf count) (state_of frames.old starts world.now) frames.old.newest frames.old.callers ≡ told result (state_of frames.new starts world.now) }
+    ensures { Does (jump_step (JumpIf count)) frames.old world.now result frames.new world.now }
 {
     match frames.pop_truth() {
         Some(true) => jump(frames, world, count),
@@ -362,7 +360,7 @@ fn jump_if(frames: &mut Frames<'_>, world: &World, count: usize) -> Flow
 }
 
 fn jump_if_not(frames: &mut Frames<'_>, world: &World, count: usize) -> Flow
-    ensures { (starts : List AStart) → jump_step (JumpIfNot count) (state_of frames.old starts world.now) frames.old.newest frames.old.callers ≡ told result (state_of frames.new starts world.now) }
+    ensures { Does (jump_step (JumpIfNot count)) frames.old world.now result frames.new world.now }
 {
     match frames.pop_truth() {
         Some(false) => jump(frames, world, count),
@@ -373,7 +371,7 @@ fn jump_if_not(frames: &mut Frames<'_>, world: &World, count: usize) -> Flow
 
 #[inline(always)]
 fn jump(frames: &mut Frames<'_>, world: &World, count: usize) -> Flow
-    ensures { (starts : List AStart) → jump_step (Jump count) (state_of frames.old starts world.now) frames.old.newest frames.old.callers ≡ told result (state_of frames.new starts world.now) }
+    ensures { Does (jump_step (Jump count)) frames.old world.now result frames.new world.now }
 {
     if frames.jump_ahead(count) {
         Flow::GoesOn
@@ -383,7 +381,7 @@ fn jump(frames: &mut Frames<'_>, world: &World, count: usize) -> Flow
 }
 
 fn loop_if(frames: &mut Frames<'_>, world: &mut World, count: usize) -> Flow
-    ensures { (starts : List AStart) → jump_step (LoopIf count) (state_of frames.old starts world.old) frames.old.newest frames.old.callers ≡ told result (state_of frames.new starts world.new) }
+    ensures { Does (jump_step (LoopIf count)) frames.old world.old result frames.new world.new }
 {
     match frames.pop_truth() {
         Some(false) => return Flow::GoesOn,
@@ -403,7 +401,7 @@ fn loop_if(frames: &mut Frames<'_>, world: &mut World, count: usize) -> Flow
 /// What a jump does.
 #[inline(always)]
 pub(crate) fn obey_jump(frames: &mut Frames<'_>, world: &mut World, instr: JumpInstr) -> Flow
-    ensures { (starts : List AStart) → jump_step instr (state_of frames.old starts world.old) frames.old.newest frames.old.callers ≡ told result (state_of frames.new starts world.new) }
+    ensures { Does (jump_step instr) frames.old world.old result frames.new world.new }
 {
     match instr {
         JumpInstr::Jump(count) => jump(frames, world, count),

@@ -1,11 +1,10 @@
 //! The machine: what one instruction does, and how a start step begins.
-ghost use Rattle.std.specs.Prelude.{◌≡◌, ◌+◌, ◌-◌, ◌<◌, ◌≤◌, ◌^◌, ◌∷◌, ◌++◌, [], List, length, take, drop, pos, negsuc, IfOk, OnOk, MatchOption, IsTrue, slice_get, Some, None};
-ghost use Rattle.go_code.specs.declared.image.Start.{Start as AStart};
+ghost use Rattle.std.specs.Prelude.{◌≡◌, IfOk, MatchOption, slice_get, Some, None};
+ghost use Rattle.go_code.specs.declared.image.Start.TheVariants.{Function as Run};
 ghost use Rattle.go_code.specs.declared.instr.CallInstr.TheVariants.{Call, Return};
 ghost use Rattle.go_code.specs.declared.instr.OutputInstr.TheVariants.{Print, Panic};
-ghost use Rattle.go_code.specs.Lines.{line_text};
-ghost use Rattle.go_code.specs.Machine.{act, begin, call, call_step, output_step, step};
-ghost use Rattle.go_vm.specs.Told.{state_of, between, told, told_begun};
+ghost use Rattle.go_code.specs.Machine.{act, call_step, output_step, step};
+ghost use Rattle.go_vm.specs.Told.{Does, Opens};
 
 use crate::frames::Frames;
 use crate::inside::{obey_frame, obey_global, obey_jump, obey_local, obey_operator, obey_part};
@@ -67,7 +66,7 @@ fn find(image: &Image, number: usize) -> Option<&Function<usize>>
 }
 
 fn print_top(frames: &mut Frames<'_>, world: &mut World, count: usize) -> Result<Flow, AllocError>
-    ensures { IfOk result (λ flow. (starts : List AStart) → output_step (Print count) (state_of frames.old starts world.old) frames.old.newest frames.old.callers ≡ told flow (state_of frames.new starts world.new)) }
+    ensures { IfOk result (λ flow. Does (output_step (Print count)) frames.old world.old flow frames.new world.new) }
 {
     let Some(row) = frames.top(count) else {
         return Ok(Flow::Leaves(Exit::BadCode));
@@ -85,7 +84,7 @@ fn call_function<'a>(
     image: &'a Image,
     number: usize,
 ) -> Result<Flow, AllocError>
-    ensures { IfOk result (λ flow. (starts : List AStart) → call_step image.now (Call number) (state_of frames.old starts world.old) frames.old.newest frames.old.callers ≡ told flow (state_of frames.new starts world.new)) }
+    ensures { IfOk result (λ flow. Does (call_step image.now (Call number)) frames.old world.old flow frames.new world.new) }
 {
     let Some(function) = find(image, number) else {
         return Ok(Flow::Leaves(Exit::BadCode));
@@ -106,7 +105,7 @@ fn call_function<'a>(
 
 #[inline(always)]
 fn return_top(frames: &mut Frames<'_>, world: &World, image: &Image, count: usize) -> Flow
-    ensures { (starts : List AStart) → call_step image.now (Return count) (state_of frames.old starts world.now) frames.old.newest frames.old.callers ≡ told result (state_of frames.new starts world.now) }
+    ensures { Does (call_step image.now (Return count)) frames.old world.now result frames.new world.now }
 {
     if count > frames.height() {
         return Flow::Leaves(Exit::BadCode);
@@ -119,7 +118,7 @@ fn return_top(frames: &mut Frames<'_>, world: &World, image: &Image, count: usiz
 }
 
 fn panic_with(frames: &Frames<'_>, world: &World) -> Result<Flow, AllocError>
-    ensures { IfOk result (λ flow. (starts : List AStart) → output_step Panic (state_of frames.now starts world.now) frames.now.newest frames.now.callers ≡ told flow (state_of frames.now starts world.now)) }
+    ensures { IfOk result (λ flow. Does (output_step Panic) frames.now world.now flow frames.now world.now) }
 {
     let Some([cell]) = frames.top(1) else {
         return Ok(Flow::Leaves(Exit::BadCode));
@@ -137,7 +136,7 @@ fn obey_output(
     world: &mut World,
     instr: &OutputInstr,
 ) -> Result<Flow, AllocError>
-    ensures { IfOk result (λ flow. (starts : List AStart) → output_step instr.now (state_of frames.old starts world.old) frames.old.newest frames.old.callers ≡ told flow (state_of frames.new starts world.new)) }
+    ensures { IfOk result (λ flow. Does (output_step instr.now) frames.old world.old flow frames.new world.new) }
 {
     match instr {
         OutputInstr::Print(count) => print_top(frames, world, *count),
@@ -153,7 +152,7 @@ fn obey_call<'a>(
     image: &'a Image,
     instr: &CallInstr<usize>,
 ) -> Result<Flow, AllocError>
-    ensures { IfOk result (λ flow. (starts : List AStart) → call_step image.now instr.now (state_of frames.old starts world.old) frames.old.newest frames.old.callers ≡ told flow (state_of frames.new starts world.new)) }
+    ensures { IfOk result (λ flow. Does (call_step image.now instr.now) frames.old world.old flow frames.new world.new) }
 {
     match instr {
         CallInstr::Call(number) => call_function(frames, world, image, *number),
@@ -170,7 +169,7 @@ fn perform<'a>(
     image: &'a Image,
     instr: &Instr<usize>,
 ) -> Result<Flow, AllocError>
-    ensures { IfOk result (λ flow. (starts : List AStart) → act image.now (state_of frames.old starts world.old) frames.old.newest frames.old.callers (Some instr.now) ≡ told flow (state_of frames.new starts world.new)) }
+    ensures { IfOk result (λ flow. Does (λ s f callers. act image.now s f callers (Some instr.now)) frames.old world.old flow frames.new world.new) }
 {
     match instr {
         Instr::Frame(instr) => obey_frame(frames, world, instr),
@@ -192,7 +191,7 @@ pub(crate) fn one_step<'a>(
     world: &mut World,
     image: &'a Image,
 ) -> Result<Flow, AllocError>
-    ensures { IfOk result (λ flow. (starts : List AStart) → step image.now (state_of frames.old starts world.old) ≡ told flow (state_of frames.new starts world.new)) }
+    ensures { IfOk result (λ flow. Does (λ s newest callers. step image.now s) frames.old world.old flow frames.new world.new) }
 {
     let Some(instr) = frames.fetch() else {
         return Ok(Flow::Leaves(Exit::BadCode));
@@ -208,7 +207,7 @@ fn begin_function<'a>(
     image: &'a Image,
     number: usize,
 ) -> Result<Begun<'a>, AllocError>
-    ensures { IfOk result (λ begun. (starts : List AStart) → call (between starts world.old) (λ rest. []) 1 [] (slice_get image.now.functions number) ≡ told_begun begun starts world.new) }
+    ensures { IfOk result (λ begun. Opens image.now (Run number) world.old begun world.new) }
 {
     let Some(function) = find(image, number) else {
         return Ok(Begun::Leaves(Exit::BadCode));
@@ -232,7 +231,7 @@ pub(crate) fn begin<'a>(
     image: &'a Image,
     start: &'a Start,
 ) -> Result<Begun<'a>, AllocError>
-    ensures { IfOk result (λ begun. (starts : List AStart) → begin image.now (between (start.now ∷ starts) world.old) (start.now ∷ starts) ≡ told_begun begun starts world.new) }
+    ensures { IfOk result (λ begun. Opens image.now start.now world.old begun world.new) }
 {
     match start {
         Start::Setup(setup) => {

@@ -1,11 +1,10 @@
 //! Whole runs.
-ghost use Rattle.std.specs.Prelude.{◌≡◌, List, ◌∷◌, true, false, IfOk, MatchOption};
+ghost use Rattle.std.specs.Prelude.{◌≡◌, ◌∷◌, true, false, IfOk, MatchOption};
 ghost use Rattle.std.specs.List.{list_all};
-ghost use Rattle.go_code.specs.declared.image.Start.{Start as AStart};
 ghost use Rattle.go_code.specs.Lines.{cell_fits};
-ghost use Rattle.go_vm.specs.Ahead.{Went};
-ghost use Rattle.go_vm.specs.Answers.{Answers, AnswersFrom, ComesTo};
-ghost use Rattle.go_vm.specs.Told.{state_of, between, left_by};
+ghost use Rattle.go_vm.specs.Ahead.{Advances};
+ghost use Rattle.go_vm.specs.Answers.{Answers, AnswersFrom};
+ghost use Rattle.go_vm.specs.Told.{state_of, between, IsLeft};
 ghost use Rattle.go_vm.specs.declared.run.RunError.TheVariants.{Memory};
 
 use crate::ahead::obey_ahead;
@@ -78,7 +77,7 @@ fn advance<'a>(
     world: &mut World,
     image: &'a Image,
 ) -> Result<Flow, AllocError>
-    ensures { IfOk result (λ flow. (starts : List AStart) → Went image.now (state_of frames.old starts world.old) flow (state_of frames.new starts world.new)) }
+    ensures { IfOk result (λ flow. Advances image.now frames.old world.old flow frames.new world.new) }
 {
     if obey_ahead(frames)? {
         return Ok(Flow::GoesOn);
@@ -93,7 +92,7 @@ fn finish<'a>(
     world: &mut World,
     image: &'a Image,
 ) -> Result<Exit, AllocError>
-    ensures { IfOk result (λ exit. (starts : List AStart) → ComesTo image.now (state_of frames.entry starts world.old) (left_by exit (between starts world.new))) }
+    ensures { IfOk result (λ exit. IsLeft image.now (λ starts. state_of frames.entry starts world.old) exit world.new) }
 {
     loop {
         match advance(alloc, &mut frames, world, image)? {
@@ -110,7 +109,7 @@ fn run_start(
     image: &Image,
     start: &Start,
 ) -> Result<Exit, AllocError>
-    ensures { IfOk result (λ exit. (starts : List AStart) → ComesTo image.now (between (start.now ∷ starts) world.old) (left_by exit (between starts world.new))) }
+    ensures { IfOk result (λ exit. IsLeft image.now (λ starts. between (start.now ∷ starts) world.old) exit world.new) }
 {
     match begin(alloc, world, image, start)? {
         Begun::Open(frames) => finish(alloc, frames, world, image),
@@ -120,7 +119,8 @@ fn run_start(
 
 /// Slots of cells, if the machine knows each of the cells. An `Err` only where memory ran out.
 fn slots_of(alloc: Global, cells: &[Cell]) -> Result<Option<Vec<Slot>>, AllocError>
-    ensures { IfOk result (λ made. MatchOption made (list_all cell_fits cells.now ≡ false) (λ slots. (list_all cell_fits cells.now ≡ true) × (slots.items ≡ cells.now))) }
+    ensures { let fit = list_all cell_fits cells.now in
+        IfOk result (λ made. MatchOption made (fit ≡ false) (λ slots. (fit ≡ true) × (slots.items ≡ cells.now))) }
 {
     let mut slots = Vec::with_capacity(alloc, cells.len())?;
     for cell in cells {
