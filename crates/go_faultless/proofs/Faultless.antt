@@ -5,12 +5,12 @@ use Rattle.std.specs.List.{Contains}
 use Rattle.ws_reach.proofs.Reached.{contains_get, get_contains}
 use Rattle.go_text.specs.declared.place.Place.{Place}
 use Rattle.go_text.specs.declared.fault.FaultKind.{FaultKind}
-use Rattle.go_ast.specs.Trees.{Name, TypeExpr, named, qualified, array, struct, Fields, no_fields, field, Expr, name, integer, rune, string, parenthesized, composite_lit, conversion, selector, index, call, unary, binary, Exprs, no_exprs, some_exprs, Elements, no_elements, element, Element, expression_element, value_element, place_of}
+use Rattle.go_ast.specs.Trees.{TypeExpr, named, qualified, array, struct, Fields, no_fields, field, Expr, name, integer, rune, string, parenthesized, composite_lit, conversion, selector, index, call, unary, binary, Exprs, no_exprs, some_exprs, Elements, no_elements, element, Element, expression_element, value_element, place_of}
 use Rattle.go_types.specs.Types.{Type'}
 use Rattle.go_typed.specs.Trees.{Expr as Typed}
 use Rattle.go_scope.specs.Names.{Used, in_type, in_fields, in_expr, in_exprs, in_elements, in_element}
 use Rattle.go_expr.specs.Known.{Known, Verdict, Fine, Breaks, Passed, Scope, look_up}
-use Rattle.go_expr.specs.Rules.{fine, valued, type_due, array_of, declared_field, struct_of, value_due, unpackaged, literal, ElementList, literal_of, untyped_literal, element_type, selected, index_of, binary_of, unary_of, converted, called}
+use Rattle.go_expr.specs.Rules.{fine, valued, type_due, array_of, declared_field, struct_of, value_due, literal, literal_of, untyped_literal, element_type, selected, index_of, binary_of, unary_of, converted, called}
 use Rattle.go_expr.specs.Verdicts.{asked, both, asked_both, joined, qualified_known, operand, callee, verdict, operands, elements, element_verdict, type_verdict, fields_known, broken, operand_broken, callee_broken, struct_place, faults, operands_faults, elements_faults, element_faults, type_faults, fields_faults}
 use Rattle.go_faultless.specs.Finds.{IsKnown, IsTold, Finds}
 use Rattle.go_faultless.proofs.Rules.{IsAsked, as_value, literals, types_due, arrays, structs, values_due, unpackaged_told, literals_of, untyped, selections, indexes, conversions, calls, binaries, unaries}
@@ -43,17 +43,17 @@ tells s (u ∷ us) h =
 abbrev Faults : Type 0
 Faults = List (Place × FaultKind)
 
-two_none : (xs ys : Faults) → xs ++ ys ≡ [] → (xs ≡ []) × (ys ≡ [])
+pub two_none : (xs ys : Faults) → xs ++ ys ≡ [] → (xs ≡ []) × (ys ≡ [])
 two_none [] ys h = (refl, h)
 two_none (x ∷ xs) ys h = cc
 
-three_none : (xs ys zs : Faults) → xs ++ ys ++ zs ≡ [] → (xs ≡ []) × (ys ≡ []) × (zs ≡ [])
+pub three_none : (xs ys zs : Faults) → xs ++ ys ++ zs ≡ [] → (xs ≡ []) × (ys ≡ []) × (zs ≡ [])
 three_none xs ys zs h =
     let outer = two_none (xs ++ ys) zs h in
     let inner = two_none xs ys outer.0 in
     (inner.0, inner.1, outer.1)
 
-four_none : (ws xs ys zs : Faults) → ws ++ xs ++ ys ++ zs ≡ [] → (ws ≡ []) × (xs ≡ []) × (ys ≡ []) × (zs ≡ [])
+pub four_none : (ws xs ys zs : Faults) → ws ++ xs ++ ys ++ zs ≡ [] → (ws ≡ []) × (xs ≡ []) × (ys ≡ []) × (zs ≡ [])
 four_none ws xs ys zs h =
     let outer = two_none (ws ++ xs ++ ys) zs h in
     let inner = three_none ws xs ys outer.0 in
@@ -86,11 +86,11 @@ known_of (Fine k) h = (k, refl)
 known_of (Breaks kind) h = cc
 known_of Passed h = cc
 
-by_one : {A B : Type 0} (rule : A → Verdict B) (o : Option A) → IsKnown o → ((x : A) → IsAsked (rule x)) → IsAsked (asked rule o)
+pub by_one : {A B : Type 0} (rule : A → Verdict B) (o : Option A) → IsKnown o → ((x : A) → IsAsked (rule x)) → IsAsked (asked rule o)
 by_one rule None k each = absurd cc
 by_one rule (Some x) k each = each x
 
-both_known : {A B : Type 0} (a : Option A) (b : Option B) → IsKnown a → IsKnown b → IsKnown (both a b)
+pub both_known : {A B : Type 0} (a : Option A) (b : Option B) → IsKnown a → IsKnown b → IsKnown (both a b)
 both_known None b k l = cc
 both_known (Some x) None k l = cc
 both_known (Some x) (Some y) k l = ((x, y), refl)
@@ -98,11 +98,11 @@ both_known (Some x) (Some y) k l = ((x, y), refl)
 by_two : {A B C : Type 0} (rule : A → B → Verdict C) (a : Option A) (b : Option B) → IsKnown a → IsKnown b → ((x : A) (y : B) → IsAsked (rule x y)) → IsAsked (asked_both rule a b)
 by_two rule a b k l each = by_one (λ k. rule k.0 k.1) (both a b) (both_known a b k l) (λ k. each k.0 k.1)
 
-mapped : {A B : Type 0} (f : A → B) (o : Option A) → IsKnown o → IsKnown (option_map f o)
+pub mapped : {A B : Type 0} (f : A → B) (o : Option A) → IsKnown o → IsKnown (option_map f o)
 mapped f None k = cc
 mapped f (Some x) k = (f x, refl)
 
-joined_known : {A : Type 0} (xs ys : Option (List A)) → IsKnown xs → IsKnown ys → IsKnown (joined xs ys)
+pub joined_known : {A : Type 0} (xs ys : Option (List A)) → IsKnown xs → IsKnown ys → IsKnown (joined xs ys)
 joined_known None ys k l = cc
 joined_known (Some xs) None k l = cc
 joined_known (Some xs) (Some ys) k l = (xs ++ ys, refl)
@@ -240,3 +240,13 @@ faultless_value_known s e h none =
 
 pub faultless_type_known : (s : Scope) (t : TypeExpr) → Finds s (map (λ (u : Used). u.0) (in_type t)) → type_faults s t ≡ [] → IsKnown (fine (type_verdict s t))
 faultless_type_known s t h none = type_known s t (tells s (in_type t) h) none
+
+-- where all names are told
+pub told_settled : (s : Scope) (e : Expr) → ((x : List ℕ) → IsTold (look_up x s.names)) → faults s e ≡ [] → IsSettled (verdict s e)
+told_settled s e all none = settle s false e (tells s (in_expr false e) (λ x c. all x)) none
+
+pub told_value : (s : Scope) (e : Expr) → ((x : List ℕ) → IsTold (look_up x s.names)) → faults s e ++ operand_broken e (verdict s e) ≡ [] → IsKnown (operand (verdict s e))
+told_value s e all none = faultless_value_known s e (λ x c. all x) none
+
+pub told_type : (s : Scope) (t : TypeExpr) → ((x : List ℕ) → IsTold (look_up x s.names)) → type_faults s t ≡ [] → IsKnown (fine (type_verdict s t))
+told_type s t all none = faultless_type_known s t (λ x c. all x) none

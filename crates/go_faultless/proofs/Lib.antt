@@ -1,3 +1,13 @@
+pub mod Counts
+pub mod Declares
 pub mod Faultless
+pub mod Forms
+pub mod Functions
+pub mod Groups
+pub mod Leaves
+pub mod Packages
 pub mod Plain
 pub mod Rules
+pub mod Statements
+pub mod Steps
+pub mod Turns

@@ -1,5 +1,5 @@
 -- Operators on constants never lack memory, by their definitions.
-use Rattle.std.proofs.Common.{◌≡◌, ℕ, ℤ, pos, negsuc, Bool, true, false, not, ◌&&◌, Option, Some, None, Result, Ok, Err, List, ◌++◌, refl, inl, inr}
+use Rattle.std.proofs.Common.{ℕ, ℤ, pos, not, ◌&&◌, Option, Some, None, Result, Ok, Err, List, ◌++◌, inl, inr}
 use Rattle.std.specs.Prelude.{nat_le, length, unsigned_abs, neg_ℤ}
 use Rattle.std.specs.Ordering.{int_eq}
 use Rattle.std.proofs.lemmas.Bool.{cases_Bool}
@@ -12,14 +12,13 @@ use Rattle.go_const.specs.declared.kind.IntKind.TheVariants.{Uint}
 use Rattle.go_const.specs.declared.operator.UnaryOperator.{UnaryOperator}
 use Rattle.go_const.specs.declared.operator.UnaryOperator.TheVariants.{Positive, Negative, Complement, Negation}
 use Rattle.go_const.specs.declared.operator.ArithmeticOperator.{ArithmeticOperator}
-use Rattle.go_const.specs.declared.operator.ArithmeticOperator.TheVariants.{Add, Subtract, Multiply, Divide, Remainder, BitAnd, BitOr, BitXor, AndNot}
-use Rattle.go_const.specs.declared.operator.ComparisonOperator.{ComparisonOperator}
-use Rattle.go_const.specs.declared.operator.ComparisonOperator.TheVariants.{Equal, NotEqual, Less, LessOrEqual, Greater, GreaterOrEqual}
+use Rattle.go_const.specs.declared.operator.ArithmeticOperator.TheVariants.{Add}
+use Rattle.go_const.specs.declared.operator.ComparisonOperator.TheVariants.{Equal, NotEqual}
 use Rattle.go_const.specs.declared.operator.BinaryOperator.{BinaryOperator}
 use Rattle.go_const.specs.declared.operator.BinaryOperator.TheVariants.{Arithmetic, Comparison, LogicalAnd, LogicalOr}
 use Rattle.go_const.specs.declared.operator.ShiftOperator.{ShiftOperator}
 use Rattle.go_const.specs.declared.operator.ShiftOperator.TheVariants.{Left, Right}
-use Rattle.go_const.specs.Constants.{represent, represent_text, fits, unary, ones, arithmetic, divides, binary, shifted, shift}
+use Rattle.go_const.specs.Constants.{represent, represent_text, fits, unary, arithmetic, divides, binary, shifted, shift}
 
 -- memory isn't what is wrong
 abbrev pub IsPlain : Result Const ConstError → Type 0

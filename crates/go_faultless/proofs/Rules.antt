@@ -1,34 +1,31 @@
 -- Rules over parts that are known pass nothing over.
-use Rattle.std.proofs.Common.{◌≡◌, ◌≢◌, ℕ, pos, negsuc, Bool, true, false, not, ◌&&◌, ◌||◌, Option, Some, None, Result, Ok, Err, List, [], ◌∷◌, ◌++◌, map, length, codes, refl, inl, inr}
-use Rattle.std.specs.Prelude.{nat_le, nat_eq, nat_lt, bytes_eq, is_some, option_map, unwrap_or}
-use Rattle.std.specs.List.{list_any, list_all, flat_map, zip}
+use Rattle.std.proofs.Common.{◌≡◌, ℕ, pos, negsuc, not, ◌&&◌, ◌||◌, Option, Some, None, Result, Ok, Err, List, [], ◌∷◌, ◌++◌, map, length, codes, refl, inl, inr}
+use Rattle.std.specs.Prelude.{nat_le, nat_eq, nat_lt, bytes_eq, is_some}
+use Rattle.std.specs.List.{list_any, flat_map, zip}
 use Rattle.std.specs.Map.{lookup}
 use Rattle.std.proofs.lemmas.Bool.{cases_Bool}
 use Rattle.go_text.specs.declared.fault.FaultKind.{FaultKind}
 use Rattle.go_text.specs.declared.fault.FaultKind.TheVariants.{LeftOut, Index}
 use Rattle.go_ast.specs.declared.expression.UnaryOperator as signs
-use Rattle.go_ast.specs.declared.expression.UnaryOperator.TheVariants as sign
 use Rattle.go_ast.specs.declared.expression.BinaryOperator as source
 use Rattle.go_ast.specs.declared.expression.BinaryOperator.TheVariants as operators
 use Rattle.go_const.specs.declared.constant.Const.{Const}
 use Rattle.go_const.specs.declared.constant.Const.TheVariants.{Integer, Text, Bool as Truth}
 use Rattle.go_const.specs.declared.error.ConstError.{ConstError}
 use Rattle.go_const.specs.declared.error.ConstError.TheVariants as errors
-use Rattle.go_const.specs.declared.operator.UnaryOperator.{UnaryOperator}
 use Rattle.go_const.specs.declared.operator.BinaryOperator.{BinaryOperator}
 use Rattle.go_const.specs.declared.operator.BinaryOperator.TheVariants.{Arithmetic, Comparison, LogicalAnd, LogicalOr}
 use Rattle.go_const.specs.declared.operator.ArithmeticOperator.TheVariants.{Add, Subtract, Multiply, Divide, Remainder, BitAnd, BitOr, BitXor, AndNot}
 use Rattle.go_const.specs.declared.operator.ComparisonOperator.TheVariants.{Equal, NotEqual, Less, LessOrEqual, Greater, GreaterOrEqual}
 use Rattle.go_const.specs.declared.operator.ShiftOperator.{ShiftOperator}
 use Rattle.go_const.specs.declared.operator.ShiftOperator.TheVariants.{Left, Right}
-use Rattle.go_const.specs.Constants as constants
 use Rattle.go_types.specs.declared.types.Basic.TheVariants as basics
 use Rattle.go_types.specs.declared.types.Untyped.TheVariants as kinds
-use Rattle.go_types.specs.Types.{Type', basic, array, struct, Fields}
+use Rattle.go_types.specs.Types.{Type', basic, array, struct}
 use Rattle.go_types.specs.Relations.{underlying, assignable, convertible}
 use Rattle.go_typed.specs.Trees.{Symbol, Expr, expr_type}
-use Rattle.go_expr.specs.Known.{Declared, value, type', function, println, length', panic', Names, Known, declared, package', results, printed, panicked, Verdict, Fine, Breaks, Passed, named}
-use Rattle.go_expr.specs.Rules.{fine, checked, valued, wrong, least, each_unless, constant_in, given, int_kind, is_integer, is_untyped, is_bool, is_string, lies_in, uint, type_due, is_small, array_of, is_exported, FieldList, field_names, packed, differ, listed, struct_of, assigned, default_type, defaulted, condition, constant_due, value_due, unpackaged, literal, numeral, number_of, ElementList, when, any_keyed, parts_by, struct_faults, struct_slot, array_parts, struct_parts, parts_of, literal_of, untyped_literal, element_type, field_named, fields_of, is_visible, field_of, selected, indexed_type, is_within, known_length, index_of, converted, holds_call, length_in, length_of, one, function_call, printable, called, common, is_defined, result_type, divides_by_zero, operated, operand_type, combined, shift_of, shifted, binary_of, operator_of, is_operand, unary_of}
+use Rattle.go_expr.specs.Known.{value, type', function, println, length', panic', Names, Known, declared, package', results, printed, panicked, Verdict, Fine, Breaks, Passed, named}
+use Rattle.go_expr.specs.Rules.{checked, valued, wrong, least, each_unless, constant_in, given, int_kind, is_integer, is_untyped, is_bool, is_string, lies_in, uint, type_due, is_small, array_of, is_exported, FieldList, field_names, packed, differ, listed, struct_of, assigned, default_type, defaulted, condition, constant_due, value_due, unpackaged, literal, numeral, number_of, ElementList, when, any_keyed, parts_by, struct_faults, struct_slot, array_parts, struct_parts, parts_of, literal_of, untyped_literal, field_named, fields_of, is_visible, field_of, selected, indexed_type, is_within, known_length, index_of, converted, holds_call, length_in, length_of, one, function_call, printable, called, common, is_defined, result_type, divides_by_zero, operated, operand_type, combined, shift_of, shifted, binary_of, operator_of, is_operand, unary_of}
 use Rattle.go_faultless.specs.Finds.{IsTold}
 use Rattle.go_faultless.proofs.Plain.{IsPlain, represented, one_operand, two_operands, shift_operands}
 
@@ -57,7 +54,7 @@ constant_given t (Err errors.Memory) h = absurd h
 pub literals : (text : List ℕ) → IsAsked (literal text)
 literals text = constant_given (basic (basics.Untyped kinds.Int)) _ (represented None (pos (number_of (numeral text).0 (numeral text).1)))
 
-together : {A : Type 0} (ks : List FaultKind) (vs : List (Verdict A)) → IsAsked (each_unless ks vs)
+pub together : {A : Type 0} (ks : List FaultKind) (vs : List (Verdict A)) → IsAsked (each_unless ks vs)
 together {A} ks vs = elim (least (ks ++ flat_map wrong vs)) as (λ o. least (ks ++ flat_map wrong vs) ≡ o → IsAsked (each_unless ks vs)) [ None ↦ λ at. rw (at, IsAsked) tt | Some k ↦ λ at. rw (at, IsAsked) tt ] refl
 
 -- ---- types
@@ -237,7 +234,7 @@ taken op x y t at = elim (cases_Bool (not (is_defined op t))) [
   | inr fit ↦ elim (cases_Bool (lies_in t x && lies_in t y)) [ inl is ↦ rw (at, IsAsked, fit, is) tt | inr not_so ↦ rw (at, IsAsked, fit, not_so) tt ]
 ]
 
-operand_types : (op : BinaryOperator) (x y : Expr) → IsAsked (operand_type op x y)
+pub operand_types : (op : BinaryOperator) (x y : Expr) → IsAsked (operand_type op x y)
 operand_types op x y = elim (common (expr_type x) (expr_type y)) as (λ o. common (expr_type x) (expr_type y) ≡ o → IsAsked (operand_type op x y)) [
   | None ↦ λ at. rw (at, IsAsked) tt
   | Some t ↦ taken op x y t

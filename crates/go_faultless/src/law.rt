@@ -1,12 +1,16 @@
-//! What holds of all expressions and types without fault.
-ghost use Rattle.std.specs.Prelude.{◌≡◌, ◌++◌, ℕ, List, [], map, false};
-ghost use Rattle.std.specs.List.{Contains};
-ghost use Rattle.go_ast.specs.Trees.{Expr, TypeExpr};
+//! What holds of all expressions, types and functions without fault.
+ghost use Rattle.std.specs.Prelude.{◌≡◌, ◌++◌, ℕ, List, [], map, Option, false};
+ghost use Rattle.go_ast.specs.Trees.{Expr, Function, TypeExpr};
 ghost use Rattle.go_scope.specs.Names.{in_expr, in_type};
-ghost use Rattle.go_expr.specs.Known.{Scope};
+ghost use Rattle.go_expr.specs.Known.{Scope, look_up};
 ghost use Rattle.go_expr.specs.Rules.{fine};
 ghost use Rattle.go_expr.specs.Verdicts.{operand, operand_broken, verdict, faults, type_verdict, type_faults};
-ghost use Rattle.go_faultless.specs.Finds.{Finds, IsKnown};
+ghost use Rattle.go_stmt.specs.Scopes.{Context};
+ghost use Rattle.go_stmt.specs.Functions.{function_at};
+ghost use Rattle.go_objects.specs.Table.{imports_at};
+ghost use Rattle.go_decl.specs.Faults.{Facts, context_at, function_faults};
+ghost use Rattle.go_faultless.specs.Finds.{AreKnown, AreWhole, Finds, IsKnown, IsTold};
+ghost use Rattle.go_faultless.specs.Locals.{IsLocalBlock};
 
 /// An expression or a type without fault is known where each name in it finds what is known or breaks a rule: nothing of it was passed over.
 pub fn law_faultless_is_known()
@@ -14,4 +18,17 @@ pub fn law_faultless_is_known()
     ensures values { (s : Scope) (e : Expr) → Finds s (map (λ u. u.0) (in_expr false e))
         → faults s e ++ operand_broken e (verdict s e) ≡ [] → IsKnown (operand (verdict s e)) }
     ensures types { (s : Scope) (t : TypeExpr) → Finds s (map (λ u. u.0) (in_type t)) → type_faults s t ≡ [] → IsKnown (fine (type_verdict s t)) }
+{}
+
+/// A function without fault has a typed tree where each name outside of it finds what is known or breaks a rule, if its body declares no types,
+/// for which the grammar has no statement.
+pub fn law_faultless_function_is_known()
+    ensures { (c : Context) (f : Function) → ((iota : Option ℕ) (x : List ℕ) → IsTold (look_up x (c.outside iota))) → IsLocalBlock f.body
+        → (function_at c f).faults ≡ [] → IsKnown (function_at c f).known }
+{}
+
+/// Where each object of a package is known, and all that a file imports, its functions without fault have typed trees.
+pub fn law_known_objects_give_trees()
+    ensures { (t : Facts) (file : ℕ) (f : Function) → AreWhole (imports_at t.package file) → AreKnown t.known → IsLocalBlock f.body
+        → function_faults t file f ≡ [] → IsKnown (function_at (context_at t file) f).known }
 {}
