@@ -1,3 +1,4 @@
+pub mod OneFault
 pub mod Several
 pub mod Values
 pub mod Walks

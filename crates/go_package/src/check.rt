@@ -29,11 +29,12 @@ use go_text::place::Place;
 use std::alloc::{AllocError, Global};
 
 /// The first fault of the package at a path that some files are, which come in ascending order of
-/// their names and have one package name, by the packages that they may import, the library fmt too; `Ok` where there is
-/// none. `Faulty` has the number of its file and its place: the first node in declaration order,
-/// parts before the whole and left to right, that breaks a rule, while all that it stands on is
-/// known; then the first constant that isn't fine though its specification was passed over; then the first name main or init that isn't such a function; then, at the first file's
-/// package name, that a package named main has no function main.
+/// their names and have one package name, by the packages that they may import, the library fmt
+/// too; `Ok` where there is none. `Faulty` has the number of its file and its place: the first node
+/// in declaration order, parts before the whole and left to right, that breaks a rule, while all
+/// that it stands on is known; then the first constant that isn't fine though its specification was
+/// passed over; then the first name main or init that isn't such a function; then, at the first
+/// file's package name, that a package named main has no function main.
 /// [Packages](https://go.dev/ref/spec#Packages)
 pub fn check<'a>(
     alloc: Global,

@@ -7,6 +7,7 @@ mod files;
 pub mod functions;
 pub mod import;
 pub mod initializations;
+pub mod law;
 mod main_rule;
 mod names;
 mod references;
