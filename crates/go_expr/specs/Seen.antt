@@ -122,6 +122,10 @@ Answers view (Err e) faults known = Fails e faults
 abbrev pub AnswersAt : {X Y : Type 0} → (X → Y) → Result (Option X) ExprError → Place → Verdict Y → Type 0
 AnswersAt view result p v = Answers view result (broken p v) (fine v)
 
+-- the same of a node behind its parts, which have faults of their own
+abbrev pub Behind : {X Y : Type 0} → (X → Y) → Result (Option X) ExprError → List (Place × FaultKind) → Place → Verdict Y → Type 0
+Behind view result before p v = Answers view result (before ++ broken p v) (fine v)
+
 -- what is known of a node by a rule, or the kind of its fault, unless memory ran out
 abbrev pub Gives : {X Y : Type 0} → (X → Y) → Result X RuleError → Verdict Y → Type 0
 Gives view (Ok x) v = v ≡ Fine (view x)

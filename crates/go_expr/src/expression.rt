@@ -7,7 +7,7 @@ ghost use Rattle.go_types.specs.Views.{type_of};
 ghost use Rattle.go_typed.specs.Views.{expr_of};
 ghost use Rattle.go_expr.specs.Rules.{fine, called, element_type};
 ghost use Rattle.go_expr.specs.Verdicts.{asked_both, joined, broken, operand, callee, verdict, operands, elements as elements_known, element_verdict, type_verdict, fields_known, operand_broken, callee_broken, faults, operands_faults, elements_faults, element_faults, type_faults, fields_faults};
-ghost use Rattle.go_expr.specs.Seen.{known_of, element_of, elements_in, literal_verdict, due_of, field_of, scope_of, all_of, Answers};
+ghost use Rattle.go_expr.specs.Seen.{known_of, element_of, elements_in, literal_verdict, due_of, field_of, scope_of, all_of, Answers, Behind};
 
 use crate::call::{call_at, conversion_at, not_package, operand_at};
 use crate::composite::{Due, Element, element_type, literal_at, untyped_literal_at};
@@ -87,7 +87,8 @@ fn check_literal<'a>(
     place: Place,
     of: Option<GoType>,
 ) -> Result<Option<Known<'a>>, ExprError>
-    ensures { Answers known_of result (elements_faults (scope_of scope.now) (element_type (option_map type_of of)) (elements_in elements.now) ++ broken place (literal_verdict (scope_of scope.now) (option_map type_of of) (elements_in elements.now))) (fine (literal_verdict (scope_of scope.now) (option_map type_of of) (elements_in elements.now))) }
+    ensures { let s = scope_of scope.now in let t = option_map type_of of in let es = elements_in elements.now in
+        Behind known_of result (elements_faults s (element_type t) es) place (literal_verdict s t es) }
 {
     let elements = check_elements(alloc, scope, elements, element_type(of.as_ref()))?;
     literal_at(alloc, place, scope.path(), of, elements)
@@ -102,7 +103,8 @@ fn check_elements<'e>(
     elements: &'e [ElementExpr],
     due: Due<'_>,
 ) -> Result<Option<Vec<Element<'e>>>, ExprError>
-    ensures { Answers (all_of element_of) result (elements_faults (scope_of scope.now) (due_of due.entry) (elements_in elements.now)) (elements_known (scope_of scope.now) (due_of due.entry) (elements_in elements.now)) }
+    ensures { let s = scope_of scope.now in let es = elements_in elements.now in
+        Answers (all_of element_of) result (elements_faults s (due_of due.entry) es) (elements_known s (due_of due.entry) es) }
 {
     let mut all = Some(Vec::new(alloc));
     for element in elements {
@@ -121,7 +123,8 @@ fn check_element(
     element: &ElementValue,
     due: Due<'_>,
 ) -> Result<Option<TypedExpr>, ExprError>
-    ensures { Answers expr_of result (element_faults (scope_of scope.now) (due_of due.entry) (element_tree element.now)) (fine (element_verdict (scope_of scope.now) (due_of due.entry) (element_tree element.now))) }
+    ensures { let s = scope_of scope.now in let e = element_tree element.now in
+        Answers expr_of result (element_faults s (due_of due.entry) e) (fine (element_verdict s (due_of due.entry) e)) }
 {
     match element {
         ElementValue::Expression(e) => check_operand(alloc, scope, e),
@@ -138,7 +141,8 @@ fn with_element<'e>(
     key: &'e Option<Name>,
     value: Option<TypedExpr>,
 ) -> Result<Option<Vec<Element<'e>>>, AllocError>
-    ensures { IfOk result (λ more. option_map (all_of element_of) more ≡ joined (option_map (all_of element_of) all.entry) (option_map (λ e. (option_map (λ (n : NameTree). n.text) key.now, e) ∷ []) (option_map expr_of value))) }
+    ensures { let own = option_map (λ e. (option_map (λ (n : NameTree). n.text) key.now, e) ∷ []) (option_map expr_of value) in
+        IfOk result (λ more. option_map (all_of element_of) more ≡ joined (option_map (all_of element_of) all.entry) own) }
 {
     let Some(mut all) = all else {
         return Ok(None);
@@ -164,7 +168,8 @@ fn check_call<'a>(
     callee: Option<Known<'a>>,
     arguments: &[Expr],
 ) -> Result<Option<Known<'a>>, ExprError>
-    ensures { Answers known_of result (operands_faults (scope_of scope.now) (exprs_in arguments.now) ++ broken place (asked_both called (option_map known_of callee.entry) (operands (scope_of scope.now) (exprs_in arguments.now)))) (fine (asked_both called (option_map known_of callee.entry) (operands (scope_of scope.now) (exprs_in arguments.now)))) }
+    ensures { let s = scope_of scope.now in let es = exprs_in arguments.now in
+        Behind known_of result (operands_faults s es) place (asked_both called (option_map known_of callee.entry) (operands s es)) }
 {
     let arguments = check_operands(alloc, scope, arguments)?;
     call_at(alloc, place, callee, arguments)
@@ -177,7 +182,8 @@ pub fn check_unpackaged<'a>(
     scope: &Scope<'a>,
     e: &Expr,
 ) -> Result<Option<Known<'a>>, ExprError>
-    ensures { Answers known_of result (faults (scope_of scope.now) (expr_tree e.now) ++ callee_broken (expr_tree e.now) (verdict (scope_of scope.now) (expr_tree e.now))) (fine (callee (verdict (scope_of scope.now) (expr_tree e.now)))) }
+    ensures { Answers known_of result (faults (scope_of scope.now) (expr_tree e.now) ++ callee_broken (expr_tree e.now) (verdict (scope_of scope.now) (expr_tree e.now)))
+        (fine (callee (verdict (scope_of scope.now) (expr_tree e.now)))) }
 {
     let known = check_expr(alloc, scope, e)?;
     not_package(e.place, known)
@@ -190,7 +196,8 @@ pub fn check_operand(
     scope: &Scope<'_>,
     e: &Expr,
 ) -> Result<Option<TypedExpr>, ExprError>
-    ensures { Answers expr_of result (faults (scope_of scope.now) (expr_tree e.now) ++ operand_broken (expr_tree e.now) (verdict (scope_of scope.now) (expr_tree e.now))) (operand (verdict (scope_of scope.now) (expr_tree e.now))) }
+    ensures { Answers expr_of result (faults (scope_of scope.now) (expr_tree e.now) ++ operand_broken (expr_tree e.now) (verdict (scope_of scope.now) (expr_tree e.now)))
+        (operand (verdict (scope_of scope.now) (expr_tree e.now))) }
 {
     let known = check_expr(alloc, scope, e)?;
     operand_at(e.place, known)
