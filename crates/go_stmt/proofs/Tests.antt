@@ -2,7 +2,7 @@
 use Rattle.std.proofs.Common.{◌≡◌, Bool, true, false, ◌&&◌, ◌||◌, List, [], ◌∷◌, length, get_or, suc, ◌-◌, ◌≤◌, arith, ap, sym, ◌∙◌}
 use Rattle.go_typed.specs.declared.statement.TypedStmt.{TypedStmt}
 use Rattle.go_typed.specs.Views.{stmt_of, stmts_in}
-use Rattle.go_stmt.specs.Terminating.{terminates, list_terminates}
+use Rattle.go_typed.specs.Terminating.{terminates, list_terminates}
 
 pub or_first : (a b r x : Bool) → x ≡ (a || b) → r ≡ a → r ≡ true → r ≡ x
 or_first true b r x e f g = f ∙ sym e

@@ -3,4 +3,3 @@ pub mod Rules
 pub mod Scopes
 pub mod Seen
 pub mod Statements
-pub mod Terminating

@@ -16,7 +16,7 @@ use Rattle.go_expr.specs.Known.{Declared, value, Known, declared, results as cal
 use Rattle.go_expr.specs.Rules.{checked, constant_in, each_unless, least, wrong, value_due, is_integer, assigned, defaulted, as_type, condition, operand_type, binary_of}
 use Rattle.go_expr.specs.Verdicts.{asked}
 use Rattle.go_stmt.specs.Scopes.{is_blank}
-use Rattle.go_stmt.specs.Terminating.{list_terminates}
+use Rattle.go_typed.specs.Terminating.{list_terminates}
 
 abbrev pub all_some : {A : Type 0} → List (Option A) → Option (List A)
 all_some [] = Some []

@@ -2,7 +2,7 @@
 //! [Terminating statements](https://go.dev/ref/spec#Terminating_statements)
 ghost use Rattle.std.specs.Prelude.{◌≡◌, ◌&&◌, not, is_some, option_map};
 ghost use Rattle.go_typed.specs.Views.{expr_of, stmt_of, stmts_in, clauses_in};
-ghost use Rattle.go_stmt.specs.Terminating.{breaks, breaks_any, breaks_clause, has_default, terminates, list_terminates, clauses_terminate};
+ghost use Rattle.go_typed.specs.Terminating.{breaks, breaks_any, breaks_clause, has_default, terminates, list_terminates, clauses_terminate};
 
 use go_typed::expression::TypedExpr;
 use go_typed::statement::{TypedClause, TypedStmt};

@@ -1,2 +1,3 @@
+pub mod Terminating
 pub mod Trees
 pub mod Views

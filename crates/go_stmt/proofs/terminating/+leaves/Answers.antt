@@ -1,7 +1,7 @@
 use Rattle.std.proofs.Common.{ap, sym, ◌∙◌}
 use Rattle.go_typed.specs.Views.{stmt_of, stmts_in}
 use Rattle.go_typed.proofs.StatementRows.{if_seen, block_seen}
-use Rattle.go_stmt.specs.Terminating.{breaks, breaks_any}
+use Rattle.go_typed.specs.Terminating.{breaks, breaks_any}
 use Rattle.go_stmt.proofs.Tests.{or_first, or_second}
 use Rattle.go_stmt.proofs.terminating.+leaves.Goals as goal
 

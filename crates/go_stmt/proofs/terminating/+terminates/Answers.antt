@@ -2,7 +2,7 @@ use Rattle.std.proofs.Common.{◌&&◌, not, is_some, ap, sym, ◌∙◌}
 use Rattle.std.specs.Option.{option_map}
 use Rattle.go_typed.specs.Views.{expr_of, stmt_of, stmts_in, clauses_in}
 use Rattle.go_typed.proofs.StatementRows.{if_seen, for_seen, switch_seen, block_seen}
-use Rattle.go_stmt.specs.Terminating.{breaks_any, breaks_clause, has_default, terminates, list_terminates, clauses_terminate}
+use Rattle.go_typed.specs.Terminating.{breaks_any, breaks_clause, has_default, terminates, list_terminates, clauses_terminate}
 use Rattle.go_stmt.proofs.Tests.{and_first, and_second, last_terminates}
 use Rattle.go_stmt.proofs.terminating.+terminates.Goals as goal
 

@@ -1,6 +1,6 @@
 use Rattle.std.proofs.Common.{◌≡◌, drop}
 use Rattle.go_typed.specs.Views.{clauses_in}
-use Rattle.go_stmt.specs.Terminating.{clauses_terminate}
+use Rattle.go_typed.specs.Terminating.{clauses_terminate}
 use Rattle.go_stmt.proofs.terminating.+terminates.Given as goal
 
 abbrev pub invariant-clauses_terminate-loop-clause : goal.invariant-clauses_terminate-loop-clause
