@@ -1,14 +1,8 @@
 pub mod Arms
 pub mod ByKind
 pub mod Closed
-pub mod Computed
 pub mod Emitted
-pub mod Exprs
 pub mod Found
-pub mod Frames
 pub mod Made
 pub mod Reversed
-pub mod Runs
-pub mod Shapes
 pub mod Totals
-pub mod Zeros

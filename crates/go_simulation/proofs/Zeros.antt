@@ -23,11 +23,11 @@ use Rattle.go_code.proofs.Stands.{stands_next}
 use Rattle.go_meaning.specs.Values.{Value, pack, flat, flat_all, zero_cell, zero_of, zeros_of}
 use Rattle.go_meaning.specs.Meaning.{World}
 use Rattle.go_emit.specs.Translation.{Places, zero_code, zeros_code}
-use Rattle.go_emit.proofs.Runs.{here, On, on_as, on_stack}
+use Rattle.go_simulation.proofs.Runs.{here, On, on_as, on_stack}
 
 -- ---- zero values as cells
 
-zero_fits : (b : Basic) → cell_fits (zero_cell b) ≡ true
+pub zero_fits : (b : Basic) → cell_fits (zero_cell b) ≡ true
 zero_fits basics.Bool = refl
 zero_fits basics.String = refl
 zero_fits (basics.Integer i) = refl

@@ -18,10 +18,11 @@
 -- Call leads into the function's body by its arguments' cells, where parameters' rows are these cells and all others are 0, and
 -- Return leads back to this frame.
 --
--- Statements: `Follows t k locals low m w` is On for all rows that fit the locals, with an empty stack. A statement's code, with
+-- Statements (Following): `Follows t k locals low m stack w` is On for all rows that fit the locals. A statement's code, with
 -- `Past rest b brk` and `Past rest c next` (so many instructions on stand what a break and a continue lead to), follows its meaning
 -- by After: normal to rest, breaks to brk, continues to next, returns to the caller. A loop is by induction on its turns, with t one less
--- in each; a switch first by its tests, whose jumps are counted by the codes of the clauses, then by the clauses from the chosen one on.
+-- in each, and its jump back leads to the place where its body is known to stand; a switch first by its tests, whose jumps are
+-- counted by the codes of the clauses, then by the clauses from the chosen one on.
 -- Assignments: the operands' temporaries are a part of `low` while the values are evaluated; then `read` and `updated` along steps
 -- are LoadAt and StoreAt at the offset that Move and Index make (Shapes: where a part's cells lie among its value's).
 -- At last linking: an image's functions are the objects' with numbers in the places of symbols, so the codes here are those of the image.
@@ -51,8 +52,9 @@ use Rattle.go_meaning.specs.Values.{Value, single, flat, is_of, or_else, if_give
 use Rattle.go_meaning.specs.Choices.{applied, operated}
 use Rattle.go_meaning.specs.Meaning.{Stored, World, Outcome, Gives, Ends, Stuck, Local, Locals, and_then, given, local_value, global_value, same_symbol}
 use Rattle.go_emit.specs.Translation.{Places, slots, load, operators_code}
-use Rattle.go_emit.proofs.Frames.{RowOf, Fits, lies, together, types_of, read_row}
-use Rattle.go_emit.proofs.Shapes.{flat_long, same_number}
+use Rattle.go_simulation.proofs.Frames.{RowOf, Fits, lies, together, types_of, read_row}
+use Rattle.go_sound.proofs.Values.{flat_long}
+use Rattle.go_simulation.proofs.Shapes.{same_number}
 
 -- ---- what the machine does behind an outcome
 
@@ -128,13 +130,13 @@ module _ (image : Image) (final : Final) (depth : ℕ) (code : List (Instr ℕ))
 
   -- ---- a local variable
 
-  record LocalKnown (P : Value → World → Type 0) (locals : Locals) (t : Type') (n : ℕ) (w : World) : Type 0 where
-    l : Local
-    v : Value
-    found : slice_get locals n ≡ Some l
-    value : l.value ≡ Some v
-    typed : is_of t v ≡ true
-    holds : P v w
+  pub record LocalKnown (P : Value → World → Type 0) (locals : Locals) (t : Type') (n : ℕ) (w : World) : Type 0 where
+    pub l : Local
+    pub v : Value
+    pub found : slice_get locals n ≡ Some l
+    pub value : l.value ≡ Some v
+    pub typed : is_of t v ≡ true
+    pub holds : P v w
 
   local_valued : (P : Value → World → Type 0) (locals : Locals) (t : Type') (n : ℕ) (w : World) (l : Local) (o : Option Value) → slice_get locals n ≡ Some l → l.value ≡ o → Onward final P (given t (or_else operators.Senseless o) w) → LocalKnown P locals t n w
   local_valued P locals t n w l None found e h = absurd h
@@ -142,7 +144,7 @@ module _ (image : Image) (final : Final) (depth : ℕ) (code : List (Instr ℕ))
       let g = onward_given final P t v w h in
       record { l = l; v = v; found = found; value = e; typed = g.0; holds = g.1 }
 
-  local_known : (P : Value → World → Type 0) (locals : Locals) (t : Type') (n : ℕ) (w : World) (o : Option Local) → slice_get locals n ≡ o → Onward final P (given t (or_else operators.Senseless (option_and_then (λ l. l.value) o)) w) → LocalKnown P locals t n w
+  pub local_known : (P : Value → World → Type 0) (locals : Locals) (t : Type') (n : ℕ) (w : World) (o : Option Local) → slice_get locals n ≡ o → Onward final P (given t (or_else operators.Senseless (option_and_then (λ l. l.value) o)) w) → LocalKnown P locals t n w
   local_known P locals t n w None e h = absurd h
   local_known P locals t n w (Some l) e h = local_valued P locals t n w l l.value e refl h
 
@@ -168,13 +170,13 @@ module _ (image : Image) (final : Final) (depth : ℕ) (code : List (Instr ℕ))
   -- ---- a package variable
 
   -- the first of a symbol has cells that lie where its place says
-  record GlobalLies (variables : List Stored) (s : Symbol) (v : Value) : Type 0 where
-    before : List Cell
-    after : List Cell
-    is : held variables ≡ before ++ (flat v ++ after)
-    place : length before ≡ global_at variables s
+  pub record GlobalLies (variables : List Stored) (s : Symbol) (v : Value) : Type 0 where
+    pub before : List Cell
+    pub after : List Cell
+    pub is : held variables ≡ before ++ (flat v ++ after)
+    pub place : length before ≡ global_at variables s
 
-  global_lies : (variables : List Stored) (s : Symbol) (v : Value) → Sized variables → option_map (λ x. x.value) (find (λ x. same_symbol s x.symbol) variables) ≡ Some v → GlobalLies variables s v
+  pub global_lies : (variables : List Stored) (s : Symbol) (v : Value) → Sized variables → option_map (λ x. x.value) (find (λ x. same_symbol s x.symbol) variables) ≡ Some v → GlobalLies variables s v
   global_lies [] s v sized e = cc
   global_lies (x ∷ xs) s v sized e = by_test (global_lies xs s v sized.1) (same_symbol s x.symbol) refl e
     where
@@ -199,13 +201,13 @@ module _ (image : Image) (final : Final) (depth : ℕ) (code : List (Instr ℕ))
             place = long ∙ ap (λ b. if b then 0 else cells x.of + global_at xs s) (sym found);
           }
 
-  record GlobalKnown (P : Value → World → Type 0) (of : Type') (s : Symbol) (w : World) : Type 0 where
-    v : Value
-    found : option_map (λ x. x.value) (find (λ x. same_symbol s x.symbol) w.variables) ≡ Some v
-    typed : is_of of v ≡ true
-    holds : P v w
+  pub record GlobalKnown (P : Value → World → Type 0) (of : Type') (s : Symbol) (w : World) : Type 0 where
+    pub v : Value
+    pub found : option_map (λ x. x.value) (find (λ x. same_symbol s x.symbol) w.variables) ≡ Some v
+    pub typed : is_of of v ≡ true
+    pub holds : P v w
 
-  global_known : (P : Value → World → Type 0) (of : Type') (s : Symbol) (w : World) (o : Option Value) → option_map (λ x. x.value) (find (λ x. same_symbol s x.symbol) w.variables) ≡ o → Onward final P (given of (or_else operators.Senseless o) w) → GlobalKnown P of s w
+  pub global_known : (P : Value → World → Type 0) (of : Type') (s : Symbol) (w : World) (o : Option Value) → option_map (λ x. x.value) (find (λ x. same_symbol s x.symbol) w.variables) ≡ o → Onward final P (given of (or_else operators.Senseless o) w) → GlobalKnown P of s w
   global_known P of s w None e h = absurd h
   global_known P of s w (Some v) e h =
       let g = onward_given final P of v w h in

@@ -12,7 +12,7 @@ use Rattle.go_types.specs.declared.types.Basic.TheVariants as basics
 use Rattle.go_types.specs.declared.types.Untyped.TheVariants as untypeds
 use Rattle.go_types.specs.Types.{Type', basic, array, struct, named, Fields, no_fields, field}
 use Rattle.go_types.specs.Relations.{underlying}
-use Rattle.go_types.specs.Sizes.{cells, cells_of}
+use Rattle.go_types.specs.Sizes.{cells}
 use Rattle.go_code.specs.declared.cell.Cell.{Cell}
 use Rattle.go_code.specs.declared.cell.Cell.TheVariants.{Int, Bool as Truth, Text}
 use Rattle.go_code.specs.Lines.{cell_fits, number_fits}
@@ -21,8 +21,9 @@ use Rattle.go_code.specs.declared.ending.PanicKind.TheVariants.{Index as Out_of_
 use Rattle.go_code.specs.declared.instr.PartInstr.TheVariants.{Pick, Part}
 use Rattle.go_code.specs.Operators as operators
 use Rattle.go_code.specs.Parts.{part, picked, with_index, index_below}
-use Rattle.go_emit.proofs.Frames.{if_true}
-use Rattle.go_meaning.specs.Values.{Value, single, parts, Values, no_values, some_values, pack, unpack, flat, flat_all, is_of, is_basic, are_of_fields, nth, with_nth}
+use Rattle.go_simulation.proofs.Frames.{if_true}
+use Rattle.go_meaning.specs.Values.{Value, single, parts, Values, no_values, some_values, unpack, flat, flat_all, is_of, is_basic, are_of_fields, nth, with_nth}
+use Rattle.go_sound.proofs.Values.{flat_long}
 use Rattle.go_emit.specs.Translation.{field_offset}
 
 pub both_true : (p q : Bool) → (p && q) ≡ true → (p ≡ true) × (q ≡ true)
@@ -31,43 +32,6 @@ both_true false q e = cc
 
 pub same_number : (m n : ℕ) → nat_eq m n ≡ true → m ≡ n
 same_number m n e = eqb-true m n e
-
--- elements that have so many cells each
-elements_long : (size : ℕ) (vs : List Value) (is : Value → Bool) → ((v : Value) → is v ≡ true → length (flat v) ≡ size) → list_all is vs ≡ true → length (flat_all (pack vs)) ≡ length vs * size
-elements_long size [] is long e = sym (zero-mul size)
-elements_long size (v ∷ vs) is long e =
-    let h = both_true (is v) (list_all is vs) e in
-    let rest = elements_long size vs is long h.1 in
-    let one = long v h.0 in
-    let more = suc-mul (length vs) size in
-    omega (arith, length-append (flat v) (flat_all (pack vs)), rest, one, more)
-
-packed : (vs : Values) → pack (unpack vs) ≡ vs
-packed no_values = refl
-packed (some_values v vs) = ap (some_values v) (packed vs)
-
--- a value of a type has as many cells as the type says
-mutual
-  pub flat_long : (t : Type') (v : Value) → is_of t v ≡ true → length (flat v) ≡ cells t
-  flat_long (basic b) (single c) e = refl
-  flat_long (basic b) (parts vs) e = cc
-  flat_long (array n t) (single c) e = cc
-  flat_long (array n t) (parts vs) e =
-      let h = both_true (nat_eq (length (unpack vs)) n) (list_all (is_of t) (unpack vs)) e in
-      ap (λ l. length (flat_all l)) (sym (packed vs)) ∙ elements_long (cells t) (unpack vs) (is_of t) (flat_long t) h.1 ∙ ap (λ m. m * cells t) (same_number (length (unpack vs)) n h.0)
-  flat_long (struct fs) (single c) e = cc
-  flat_long (struct fs) (parts vs) e = ap (λ l. length (flat_all l)) (sym (packed vs)) ∙ fields_long fs (unpack vs) e
-  flat_long (named path name t) v e = flat_long t v e
-
-  fields_long : (fs : Fields) (vs : List Value) → are_of_fields fs vs ≡ true → length (flat_all (pack vs)) ≡ cells_of fs
-  fields_long no_fields [] e = refl
-  fields_long no_fields (v ∷ vs) e = cc
-  fields_long (field p x t fs) [] e = cc
-  fields_long (field p x t fs) (v ∷ vs) e =
-      let h = both_true (is_of t v) (are_of_fields fs vs) e in
-      let one = flat_long t v h.0 in
-      let rest = fields_long fs vs h.1 in
-      omega (arith, length-append (flat v) (flat_all (pack vs)), one, rest)
 
 -- a declared type's values are those of its underlying type, and as large
 pub underlying_cells : (t : Type') → cells (underlying t) ≡ cells t
@@ -192,17 +156,17 @@ picks count size row z long =
     ∙ ap (λ l. picked count size l (drop (length row) all)) (take-append_seam row (Int z ∷ []))
     ∙ ap (picked count size row) (drop-append_seam row (Int z ∷ []))
 
-nth_within : (vs : Values) (n : ℕ) (x : Value) → nth vs n ≡ Some x → n < length (unpack vs)
+pub nth_within : (vs : Values) (n : ℕ) (x : Value) → nth vs n ≡ Some x → n < length (unpack vs)
 nth_within no_values n x e = cc
 nth_within (some_values v vs) zero x e = omega arith
 nth_within (some_values v vs) (suc n) x e = let h = nth_within vs n x e in omega (arith, h)
 
-nth_beyond : (vs : Values) (n : ℕ) → nth vs n ≡ None → length (unpack vs) ≤ n
+pub nth_beyond : (vs : Values) (n : ℕ) → nth vs n ≡ None → length (unpack vs) ≤ n
 nth_beyond no_values n e = omega arith
 nth_beyond (some_values v vs) zero e = cc
 nth_beyond (some_values v vs) (suc n) e = let h = nth_beyond vs n e in omega (arith, h)
 
-nth_typed : (is : Value → Bool) (vs : Values) (n : ℕ) (x : Value) → list_all is (unpack vs) ≡ true → nth vs n ≡ Some x → is x ≡ true
+pub nth_typed : (is : Value → Bool) (vs : Values) (n : ℕ) (x : Value) → list_all is (unpack vs) ≡ true → nth vs n ≡ Some x → is x ≡ true
 nth_typed is no_values n x all e = cc
 nth_typed is (some_values v vs) zero x all e = subst (λ y. is y ≡ true) (same_value v x e) (both_true (is v) (list_all is (unpack vs)) all).0
 nth_typed is (some_values v vs) (suc n) x all e = nth_typed is vs n x (both_true (is v) (list_all is (unpack vs)) all).1 e

@@ -1,5 +1,5 @@
--- The machine follows expressions, form by form (Runs says how this is built); literals are still to come.
-use Rattle.std.proofs.Common.{◌≡◌, ℕ, ◌+◌, ◌-◌, ◌≤◌, Bool, true, false, List, [], ◌∷◌, ◌++◌, length, take, drop, Option, Some, None, ◌*◌, refl, sym, ap, ◌∙◌, ◌&&◌, subst, arith, length-append, append_assoc, append-nil, pos, negsuc}
+-- The machine follows expressions, form by form (Runs says how this is built).
+use Rattle.std.proofs.Common.{◌≡◌, ℕ, ◌+◌, ◌-◌, ◌≤◌, Bool, true, false, List, [], ◌∷◌, ◌++◌, length, map, take, drop, Option, Some, None, ◌*◌, refl, sym, ap, ◌∙◌, ◌&&◌, subst, arith, length-append, append_assoc, append-nil, pos, negsuc}
 use Rattle.std.proofs.lemmas.List.{length-take-le, length-drop, take-append-drop}
 use Rattle.std.specs.Prelude.{if◌then◌else◌}
 use Rattle.std.specs.List.{flat_map}
@@ -38,9 +38,14 @@ use Rattle.go_typed.specs.Trees.{Symbol, Expr, Exprs, no_exprs, some_exprs, expr
 use Rattle.go_meaning.specs.Values.{Value, single, parts, Values, flat, flat_all, is_of, or_else, to_field, part_of, nth}
 use Rattle.go_meaning.specs.Choices.{cell_of, field_at, operated, unary_operators, binary_operators, conversion_operators}
 use Rattle.go_meaning.specs.Meaning.{World, Gives, Stuck, Locals, Calls, and_then, given, selected, indexed, all_given, one_value, if_true, eval, eval_all}
-use Rattle.go_emit.specs.Translation.{Places, offset, field_offset, index_code, expr_temps, exprs_temps, operators_code, expr_code, exprs_code}
-use Rattle.go_emit.proofs.Shapes.{cell_known, flat_long, underlying_values, field_among, part_reads, element_picked, element_missed, element_below}
-use Rattle.go_emit.proofs.Runs.{Onward, onward_then, onward_map, onward_given, here, On, on_as, on_stack, Sits, local_runs, global_runs, operators_run}
+use Rattle.go_emit.specs.Translation.{Places, offset, field_offset, index_code, expr_temps, exprs_temps, expr_counts, operators_code, expr_code, exprs_code}
+use Rattle.go_sound.proofs.Values.{flat_long}
+use Rattle.go_simulation.proofs.Shapes.{cell_known, underlying_values, field_among, part_reads, element_picked, element_missed, element_below}
+use Rattle.go_simulation.proofs.Runs.{Onward, onward_then, onward_map, onward_given, here, On, on_as, on_stack, Sits, local_runs, global_runs, operators_run}
+
+-- how many cells each value has
+abbrev pub lengths : List Value → List ℕ
+lengths vs = map (λ v. length (flat v)) vs
 
 module _ (image : Image) (final : Final) (depth : ℕ) (code : List (Instr ℕ)) (callers : List Frame) (starts : List Start) (p : Places ℕ) where
   abbrev Onto : ℕ → List (Instr ℕ) → List Cell → ℕ → List Cell → World → Type 0
@@ -66,7 +71,7 @@ module _ (image : Image) (final : Final) (depth : ℕ) (code : List (Instr ℕ))
       let size : length (low ++ high) ≡ m = omega (arith, length-append low high, long, rest, le) in
       subst (λ l. Leads image (here image final depth code callers starts p place l stack w) final) (sym (append_assoc front low high)) (on known few place (low ++ high) size s)
 
-  sits_deeper : (locals : Locals) (front low : List Cell) → InPlace locals front → InPlace locals (front ++ low)
+  pub sits_deeper : (locals : Locals) (front low : List Cell) → InPlace locals front → InPlace locals (front ++ low)
   sits_deeper locals front low sits =
       record { rows = sits.rows; low = sits.low ++ low; is = ap (λ l. l ++ low) sits.is ∙ append_assoc _ sits.low low; fits = sits.fits; placed = sits.placed }
 
@@ -123,7 +128,7 @@ module _ (image : Image) (final : Final) (depth : ℕ) (code : List (Instr ℕ))
     abbrev pub AllRun : Exprs → Type 0
     AllRun es =
         (t : ℕ) (locals : Locals) (at : ℕ) (k : List (Instr ℕ)) (front : List Cell) (m : ℕ) (stack : List Cell) (w : World) → length front ≡ at → exprs_temps es ≤ m → InPlace locals front →
-        Onward final (λ vs w1. Onto t k front m (stack ++ flat_map flat vs) w1) (eval_all calls es locals w) →
+        Onward final (λ vs w1. lengths vs ≡ expr_counts es → Onto t k front m (stack ++ flat_map flat vs) w1) (eval_all calls es locals w) →
         Onto t (exprs_code p at es ++ k) front m stack w
 
     -- the arguments lie on the stack and the function's results come in their place
@@ -168,7 +173,7 @@ module _ (image : Image) (final : Final) (depth : ℕ) (code : List (Instr ℕ))
     conversion_runs of e runs t locals at k front m stack w long le sits h = operated_run e of (conversion_operators (underlying of)) runs t locals at k front m stack w long le sits h
 
     -- a second expression, behind the first one's temporaries
-    second_runs : (b : Expr) (d : ℕ) → Runs b → (t : ℕ) (locals : Locals) (at : ℕ) (k : List (Instr ℕ)) (front : List Cell) (m : ℕ) (stack : List Cell) (w : World) → length front ≡ at → d + expr_temps b ≤ m → InPlace locals front → Onward final (λ v w1. is_of (expr_type b) v ≡ true → Onto t k front m (stack ++ flat v) w1) (eval calls b locals w) → Onto t (expr_code p (at + d) b ++ k) front m stack w
+    pub second_runs : (b : Expr) (d : ℕ) → Runs b → (t : ℕ) (locals : Locals) (at : ℕ) (k : List (Instr ℕ)) (front : List Cell) (m : ℕ) (stack : List Cell) (w : World) → length front ≡ at → d + expr_temps b ≤ m → InPlace locals front → Onward final (λ v w1. is_of (expr_type b) v ≡ true → Onto t k front m (stack ++ flat v) w1) (eval calls b locals w) → Onto t (expr_code p (at + d) b ++ k) front m stack w
     second_runs b d runs t locals at k front m stack w long le sits h =
         let within : d ≤ m = omega (arith, le) in
         deeper t (expr_code p (at + d) b ++ k) front m d stack w within (λ low size.
@@ -194,18 +199,18 @@ module _ (image : Image) (final : Final) (depth : ℕ) (code : List (Instr ℕ))
 
     -- arguments, one behind the other
     pub none_run : AllRun no_exprs
-    none_run t locals at k front m stack w long le sits h = on_stack image final depth code callers starts p t k front m (stack ++ []) stack w (append-nil stack) h
+    none_run t locals at k front m stack w long le sits h = on_stack image final depth code callers starts p t k front m (stack ++ []) stack w (append-nil stack) (h refl)
 
     pub some_run : (e : Expr) (es : Exprs) → Runs e → AllRun es → AllRun (some_exprs e es)
     some_run e es first others t locals at k front m stack w long le sits h =
         on_as image final depth code callers starts p t _ _ front m stack w (sym (append_assoc (expr_code p at e) (exprs_code p (at + expr_temps e) es) k))
         (first t locals at (exprs_code p (at + expr_temps e) es ++ k) front m stack w long (omega (arith, le)) sits
         (onward_map final _ _ (eval calls e locals w)
-        (λ v w1 more typed. others_run e es others t locals at k front m stack v w1 long le sits (onward_then final _ (eval_all calls es locals w1) _ more))
+        (λ v w1 more typed. others_run e es others t locals at k front m stack v w1 long le sits (flat_long (expr_type e) v typed) (onward_then final _ (eval_all calls es locals w1) _ more))
         (onward_then final _ (eval calls e locals w) _ h)))
       where
-        others_run : (e : Expr) (es : Exprs) → AllRun es → (t : ℕ) (locals : Locals) (at : ℕ) (k : List (Instr ℕ)) (front : List Cell) (m : ℕ) (stack : List Cell) (v : Value) (w : World) → length front ≡ at → expr_temps e + exprs_temps es ≤ m → InPlace locals front → Onward final (λ vs w1. Onto t k front m (stack ++ (flat v ++ flat_map flat vs)) w1) (eval_all calls es locals w) → Onto t (exprs_code p (at + expr_temps e) es ++ k) front m (stack ++ flat v) w
-        others_run e es others t locals at k front m stack v w long le sits h =
+        others_run : (e : Expr) (es : Exprs) → AllRun es → (t : ℕ) (locals : Locals) (at : ℕ) (k : List (Instr ℕ)) (front : List Cell) (m : ℕ) (stack : List Cell) (v : Value) (w : World) → length front ≡ at → expr_temps e + exprs_temps es ≤ m → InPlace locals front → length (flat v) ≡ cells (expr_type e) → Onward final (λ vs w1. length (flat v) ∷ lengths vs ≡ expr_counts (some_exprs e es) → Onto t k front m (stack ++ (flat v ++ flat_map flat vs)) w1) (eval_all calls es locals w) → Onto t (exprs_code p (at + expr_temps e) es ++ k) front m (stack ++ flat v) w
+        others_run e es others t locals at k front m stack v w long le sits one h =
             let d : ℕ = expr_temps e in
             let within : d ≤ m = omega (arith, le) in
             deeper t (exprs_code p (at + d) es ++ k) front m d (stack ++ flat v) w within (λ low size.
@@ -213,8 +218,8 @@ module _ (image : Image) (final : Final) (depth : ℕ) (code : List (Instr ℕ))
             let rest : exprs_temps es ≤ m - d = omega (arith, le) in
             others t locals (at + d) k (front ++ low) (m - d) (stack ++ flat v) w there rest (sits_deeper locals front low sits)
             (onward_map final _ _ (eval_all calls es locals w)
-            (λ vs w1 more. shallower t k front low m d ((stack ++ flat v) ++ flat_map flat vs) w1 size within
-            (on_stack image final depth code callers starts p t k front m _ _ w1 (sym (append_assoc stack (flat v) (flat_map flat vs))) more)) h))
+            (λ vs w1 more counted. shallower t k front low m d ((stack ++ flat v) ++ flat_map flat vs) w1 size within
+            (on_stack image final depth code callers starts p t k front m _ _ w1 (sym (append_assoc stack (flat v) (flat_map flat vs))) (more (ap (λ n. n ∷ lengths vs) one ∙ ap (λ ns. cells (expr_type e) ∷ ns) counted)))) h))
 
     -- a call that has one result
     pub call_runs : (of : Type') (s : Symbol) (es : Exprs) → Called s → AllRun es → Runs (trees.call of s es)
@@ -222,7 +227,7 @@ module _ (image : Image) (final : Final) (depth : ℕ) (code : List (Instr ℕ))
         on_as image final depth code callers starts p t _ _ front m stack w (sym (append_assoc (exprs_code p at es) (By_call (Call (p.functions s)) ∷ []) k))
         (runs t locals at (By_call (Call (p.functions s)) ∷ k) front m stack w long le sits
         (onward_map final _ _ (eval_all calls es locals w)
-        (λ vs w1 more. called t vs k front m stack w1
+        (λ vs w1 more counted. called t vs k front m stack w1
         (onward_map final _ _ (calls s vs w1) (λ rs w2 most. one_result of rs t k front m stack w2 most)
         (onward_then final _ (calls s vs w1) _ more)))
         (onward_then final _ (eval_all calls es locals w) _ h)))
