@@ -1,0 +1,12 @@
+pub mod Binary
+pub mod Computed
+pub mod Exprs
+pub mod Flows
+pub mod Operators
+pub mod Parts
+pub mod Programs
+pub mod Statements
+pub mod Switches
+pub mod Targets
+pub mod Values
+pub mod Worlds

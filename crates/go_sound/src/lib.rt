@@ -1,0 +1,4 @@
+//! Well typed programs are never stuck.
+#![tactic(auto)]
+
+pub mod law;
