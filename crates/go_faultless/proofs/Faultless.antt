@@ -17,15 +17,15 @@ use Rattle.go_faultless.proofs.Rules.{IsAsked, as_value, literals, types_due, ar
 
 -- ---- names that a tree uses
 
-abbrev Tells : Scope → List Used → Type 0
+abbrev pub Tells : Scope → List Used → Type 0
 Tells s [] = Unit {0}
 Tells s (u ∷ us) = IsTold (look_up u.0 s.names) × Tells s us
 
-first : (s : Scope) (us vs : List Used) → Tells s (us ++ vs) → Tells s us
+pub first : (s : Scope) (us vs : List Used) → Tells s (us ++ vs) → Tells s us
 first s [] vs h = tt
 first s (u ∷ us) vs h = (h.0, first s us vs h.1)
 
-second : (s : Scope) (us vs : List Used) → Tells s (us ++ vs) → Tells s vs
+pub second : (s : Scope) (us vs : List Used) → Tells s (us ++ vs) → Tells s vs
 second s [] vs h = h
 second s (u ∷ us) vs h = second s us vs h.1
 
@@ -132,7 +132,7 @@ type_of : (p : Place) (v : Verdict Known) → IsSettled v → broken p (asked ty
 type_of p v h none = known p (asked type_due (fine v)) (by_one type_due (fine v) (known_of v h) types_due) none
 
 mutual
-  settle : (s : Scope) (dotted : Bool) (e : Expr) → Tells s (in_expr dotted e) → faults s e ≡ [] → IsSettled (verdict s e)
+  pub settle : (s : Scope) (dotted : Bool) (e : Expr) → Tells s (in_expr dotted e) → faults s e ≡ [] → IsSettled (verdict s e)
   settle s dotted (name p x) h none = settled p (look_up x s.names) h.0 none
   settle s dotted (integer p text) h none = settled p (valued (literal text)) (as_value (literal text) (literals text)) none
   settle s dotted (rune p z) h none = settled p (verdict s (rune p z)) tt none
@@ -178,7 +178,7 @@ mutual
       let rule = asked_both (binary_of op) (operand (verdict s a)) (operand (verdict s b)) in
       settled p (valued rule) (as_value rule (by_two (binary_of op) (operand (verdict s a)) (operand (verdict s b)) left right (binaries op))) ns.4
 
-  operands_known : (s : Scope) (es : Exprs) → Tells s (in_exprs es) → operands_faults s es ≡ [] → IsKnown (operands s es)
+  pub operands_known : (s : Scope) (es : Exprs) → Tells s (in_exprs es) → operands_faults s es ≡ [] → IsKnown (operands s es)
   operands_known s no_exprs h none = ([], refl)
   operands_known s (some_exprs e es) h none =
       let ns = three_none (faults s e) (operand_broken e (verdict s e)) (operands_faults s es) none in
@@ -202,7 +202,7 @@ mutual
       let ns = two_none (elements_faults s due es) (broken p (element_verdict s of (value_element p es))) none in
       known p (element_verdict s of (value_element p es)) (by_one (untyped_literal s.path of) (elements s due es) (elements_known s due es h ns.0) (untyped s.path of)) ns.1
 
-  type_known : (s : Scope) (t : TypeExpr) → Tells s (in_type t) → type_faults s t ≡ [] → IsKnown (fine (type_verdict s t))
+  pub type_known : (s : Scope) (t : TypeExpr) → Tells s (in_type t) → type_faults s t ≡ [] → IsKnown (fine (type_verdict s t))
   type_known s (named p x) h none =
       let ns = two_none (broken p (look_up x.text s.names)) (broken p (type_verdict s (named p x))) none in
       type_of p (look_up x.text s.names) (settled p (look_up x.text s.names) h.0 ns.0) ns.1
@@ -227,7 +227,7 @@ mutual
       joined_known (option_map (λ k. map (declared_field s.path k) names) (fine (type_verdict s t))) (fields_known s fs)
       (mapped (λ k. map (declared_field s.path k) names) (fine (type_verdict s t)) of) (listed_known s fs (second s (in_type t) (in_fields fs) h) ns.1)
 
-value_known : (s : Scope) (e : Expr) → Tells s (in_expr false e) → faults s e ≡ [] → operand_broken e (verdict s e) ≡ [] → IsKnown (operand (verdict s e))
+pub value_known : (s : Scope) (e : Expr) → Tells s (in_expr false e) → faults s e ≡ [] → operand_broken e (verdict s e) ≡ [] → IsKnown (operand (verdict s e))
 value_known s e h none unbroken = operand_known e (verdict s e) (settle s false e h none) unbroken
 
 pub faultless_known : (s : Scope) (e : Expr) → Finds s (map (λ (u : Used). u.0) (in_expr false e)) → faults s e ≡ [] → IsKnown (fine (verdict s e))

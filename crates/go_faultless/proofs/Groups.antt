@@ -37,7 +37,7 @@ AllOf P (x ∷ xs) = P x × AllOf P xs
 
 -- ---- what the rule says of its values
 
-constant_parts : (ns : List Name) (t : Option Type') (es : List typed.Expr) (a b : Bool) → list_all is_constant es ≡ a → nat_eq (length ns) (length es) ≡ b → IsKnown (fine (constants_of ns t es))
+pub constant_parts : (ns : List Name) (t : Option Type') (es : List typed.Expr) (a b : Bool) → list_all is_constant es ≡ a → nat_eq (length ns) (length es) ≡ b → IsKnown (fine (constants_of ns t es))
     → (list_all is_constant es ≡ true) × (length ns ≡ length es) × IsKnown (fine (constants_source ns t es))
 constant_parts ns t es false b x y k = absurd (let r : fine (constants_of ns t es) ≡ None = rw x refl in cc)
 constant_parts ns t es true false x y k = absurd (let r : fine (constants_of ns t es) ≡ None = rw (x, y) refl in cc)
@@ -56,7 +56,7 @@ none_least : (ks : List FaultKind) → least ks ≡ None → ks ≡ []
 none_least [] h = refl
 none_least (k ∷ ks) h = absurd (some_least k (least ks) h)
 
-none_wrong : {A : Type 0} (vs : List (Verdict A)) (o : Option FaultKind) → least (flat_map wrong vs) ≡ o → IsKnown (fine (each_unless [] vs)) → flat_map wrong vs ≡ []
+pub none_wrong : {A : Type 0} (vs : List (Verdict A)) (o : Option FaultKind) → least (flat_map wrong vs) ≡ o → IsKnown (fine (each_unless [] vs)) → flat_map wrong vs ≡ []
 none_wrong vs None at k = none_least (flat_map wrong vs) at
 none_wrong vs (Some kind) at k = absurd (let r : fine (each_unless [] vs) ≡ None = rw (at, each_unless) refl in cc)
 
@@ -67,7 +67,7 @@ suited_parts due es true is k =
     none_wrong (map suited_one (zip due es)) (least (flat_map wrong (map suited_one (zip due es)))) refl
     (through_known (λ es. each (typed.pack_exprs es)) (each_unless [] (map suited_one (zip due es))) (subst (λ v. IsKnown (fine v)) r k))
 
-right : {A : Type 0} (v : Verdict A) → IsAsked v → (rest : List FaultKind) → wrong v ++ rest ≡ [] → IsKnown (fine v) × (rest ≡ [])
+pub right : {A : Type 0} (v : Verdict A) → IsAsked v → (rest : List FaultKind) → wrong v ++ rest ≡ [] → IsKnown (fine v) × (rest ≡ [])
 right (Fine x) h rest none = ((x, refl), none)
 right (Breaks kind) h rest none = absurd cc
 right Passed h rest none = absurd h

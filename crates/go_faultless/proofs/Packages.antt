@@ -16,18 +16,18 @@ use Rattle.go_faultless.specs.Locals.{IsLocalBlock}
 use Rattle.go_faultless.proofs.Faultless.{two_none}
 use Rattle.go_faultless.proofs.Functions.{function_known}
 
-abbrev Entries : Type 0
+abbrev pub Entries : Type 0
 Entries = List (List ℕ × Verdict Known)
 
-abbrev AllTold : Entries → Type 0
+abbrev pub AllTold : Entries → Type 0
 AllTold [] = Unit {0}
 AllTold (n ∷ ns) = IsTold n.1 × AllTold ns
 
-more : (ns ms : Entries) → AllTold ns → AllTold ms → AllTold (ns ++ ms)
+pub more : (ns ms : Entries) → AllTold ns → AllTold ms → AllTold (ns ++ ms)
 more [] ms h k = k
 more (n ∷ ns) ms h k = (h.0, more ns ms h.1 k)
 
-found : (ns : Entries) → AllTold ns → (x : List ℕ) → IsTold (look_up x ns)
+pub found : (ns : Entries) → AllTold ns → (x : List ℕ) → IsTold (look_up x ns)
 found [] h x = tt
 found ((y, v) ∷ ns) h x = elim (cases_Bool (bytes_eq x y)) [ inl is ↦ rw is h.0 | inr not_so ↦ rw not_so (found ns h.1 x) ]
 
@@ -39,14 +39,14 @@ others_told : (xs : List (List ℕ)) → AllTold (map (λ x. (x, Breaks LeftOut)
 others_told [] = tt
 others_told (x ∷ xs) = (tt, others_told xs)
 
-universe_told : AllTold universe
+pub universe_told : AllTold universe
 unfolding universe
 universe_told =
     let types : Entries = map (λ (t : List ℕ × Basic). (t.0, Fine (declared (type' (basic t.1))))) basic_types in
     let rest : Entries = map (λ (x : List ℕ). (x, Breaks LeftOut)) left_out in
     more (types ++ rest) others (more types rest (types_told basic_types) (others_told left_out)) (tt, (tt, (tt, (tt, tt))))
 
-iota_told : (iota : Option ℕ) → AllTold (iota_of iota)
+pub iota_told : (iota : Option ℕ) → AllTold (iota_of iota)
 iota_told None = tt
 iota_told (Some n) = (tt, tt)
 
@@ -59,7 +59,7 @@ names_told [] h = tt
 names_told ((x, None) ∷ ns) h = absurd (let k = h.0 in cc)
 names_told ((x, Some d) ∷ ns) h = (tt, names_told ns h.1)
 
-outside_told : (t : Facts) (file : ℕ) → AreWhole (imports_at t.package file) → AreKnown t.known → (iota : Option ℕ) (x : List ℕ) → IsTold (look_up x (scope_at t.package t.known file iota).names)
+pub outside_told : (t : Facts) (file : ℕ) → AreWhole (imports_at t.package file) → AreKnown t.known → (iota : Option ℕ) (x : List ℕ) → IsTold (look_up x (scope_at t.package t.known file iota).names)
 outside_told t file whole known iota x =
     let imports = map (λ (i : List ℕ × Names). (i.0, Fine (package' i.1))) (imports_at t.package file) in
     let names = map (λ n. (n.0, named n.1)) t.known in

@@ -14,7 +14,7 @@ use Rattle.go_typed.specs.declared.expression.Operator.TheVariants.{Arithmetic, 
 use Rattle.go_typed.specs.Trees.{Expr, call, binary, expr_type, here, Stmt, pack_stmts}
 use Rattle.go_expr.specs.Known.{Declared, value, Known, declared, results as call_results, printed, panicked, Verdict, Fine, Breaks, Passed}
 use Rattle.go_expr.specs.Rules.{lesser, least, wrong, each_unless, value_due, is_integer, condition, binary_of}
-use Rattle.go_stmt.specs.Terminating.{list_terminates}
+use Rattle.go_typed.specs.Terminating.{list_terminates}
 use Rattle.go_stmt.specs.Rules.{all_some, Values, separate, together as results_of, no_values, values_of, suited_one, takes, suited, is_constant, constants_source, constants_of, are_none, variables_source, differ, is_new, due_for, redefined, performed, left_to, left_side, assigned_to, is_left, updating, updated, stepped, conditional, loop_condition, looped, counted, is_blank_name, ranged, Clause, case_value, case_values, clause_of, switched, branch, returned, ended}
 use Rattle.go_faultless.proofs.Rules.{IsAsked, through, together, values_due, defaults, conditions, binaries}
 

@@ -1,0 +1,61 @@
+-- A typed package that leaves out nothing that its files declare.
+use Rattle.std.specs.Prelude.{◌≡◌, ℕ, Bool, true, false, not, bytes_eq, codes, List, [], ◌∷◌, Option, map}
+use Rattle.std.specs.List.{filter, flat_map}
+use Rattle.go_ast.specs.Parse.{IsParse, Derived}
+use Rattle.go_ast.specs.Trees.{no_exprs, some_exprs, VarSpec, variables, TopLevel, declared, function, File}
+use Rattle.go_typed.specs.Trees as typed
+use Rattle.go_objects.specs.Objects.{Form, constant, type', typed_variable, valued_variable, result_variable, Object, objects_from}
+use Rattle.go_objects.specs.Table.{own_names}
+use Rattle.go_package.specs.Typed.{own_name}
+
+-- some text is parsed to each file
+abbrev pub AreParsed : List File → Type 0
+AreParsed [] = Unit {0}
+AreParsed (f ∷ fs) = ((text : List ℕ) × IsParse text (Derived f)) × AreParsed fs
+
+-- ---- objects by their forms
+
+abbrev pub is_constant : Form → Bool
+is_constant form = elim form [ constant t e iota ↦ true | _ ↦ false ]
+
+abbrev pub is_type : Form → Bool
+is_type form = elim form [ type' t ↦ true | _ ↦ false ]
+
+abbrev pub is_variable : Form → Bool
+is_variable form = elim form [ typed_variable t ↦ true | valued_variable e ↦ true | result_variable number count e ↦ true | _ ↦ false ]
+
+-- the names of such objects
+abbrev pub objects_named : (Form → Bool) → List Object → List (List ℕ)
+objects_named is os = map (λ (o : Object). o.name.text) (filter (λ (o : Object). is o.form) os)
+
+-- an object whose name isn't blank
+abbrev pub is_named : Object → Bool
+is_named o = not (bytes_eq o.name.text (codes "_"))
+
+-- all that files declare, in the order of the text, but the blank names
+abbrev pub declared_by : List File → List Object
+declared_by files = filter is_named (objects_from 0 files)
+
+-- ---- declarations
+
+abbrev pub in_files : {A : Type 0} → (TopLevel → List A) → List File → List A
+in_files of files = flat_map (λ (f : File). flat_map of f.declarations) files
+
+-- the name of a function, unless it is blank
+abbrev pub function_names : TopLevel → List (List ℕ)
+function_names top = elim top [ function f ↦ own_names (f.name ∷ []) | _ ↦ [] ]
+
+-- variables that get values where they are declared; a blank one has no name
+abbrev pub valued : VarSpec → List (Option (List ℕ))
+valued s = elim s.values [ no_exprs ↦ [] | some_exprs e es ↦ map own_name s.names ]
+
+abbrev pub valued_in : TopLevel → List (Option (List ℕ))
+valued_in top = elim top [ declared (variables p ss) ↦ flat_map valued ss | _ ↦ [] ]
+
+-- each constant, type and variable that the files declare, the initialization of each variable that gets a value, and each function
+pub record IsWhole (files : List File) (p : typed.Package) : Type 0 where
+  pub constants : map (λ c. c.0) p.constants ≡ objects_named is_constant (declared_by files)
+  pub types : map (λ t. t.0) p.types ≡ objects_named is_type (declared_by files)
+  pub variables : map (λ (v : typed.Variable). v.name) p.variables ≡ objects_named is_variable (declared_by files)
+  pub initializations : flat_map (λ (i : typed.Initialization). i.variables) p.initializations ≡ in_files valued_in files
+  pub functions : map (λ (f : typed.Function). f.name) p.functions ≡ in_files function_names files
