@@ -1,0 +1,83 @@
+-- What the checker may know of names and expressions, so that the trees that it makes of them are well typed.
+use Rattle.std.specs.Prelude.{◌≡◌, ℕ, nat_le, bytes_eq, Bool, true, false, List, [], ◌∷◌, Option, Some, None, ◌⊎◌}
+use Rattle.std.specs.Map.{lookup}
+use Rattle.go_const.specs.declared.constant.Const.{Const}
+use Rattle.go_const.specs.declared.constant.Const.TheVariants.{Integer, Text, Bool as Truth}
+use Rattle.go_types.specs.declared.types.Basic.TheVariants as basics
+use Rattle.go_types.specs.declared.types.Untyped.{Untyped}
+use Rattle.go_types.specs.declared.types.Untyped.TheVariants as kinds
+use Rattle.go_types.specs.Types.{Type', basic, array, struct, named, Fields, no_fields, field}
+use Rattle.go_types.specs.Relations.{underlying}
+use Rattle.go_types.specs.Sizes.{cells}
+use Rattle.go_typed.specs.Trees.{Expr, constant, expr_type}
+use Rattle.go_meaning.specs.Meaning.{most_cells}
+use Rattle.go_sound.specs.WellTyped.{Setting, is_typed, is_text, is_string, IsCall, IsExpr, AreExprs, exprs_types}
+use Rattle.go_expr.specs.Known.{Declared, value, type', function, Names, Known, declared, package', results, printed, panicked, Fine, Scope, look_up}
+use Rattle.go_expr.specs.Rules.{constant_in}
+
+-- what each declared type is declared as, by its package's path and its name
+abbrev pub Table : Type 0
+Table = List ℕ → List ℕ → Option Type'
+
+-- ---- types: typed in all their parts, no larger than types may be, each declared type as it is declared
+
+abbrev mutual
+  pub IsSoundType : Table → Type' → Type 0
+  IsSoundType w (basic b) = is_typed b ≡ true
+  IsSoundType w (array n t) = (nat_le n 65536 ≡ true) × (nat_le (cells (array n t)) most_cells ≡ true) × IsSoundType w t
+  IsSoundType w (struct fs) = (nat_le (cells (struct fs)) most_cells ≡ true) × AreSoundFields w fs
+  IsSoundType w (named path name t) = (w path name ≡ Some t) × IsSoundType w t
+
+  pub AreSoundFields : Table → Fields → Type 0
+  AreSoundFields w no_fields = Unit {0}
+  AreSoundFields w (field path name t fs) = IsSoundType w t × AreSoundFields w fs
+
+abbrev pub AreSoundTypes : Table → List Type' → Type 0
+AreSoundTypes w [] = Unit {0}
+AreSoundTypes w (t ∷ ts) = IsSoundType w t × AreSoundTypes w ts
+
+-- ---- values
+
+-- https://go.dev/ref/spec#Constants
+-- a constant without a type is one of its kind
+abbrev pub is_of_kind : Untyped → Const → Bool
+is_of_kind kinds.Bool (Truth b) = true
+is_of_kind kinds.Int (Integer z) = true
+is_of_kind kinds.Rune (Integer z) = true
+is_of_kind kinds.String (Text text) = is_text text
+is_of_kind kind c = false
+
+abbrev pub IsUntypedConstant : Expr → Type 0
+IsUntypedConstant e = (kind : Untyped) × (c : Const) × (e ≡ constant (basic (basics.Untyped kind)) c) × (is_of_kind kind c ≡ true)
+
+-- well typed, and of a sound type
+abbrev pub IsTypedValue : Table → Setting → List ℕ → Expr → Type 0
+IsTypedValue w g d e = IsExpr g d e × IsSoundType w (expr_type e)
+
+-- the truth value of a comparison, which has no type yet
+abbrev pub IsComparison : Setting → List ℕ → Expr → Type 0
+IsComparison g d e = IsExpr g d e × (expr_type e ≡ basic (basics.Untyped kinds.Bool)) × (constant_in e ≡ None)
+
+abbrev pub IsSoundValue : Table → Setting → List ℕ → Expr → Type 0
+IsSoundValue w g d e = IsUntypedConstant e ⊎ IsTypedValue w g d e ⊎ IsComparison g d e
+
+-- ---- names
+
+abbrev pub IsSoundDeclared : Table → Setting → List ℕ → Declared → Type 0
+IsSoundDeclared w g d (value e) = IsSoundValue w g d e
+IsSoundDeclared w g d (type' t) = IsSoundType w t
+IsSoundDeclared w g d (function s ts rs) = IsCall g s ts rs × AreSoundTypes w ts × AreSoundTypes w rs
+IsSoundDeclared w g d k = Unit {0}
+
+abbrev pub AreSoundNames : Table → Setting → List ℕ → Names → Type 0
+AreSoundNames w g d names = (x : List ℕ) (k : Declared) → lookup (bytes_eq x) names ≡ Some (Some k) → IsSoundDeclared w g d k
+
+abbrev pub IsSoundKnown : Table → Setting → List ℕ → Known → Type 0
+IsSoundKnown w g d (declared k) = IsSoundDeclared w g d k
+IsSoundKnown w g d (package' names) = AreSoundNames w g d names
+IsSoundKnown w g d (results ts s es) = AreExprs g d es × IsCall g s (exprs_types es) ts × AreSoundTypes w ts
+IsSoundKnown w g d (printed es) = AreExprs g d es
+IsSoundKnown w g d (panicked e) = IsExpr g d e × (is_string (underlying (expr_type e)) ≡ true)
+
+abbrev pub IsSoundScope : Table → Setting → List ℕ → Scope → Type 0
+IsSoundScope w g d s = (x : List ℕ) (k : Known) → look_up x s.names ≡ Fine k → IsSoundKnown w g d k

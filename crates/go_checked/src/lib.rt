@@ -1,0 +1,4 @@
+//! What the checker accepts is well typed.
+#![tactic(auto)]
+
+pub mod law;
