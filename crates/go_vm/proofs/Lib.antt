@@ -1,5 +1,9 @@
 pub mod Coming
+pub mod Decoding
 pub mod Handed
+pub mod Pushing
 pub mod Rows
+pub mod Settled
+pub mod Sinks
 pub mod Together
 pub mod Views

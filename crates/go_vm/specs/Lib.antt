@@ -4,3 +4,5 @@ pub mod Outcomes
 pub mod Told
 pub mod View
 pub mod Ahead
+pub mod Trees
+pub mod Coming

@@ -1,5 +1,5 @@
 //! The machine: what one instruction does, and how a start step begins.
-ghost use Rattle.std.specs.Prelude.{◌≡◌, IfOk, MatchOption, slice_get, Some, None};
+ghost use Rattle.std.specs.Prelude.{◌≡◌, IfOk, Some};
 ghost use Rattle.go_code.specs.declared.image.Start.TheVariants.{Function as Run};
 ghost use Rattle.go_code.specs.declared.instr.CallInstr.TheVariants.{Call, Return};
 ghost use Rattle.go_code.specs.declared.instr.OutputInstr.TheVariants.{Print, Panic};
@@ -9,10 +9,9 @@ ghost use Rattle.go_vm.specs.Told.{Does, Opens};
 use crate::frames::Frames;
 use crate::inside::{obey_frame, obey_global, obey_jump, obey_local, obey_operator, obey_part};
 use crate::line::push_line;
+use crate::program::Program;
 use go_cells::slot::Slot;
 use go_code::ending::{Ending, PanicKind};
-use go_code::function::Function;
-use go_code::image::{Image, Start};
 use go_code::instr::{CallInstr, Instr, OutputInstr};
 use std::alloc::{AllocError, Global};
 
@@ -57,14 +56,6 @@ pub(crate) enum Begun<'a> {
     Leaves(Exit),
 }
 
-/// A function of an image, by its number.
-#[inline(always)]
-fn find(image: &Image, number: usize) -> Option<&Function<usize>>
-    ensures { MatchOption result (slice_get image.now.functions number ≡ None) (λ f. slice_get image.now.functions number ≡ Some f.now) }
-{
-    image.functions().get(number)
-}
-
 fn print_top(frames: &mut Frames<'_>, world: &mut World, count: usize) -> Result<Flow, AllocError>
     ensures { IfOk result (λ flow. Does (output_step (Print count)) frames.old world.old flow frames.new world.new) }
 {
@@ -81,12 +72,12 @@ fn print_top(frames: &mut Frames<'_>, world: &mut World, count: usize) -> Result
 fn call_function<'a>(
     frames: &mut Frames<'a>,
     world: &mut World,
-    image: &'a Image,
+    image: &'a Program<'a>,
     number: usize,
 ) -> Result<Flow, AllocError>
     ensures { IfOk result (λ flow. Does (call_step image.now (Call number)) frames.old world.old flow frames.new world.new) }
 {
-    let Some(function) = find(image, number) else {
+    let Some(function) = image.function(number) else {
         return Ok(Flow::Leaves(Exit::BadCode));
     };
     if function.parameters() > function.cells() || function.parameters() > frames.height() {
@@ -104,7 +95,7 @@ fn call_function<'a>(
 }
 
 #[inline(always)]
-fn return_top(frames: &mut Frames<'_>, world: &World, image: &Image, count: usize) -> Flow
+fn return_top(frames: &mut Frames<'_>, world: &World, image: &Program<'_>, count: usize) -> Flow
     ensures { Does (call_step image.now (Return count)) frames.old world.now result frames.new world.now }
 {
     if count > frames.height() {
@@ -149,7 +140,7 @@ fn obey_output(
 fn obey_call<'a>(
     frames: &mut Frames<'a>,
     world: &mut World,
-    image: &'a Image,
+    image: &'a Program<'a>,
     instr: &CallInstr<usize>,
 ) -> Result<Flow, AllocError>
     ensures { IfOk result (λ flow. Does (call_step image.now instr.now) frames.old world.old flow frames.new world.new) }
@@ -166,7 +157,7 @@ fn perform<'a>(
     alloc: Global,
     frames: &mut Frames<'a>,
     world: &mut World,
-    image: &'a Image,
+    image: &'a Program<'a>,
     instr: &Instr<usize>,
 ) -> Result<Flow, AllocError>
     ensures { IfOk result (λ flow. Does (λ s f callers. act image.now s f callers (Some instr.now)) frames.old world.old flow frames.new world.new) }
@@ -189,7 +180,7 @@ pub(crate) fn one_step<'a>(
     alloc: Global,
     frames: &mut Frames<'a>,
     world: &mut World,
-    image: &'a Image,
+    image: &'a Program<'a>,
 ) -> Result<Flow, AllocError>
     ensures { IfOk result (λ flow. Does (λ s newest callers. step image.now s) frames.old world.old flow frames.new world.new) }
 {
@@ -201,15 +192,15 @@ pub(crate) fn one_step<'a>(
 
 /// A function is called by no frame.
 #[tactic(auto, unfolding(go_code::specs::Machine::most_open))]
-fn begin_function<'a>(
+pub(crate) fn begin_function<'a>(
     alloc: Global,
     world: &mut World,
-    image: &'a Image,
+    image: &'a Program<'a>,
     number: usize,
 ) -> Result<Begun<'a>, AllocError>
     ensures { IfOk result (λ begun. Opens image.now (Run number) world.old begun world.new) }
 {
-    let Some(function) = find(image, number) else {
+    let Some(function) = image.function(number) else {
         return Ok(Begun::Leaves(Exit::BadCode));
     };
     if function.parameters() > 0 {
@@ -221,23 +212,4 @@ fn begin_function<'a>(
     let frames = Frames::open(alloc, 1, function.code(), function.cells())?;
     world.ticks -= 1;
     Ok(Begun::Open(frames))
-}
-
-/// A start step begins: a setup's frame is opened, or a function is called. An `Err` only where
-/// memory ran out.
-pub(crate) fn begin<'a>(
-    alloc: Global,
-    world: &mut World,
-    image: &'a Image,
-    start: &'a Start,
-) -> Result<Begun<'a>, AllocError>
-    ensures { IfOk result (λ begun. Opens image.now start.now world.old begun world.new) }
-{
-    match start {
-        Start::Setup(setup) => {
-            let frames = Frames::open(alloc, 0, setup.code(), setup.cells())?;
-            Ok(Begun::Open(frames))
-        }
-        Start::Function(number) => begin_function(alloc, world, image, *number),
-    }
 }

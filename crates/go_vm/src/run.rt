@@ -2,18 +2,22 @@
 ghost use Rattle.std.specs.Prelude.{◌≡◌, ◌∷◌, true, false, IfOk, MatchOption};
 ghost use Rattle.std.specs.List.{list_all};
 ghost use Rattle.go_code.specs.Lines.{cell_fits};
+ghost use Rattle.go_code.specs.declared.image.Start.TheVariants.{Setup as Set_up, Function as Run};
 ghost use Rattle.go_vm.specs.Ahead.{Advances};
 ghost use Rattle.go_vm.specs.Answers.{Answers, AnswersFrom};
 ghost use Rattle.go_vm.specs.Told.{state_of, between, IsLeft};
 ghost use Rattle.go_vm.specs.declared.run.RunError.TheVariants.{Memory};
 
 use crate::ahead::obey_ahead;
+use crate::decode::Coded;
 use crate::frames::Frames;
-use crate::machine::{Begun, Exit, Flow, World, begin, one_step};
+use crate::machine::{Begun, Exit, Flow, World, begin_function, one_step};
+use crate::program::Program;
 use go_cells::slot::Slot;
 use go_code::cell::Cell;
 use go_code::ending::Ending;
 use go_code::image::{Image, Start};
+use go_code::setup::Setup;
 use std::alloc::{AllocError, Global};
 use std::marker::Model;
 use thiserror::Error;
@@ -75,11 +79,11 @@ fn advance<'a>(
     alloc: Global,
     frames: &mut Frames<'a>,
     world: &mut World,
-    image: &'a Image,
+    image: &'a Program<'a>,
 ) -> Result<Flow, AllocError>
     ensures { IfOk result (λ flow. Advances image.now frames.old world.old flow frames.new world.new) }
 {
-    if obey_ahead(frames)? {
+    if obey_ahead(frames, &mut world.ticks)? {
         return Ok(Flow::GoesOn);
     }
     one_step(alloc, frames, world, image)
@@ -90,7 +94,7 @@ fn finish<'a>(
     alloc: Global,
     mut frames: Frames<'a>,
     world: &mut World,
-    image: &'a Image,
+    image: &'a Program<'a>,
 ) -> Result<Exit, AllocError>
     ensures { IfOk result (λ exit. IsLeft image.now (λ starts. state_of frames.entry starts world.old) exit world.new) }
 {
@@ -102,18 +106,47 @@ fn finish<'a>(
     }
 }
 
+/// Runs a setup until it is left.
+fn run_setup(
+    alloc: Global,
+    world: &mut World,
+    image: &Program<'_>,
+    setup: &Setup<usize>,
+) -> Result<Exit, AllocError>
+    ensures { IfOk result (λ exit. IsLeft image.now (λ starts. between (Set_up setup.now ∷ starts) world.old) exit world.new) }
+{
+    let code = Coded::new(alloc, setup.code())?;
+    let frames = Frames::open(alloc, 0, &code, setup.cells())?;
+    finish(alloc, frames, world, image)
+}
+
+/// Runs a function that no frame calls until it is left.
+fn run_function(
+    alloc: Global,
+    world: &mut World,
+    image: &Program<'_>,
+    number: usize,
+) -> Result<Exit, AllocError>
+    ensures { IfOk result (λ exit. IsLeft image.now (λ starts. between (Run number ∷ starts) world.old) exit world.new) }
+{
+    match begin_function(alloc, world, image, number)? {
+        Begun::Open(frames) => finish(alloc, frames, world, image),
+        Begun::Leaves(exit) => Ok(exit),
+    }
+}
+
 /// Runs a start step until it is left.
 fn run_start(
     alloc: Global,
     world: &mut World,
-    image: &Image,
+    image: &Program<'_>,
     start: &Start,
 ) -> Result<Exit, AllocError>
     ensures { IfOk result (λ exit. IsLeft image.now (λ starts. between (start.now ∷ starts) world.old) exit world.new) }
 {
-    match begin(alloc, world, image, start)? {
-        Begun::Open(frames) => finish(alloc, frames, world, image),
-        Begun::Leaves(exit) => Ok(exit),
+    match start {
+        Start::Setup(setup) => run_setup(alloc, world, image, setup),
+        Start::Function(number) => run_function(alloc, world, image, *number),
     }
 }
 
@@ -133,10 +166,14 @@ fn slots_of(alloc: Global, cells: &[Cell]) -> Result<Option<Vec<Slot>>, AllocErr
 }
 
 /// Runs the start steps, one behind the other.
-fn run_starts(alloc: Global, image: &Image, mut world: World) -> Result<Outcome, RunError>
-    ensures { AnswersFrom image.now (between image.now.starts world) result }
+fn run_starts(
+    alloc: Global,
+    image: &Program<'_>,
+    starts: &[Start],
+    mut world: World,
+) -> Result<Outcome, RunError>
+    ensures { AnswersFrom image.now (between starts.now world) result }
 {
-    let starts = image.starts();
     for start in starts {
         match run_start(alloc, &mut world, image, start)? {
             Exit::Returned => {}
@@ -161,7 +198,8 @@ pub fn run(alloc: Global, image: &Image, ticks: u64) -> Result<Outcome, RunError
         ticks,
         output: Vec::new(alloc),
     };
-    run_starts(alloc, image, world)
+    let program = Program::new(alloc, image)?;
+    run_starts(alloc, &program, image.starts(), world)
 }
 
 fn outcome_of(ending: Ending, world: World) -> Outcome

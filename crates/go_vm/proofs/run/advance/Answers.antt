@@ -2,7 +2,8 @@ use Rattle.std.proofs.Common.{◌≡◌, true, false, subst}
 use Rattle.std.proofs.lemmas.Result.{IfOk-weaker}
 use Rattle.go_code.specs.Images.{Image}
 use Rattle.go_code.specs.Machine.{State, step}
-use Rattle.go_vm.specs.Ahead.{Went, by_one, Obeyed}
+use Rattle.go_vm.specs.Ahead.{Went, Obeyed}
+use Rattle.go_vm.specs.Coming.{by_one}
 use Rattle.go_vm.specs.Open.{Open}
 use Rattle.go_vm.specs.Told.{state_of, told}
 use Rattle.go_vm.specs.declared.machine.Flow.{Flow}
@@ -15,13 +16,22 @@ went image s t (Leaves exit) e = e
 
 pub returns-then-branch : goal.returns-then-branch
 returns-then-branch c =
-    let obeyed : Obeyed true c.args.frames.now c.obey_ahead.new.frames = subst (λ b. Obeyed b c.args.frames.now c.obey_ahead.new.frames) c.if-branch.true c.in_ok-obey_ahead.ensures in
+    let o = c.args.frames.now in
+    let p = c.obey_ahead.new.frames in
+    let t = c.args.world.now.ticks in
+    let u = c.obey_ahead.new.ticks in
+    let obeyed : Obeyed true o t p u = subst (λ b. Obeyed b o t p u) c.if-branch.true c.in_ok-obey_ahead.ensures in
     λ starts. obeyed c.args.image.now starts c.args.world.now
 
 pub returns : goal.returns
 returns c =
-    let same : Obeyed false c.args.frames.now c.obey_ahead.new.frames = subst (λ b. Obeyed b c.args.frames.now c.obey_ahead.new.frames) c.if-branch.false c.in_ok-obey_ahead.ensures in
+    let old = c.args.frames.now in
+    let p = c.obey_ahead.new.frames in
+    let w = c.args.world.now in
+    let u = c.obey_ahead.new.ticks in
+    let same : Obeyed false old w.ticks p u = subst (λ b. Obeyed b old w.ticks p u) c.if-branch.false c.in_ok-obey_ahead.ensures in
     IfOk-weaker c.one_step.result _ _
     (λ flow h starts.
-    subst (λ (o : Open). Went c.args.image.now (state_of o starts c.args.world.now) flow (state_of c.one_step.new.frames starts c.one_step.new.world)) same
-    (went c.args.image.now (state_of c.obey_ahead.new.frames starts c.args.world.now) (state_of c.one_step.new.frames starts c.one_step.new.world) flow (h starts))) c.one_step.ensures
+    subst (λ (o : Open). Went c.args.image.now (state_of o starts w) flow (state_of c.one_step.new.frames starts c.one_step.new.world)) same.0
+    (subst (λ t. Went c.args.image.now (state_of p starts (record w { ticks = t })) flow (state_of c.one_step.new.frames starts c.one_step.new.world)) same.1
+    (went c.args.image.now (state_of p starts (record w { ticks = u })) (state_of c.one_step.new.frames starts c.one_step.new.world) flow (h starts)))) c.one_step.ensures
