@@ -1,0 +1,72 @@
+//! Why files give no image.
+ghost use Rattle.std.specs.Prelude.{◌≡◌};
+ghost use Rattle.go_program.specs.Told.{of_checker, of_linker};
+ghost use Rattle.go_program.specs.declared.error.ProgramError.TheVariants.{Memory};
+
+use go_decl::error::DeclError;
+use go_link::link::LinkError;
+use go_text::fault::FaultKind;
+use go_text::place::Place;
+use std::alloc::{AllocError, AllocFailed};
+use thiserror::Error;
+
+/// Why the files of a package give no image.
+#[derive(Debug, Drop, Error)]
+pub enum ProgramError {
+    /// The package has a fault, of which this is the first: the number of its file, where in the
+    /// file, and of which kind.
+    #[error("the package has a fault")]
+    Faulty(usize, Place, FaultKind),
+    /// A variable of the package has an initial value, or the package has a function init: these
+    /// aren't compiled yet.
+    #[error("initial values of package variables and init functions aren't compiled yet")]
+    Initialized,
+    /// The package isn't a program: its name is not main, or it has no function main.
+    #[error("no main")]
+    NoMain,
+    /// A call goes to a function that the package doesn't have.
+    #[error("a name is missing")]
+    NameMissing,
+    /// Memory ran out.
+    #[error("out of memory")]
+    Memory,
+}
+
+impl From<DeclError> for ProgramError {
+    ghost from_gives = { λ from e. e ≡ of_checker from };
+
+    fn from(e: DeclError) -> ProgramError {
+        match e {
+            DeclError::Faulty(file, place, kind) => ProgramError::Faulty(file, place, kind),
+            DeclError::Memory => ProgramError::Memory,
+        }
+    }
+}
+
+impl From<LinkError> for ProgramError {
+    ghost from_gives = { λ from e. e ≡ of_linker from };
+
+    fn from(e: LinkError) -> ProgramError {
+        match e {
+            LinkError::NoMain => ProgramError::NoMain,
+            LinkError::NameMissing => ProgramError::NameMissing,
+            LinkError::Memory => ProgramError::Memory,
+        }
+    }
+}
+
+impl<T: Drop> From<AllocFailed<T>> for ProgramError {
+    ghost from_gives = { λ _ e. e ≡ Memory };
+
+    fn from(_e: AllocFailed<T>) -> ProgramError {
+        ProgramError::Memory
+    }
+}
+
+impl From<AllocError> for ProgramError {
+    ghost from_gives = { λ _ e. e ≡ Memory };
+
+    fn from(_e: AllocError) -> ProgramError {
+        ProgramError::Memory
+    }
+}

@@ -1,0 +1,166 @@
+#!/usr/bin/env python3
+"""Makes the table of programs of the crate go_program_tests, and what each prints, by Go itself.
+
+    python3 tests/programs/make.py           says which rows of the kept table differ from what is made here
+    python3 tests/programs/make.py --write   writes the crate's stdin and stdout
+
+A row is a line with a name and a number of ticks, the text of one Go file, and a line `----`. Rows come from rows/, from
+templates for each integer type (templates.py), and from three programs that are cut at every tick (ticks.py).
+
+What a row's program prints is what Go prints: the row is built and run by the `go` that is installed, which is to be Go
+1.19 or later, and its end is told in this project's words. Two things are rewritten for a Go before 1.22: a range over
+an integer becomes a loop of three parts over a copy, as the specification of 1.22 defines it. Where Go can't be asked,
+for a limit of this project or for a form that is left out, the row has a line `==== WHY` behind its program, and what
+is wanted was worked out by hand; where that is a fault of the language itself, Go must refuse the program too.
+"""
+import concurrent.futures
+import os
+import re
+import subprocess
+import sys
+import tempfile
+
+import templates
+import ticks
+
+HERE = os.path.dirname(os.path.abspath(__file__))
+CRATE = os.path.join(os.path.dirname(os.path.dirname(HERE)), "crates", "go_program_tests")
+ROWS = os.path.join(HERE, "rows")
+END = "----\n"
+REFUSED = "?? Go refuses it"
+# How a Go program says that it panicked, and the word for that here.
+PANICS = [
+    (re.compile(r"panic: runtime error: index out of range"), "panicked index\n"),
+    (re.compile(r"panic: runtime error: integer divide by zero"), "panicked divide\n"),
+    (re.compile(r"panic: runtime error: negative shift amount"), "panicked shift\n"),
+]
+USER = re.compile(r"\Apanic: (.*?)\n\ngoroutine 1 ", re.DOTALL)
+COUNTED = re.compile(r"for (?:(\w+) := )?range (.+) \{$", re.MULTILINE)
+INTEGERS = "~int | ~int8 | ~int16 | ~int32 | ~int64 | ~uint | ~uint8 | ~uint16 | ~uint32 | ~uint64"
+
+
+class Row:
+    """A program with its name and its ticks; what is wanted, where Go isn't asked."""
+
+    def __init__(self, name, limit, text, wanted=None, why=""):
+        self.name, self.limit, self.text, self.wanted, self.why = name, limit, text, wanted, why
+
+    def is_no_go(self):
+        """Whether Go is to refuse it too: a fault that isn't one of this project alone."""
+        return self.wanted is not None and self.wanted.startswith("fault") and not re.search("left out|this project", self.why)
+
+    def stdin(self):
+        return f"{self.name} {self.limit}\n{self.text}{END}"
+
+    def stdout(self, wanted):
+        return f"{self.name}\n{wanted}"
+
+
+def row_of(text):
+    """The row that a text is, whose header is first."""
+    header, program = text.split("\n", 1)
+    name, limit = header.split(" ")
+    if "\n==== " not in program:
+        return Row(name, limit, program)
+    program, behind = program.split("\n==== ", 1)
+    why, wanted = behind.split("\n", 1)
+    return Row(name, limit, program + "\n", wanted, why)
+
+
+def kept_rows():
+    rows = []
+    for name in sorted(os.listdir(ROWS)):
+        with open(os.path.join(ROWS, name), encoding="utf-8") as file:
+            rows += [row_of(text) for text in file.read().split(END) if text]
+    return rows
+
+
+def all_rows():
+    rows = kept_rows()
+    rows += [Row(name, 100000, text) for name, text in templates.programs()]
+    rows += [Row(name, limit, text, wanted) for name, limit, text, wanted in ticks.programs()]
+    names = [row.name for row in rows]
+    twice = {name for name in names if names.count(name) > 1}
+    if twice:
+        sys.exit(f"two rows of a name: {twice}")
+    return rows
+
+
+def counted(match):
+    """A loop of three parts over a copy, for a range over an integer."""
+    name, bound = match.group(1) or "turn", match.group(2)
+    start = f"for {name}_, {name}_end := upTo({bound}); {name}_ < {name}_end; {name}_++ {{"
+    return start + (f"\n{name} := {name}_\n_ = {name}" if match.group(1) else "")
+
+
+def for_old_go(text):
+    """The program, with loops in place of ranges over integers."""
+    changed, count = COUNTED.subn(counted, text)
+    if count == 0:
+        return text
+    return changed + f"\nfunc upTo[T {INTEGERS}](n T) (T, T) {{ return 0, n }}\n"
+
+
+def ending(ran):
+    """How a program ended, in this project's words."""
+    if ran.returncode == 0:
+        return "ended\n"
+    errors = ran.stderr.decode()
+    for pattern, told in PANICS:
+        if pattern.match(errors):
+            return told
+    user = USER.match(errors)
+    return f"panicked user {user.group(1)}\n" if user else f"?? {errors}\n"
+
+
+def go_told(row, folder):
+    """What Go says of a row."""
+    place = os.path.join(folder, row.name)
+    os.mkdir(place)
+    with open(os.path.join(place, "main.go"), "w", encoding="utf-8") as file:
+        file.write(for_old_go(row.text))
+    env = {**os.environ, "GO111MODULE": "off", "GOFLAGS": "-p=1"}
+    made = subprocess.run(["go", "build", "-o", "program", "main.go"], cwd=place, env=env, capture_output=True, check=False)
+    if made.returncode != 0:
+        return f"{REFUSED}: {made.stderr.decode()}"
+    ran = subprocess.run([os.path.join(place, "program")], capture_output=True, check=False, timeout=60)
+    return ran.stdout.decode() + ending(ran)
+
+
+def wanted_of(row, folder):
+    if row.is_no_go() and not go_told(row, folder).startswith(REFUSED):
+        return f"?? Go takes it: {row.wanted}"
+    return row.wanted if row.wanted is not None else go_told(row, folder)
+
+
+def made():
+    """The table, and what is wanted of each row."""
+    rows = all_rows()
+    with tempfile.TemporaryDirectory() as folder, concurrent.futures.ThreadPoolExecutor(2) as pool:
+        wanted = list(pool.map(lambda row: wanted_of(row, folder), rows))
+    for row, told in zip(rows, wanted):
+        if "?? " in told:
+            print(f"{row.name}: {told}")
+    by_hand = sum(row.wanted is not None for row in rows)
+    print(f"{len(rows)} rows, {len(rows) - by_hand} by Go, {by_hand} by hand")
+    stdin = "".join(row.stdin() for row in rows)
+    return stdin, "".join(row.stdout(told) for row, told in zip(rows, wanted))
+
+
+def main(words):
+    status = 0
+    for name, text in zip(("stdin", "stdout"), made()):
+        path = os.path.join(CRATE, name)
+        if words == ["--write"]:
+            with open(path, "w", encoding="utf-8", newline="") as file:
+                file.write(text)
+            continue
+        with open(path, encoding="utf-8", newline="") as file:
+            if file.read() != text:
+                print(f"{name} is another")
+                status = 1
+    return status
+
+
+if __name__ == "__main__":
+    sys.exit(main(sys.argv[1:]))
