@@ -23,7 +23,7 @@ use Rattle.go_typed.specs.Trees.{Expr, constant, expr_type}
 use Rattle.go_sound.specs.WellTyped.{Setting, is_integer, is_string, is_sum, is_compared, IsConstant, IsExpr}
 use Rattle.go_expr.specs.Known.{Verdict, Fine, Breaks, Passed}
 use Rattle.go_expr.specs.Rules as rules
-use Rattle.go_expr.specs.Rules.{checked, given, constant_in, int_kind, is_untyped, lies_in, as_type, uint, takes, common, is_defined, result_type, operation, divides_by_zero, operated, operand_type, combined, counted_by, shift_of, shifted, binary_of}
+use Rattle.go_expr.specs.Rules.{checked, constant_in, int_kind, lies_in, as_type, takes, common, is_defined, result_type, operation, divides_by_zero, operated, operand_type, combined}
 use Rattle.go_checked.specs.Soundness.{Table, IsSoundType, is_of_kind, IsSoundValue}
 use Rattle.go_checked.proofs.Types.{untyped_bool, no_untyped, not_assignable, assignable_itself}
 use Rattle.go_checked.proofs.Constants.{IsConstantOf, IsEither, two_operands}

@@ -12,7 +12,7 @@ use Rattle.go_types.specs.Relations.{underlying}
 use Rattle.go_typed.specs.Trees as typed
 use Rattle.go_typed.specs.Trees.{Symbol, Expr, expr_type, constant, pack_stmts, pack_clauses}
 use Rattle.go_sound.specs.WellTyped as sound
-use Rattle.go_sound.specs.WellTyped.{Signature, Setting, numbers, IsStmt, AreStmts, AreClauses, IsCounter}
+use Rattle.go_sound.specs.WellTyped.{Signature, Setting, numbers, IsStmt, AreClauses, IsCounter}
 use Rattle.go_expr.specs.Known.{value, Verdict, Fine}
 use Rattle.go_expr.specs.Rules as rules
 use Rattle.go_expr.specs.Rules.{fine, defaulted, default_type}

@@ -1,6 +1,6 @@
 -- Source trees of statements whose string literals are texts, and where nothing is declared behind a turn of a loop, as the grammar has it.
 use Rattle.std.specs.Prelude.{List, [], ◌∷◌, Option, Some, None}
-use Rattle.go_ast.specs.Trees.{TypeExpr, Expr, Exprs, Simple, call_statement, increment, decrement, assignment, operator_assignment, short_var_decl, ConstSpec, VarSpec, Decl, constants, variables, types, Stmt, empty, declaration, simple, return, break, continue, fallthrough, block_statement, if_statement, for_statement, range_statement, switch_statement, Block, block, If, conditional, Else, no_else, else_block, else_if, Stmts, no_stmts, some_stmts, Clauses, no_clauses, clause, Parameter, Function}
+use Rattle.go_ast.specs.Trees.{TypeExpr, Expr, Exprs, Simple, call_statement, increment, decrement, assignment, operator_assignment, short_var_decl, ConstSpec, VarSpec, Decl, constants, variables, types, Stmt, declaration, simple, return, block_statement, if_statement, for_statement, range_statement, switch_statement, Block, block, If, conditional, Else, no_else, else_block, else_if, Stmts, no_stmts, some_stmts, Clauses, no_clauses, clause, Parameter, Function}
 use Rattle.go_checked.proofs.Texts.{HasTexts, HaveTexts, TypeHasTexts}
 
 abbrev pub MayHaveTexts : Option Expr → Type 0

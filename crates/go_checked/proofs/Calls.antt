@@ -11,7 +11,8 @@ use Rattle.go_sound.specs.WellTyped.{Setting, is_string, exprs_types, IsCall, Is
 use Rattle.go_expr.specs.Known.{value, type', function, println, length', panic', Known, declared, package', results, printed, panicked, Verdict, Fine, Breaks, Passed}
 use Rattle.go_expr.specs.Rules as rules
 use Rattle.go_expr.specs.Rules.{fine, checked, valued, wrong, each_unless, lies_in, as_type, assigned, default_type, defaulted, value_due, string, converted, length_of, one, function_call, printable, called}
-use Rattle.go_checked.specs.Soundness.{Table, AreSoundTypes, IsSoundValue, IsSoundDeclared, IsSoundKnown}
+use Rattle.go_checked.specs.Soundness.{Table, AreSoundTypes, IsSoundValue, IsSoundDeclared}
+use Rattle.go_checked.proofs.SoundNames.{IsSoundKnown}
 use Rattle.go_checked.proofs.Assigned.{Gives, GoodAs, assigned_gives, defaulted_gives}
 use Rattle.go_checked.proofs.Operators.{converted_gives}
 use Rattle.go_checked.proofs.Selections.{length_gives}

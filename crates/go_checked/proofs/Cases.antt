@@ -22,7 +22,8 @@ use Rattle.go_expr.specs.Known.{Scope, Verdict, Fine, Breaks, Passed}
 use Rattle.go_expr.specs.Rules.{fine, checked, wrong, each_unless, as_type, assigned, lies_in, takes, common, is_defined, operand_type}
 use Rattle.go_expr.specs.Verdicts.{operand, operands, verdict, joined}
 use Rattle.go_stmt.specs.Rules.{case_value}
-use Rattle.go_checked.specs.Soundness.{Table, IsSoundType, IsTypedValue, IsSoundValue, IsSoundScope}
+use Rattle.go_checked.specs.Soundness.{Table, IsSoundType, IsTypedValue, IsSoundValue}
+use Rattle.go_checked.proofs.SoundNames.{IsSoundScope}
 use Rattle.go_checked.proofs.Texts.{HaveTexts}
 use Rattle.go_checked.proofs.Expected.{Expected}
 use Rattle.go_checked.proofs.Values.{suits, sound_under, no_fit, each_fine, front_fine, checked_part, Asked, AllSoundValues}

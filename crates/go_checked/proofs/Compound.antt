@@ -6,7 +6,7 @@ use Rattle.go_types.specs.declared.types.Basic.TheVariants as basics
 use Rattle.go_types.specs.declared.types.Untyped.TheVariants as kinds
 use Rattle.go_types.specs.Types.{Type', basic, array, struct, named}
 use Rattle.go_typed.specs.Trees as typed
-use Rattle.go_typed.specs.Trees.{Expr, expr_type, Exprs, Stmt, if_statement, for_statement, switch_statement, range_statement, return, Source, Stmts, pack_exprs, pack_stmts, pack_clauses, Clauses}
+use Rattle.go_typed.specs.Trees.{Expr, expr_type, Exprs, Stmt, if_statement, for_statement, switch_statement, range_statement, return, Source, pack_exprs, pack_stmts, pack_clauses, Clauses}
 use Rattle.go_sound.specs.WellTyped.{Setting, AllSuit, after, source_types, AreExprs, exprs_types, AreCases, IsStmt, AreStmts, AreClauses, IsConditionOrNone, in_loop, in_post, in_clause, is_last}
 use Rattle.go_expr.specs.Known.{Verdict, Fine, Breaks}
 use Rattle.go_expr.specs.Rules as rules

@@ -18,7 +18,8 @@ use Rattle.go_expr.specs.Verdicts.{asked, both, operand, verdict, type_verdict, 
 use Rattle.go_stmt.specs.Scopes.{Env, Context, scope_in, is_blank, own, number_of, paired, declare_new, follow}
 use Rattle.go_stmt.specs.Rules.{all_some, Values, separate, together, no_values, are_none, variables_source, suited}
 use Rattle.go_stmt.specs.Statements.{each_of, values_known, values_at, alone_types, value_types, names_faults, names_at, written_at, place_at, variable_types, variables_at, specs_at}
-use Rattle.go_checked.specs.Soundness.{Table, IsSoundType, IsSoundScope}
+use Rattle.go_checked.specs.Soundness.{Table, IsSoundType}
+use Rattle.go_checked.proofs.SoundNames.{IsSoundScope}
 use Rattle.go_checked.proofs.Texts.{HaveTexts}
 use Rattle.go_checked.proofs.BodyTexts.{WrittenHasTexts, VariablesHaveTexts}
 use Rattle.go_checked.proofs.Expected.{Expected}

@@ -12,7 +12,8 @@ use Rattle.go_expr.specs.Known.{Declared, type', Names, Known, declared, package
 use Rattle.go_expr.specs.Seen.{iota_of}
 use Rattle.go_objects.specs.Table.{Package, imports_at, scope_at}
 use Rattle.go_sound.specs.WellTyped.{Setting, is_typed}
-use Rattle.go_checked.specs.Soundness.{Table, IsSoundDeclared, AreSoundNames, IsSoundKnown, IsSoundScope}
+use Rattle.go_checked.specs.Soundness.{Table, IsSoundDeclared, AreSoundNames}
+use Rattle.go_checked.proofs.SoundNames.{IsSoundKnown, IsSoundScope}
 
 abbrev Entries : Type 0
 Entries = List (List ℕ × Verdict Known)

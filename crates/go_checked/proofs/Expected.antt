@@ -13,7 +13,8 @@ use Rattle.go_expr.specs.Known.{Known, Scope, Fine}
 use Rattle.go_expr.specs.Rules.{assigned, default_type, defaulted, condition, value_due, binary_of}
 use Rattle.go_expr.specs.Verdicts.{operand, verdict, type_verdict}
 use Rattle.go_sound.specs.WellTyped.{Setting, IsWhole, IsExpr, IsCondition}
-use Rattle.go_checked.specs.Soundness.{Table, IsSoundType, IsTypedValue, IsSoundValue, IsSoundKnown, IsSoundScope}
+use Rattle.go_checked.specs.Soundness.{Table, IsSoundType, IsTypedValue, IsSoundValue}
+use Rattle.go_checked.proofs.SoundNames.{IsSoundKnown, IsSoundScope}
 use Rattle.go_checked.proofs.Texts.{HasTexts, TypeHasTexts}
 
 pub record Expected : Type 0 where

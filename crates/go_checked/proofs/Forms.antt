@@ -19,7 +19,8 @@ use Rattle.go_objects.specs.Objects as forms
 use Rattle.go_objects.specs.Objects.{Form}
 use Rattle.go_objects.specs.Table.{value_of, named_type, result_type, variable, types_known, parameters_known, parameter_names, form_verdict, declared_in}
 use Rattle.go_sound.specs.WellTyped.{Setting, IsCall}
-use Rattle.go_checked.specs.Soundness.{Table, IsSoundType, AreSoundTypes, IsTypedValue, IsSoundValue, IsSoundDeclared, IsSoundScope}
+use Rattle.go_checked.specs.Soundness.{Table, IsSoundType, AreSoundTypes, IsTypedValue, IsSoundValue, IsSoundDeclared}
+use Rattle.go_checked.proofs.SoundNames.{IsSoundScope}
 use Rattle.go_checked.proofs.Texts.{HasTexts, TypeHasTexts}
 use Rattle.go_checked.proofs.BodyTexts.{WrittenHasTexts, ParametersHaveTexts, ResultsHaveTexts}
 use Rattle.go_checked.proofs.Types.{sound_underlying}

@@ -17,7 +17,8 @@ use Rattle.go_expr.specs.Verdicts.{asked, both, operand, verdict, type_verdict}
 use Rattle.go_stmt.specs.Scopes.{Env, Context, scope_in, is_blank, paired, declare, Checked, still, follow, seen}
 use Rattle.go_stmt.specs.Rules.{all_some, is_constant, constants_source, constants_of}
 use Rattle.go_stmt.specs.Statements.{each_of, operands_faults, names_at, written_at, place_at, meant, is_repeated, declared_as, constant_in, declare_constants, told_at, constants_at, group_at, declaration_at, one_block}
-use Rattle.go_checked.specs.Soundness.{Table, IsSoundType, IsUntypedConstant, IsSoundValue, IsSoundScope}
+use Rattle.go_checked.specs.Soundness.{Table, IsSoundType, IsUntypedConstant, IsSoundValue}
+use Rattle.go_checked.proofs.SoundNames.{IsSoundScope}
 use Rattle.go_checked.proofs.Texts.{HasTexts, HaveTexts, TypeHasTexts}
 use Rattle.go_checked.proofs.BodyTexts.{WrittenHasTexts, ConstantsHaveTexts, DeclHasTexts}
 use Rattle.go_checked.proofs.Expected.{Expected}

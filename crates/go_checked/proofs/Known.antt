@@ -9,7 +9,8 @@ use Rattle.go_sound.specs.WellTyped.{Setting, IsExpr, IsCondition}
 use Rattle.go_expr.specs.Known.{Known, Fine, Scope}
 use Rattle.go_expr.specs.Rules.{assigned, default_type, defaulted, condition, value_due, converted, unary_of, binary_of, called}
 use Rattle.go_expr.specs.Verdicts.{operand, verdict, type_verdict}
-use Rattle.go_checked.specs.Soundness.{Table, IsSoundType, IsTypedValue, IsSoundValue, IsSoundKnown, IsSoundScope}
+use Rattle.go_checked.specs.Soundness.{Table, IsSoundType, IsTypedValue, IsSoundValue}
+use Rattle.go_checked.proofs.SoundNames.{IsSoundKnown, IsSoundScope}
 use Rattle.go_checked.proofs.Texts.{HasTexts, TypeHasTexts}
 use Rattle.go_checked.proofs.Assigned.{GoodAs, value_type, default_sound, assigned_gives, defaulted_gives}
 use Rattle.go_checked.proofs.Operators.{condition_gives, converted_gives, unary_gives}

@@ -2,7 +2,7 @@
 use Rattle.std.proofs.Common.{◌≡◌, ℕ, Option, Some, None, List, refl, subst}
 use Rattle.std.specs.Prelude.{option_map}
 use Rattle.go_ast.specs.Trees as source
-use Rattle.go_ast.specs.Trees.{Name, TypeExpr}
+use Rattle.go_ast.specs.Trees.{TypeExpr}
 use Rattle.go_types.specs.Types.{Type'}
 use Rattle.go_typed.specs.Trees.{Expr}
 use Rattle.go_sound.specs.WellTyped.{Setting}
@@ -11,7 +11,8 @@ use Rattle.go_expr.specs.Rules.{fine}
 use Rattle.go_expr.specs.Verdicts.{type_verdict}
 use Rattle.go_stmt.specs.Scopes.{Env, Context, scope_in}
 use Rattle.go_stmt.specs.Statements.{value_at, values_at, written_at, condition_at}
-use Rattle.go_checked.specs.Soundness.{Table, IsSoundType, IsSoundValue, IsSoundScope}
+use Rattle.go_checked.specs.Soundness.{Table, IsSoundType, IsSoundValue}
+use Rattle.go_checked.proofs.SoundNames.{IsSoundScope}
 use Rattle.go_checked.proofs.Texts.{HasTexts, HaveTexts}
 use Rattle.go_checked.proofs.BodyTexts.{WrittenHasTexts, MayHaveTexts}
 use Rattle.go_checked.proofs.Expected.{Expected}

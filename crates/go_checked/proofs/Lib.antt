@@ -41,6 +41,7 @@ pub mod Shorts
 pub mod Signed
 pub mod Simples
 pub mod Sound
+pub mod SoundNames
 pub mod Spelled
 pub mod Strings
 pub mod Tables

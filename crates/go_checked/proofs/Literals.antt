@@ -17,7 +17,8 @@ use Rattle.go_meaning.specs.Meaning.{most_cells}
 use Rattle.go_sound.specs.WellTyped.{Setting, part_type, IsExpr, AreParts}
 use Rattle.go_expr.specs.Known.{type', Known, declared, Verdict, Fine, Breaks, Passed}
 use Rattle.go_expr.specs.Rules.{fine, constant_in, lesser, least, when, wrong, each_unless, numbered, type_due, is_small, array_of, FieldList, declared_field, field_names, packed, differ, listed, struct_of, assigned, ElementList, field_named, any_keyed, field_slot, element_part, parts_by, array_parts, is_counted, struct_faults, struct_slot, struct_parts, parts_of, literal_of, untyped_literal, element_type}
-use Rattle.go_checked.specs.Soundness.{Table, IsSoundType, AreSoundFields, IsSoundValue, IsSoundKnown}
+use Rattle.go_checked.specs.Soundness.{Table, IsSoundType, AreSoundFields, IsSoundValue}
+use Rattle.go_checked.proofs.SoundNames.{IsSoundKnown}
 use Rattle.go_checked.proofs.Types.{whole_type, sound_underlying}
 use Rattle.go_checked.proofs.Assigned.{Gives, some_same, none_some, some_none, constant_value, GoodAs, assigned_gives}
 use Rattle.go_checked.proofs.Selections.{named_field, ordered_field, sound_field}

@@ -13,7 +13,8 @@ use Rattle.go_typed.specs.Trees.{constant, local}
 use Rattle.go_sound.specs.WellTyped.{Setting, has, numbers, Suits, AreNew}
 use Rattle.go_expr.specs.Known.{Declared, value, Known, declared, Verdict, Fine, named, look_up}
 use Rattle.go_stmt.specs.Scopes.{Env, Context, scope_in, is_blank, own, number_of, declare_variable, paired, declare_new}
-use Rattle.go_checked.specs.Soundness.{Table, IsSoundType, IsSoundKnown, IsSoundScope}
+use Rattle.go_checked.specs.Soundness.{Table, IsSoundType}
+use Rattle.go_checked.proofs.SoundNames.{IsSoundKnown, IsSoundScope}
 use Rattle.go_checked.proofs.Related.{SoundLocals, IsSoundName, AllSound, BlocksSound, Related, Lies, Grows, grows_none, grows_on, lies_before, Covers, has_behind, all_sound_covers, blocks_cover}
 
 -- ---- what is in scope

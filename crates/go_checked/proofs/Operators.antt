@@ -15,7 +15,7 @@ use Rattle.go_typed.specs.Trees.{Expr, constant, expr_type}
 use Rattle.go_sound.specs.WellTyped.{Setting, is_bool, is_integer, is_string, is_unary, Converts, IsExpr, IsCondition}
 use Rattle.go_expr.specs.Known.{Verdict, Fine, Breaks, Passed}
 use Rattle.go_expr.specs.Rules as rules
-use Rattle.go_expr.specs.Rules.{given, constant_in, int_kind, in_kind, lies_in, as_type, assigned, default_type, settled, defaulted, condition, conversion_to, converted, operator_of, is_operand, unary_of}
+use Rattle.go_expr.specs.Rules.{given, constant_in, int_kind, in_kind, lies_in, default_type, defaulted, condition, converted, operator_of, is_operand, unary_of}
 use Rattle.go_checked.specs.Soundness.{Table, IsSoundType, IsSoundValue}
 use Rattle.go_checked.proofs.Types.{untyped_bool, convertible_same, both_integers, untyped_converts, fits_truth}
 use Rattle.go_checked.proofs.Constants.{IsConstantOf, Given, one_operand, same_constant, integer_constant, fit_constant}

@@ -22,7 +22,8 @@ use Rattle.go_package.specs.Imports.{Importable, package_at, import_name, named_
 use Rattle.go_package.specs.Packages.{main_faults}
 use Rattle.go_package.specs.Typed.{is_blank, variable_in, variables_in, declared_at, top_functions, of_files, package_name, typed_package}
 use Rattle.go_sound.specs.WellTyped.{Signature, Setting, IsWhole, IsFunction, IsStart, IsWellTyped, signature_at, variable_at}
-use Rattle.go_checked.specs.Soundness.{Table, IsSoundType, AreSoundNames, IsSoundKnown}
+use Rattle.go_checked.specs.Soundness.{Table, IsSoundType, AreSoundNames}
+use Rattle.go_checked.proofs.SoundNames.{IsSoundKnown}
 use Rattle.go_checked.proofs.BodyTexts.{FunctionHasTexts}
 use Rattle.go_checked.proofs.DeclaredTexts.{TopsHaveTexts, FilesHaveTexts}
 use Rattle.go_checked.specs.Packages.{table_of, IsIn, AreSoundImports, HasNoInit}

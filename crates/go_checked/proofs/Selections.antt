@@ -20,7 +20,7 @@ use Rattle.go_meaning.specs.Choices.{field_at, field_type}
 use Rattle.go_sound.specs.WellTyped.{Setting, int, byte, is_text, is_integer, indexed_type}
 use Rattle.go_expr.specs.Known.{Fine, Breaks}
 use Rattle.go_expr.specs.Rules as rules
-use Rattle.go_expr.specs.Rules.{constant_in, int_kind, in_kind, lies_in, as_type, default_type, settled, defaulted, numbered, FieldList, listed, field_named, fields_of, is_visible, field_of, known_length, is_within, index_of, holds_call, length_in, length_of}
+use Rattle.go_expr.specs.Rules.{constant_in, int_kind, in_kind, lies_in, default_type, settled, defaulted, numbered, listed, field_named, fields_of, is_visible, field_of, known_length, is_within, index_of, holds_call, length_in, length_of}
 use Rattle.go_checked.specs.Soundness.{Table, IsSoundType, AreSoundFields, is_of_kind, IsTypedValue, IsSoundValue}
 use Rattle.go_checked.proofs.Types.{sound_underlying, assignable_itself}
 use Rattle.go_checked.proofs.Constants.{text_is}

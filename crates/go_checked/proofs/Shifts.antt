@@ -19,11 +19,11 @@ use Rattle.go_types.specs.Types.{Type', basic}
 use Rattle.go_types.specs.Relations.{underlying, assignable}
 use Rattle.go_typed.specs.declared.expression.Operator.TheVariants as nodes
 use Rattle.go_typed.specs.Trees as typed
-use Rattle.go_typed.specs.Trees.{Expr, constant, expr_type}
+use Rattle.go_typed.specs.Trees.{Expr, expr_type}
 use Rattle.go_sound.specs.WellTyped.{Setting, is_integer, IsExpr}
 use Rattle.go_expr.specs.Known.{Fine, Breaks}
 use Rattle.go_expr.specs.Rules as rules
-use Rattle.go_expr.specs.Rules.{given, constant_in, int_kind, is_untyped, lies_in, as_type, uint, counted_by, shift_of, shifted, binary_of}
+use Rattle.go_expr.specs.Rules.{constant_in, int_kind, is_untyped, lies_in, as_type, uint, counted_by, shift_of, shifted, binary_of}
 use Rattle.go_checked.specs.Soundness.{Table, IsSoundType, IsSoundValue}
 use Rattle.go_checked.proofs.Types.{untyped_bool}
 use Rattle.go_checked.proofs.Constants.{shift_operands}

@@ -14,7 +14,8 @@ use Rattle.go_sound.specs.WellTyped.{Setting}
 use Rattle.go_expr.specs.Known.{Names, Known, declared, package', results, printed, panicked, Verdict, Fine, Breaks, Passed, Scope, look_up, named}
 use Rattle.go_expr.specs.Rules.{fine, checked, valued, type_due, array_of, is_exported, declared_field, struct_of, value_due, unpackaged, numeral, number_of, literal, literal_of, untyped_literal, element_type, field_of, selected, index_of, binary_of, unary_of, converted, called}
 use Rattle.go_expr.specs.Verdicts.{asked, both, asked_both, joined, qualified_known, operand, callee, verdict, operands, elements, element_verdict, type_verdict, fields_known}
-use Rattle.go_checked.specs.Soundness.{Table, IsSoundType, IsSoundValue, AreSoundNames, IsSoundKnown, IsSoundScope}
+use Rattle.go_checked.specs.Soundness.{Table, IsSoundType, IsSoundValue, AreSoundNames}
+use Rattle.go_checked.proofs.SoundNames.{IsSoundKnown, IsSoundScope}
 use Rattle.go_checked.proofs.Texts.{HasTexts, HaveTexts, ElementsHaveTexts, ElementHasTexts, TypeHasTexts, FieldsHaveTexts}
 use Rattle.go_checked.proofs.Constants.{IsConstantOf, Given}
 use Rattle.go_checked.proofs.Assigned.{Gives}

@@ -18,7 +18,8 @@ use Rattle.go_expr.specs.Rules.{fine, checked, wrong, least, lesser, each_unless
 use Rattle.go_expr.specs.Verdicts.{asked, operand, verdict}
 use Rattle.go_stmt.specs.Rules.{all_some, Values, separate, together, no_values, values_of, suited_one, takes, suited}
 use Rattle.go_stmt.specs.Statements.{each_of, values_known}
-use Rattle.go_checked.specs.Soundness.{Table, IsSoundType, AreSoundTypes, IsSoundValue, IsSoundKnown, IsSoundScope}
+use Rattle.go_checked.specs.Soundness.{Table, IsSoundType, AreSoundTypes, IsSoundValue}
+use Rattle.go_checked.proofs.SoundNames.{IsSoundKnown, IsSoundScope}
 use Rattle.go_checked.proofs.Texts.{HaveTexts}
 use Rattle.go_checked.proofs.Expected.{Expected}
 

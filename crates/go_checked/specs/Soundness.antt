@@ -7,12 +7,11 @@ use Rattle.go_types.specs.declared.types.Basic.TheVariants as basics
 use Rattle.go_types.specs.declared.types.Untyped.{Untyped}
 use Rattle.go_types.specs.declared.types.Untyped.TheVariants as kinds
 use Rattle.go_types.specs.Types.{Type', basic, array, struct, named, Fields, no_fields, field}
-use Rattle.go_types.specs.Relations.{underlying}
 use Rattle.go_types.specs.Sizes.{cells}
 use Rattle.go_typed.specs.Trees.{Expr, constant, expr_type}
 use Rattle.go_meaning.specs.Meaning.{most_cells}
-use Rattle.go_sound.specs.WellTyped.{Setting, is_typed, is_text, is_string, IsCall, IsExpr, AreExprs, exprs_types}
-use Rattle.go_expr.specs.Known.{Declared, value, type', function, Names, Known, declared, package', results, printed, panicked, Fine, Scope, look_up}
+use Rattle.go_sound.specs.WellTyped.{Setting, is_typed, is_text, IsCall, IsExpr}
+use Rattle.go_expr.specs.Known.{Declared, value, type', function, Names}
 use Rattle.go_expr.specs.Rules.{constant_in}
 
 -- what each declared type is declared as, by its package's path and its name
@@ -71,13 +70,3 @@ IsSoundDeclared w g d k = Unit {0}
 
 abbrev pub AreSoundNames : Table → Setting → List ℕ → Names → Type 0
 AreSoundNames w g d names = (x : List ℕ) (k : Declared) → lookup (bytes_eq x) names ≡ Some (Some k) → IsSoundDeclared w g d k
-
-abbrev pub IsSoundKnown : Table → Setting → List ℕ → Known → Type 0
-IsSoundKnown w g d (declared k) = IsSoundDeclared w g d k
-IsSoundKnown w g d (package' names) = AreSoundNames w g d names
-IsSoundKnown w g d (results ts s es) = AreExprs g d es × IsCall g s (exprs_types es) ts × AreSoundTypes w ts
-IsSoundKnown w g d (printed es) = AreExprs g d es
-IsSoundKnown w g d (panicked e) = IsExpr g d e × (is_string (underlying (expr_type e)) ≡ true)
-
-abbrev pub IsSoundScope : Table → Setting → List ℕ → Scope → Type 0
-IsSoundScope w g d s = (x : List ℕ) (k : Known) → look_up x s.names ≡ Fine k → IsSoundKnown w g d k
