@@ -2,11 +2,13 @@
 #![tactic(auto)]
 
 mod ahead;
+mod arithmetic;
 mod decode;
 mod frames;
 mod inside;
 mod line;
 mod machine;
+mod number;
 mod program;
 pub mod run;
 mod tree;
