@@ -1,5 +1,5 @@
 //! What instructions do that stay in the newest frame.
-ghost use Rattle.std.specs.Prelude.{◌≡◌, ℕ, ◌+◌, ◌*◌, ◌∷◌, [], length, take, drop, ◌≤◌, IfOk};
+ghost use Rattle.std.specs.Prelude.{◌≡◌, ℕ, ◌+◌, ◌*◌, ◌∷◌, [], length, take, drop, ◌≤◌, IfOk, IfSome};
 ghost use Rattle.go_cells.specs.Told.{told_index, told_offset};
 ghost use Rattle.go_code.specs.Accesses.{access, loaded, stored, split_top};
 ghost use Rattle.go_code.specs.declared.instr.AccessInstr.TheVariants.{LoadAt, StoreAt};
@@ -9,8 +9,10 @@ ghost use Rattle.go_code.specs.declared.instr.PartInstr.TheVariants.{Move, Index
 ghost use Rattle.go_code.specs.Machine.{frame_step, jump_step};
 ghost use Rattle.go_code.specs.Operators.{Gives, operands, operate};
 ghost use Rattle.go_code.specs.Parts.{part, with_index};
+ghost use Rattle.go_vm.specs.Open.{top_of};
 ghost use Rattle.go_vm.specs.Told.{Does, framed, on_locals, on_globals, on_top, parted, in_place};
 
+use crate::arithmetic::between;
 use crate::frames::Frames;
 use crate::machine::{Exit, Flow, World};
 use go_cells::operate::{Operated, operand_count, operate};
@@ -219,6 +221,18 @@ pub(crate) fn obey_global(
     }
 }
 
+/// What an operator gives of two small numbers on top, where that is quickly known.
+#[inline(always)]
+fn between_top(frames: &Frames<'_>, operator: Operator) -> Option<Slot>
+    ensures { let stack = frames.now.newest.stack in
+        IfSome result (λ slot. (operands operator ≡ 2) × (2 ≤ length stack) × (operate operator (top_of 2 stack) ≡ Gives slot)) }
+{
+    let Some([x, y]) = frames.top(2) else {
+        return None;
+    };
+    between(operator, x.as_small()?, y.as_small()?)
+}
+
 /// What an operator does.
 #[inline(always)]
 pub(crate) fn obey_operator(
@@ -229,6 +243,10 @@ pub(crate) fn obey_operator(
 ) -> Result<Flow, AllocError>
     ensures { IfOk result (λ flow. Does (on_top (operands operator) (λ c. c ∷ []) (operate operator)) frames.old world.now flow frames.new world.now) }
 {
+    if let Some(slot) = between_top(frames, operator) {
+        frames.replace(2, slot)?;
+        return Ok(Flow::GoesOn);
+    }
     let Some(count) = operand_count(operator, frames.height()) else {
         return Ok(Flow::Leaves(Exit::BadCode));
     };
