@@ -9,6 +9,7 @@ mod inside;
 mod line;
 mod machine;
 mod number;
+mod place;
 mod program;
 pub mod run;
 mod tree;
