@@ -83,7 +83,7 @@ fn advance<'a>(
 ) -> Result<Flow, AllocError>
     ensures { IfOk result (λ flow. Advances image.now frames.old world.old flow frames.new world.new) }
 {
-    if obey_ahead(frames, &mut world.ticks)? {
+    if obey_ahead(frames, &mut world.ticks, image)? {
         return Ok(Flow::GoesOn);
     }
     one_step(alloc, frames, world, image)

@@ -20,8 +20,8 @@ returns-then-branch c =
     let p = c.obey_ahead.new.frames in
     let t = c.args.world.now.ticks in
     let u = c.obey_ahead.new.ticks in
-    let obeyed : Obeyed true o t p u = subst (λ b. Obeyed b o t p u) c.if-branch.true c.in_ok-obey_ahead.ensures in
-    λ starts. obeyed c.args.image.now starts c.args.world.now
+    let obeyed : Obeyed c.args.image.now true o t p u = subst (λ b. Obeyed c.args.image.now b o t p u) c.if-branch.true c.in_ok-obey_ahead.ensures in
+    λ starts. obeyed starts c.args.world.now
 
 pub returns : goal.returns
 returns c =
@@ -29,7 +29,7 @@ returns c =
     let p = c.obey_ahead.new.frames in
     let w = c.args.world.now in
     let u = c.obey_ahead.new.ticks in
-    let same : Obeyed false old w.ticks p u = subst (λ b. Obeyed b old w.ticks p u) c.if-branch.false c.in_ok-obey_ahead.ensures in
+    let same : Obeyed c.args.image.now false old w.ticks p u = subst (λ b. Obeyed c.args.image.now b old w.ticks p u) c.if-branch.false c.in_ok-obey_ahead.ensures in
     IfOk-weaker c.one_step.result _ _
     (λ flow h starts.
     subst (λ (o : Open). Went c.args.image.now (state_of o starts w) flow (state_of c.one_step.new.frames starts c.one_step.new.world)) same.0
