@@ -89,7 +89,7 @@ fn call_function<'a>(
     if frames.depth() >= MOST_OPEN {
         return Ok(Flow::Leaves(Exit::Ends(Ending::Panicked(PanicKind::Depth))));
     }
-    frames.call(function)?;
+    frames.call(function, frames.place())?;
     world.ticks -= 1;
     Ok(Flow::GoesOn)
 }
