@@ -1,6 +1,6 @@
 -- What a program's image does its sources mean.
 use Rattle.std.proofs.Common.{◌≡◌, ℕ, Bool, true, false, ◌||◌, ◌&&◌, List, [], ◌∷◌, map, refl}
-use Rattle.std.specs.Prelude.{if◌then◌else◌, Result, Ok, Err, IfOk}
+use Rattle.std.specs.Prelude.{codes, if◌then◌else◌, Result, Ok, Err, IfOk}
 use Rattle.std.specs.List.{filter, list_all, list_any}
 use Rattle.std.proofs.lemmas.Bool.{and_parts}
 use Rattle.go_ast.specs.Trees.{File}
@@ -19,7 +19,7 @@ use Rattle.go_sound.specs.WellTyped.{is_text}
 use Rattle.go_simulation.proofs.Refusals.{linked_program}
 use Rattle.go_checked.specs.Packages as checked
 use Rattle.go_checked.proofs.Meant.{checked_same, checked_sense}
-use Rattle.go_program.specs.Programs.{AreTreesOf, fmt_alone, has_values, is_init, is_initialized, IsImageOf, AreProgram, AreTexts, Mean}
+use Rattle.go_program.specs.Programs.{AreTreesOf, fmt_alone, has_values, is_init, is_initialized, IsImageOf, AreTyped, AreProgram, AreTexts, Mean}
 
 -- ---- nothing comes before main
 
@@ -50,17 +50,21 @@ of_texts (s ∷ sources) (f ∷ fs) trees texts =
 
 -- ---- programs
 
+pub program_by : (path : List ℕ) (sources : List Parsed) (whole : Package) (typed : AreTyped path sources whole) → is_initialized whole ≡ false → whole.name ≡ codes "main"
+    → AreTexts sources → checked.AreProgram path typed.files fmt_alone (map (λ s. s.name) sources) whole
+program_by path sources whole typed plain named texts = record {
+  sources = of_texts sources typed.files typed.trees texts;
+  typed = typed.typed;
+  plain = no_inits whole.functions (neither (has_values whole.initializations) (list_any is_init whole.functions) plain).1;
+  named = named;
+}
+
 module _ (path : List ℕ) (sources : List Parsed) (image : Image) (it : AreProgram path sources image) (texts : AreTexts sources) where
   abbrev names : List (List ℕ)
   names = map (λ s. s.name) sources
 
   good : checked.AreProgram path it.typed.files fmt_alone names it.whole
-  good = record {
-    sources = of_texts sources it.typed.files it.typed.trees texts;
-    typed = it.typed.typed;
-    plain = no_inits it.whole.functions (neither (has_values it.whole.initializations) (list_any is_init it.whole.functions) it.is.plain).1;
-    named = (linked_program it.whole it.is.links.0).0;
-  }
+  good = program_by path sources it.whole it.typed it.is.plain (linked_program it.whole it.is.links.0).0 texts
 
   pub meant : (ticks : ℕ) (ending : Ending) (output : List ℕ) → MachineMeaning image ticks (Ends ending output) → Mean path sources ticks ending output
   meant ticks ending output h = record {

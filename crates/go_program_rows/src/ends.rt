@@ -1,12 +1,12 @@
 //! How programs end, in words.
 use go_code::ending::{Ending, PanicKind};
-use go_program::error::ProgramError;
-use go_text::fault::FaultKind;
-use go_text::place::Place;
+use go_run::answer::Answer;
+use go_text::fault::Fault;
+use go_vm::run::Outcome;
 use std::alloc::{AllocError, Global};
 
 /// How a program ended.
-pub(crate) fn tell_ending(told: &mut Vec<u8>, ending: &Ending) -> Result<(), AllocError> {
+fn tell_ending(told: &mut Vec<u8>, ending: &Ending) -> Result<(), AllocError> {
     match ending {
         Ending::Ended => told.extend_from_slice(b"ended\n"),
         Ending::Cut => told.extend_from_slice(b"cut\n"),
@@ -27,12 +27,9 @@ fn tell_panic(told: &mut Vec<u8>, kind: &PanicKind) -> Result<(), AllocError> {
 }
 
 /// A fault by its number, its word and its place.
-pub(crate) fn tell_fault(
-    alloc: Global,
-    told: &mut Vec<u8>,
-    kind: FaultKind,
-    place: Place,
-) -> Result<(), AllocError> {
+fn tell_fault(alloc: Global, told: &mut Vec<u8>, fault: &Fault) -> Result<(), AllocError> {
+    let kind = fault.kind();
+    let place = fault.place();
     let line = format!(in alloc;
         "fault {} {} {}:{}\n",
         kind.number(),
@@ -43,17 +40,22 @@ pub(crate) fn tell_fault(
     told.extend_from_slice(line.as_str().as_bytes())
 }
 
-/// Why a program wasn't built.
-pub(crate) fn tell_error(
+/// What came of a program.
+pub(crate) fn tell_answer(
     alloc: Global,
     told: &mut Vec<u8>,
-    error: &ProgramError,
+    answer: &Answer,
 ) -> Result<(), AllocError> {
-    match error {
-        ProgramError::Faulty(_, place, kind) => tell_fault(alloc, told, *kind, *place),
-        ProgramError::Initialized => told.extend_from_slice(b"not compiled yet\n"),
-        ProgramError::NoMain => told.extend_from_slice(b"no main\n"),
-        ProgramError::NameMissing => told.extend_from_slice(b"a name is missing\n"),
-        ProgramError::Memory => Err(AllocError),
+    match answer {
+        Answer::Ran(outcome) => tell_outcome(told, outcome),
+        Answer::Faulty(fault) => tell_fault(alloc, told, fault),
+        Answer::Initialized => told.extend_from_slice(b"not compiled yet\n"),
+        Answer::NoMain => told.extend_from_slice(b"no main\n"),
     }
+}
+
+/// What a program printed and how it ended.
+fn tell_outcome(told: &mut Vec<u8>, outcome: &Outcome) -> Result<(), AllocError> {
+    told.extend_from_slice(outcome.output())?;
+    tell_ending(told, outcome.ending())
 }

@@ -1,12 +1,7 @@
 //! One program: its name, what it prints, and how it ends.
-use crate::ends::{tell_ending, tell_error, tell_fault};
-use go_ast::parsed::Parsed;
-use go_code::image::Image;
-use go_parse::{ParseError, parse_source};
-use go_program::build::build;
-use go_program::run::run_program;
+use crate::ends::tell_answer;
+use go_run::run::run_sources;
 use go_text::source::Source;
-use go_vm::run::RunError;
 use std::alloc::{AllocError, Global};
 
 /// The name, the ticks and the text of a row; none where it has no such header.
@@ -41,42 +36,7 @@ fn tell_source(
     source: Source,
     ticks: u64,
 ) -> Result<(), AllocError> {
-    match parse_source(alloc, source) {
-        Ok(parsed) => {
-            let files = Vec::from_array(alloc, [parsed])?;
-            tell_files(alloc, told, &files, ticks)
-        }
-        Err(ParseError::Fault(kind, place)) => tell_fault(alloc, told, kind, place),
-        Err(ParseError::Memory) => Err(AllocError),
-    }
-}
-
-/// What the program of some files does.
-fn tell_files(
-    alloc: Global,
-    told: &mut Vec<u8>,
-    files: &[Parsed],
-    ticks: u64,
-) -> Result<(), AllocError> {
-    match build(alloc, "main", files) {
-        Ok(image) => tell_run(alloc, told, &image, ticks),
-        Err(error) => tell_error(alloc, told, &error),
-    }
-}
-
-/// What an image prints and how it ends.
-fn tell_run(
-    alloc: Global,
-    told: &mut Vec<u8>,
-    image: &Image,
-    ticks: u64,
-) -> Result<(), AllocError> {
-    match run_program(alloc, image, ticks) {
-        Ok(outcome) => {
-            told.extend_from_slice(outcome.output())?;
-            tell_ending(told, outcome.ending())
-        }
-        Err(RunError::BadCode) => told.extend_from_slice(b"bad code\n"),
-        Err(RunError::Memory) => Err(AllocError),
-    }
+    let sources = Vec::from_array(alloc, [source])?;
+    let answer = run_sources(alloc, &sources, ticks)?;
+    tell_answer(alloc, told, &answer)
 }

@@ -1,0 +1,5 @@
+mod Reading
+mod Within
+mod Faults
+mod Refusals
+mod Texts

@@ -1,0 +1,41 @@
+-- What the answers about sources say.
+use Rattle.std.specs.Prelude.{◌≡◌, ℕ, true, List, map, Option, Some, Result, Ok, Err, Vec}
+use Rattle.std.specs.List.{slice_get}
+use Rattle.std.specs.Global.{Global}
+use Rattle.go_text.specs.Faults.{Fault}
+use Rattle.go_text.specs.Named.{Source}
+use Rattle.go_text.specs.declared.fault.FaultKind.{FaultKind}
+use Rattle.go_text.specs.declared.place.Place.{Place}
+use Rattle.go_ast.specs.Parse.{Parsed}
+use Rattle.go_code.specs.Images.{Image}
+use Rattle.go_sound.specs.WellTyped.{is_text}
+use Rattle.go_program.specs.Programs.{AreProgram, AreInitialized, AreTexts, Mean}
+use Rattle.go_run.specs.declared.answer.Answer.{Answer}
+use Rattle.go_run.specs.declared.answer.Answer.TheVariants as answers
+use Rattle.go_run.specs.Sources.{main_path, parsed_as, all_parsed, IsFile, IsStopped, IsTextFault, IsFirstFault, AreNoProgram}
+
+-- of a source that is read
+abbrev pub IsRead : Source → Result Parsed Fault → Type 0
+IsRead s (Ok file) = (file ≡ parsed_as s) × IsFile s
+IsRead s (Err fault) = IsStopped s fault
+
+-- of all sources
+abbrev pub AreRead : List Source → Result (Vec Parsed Global) Fault → Type 0
+AreRead sources (Ok files) = (files.items ≡ all_parsed sources) × AreTexts files.items
+AreRead sources (Err fault) = IsTextFault sources fault
+
+-- a fault by the number of its file, and by its name
+pub record IsFaultIn (files : List Parsed) (numbered : ℕ × (Place × FaultKind)) (fault : Fault) : Type 0 where
+  pub name : slice_get (map (λ f. f.name) files) numbered.0 ≡ Some fault.file
+  pub same : numbered.1 ≡ (fault.place, fault.kind)
+
+-- the image is a program's, whose sources are texts
+abbrev pub IsOfTexts : Image → Type 0
+IsOfTexts image = (sources : List Parsed) × AreProgram main_path sources image × AreTexts sources
+
+-- of the program that sources are, which is given so many ticks
+abbrev pub Answers : List Source → ℕ → Answer → Type 0
+Answers sources ticks (answers.Ran o) = Mean main_path (all_parsed sources) ticks o.ending o.output
+Answers sources ticks (answers.Faulty fault) = IsFirstFault sources fault
+Answers sources ticks answers.Initialized = AreInitialized main_path (all_parsed sources)
+Answers sources ticks answers.NoMain = AreNoProgram sources

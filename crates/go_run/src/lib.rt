@@ -1,0 +1,5 @@
+//! What comes of the source files of a program, and how that is told.
+#![tactic(auto)]
+
+pub mod answer;
+pub mod run;

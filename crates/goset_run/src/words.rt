@@ -1,0 +1,66 @@
+//! The words of the command line.
+ghost use Rattle.std.specs.Prelude.{◌≡◌, option_map, map, string_bytes};
+ghost use Rattle.std.specs.List.{list_all};
+ghost use Rattle.goset_run.specs.Words.{is_file, are_files, files_for, request_of, seen};
+
+use ws_command::lines::number;
+
+/// What words ask for.
+pub struct Request<'a> {
+    /// For how many ticks the program is run at most.
+    pub ticks: u64,
+    /// Its files.
+    pub files: &'a [String],
+}
+
+fn is_file(word: &str) -> bool
+    ensures { result ≡ is_file word.now }
+{
+    !word.starts_with("-")
+}
+
+/// Whether each word is a file's.
+fn all_files(words: &[String]) -> bool
+    ensures { result ≡ list_all is_file (map string_bytes words.now) }
+{
+    for word in words {
+        if !is_file(word.as_str()) {
+            return false;
+        }
+    }
+    true
+}
+
+/// Whether each word is a file's, and there is one.
+fn are_files(words: &[String]) -> bool
+    ensures { result ≡ are_files (map string_bytes words.now) }
+{
+    !words.is_empty() && all_files(words)
+}
+
+/// A request for files to be run.
+fn files_for(ticks: u64, words: &[String]) -> Option<Request<'_>>
+    ensures { option_map seen result ≡ files_for ticks (map string_bytes words.now) }
+{
+    if are_files(words) {
+        Some(Request {
+            ticks,
+            files: words,
+        })
+    } else {
+        None
+    }
+}
+
+/// What words ask for: `--ticks` and a number, if they are there, and then files, one at least, of
+/// which none begins with `-`. Without a number of ticks it is as many as there are.
+pub fn read_words(words: &[String]) -> Option<Request<'_>>
+    ensures { option_map seen result ≡ request_of (map string_bytes words.now) }
+{
+    match words {
+        [option, ticks, files @ ..] if option.as_str() == "--ticks" => {
+            files_for(number(ticks.as_bytes())?, files)
+        }
+        _ => files_for(u64::MAX, words),
+    }
+}
