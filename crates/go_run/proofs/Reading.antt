@@ -1,5 +1,5 @@
 -- The files that sources are, one after another.
-use Rattle.std.proofs.Common.{◌≡◌, ℕ, ◌+◌, ◌<◌, ◌≤◌, ◌&&◌, true, List, [], ◌∷◌, ◌++◌, length, drop, map, get_or, Result, Ok, Err, refl, sym, ap, ◌∙◌, subst, inl, inr}
+use Rattle.std.proofs.Common.{◌≡◌, ℕ, ◌+◌, ◌<◌, ◌≤◌, ◌&&◌, true, List, [], ◌∷◌, ◌++◌, length, drop, get_or, Ok, Err, refl, sym, ap, ◌∙◌, subst, inl, inr}
 use Rattle.std.specs.List.{list_all}
 use Rattle.std.proofs.lemmas.Bool.{and_parts}
 use Rattle.std.proofs.lemmas.List.{append_assoc, drop_more, drop_all, append-nil}
@@ -8,7 +8,7 @@ use Rattle.go_text.specs.Named.{Source}
 use Rattle.go_ast.specs.Parse.{Parsed}
 use Rattle.go_sound.specs.WellTyped.{is_text}
 use Rattle.go_program.specs.Programs.{AreTexts}
-use Rattle.go_run.specs.Sources.{parsed_as, all_parsed, IsStopped, IsTextFault}
+use Rattle.go_run.specs.Sources.{all_parsed, IsTextFault}
 use Rattle.go_run.specs.Answers.{IsRead}
 
 texts_more : (files : List Parsed) (file : Parsed) → AreTexts files → is_text file.text ≡ true → AreTexts (files ++ file ∷ [])

@@ -1,17 +1,17 @@
 -- The first fault of a package stands in one of its files.
-use Rattle.std.proofs.Common.{◌≡◌, ℕ, suc, ◌+◌, ◌<◌, Bool, true, false, List, [], ◌∷◌, ◌++◌, length, map, Option, Some, None, refl, sym, ap, ◌∙◌, subst, arith}
+use Rattle.std.proofs.Common.{◌≡◌, ℕ, suc, ◌+◌, ◌<◌, Bool, true, false, List, [], ◌∷◌, ◌++◌, length, map, Option, Some, None, refl, sym, ap, subst, arith}
 use Rattle.std.specs.Prelude.{bytes_eq, codes, ◌||◌, ◌&&◌, not, is_some, unwrap_or, option_map, if◌then◌else◌}
 use Rattle.std.specs.List.{slice_get, flat_map, list_any}
 use Rattle.go_text.specs.declared.place.Place.{Place}
 use Rattle.go_text.specs.declared.fault.FaultKind.{FaultKind}
 use Rattle.go_text.specs.declared.fault.FaultKind.TheVariants.{Main}
-use Rattle.go_ast.specs.Trees.{Name, TypeExpr, Expr, Exprs, no_exprs, some_exprs, ConstSpec, VarSpec, TypeSpec, constants, variables, types, TopLevel, declared, function, File}
+use Rattle.go_ast.specs.Trees.{Name, TypeExpr, Expr, Exprs, no_exprs, some_exprs, ConstSpec, VarSpec, constants, variables, types, TopLevel, declared, function, File}
 use Rattle.go_ast.specs.Parse.{Parsed}
 use Rattle.go_objects.specs.Objects.{Object, constant, function', other, paired, unpaired, meant, constants_of, in_group, typed_object, valued_object, result_objects, uncounted, variables_of, type_object, objects_in, objects_from, firsts, objects_of}
 use Rattle.go_objects.specs.Table.{number_of}
 use Rattle.go_decl.specs.Faults.{Facts, Faults}
 use Rattle.go_package.specs.Imports.{Importable}
-use Rattle.go_package.specs.Packages.{Numbered, each_file, file_faults, object_faults, numbered_faults, constants_faults, absent_main_faults, main_faults, names_faults, package_faults, IsFaultOf}
+use Rattle.go_package.specs.Packages.{Numbered, each_file, file_faults, object_faults, numbered_faults, constants_faults, absent_main_faults, main_faults, names_faults, package_faults}
 use Rattle.go_program.specs.Programs.{fmt_alone, AreTreesOf, AreFaulty}
 
 -- ---- lists of what stands in files of lower numbers

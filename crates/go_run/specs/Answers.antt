@@ -1,5 +1,5 @@
 -- What the answers about sources say.
-use Rattle.std.specs.Prelude.{◌≡◌, ℕ, true, List, map, Option, Some, Result, Ok, Err, Vec}
+use Rattle.std.specs.Prelude.{◌≡◌, ℕ, List, map, Some, Result, Ok, Err, Vec}
 use Rattle.std.specs.List.{slice_get}
 use Rattle.std.specs.Global.{Global}
 use Rattle.go_text.specs.Faults.{Fault}
@@ -8,7 +8,6 @@ use Rattle.go_text.specs.declared.fault.FaultKind.{FaultKind}
 use Rattle.go_text.specs.declared.place.Place.{Place}
 use Rattle.go_ast.specs.Parse.{Parsed}
 use Rattle.go_code.specs.Images.{Image}
-use Rattle.go_sound.specs.WellTyped.{is_text}
 use Rattle.go_program.specs.Programs.{AreProgram, AreInitialized, AreTexts, Mean}
 use Rattle.go_run.specs.declared.answer.Answer.{Answer}
 use Rattle.go_run.specs.declared.answer.Answer.TheVariants as answers

@@ -1,5 +1,5 @@
 -- What the sources of a program can be: a fault, a package that isn't a program, or a program.
-use Rattle.std.specs.Prelude.{◌≡◌, ◌≢◌, ◌⊎◌, ℕ, false, List, [], ◌∷◌, map, codes, Option, Some}
+use Rattle.std.specs.Prelude.{◌≡◌, ◌≢◌, ◌⊎◌, ℕ, false, List, [], ◌∷◌, map, codes, Some}
 use Rattle.std.specs.List.{slice_get}
 use Rattle.go_text.specs.Faults.{Fault}
 use Rattle.go_text.specs.Named.{Source}

@@ -1,5 +1,5 @@
 -- How answers are told: what standard output and standard error get, and the status.
-use Rattle.std.specs.Prelude.{ℕ, List, [], ◌∷◌, ◌++◌, codes}
+use Rattle.std.specs.Prelude.{ℕ, List, [], ◌++◌, codes}
 use Rattle.std.specs.Fmt.{decimal}
 use Rattle.go_text.specs.Faults.{Fault, fault_number, fault_word}
 use Rattle.go_code.specs.declared.ending.Ending.{Ending}

@@ -1,5 +1,5 @@
 -- What the words of a command line ask for.
-use Rattle.std.specs.Prelude.{ℕ, ◌==◌, ◌&&◌, not, nat_eq, bytes_eq, codes, if◌then◌else◌, Bool, List, [], ◌∷◌, length, map, Option, Some, None, string_bytes}
+use Rattle.std.specs.Prelude.{ℕ, ◌==◌, ◌&&◌, not, nat_eq, bytes_eq, codes, if◌then◌else◌, Bool, List, ◌∷◌, length, map, Option, Some, None, string_bytes}
 use Rattle.std.specs.List.{list_all, starts_with}
 use Rattle.ws_command.specs.Lines.{number_of}
 use Rattle.goset_run.specs.declared.words.Request.{Request}
