@@ -43,11 +43,11 @@ module _ (image : Image) (s : State) (f : Frame) (callers : List Frame) where
   pub frame_leads : (i : FrameInstr) (g : Frame) (final : Final) → Before s f callers (In_frame i) → frame_step i (past f) ≡ Some g → Leads image (with_frames s (g ∷ callers)) final → Leads image s final
   frame_leads i g final b e l = leads_on image s _ final (step_at image s f callers (In_frame i) b.rest b.frames b.stands ∙ ap (goes_with s callers) e) l
 
-  pub local_leads : (i : AccessInstr) (reached : Reached) (final : Final) → Before s f callers (Local i) → access i f.cells f.stack ≡ Some reached → Leads image (with_frames s (local_step (past f) reached ∷ callers)) final → Leads image s final
+  pub local_leads : (i : AccessInstr ℕ) (reached : Reached) (final : Final) → Before s f callers (Local i) → access i f.cells f.stack ≡ Some reached → Leads image (with_frames s (local_step (past f) reached ∷ callers)) final → Leads image s final
   local_leads i reached final b e l =
       leads_on image s _ final (step_at image s f callers (Local i) b.rest b.frames b.stands ∙ ap (λ o. goes_with s callers (option_map (local_step (past f)) o)) e) l
 
-  pub global_leads : (i : AccessInstr) (reached : Reached) (final : Final) → Before s f callers (Global i) → access i s.globals f.stack ≡ Some reached → Leads image (record s { frames = with_stack (past f) reached.stack ∷ callers; globals = reached.cells }) final → Leads image s final
+  pub global_leads : (i : AccessInstr ℕ) (reached : Reached) (final : Final) → Before s f callers (Global i) → access i s.globals f.stack ≡ Some reached → Leads image (record s { frames = with_stack (past f) reached.stack ∷ callers; globals = reached.cells }) final → Leads image s final
   global_leads i reached final b e l =
       leads_on image s _ final (step_at image s f callers (Global i) b.rest b.frames b.stands ∙ ap (global_step s (past f) callers) e) l
 

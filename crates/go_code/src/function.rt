@@ -5,7 +5,8 @@ use crate::instr::Instr;
 use std::marker::Model;
 
 /// A function: how many cells its parameters take, how many its frame has, the parameters
-/// among them, and its code. `R` is what the code refers to functions by, as in [`Instr`].
+/// among them, and its code. `R` is what the code refers to functions and package variables by, as in
+/// [`Instr`].
 #[derive(Drop)]
 pub struct Function<R> {
     parameters: usize,

@@ -6,7 +6,7 @@ use crate::operator::Operator;
 use std::alloc::AllocError;
 use std::marker::Model;
 
-/// A function of a package, by the package's path and the function's name.
+/// A function or a variable of a package, by the package's path and its own name.
 #[derive(Drop)]
 pub struct Symbol {
     path: String,
@@ -23,7 +23,7 @@ impl Model for Symbol {
 }
 
 impl Symbol {
-    /// The symbol of a package's path and a function's name.
+    /// The symbol of a package's path and a name in it.
     pub fn new(path: String, name: String) -> Symbol
         ensures { result ≡ record { path = string_bytes path; name = string_bytes name } }
     {
@@ -37,7 +37,7 @@ impl Symbol {
         self.path.as_str()
     }
 
-    /// The function's name.
+    /// The name of the function or the variable.
     pub fn name(&self) -> &str
         ensures { result.now ≡ self.now.name }
     {
@@ -70,34 +70,35 @@ pub enum FrameInstr {
     },
 }
 
-/// How cells are loaded on the newest frame's stack and stored from it.
-#[derive(Clone, Copy)]
-pub enum AccessInstr {
+/// How cells are loaded on the newest frame's stack and stored from it. `P` is what it says their
+/// place by.
+#[derive(Drop)]
+pub enum AccessInstr<P> {
     /// Cells side by side are loaded.
     Load {
-        /// The number of the first.
-        first: usize,
+        /// Where the first is.
+        first: P,
         /// How many.
         count: usize,
     },
     /// Cells leave the stack and are stored side by side.
     Store {
-        /// The number of the first.
-        first: usize,
+        /// Where the first is.
+        first: P,
         /// How many.
         count: usize,
     },
     /// An offset leaves the stack, and the cells are loaded that lie by it behind the first.
     LoadAt {
-        /// The number of the first at the offset 0.
-        first: usize,
+        /// Where the first is at the offset 0.
+        first: P,
         /// How many.
         count: usize,
     },
     /// An offset leaves the stack, then cells, which are stored by it behind the first.
     StoreAt {
-        /// The number of the first at the offset 0.
-        first: usize,
+        /// Where the first is at the offset 0.
+        first: P,
         /// How many.
         count: usize,
     },
@@ -165,17 +166,17 @@ pub enum CallInstr<R> {
     Return(usize),
 }
 
-/// One instruction, by what it is about. `R` is what it refers to functions by: a `Symbol` in an
-/// object, and in an image the function's number. Each group has one definition, and one
-/// function in the machine.
+/// One instruction, by what it is about. `R` is what it refers to functions and package variables
+/// by: a `Symbol` in an object, and in an image the function's number and that of the variable's
+/// first cell. Each group has one definition, and one function in the machine.
 #[derive(Drop)]
 pub enum Instr<R> {
     /// About the newest frame's stack alone.
     Frame(FrameInstr),
     /// About the cells of the newest frame.
-    Local(AccessInstr),
+    Local(AccessInstr<usize>),
     /// About the cells of the package variables.
-    Global(AccessInstr),
+    Global(AccessInstr<R>),
     /// About parts of arrays and structs.
     Part(PartInstr),
     /// An operator; its operands leave the stack, and what it gives comes on top.

@@ -5,7 +5,7 @@ use crate::instr::Instr;
 use std::marker::Model;
 
 /// What gives some package variables their values: how many cells its frame has, and its code.
-/// `R` is what the code refers to functions by, as in [`Instr`].
+/// `R` is what the code refers to functions and package variables by, as in [`Instr`].
 #[derive(Drop)]
 pub struct Setup<R> {
     cells: usize,

@@ -1,7 +1,6 @@
 -- The code of each typed tree. `R` is what code refers to functions by: a symbol in an object, and in an image the function's number.
-use Rattle.std.specs.Prelude.{ℕ, zero, suc, ◌+◌, ◌*◌, Bool, true, false, List, [], ◌∷◌, ◌++◌, length, map, pos, Option, Some, None, ◌&&◌, slice_index, sum, if◌then◌else◌}
+use Rattle.std.specs.Prelude.{ℕ, zero, suc, ◌+◌, ◌*◌, Bool, true, false, List, [], ◌∷◌, ◌++◌, length, map, pos, Option, Some, None, slice_index, sum}
 use Rattle.std.specs.List.{flat_map}
-use Rattle.std.specs.Str.{bytes_eq}
 use Rattle.go_const.specs.declared.operator.ArithmeticOperator.TheVariants.{Add}
 use Rattle.go_const.specs.declared.operator.ComparisonOperator.TheVariants.{Equal as Is_equal, Less}
 use Rattle.go_types.specs.Types.{Type', basic, array, struct, named, Fields, no_fields, field}
@@ -28,10 +27,10 @@ use Rattle.go_typed.specs.Trees.{Symbol, Expr, Exprs, no_exprs, some_exprs, Part
 use Rattle.go_meaning.specs.Values.{flat, zero_cell, zero_of}
 use Rattle.go_meaning.specs.Choices.{cell_of, unary_operators, binary_operators, conversion_operators, field_type, element_type}
 
--- Where variables lie, by the number of their first cell, and what code refers to functions by.
+-- Where local variables lie, by the number of their first cell, and what code refers to package variables and functions by.
 pub record Places (R : Type 0) : Type 0 where
   pub locals : ℕ → ℕ
-  pub globals : Symbol → ℕ
+  pub globals : Symbol → R
   pub functions : Symbol → R
 
 -- how many cells values of these types have
@@ -440,24 +439,19 @@ body_code {R} p k body = stmts_code p k body 0 0 ++ By_call (Return 0) ∷ []
 abbrev pub local_types : trees.Function → List Type'
 local_types f = f.parameters ++ f.locals
 
--- a function of a package whose variables and functions are known by these
-abbrev pub translated : {R : Type 0} → (Symbol → ℕ) → (Symbol → R) → trees.Function → Function R
+-- a function of a package, where variables and functions are known by these
+abbrev pub translated : {R : Type 0} → (Symbol → R) → (Symbol → R) → trees.Function → Function R
 translated {R} globals functions f =
     let size : ℕ = total (local_types f) in
     let p : Places R = record { locals = slice_index (slots 0 (local_types f)); globals = globals; functions = functions } in
     record { parameters = total f.parameters; cells = size + stmts_temps f.body; code = body_code p size f.body }
 
--- where a package's variables lie, one behind the other in declaration order
-abbrev pub global_slot : List ℕ → List trees.Variable → Symbol → ℕ
-global_slot path [] s = 0
-global_slot path (v ∷ vs) s = if bytes_eq v.name s.name && bytes_eq path s.path then 0 else cells v.of + global_slot path vs s
-
--- code names functions by their symbols
+-- code names variables and functions by their symbols
 abbrev pub symbol_code : Symbol → symbols.Symbol
 symbol_code s = record { path = s.path; name = s.name }
 
-abbrev pub translated_function : Package → trees.Function → PackageFunction
-translated_function typed f = record { name = f.name; function = translated (global_slot typed.path typed.variables) symbol_code f }
+abbrev pub translated_function : trees.Function → PackageFunction
+translated_function f = record { name = f.name; function = translated symbol_code symbol_code f }
 
 -- a variable of a package, with its zero value's cells
 abbrev pub translated_variable : trees.Variable → PackageVariable
@@ -469,6 +463,6 @@ object_of typed = record {
   path = typed.path;
   name = typed.name;
   variables = map translated_variable typed.variables;
-  functions = map (translated_function typed) typed.functions;
+  functions = map translated_function typed.functions;
   setups = [];
 }

@@ -10,7 +10,7 @@ ghost use Rattle.go_emit.specs.Views.{places_of};
 
 use crate::code::Code;
 use crate::expression::emit_expr;
-use crate::instr::{load, store};
+use crate::instr::{load, store, symbol as symbol_of};
 use crate::layout::Layout;
 use crate::operator::put_binary;
 use crate::size::{cells, difference, offset, sum};
@@ -76,7 +76,7 @@ fn field_type(of: &GoType, number: usize) -> &GoType
     ensures { type_of result.now ≡ or_type (type_of of.now) (choices.field_type (underlying (type_of of.now)) number) }
 {
     match underlying(of) {
-        GoType::Struct(fields) => field_at(fields, number, of),
+        GoType::Struct(fields) => field_at(&fields.list, number, of),
         _ => of,
     }
 }
@@ -88,7 +88,7 @@ fn element_type(of: &GoType) -> (usize, &GoType)
     ensures of { type_of result.1.now ≡ or_type (type_of of.now) (choices.element_type (underlying (type_of of.now))) }
 {
     match underlying(of) {
-        GoType::Array(length, element) => (*length as usize, element),
+        GoType::Array(length, element) => (*length as usize, &element.of),
         _ => (0, of),
     }
 }
@@ -157,6 +157,7 @@ fn emit_left_operands(
 
 /// So many cells of the part that a left side names.
 fn emit_take(
+    alloc: Global,
     code: &mut Code,
     layout: &Layout<'_>,
     k: usize,
@@ -173,7 +174,7 @@ fn emit_take(
             emit_address(code, of, k, steps)
         }
         TypedLeft::Global(of, symbol, steps) => {
-            let first = layout.global(symbol)?;
+            let first = symbol_of(alloc, symbol)?;
             code.put(Instr::Global(AccessInstr::LoadAt { first, count }))?;
             emit_address(code, of, k, steps)
         }
@@ -182,6 +183,7 @@ fn emit_take(
 
 /// So many cells, which lie in a temporary, into the part that a left side names.
 fn emit_give(
+    alloc: Global,
     code: &mut Code,
     layout: &Layout<'_>,
     k: usize,
@@ -200,7 +202,7 @@ fn emit_give(
             code.put(load(temp, count))
         }
         TypedLeft::Global(of, symbol, steps) => {
-            let first = layout.global(symbol)?;
+            let first = symbol_of(alloc, symbol)?;
             code.put(Instr::Global(AccessInstr::StoreAt { first, count }))?;
             emit_address(code, of, k, steps)?;
             code.put(load(temp, count))
@@ -298,6 +300,7 @@ fn emit_keeps(
 
 /// The values in the temporaries into the left sides, from the first to the last.
 fn emit_gives(
+    alloc: Global,
     code: &mut Code,
     layout: &Layout<'_>,
     k: usize,
@@ -314,7 +317,7 @@ fn emit_gives(
         let left = &lefts[i];
         let count = counts[i];
         behind = difference(behind, left_temps(left)?)?;
-        emit_give(code, layout, behind, left, temp, count)?;
+        emit_give(alloc, code, layout, behind, left, temp, count)?;
         temp = sum(temp, value_temps(left, count))?;
     }
     Ok(())
@@ -338,7 +341,7 @@ pub(crate) fn emit_assign(
     }
     let values = sum(k, lefts_temps(lefts)?)?;
     let temps = sum(values, source_temps(source)?)?;
-    emit_gives(code, layout, k, lefts, &counts, temps)?;
+    emit_gives(alloc, code, layout, k, lefts, &counts, temps)?;
     emit_keeps(code, lefts, &counts, temps)?;
     emit_source(alloc, code, layout, values, source)?;
     emit_lefts_operands(alloc, code, layout, k, lefts)
@@ -355,16 +358,17 @@ pub(crate) fn emit_update(
     operator: Operator,
     e: &TypedExpr,
 ) -> Result<(), AllocError>
-    ensures { OnOk result (code.new ≡ stmt_code (places_of layout.now) k (trees.update (type_of of.now) (left_of left.now) operator (expr_of e.now)) 0 0 ++ code.old) }
+    ensures { OnOk result (code.new
+        ≡ stmt_code (places_of layout.now) k (trees.update (type_of of.now) (left_of left.now) operator (expr_of e.now)) 0 0 ++ code.old) }
 {
     let count = cells(of)?;
     let value = sum(k, left_temps(left)?)?;
     let temp = sum(value, expr_temps(e)?)?;
-    emit_give(code, layout, k, left, temp, count)?;
+    emit_give(alloc, code, layout, k, left, temp, count)?;
     code.put(keep(left, count, temp))?;
     put_binary(code, of, operator)?;
     emit_expr(alloc, code, layout, value, e)?;
-    emit_take(code, layout, k, left, count)?;
+    emit_take(alloc, code, layout, k, left, count)?;
     emit_left_operands(alloc, code, layout, k, left)
 }
 

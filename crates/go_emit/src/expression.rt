@@ -14,7 +14,7 @@ ghost use Rattle.go_emit.specs.Translation.{zero_code, zeros_code, index_code, o
 ghost use Rattle.go_emit.specs.Views.{places_of};
 
 use crate::code::Code;
-use crate::instr::{call, constant_cell, load, store, zero_cell};
+use crate::instr::{call, constant_cell, load, store, symbol as symbol_of, zero_cell};
 use crate::layout::Layout;
 use crate::operator::{put_binary, put_conversion, put_operator, put_unary};
 use crate::size::{cells, difference, offset, sum};
@@ -37,11 +37,11 @@ pub(crate) fn emit_zero(alloc: Global, code: &mut Code, of: &GoType) -> Result<(
     match of {
         GoType::Basic(basic) => code.put(Instr::Frame(FrameInstr::Push(zero_cell(alloc, *basic)?))),
         GoType::Array(length, element) => {
-            let (count, times) = (cells(element)?, *length as usize);
+            let (count, times) = (cells(&element.of)?, *length as usize);
             code.put(Instr::Frame(FrameInstr::Repeat { count, times }))?;
-            emit_zero(alloc, code, element)
+            emit_zero(alloc, code, &element.of)
         }
-        GoType::Struct(fields) => emit_zeros(alloc, code, fields),
+        GoType::Struct(fields) => emit_zeros(alloc, code, &fields.list),
         GoType::Named(named) => emit_zero(alloc, code, &named.underlying),
     }
 }
@@ -63,7 +63,7 @@ fn put_index(code: &mut Code, of: &GoType) -> Result<(), AllocError>
 {
     match of {
         GoType::Array(length, element) => {
-            let (count, size) = (*length as usize, cells(element)?);
+            let (count, size) = (*length as usize, cells(&element.of)?);
             code.put(Instr::Part(PartInstr::Pick { count, size }))
         }
         _ => put_operator(code, CellOperator::Text(TextOperator::At)),
@@ -72,6 +72,7 @@ fn put_index(code: &mut Code, of: &GoType) -> Result<(), AllocError>
 
 /// A package's variable.
 fn emit_global(
+    alloc: Global,
     code: &mut Code,
     layout: &Layout<'_>,
     k: usize,
@@ -80,13 +81,14 @@ fn emit_global(
 ) -> Result<(), AllocError>
     ensures { OnOk result (code.new ≡ expr_code (places_of layout.now) k (trees.global (type_of of.now) symbol.now) ++ code.old) }
 {
-    let (first, count) = (layout.global(symbol)?, cells(of)?);
+    let (first, count) = (symbol_of(alloc, symbol)?, cells(of)?);
     code.put(Instr::Global(AccessInstr::Load { first, count }))
 }
 
 /// What leaves a field of a struct of a type.
 fn put_field(code: &mut Code, whole: &GoType, number: usize, of: &GoType) -> Result<(), AllocError>
-    ensures { OnOk result (code.new ≡ On_part (Part (cells (type_of whole.now)) (offset (underlying (type_of whole.now)) number) (cells (type_of of.now))) ∷ code.old) }
+    ensures { OnOk result (code.new
+        ≡ On_part (Part (cells (type_of whole.now)) (offset (underlying (type_of whole.now)) number) (cells (type_of of.now))) ∷ code.old) }
 {
     let first = offset(underlying(whole), number)?;
     let (whole, count) = (cells(whole)?, cells(of)?);
@@ -167,7 +169,7 @@ pub(crate) fn emit_expr(
             code.put(Instr::Frame(FrameInstr::Push(constant_cell(alloc, constant)?)))
         }
         TypedExprKind::Local(number) => code.put(load(layout.local(*number), cells(&e.of)?)),
-        TypedExprKind::Global(symbol) => emit_global(code, layout, k, &e.of, symbol),
+        TypedExprKind::Global(symbol) => emit_global(alloc, code, layout, k, &e.of, symbol),
         TypedExprKind::Field(operand, number) => {
             put_field(code, &operand.of, *number, &e.of)?;
             emit_expr(alloc, code, layout, k, operand)

@@ -36,46 +36,37 @@ fn generate_body(
 
 /// The code of a function, which doesn't know its name. The parameters come first, then the other
 /// local variables by their numbers, then the temporaries.
-fn translate(
-    alloc: Global,
-    typed: &Typed,
-    function: &TypedFunction,
-) -> Result<Function<Symbol>, AllocError>
-    ensures { IfOk result (λ made. made ≡ (translated_function (typed_of typed.now) (function_of function.now)).function) }
+fn translate(alloc: Global, function: &TypedFunction) -> Result<Function<Symbol>, AllocError>
+    ensures { IfOk result (λ made. made ≡ (translated_function (function_of function.now)).function) }
 {
     let mut slots = Vec::new(alloc);
     let parameters = push_slots(&mut slots, 0, &function.parameters)?;
     let size = push_slots(&mut slots, parameters, &function.locals)?;
-    let layout = Layout {
-        slots: &slots,
-        path: typed.path.as_str(),
-        variables: &typed.variables,
-    };
+    let layout = Layout { slots: &slots };
     let code = generate_body(alloc, &layout, size, &function.body)?;
     let cells = sum(size, stmts_temps(alloc, &function.body)?)?;
     Ok(Function::new(parameters, cells, code))
 }
 
 /// A function of a package's object.
-fn generate_function(
-    alloc: Global,
-    typed: &Typed,
-    function: &TypedFunction,
-) -> Result<PackageFunction, AllocError>
-    ensures { IfOk result (λ made. made ≡ translated_function (typed_of typed.now) (function_of function.now)) }
+fn generate_function(alloc: Global, function: &TypedFunction) -> Result<PackageFunction, AllocError>
+    ensures { IfOk result (λ made. made ≡ translated_function (function_of function.now)) }
 {
-    let translated = translate(alloc, typed, function)?;
+    let translated = translate(alloc, function)?;
     let name = function.name.clone()?;
     Ok(PackageFunction::new(name, translated))
 }
 
 /// The functions of a package's object, in their order.
-fn generate_functions(alloc: Global, typed: &Typed) -> Result<Vec<PackageFunction>, AllocError>
-    ensures { IfOk result (λ made. made.items ≡ map (translated_function (typed_of typed.now)) (map function_of typed.now.functions.items)) }
+fn generate_functions(
+    alloc: Global,
+    functions: &[TypedFunction],
+) -> Result<Vec<PackageFunction>, AllocError>
+    ensures { IfOk result (λ made. made.items ≡ map translated_function (map function_of functions.now)) }
 {
-    let mut made = Vec::with_capacity(alloc, typed.functions.len())?;
-    for function in &typed.functions {
-        made.push(generate_function(alloc, typed, function)?)?;
+    let mut made = Vec::with_capacity(alloc, functions.len())?;
+    for function in functions {
+        made.push(generate_function(alloc, function)?)?;
     }
     Ok(made)
 }
@@ -112,7 +103,7 @@ pub fn generate(alloc: Global, typed: &Typed) -> Result<Object, AllocError>
     let path = typed.path.clone()?;
     let name = typed.name.clone()?;
     let variables = generate_variables(alloc, &typed.variables)?;
-    let functions = generate_functions(alloc, typed)?;
+    let functions = generate_functions(alloc, &typed.functions)?;
     let setups = Vec::new(alloc);
     Ok(Object::new(path, name, variables, functions, setups))
 }

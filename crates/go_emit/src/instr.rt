@@ -53,7 +53,7 @@ pub(crate) fn zero_cell(alloc: Global, of: Basic) -> Result<Cell, AllocError>
     }
 }
 
-/// The symbol that code calls a function by.
+/// The symbol that code refers to a function or a package variable by.
 pub(crate) fn symbol(alloc: Global, symbol: &TypedSymbol) -> Result<Symbol, AllocError>
     ensures { IfOk result (λ s. s ≡ symbol_code symbol.now) }
 {

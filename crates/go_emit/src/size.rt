@@ -88,8 +88,8 @@ pub(crate) fn offset(of: &GoType, number: usize) -> Result<usize, AllocError>
     ensures { IfOk result (λ n. n ≡ offset (type_of of.now) number) }
 {
     match of {
-        GoType::Struct(fields) => field_offset(fields, number),
-        GoType::Array(_, element) => product(number, cells(element)?),
+        GoType::Struct(fields) => field_offset(&fields.list, number),
+        GoType::Array(_, element) => product(number, cells(&element.of)?),
         _ => Ok(0),
     }
 }

@@ -20,11 +20,11 @@ pub(crate) fn push_zero(alloc: Global, found: &mut Vec<Cell>, of: &GoType) -> Re
         }
         GoType::Array(length, element) => {
             for _ in 0..*length {
-                push_zero(alloc, found, element)?;
+                push_zero(alloc, found, &element.of)?;
             }
             Ok(())
         }
-        GoType::Struct(fields) => push_zeros(alloc, found, fields),
+        GoType::Struct(fields) => push_zeros(alloc, found, &fields.list),
         GoType::Named(named) => push_zero(alloc, found, &named.underlying),
     }
 }

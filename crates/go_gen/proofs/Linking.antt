@@ -20,12 +20,12 @@ use Rattle.go_code.specs.Finals.{Ends, BadCode}
 use Rattle.go_code.specs.Images.{Image}
 use Rattle.go_code.specs.Machine.{MachineMeaning}
 use Rattle.go_code.specs.Packages.{PackageFunction, PackageVariable}
-use Rattle.go_code.specs.Referred.{refer}
+use Rattle.go_code.specs.Referred.{Changes, refer}
 use Rattle.go_code.specs.Symbols.{Symbol}
 use Rattle.go_link.specs.declared.link.LinkError.{LinkError}
 use Rattle.go_link.specs.declared.link.LinkError.TheVariants.{NoMain, NameMissing}
 use Rattle.std.specs.Bool.{one_answer}
-use Rattle.go_link.specs.Links.{same_symbol, symbol_of, names, number_of, is_missing, code_of, name_missing, has_main, link_refusal, linked_function, zeros_of, is_init as is_object_init, linked, Links}
+use Rattle.go_link.specs.Links.{same_symbol, symbol_of, names, number_of, Held, variables, numbers, is_missing, code_of, name_missing, has_main, link_refusal, linked_function, zeros_of, is_init as is_object_init, linked, Links}
 use Rattle.go_export.specs.Typed.{Expr, constant, Exprs, no_exprs, some_exprs, Stmt, print, Stmts, no_stmts, some_stmts, Symbol as SourceSymbol, Variable, Function, Typed}
 use Rattle.go_export.specs.Types.{Type', int, string, bool}
 use Rattle.go_export.specs.WellTyped.{IsWellTyped}
@@ -37,10 +37,10 @@ use Rattle.go_gen.proofs.Equality.{compiled, start_of, Starts, machine_follows, 
 -- ---- code with other references
 
 mutual
-  expression_referred : {R S : Type 0} (g : R → S) (slots : Slots) (e : Expr) → map (refer g) (expression_code slots e) ≡ expression_code slots e
+  expression_referred : {R S : Type 0} (g : Changes R S) (slots : Slots) (e : Expr) → map (refer g) (expression_code slots e) ≡ expression_code slots e
   expression_referred g slots (constant of c) = refl
 
-  operands_referred : {R S : Type 0} (g : R → S) (slots : Slots) (es : Exprs) → map (refer g) (operands_code slots es) ≡ operands_code slots es
+  operands_referred : {R S : Type 0} (g : Changes R S) (slots : Slots) (es : Exprs) → map (refer g) (operands_code slots es) ≡ operands_code slots es
   operands_referred g slots no_exprs = refl
   operands_referred g slots (some_exprs e es) =
       map-append (refer g) (expression_code slots e) (operands_code slots es)
@@ -48,19 +48,19 @@ mutual
       ∙ ap (λ l. expression_code slots e ++ l) (operands_referred g slots es)
 
 mutual
-  statement_referred : {R S : Type 0} (g : R → S) (slots : Slots) (s : Stmt) → map (refer g) (statement_code slots s) ≡ statement_code slots s
+  statement_referred : {R S : Type 0} (g : Changes R S) (slots : Slots) (s : Stmt) → map (refer g) (statement_code slots s) ≡ statement_code slots s
   statement_referred g slots (print operands) =
       map-append (refer g) (operands_code slots operands) (To_output (Print (operands_count operands)) ∷ [])
       ∙ ap (λ l. l ++ To_output (Print (operands_count operands)) ∷ []) (operands_referred g slots operands)
 
-  statements_referred : {R S : Type 0} (g : R → S) (slots : Slots) (ss : Stmts) → map (refer g) (statements_code slots ss) ≡ statements_code slots ss
+  statements_referred : {R S : Type 0} (g : Changes R S) (slots : Slots) (ss : Stmts) → map (refer g) (statements_code slots ss) ≡ statements_code slots ss
   statements_referred g slots no_stmts = refl
   statements_referred g slots (some_stmts s ss) =
       map-append (refer g) (statement_code slots s) (statements_code slots ss)
       ∙ ap (λ l. l ++ map (refer g) (statements_code slots ss)) (statement_referred g slots s)
       ∙ ap (λ l. statement_code slots s ++ l) (statements_referred g slots ss)
 
-body_referred : {R S : Type 0} (g : R → S) (slots : Slots) (ss : Stmts) → map (refer g) (body_code slots ss) ≡ body_code slots ss
+body_referred : {R S : Type 0} (g : Changes R S) (slots : Slots) (ss : Stmts) → map (refer g) (body_code slots ss) ≡ body_code slots ss
 body_referred g slots ss = map-append (refer g) (statements_code slots ss) (By_call (Return 0) ∷ []) ∙ ap (λ l. l ++ By_call (Return 0) ∷ []) (statements_referred g slots ss)
 
 -- ---- places of names
@@ -106,11 +106,11 @@ found_alone typed s =
 
 -- ---- functions and start steps
 
-functions_linked : (names : List Symbol) (fs : List Function) → map (linked_function names) (map translated fs) ≡ map compiled fs
-functions_linked names [] = refl
-functions_linked names (f ∷ fs) =
-    ap (λ (code : List (Instr ℕ)). record { parameters = 0; cells = 0; code = code } ∷ map (linked_function names) (map translated fs)) (body_referred (number_of names) no_slots f.body)
-    ∙ ap (λ l. compiled f ∷ l) (functions_linked names fs)
+functions_linked : (names : List Symbol) (held : List Held) (fs : List Function) → map (linked_function names held) (map translated fs) ≡ map compiled fs
+functions_linked names held [] = refl
+functions_linked names held (f ∷ fs) =
+    ap (λ (code : List (Instr ℕ)). record { parameters = 0; cells = 0; code = code } ∷ map (linked_function names held) (map translated fs)) (body_referred (numbers names held) no_slots f.body)
+    ∙ ap (λ l. compiled f ∷ l) (functions_linked names held fs)
 
 -- an element that is kept or not
 kept : {A B : Type 0} (b : Bool) (h : A → B) (x : A) (xs : List A) → map h (cond b (x ∷ xs) xs) ≡ cond b (h x ∷ map h xs) (map h xs)
@@ -136,7 +136,8 @@ starts_linked typed =
 found_linked : (typed : Typed) (s : SourceSymbol) (f : Function) → function_at (typed ∷ []) s ≡ Some f → slice_get (linked (object_of typed ∷ [])).functions (linked_number typed s) ≡ Some (compiled f)
 found_linked typed s f e =
     let all = names (object_of typed ∷ []) in
-    let functions = append-nil (map (linked_function all) (map translated typed.functions)) ∙ functions_linked all typed.functions in
+    let places = variables (object_of typed ∷ []) in
+    let functions = append-nil (map (linked_function all places) (map translated typed.functions)) ∙ functions_linked all places typed.functions in
     ap (λ l. slice_get l (linked_number typed s)) functions
     ∙ ap (slice_get (map compiled typed.functions)) (number_same typed s)
     ∙ slice_get-map compiled typed.functions _
@@ -177,34 +178,35 @@ any_none : {A : Type 0} (test : A → Bool) (xs ys : List A) → list_any test x
 any_none test xs ys e d = list_any-append test xs ys ∙ ap (λ b. b || list_any test ys) e ∙ d
 
 mutual
-  expression_known : (all : List Symbol) (slots : Slots) (e : Expr) → list_any (is_missing all) (expression_code slots e) ≡ false
-  expression_known all slots (constant of c) = refl
+  expression_known : (all : List Symbol) (places : List Held) (slots : Slots) (e : Expr) → list_any (is_missing all places) (expression_code slots e) ≡ false
+  expression_known all places slots (constant of c) = refl
 
-  operands_known : (all : List Symbol) (slots : Slots) (es : Exprs) → list_any (is_missing all) (operands_code slots es) ≡ false
-  operands_known all slots no_exprs = refl
-  operands_known all slots (some_exprs e es) = any_none (is_missing all) (expression_code slots e) (operands_code slots es) (expression_known all slots e) (operands_known all slots es)
+  operands_known : (all : List Symbol) (places : List Held) (slots : Slots) (es : Exprs) → list_any (is_missing all places) (operands_code slots es) ≡ false
+  operands_known all places slots no_exprs = refl
+  operands_known all places slots (some_exprs e es) = any_none (is_missing all places) (expression_code slots e) (operands_code slots es) (expression_known all places slots e) (operands_known all places slots es)
 
 mutual
-  statement_known : (all : List Symbol) (slots : Slots) (s : Stmt) → list_any (is_missing all) (statement_code slots s) ≡ false
-  statement_known all slots (print operands) = any_none (is_missing all) (operands_code slots operands) (To_output (Print (operands_count operands)) ∷ []) (operands_known all slots operands) refl
+  statement_known : (all : List Symbol) (places : List Held) (slots : Slots) (s : Stmt) → list_any (is_missing all places) (statement_code slots s) ≡ false
+  statement_known all places slots (print operands) = any_none (is_missing all places) (operands_code slots operands) (To_output (Print (operands_count operands)) ∷ []) (operands_known all places slots operands) refl
 
-  statements_known : (all : List Symbol) (slots : Slots) (ss : Stmts) → list_any (is_missing all) (statements_code slots ss) ≡ false
-  statements_known all slots no_stmts = refl
-  statements_known all slots (some_stmts s ss) = any_none (is_missing all) (statement_code slots s) (statements_code slots ss) (statement_known all slots s) (statements_known all slots ss)
+  statements_known : (all : List Symbol) (places : List Held) (slots : Slots) (ss : Stmts) → list_any (is_missing all places) (statements_code slots ss) ≡ false
+  statements_known all places slots no_stmts = refl
+  statements_known all places slots (some_stmts s ss) = any_none (is_missing all places) (statement_code slots s) (statements_code slots ss) (statement_known all places slots s) (statements_known all places slots ss)
 
-functions_known : (all : List Symbol) (fs : List Function) → list_any (is_missing all) (flat_map (λ (f : PackageFunction). f.function.code) (map translated fs)) ≡ false
-functions_known all [] = refl
-functions_known all (f ∷ fs) =
-    any_none (is_missing all) (body_code no_slots f.body) _
-    (any_none (is_missing all) (statements_code no_slots f.body) (By_call (Return 0) ∷ []) (statements_known all no_slots f.body) refl)
-    (functions_known all fs)
+functions_known : (all : List Symbol) (places : List Held) (fs : List Function) → list_any (is_missing all places) (flat_map (λ (f : PackageFunction). f.function.code) (map translated fs)) ≡ false
+functions_known all places [] = refl
+functions_known all places (f ∷ fs) =
+    any_none (is_missing all places) (body_code no_slots f.body) _
+    (any_none (is_missing all places) (statements_code no_slots f.body) (By_call (Return 0) ∷ []) (statements_known all places no_slots f.body) refl)
+    (functions_known all places fs)
 
 -- no code of an object refers to a function that isn't there
 nothing_missing : (typed : Typed) → name_missing (object_of typed ∷ []) ≡ false
 nothing_missing typed =
     let all = names (object_of typed ∷ []) in
-    any_none (is_missing all) (code_of (object_of typed)) []
-    (any_none (is_missing all) (flat_map (λ (f : PackageFunction). f.function.code) (map translated typed.functions)) [] (functions_known all typed.functions) refl)
+    let places = variables (object_of typed ∷ []) in
+    any_none (is_missing all places) (code_of (object_of typed)) []
+    (any_none (is_missing all places) (flat_map (λ (f : PackageFunction). f.function.code) (map translated typed.functions)) [] (functions_known all places typed.functions) refl)
     refl
 
 text_other : (s t : List ℕ) → bytes_eq s t ≡ bytes_eq t s

@@ -13,7 +13,7 @@ use Rattle.go_code.specs.Symbols.{Symbol}
 use Rattle.go_code.specs.declared.instr.Instr.TheVariants.{Calls as By_call}
 use Rattle.go_code.specs.declared.instr.CallInstr.TheVariants.{Call}
 use Rattle.go_link.specs.declared.link.LinkError.TheVariants.{NoMain, NameMissing}
-use Rattle.go_link.specs.Links.{code_of, has_main, has_main_in, is_missing, last_package, link_refusal, name_missing, linked_function, names, number_of, same_symbol, symbol_of}
+use Rattle.go_link.specs.Links.{code_of, has_main, has_main_in, is_missing, last_package, link_refusal, name_missing, linked_function, variables, names, number_of, same_symbol, symbol_of}
 use Rattle.go_link.specs.Found.{IsDeclared, Found}
 
 -- ---- indexes
@@ -106,9 +106,9 @@ found_with packages s item (Some entry) is e same =
       function = entry.1;
       declared = entry_declared packages (number_of (names packages) s) entry is;
       named = named ∙ same;
-      there = ap (λ l. slice_get l (number_of (names packages) s)) (sym (map_entries (λ e. linked_function (names packages) e.1) packages))
-          ∙ slice_get-map (λ e. linked_function (names packages) e.1) (entries packages) (number_of (names packages) s)
-          ∙ ap (option_map (λ e. linked_function (names packages) e.1)) is;
+      there = ap (λ l. slice_get l (number_of (names packages) s)) (sym (map_entries (λ e. linked_function (names packages) (variables packages) e.1) packages))
+          ∙ slice_get-map (λ e. linked_function (names packages) (variables packages) e.1) (entries packages) (number_of (names packages) s)
+          ∙ ap (option_map (λ e. linked_function (names packages) (variables packages) e.1)) is;
     }
 
 -- where a symbol names a function, its number is that of a function with its path and its name
@@ -130,12 +130,12 @@ or_right false b e = e
 or_left : (a b : Bool) → a ≡ true → (a || b) ≡ true
 or_left a b e = ap (λ c. c || b) e
 
-any_at : {X : Type 0} (p : X → Bool) (xs : List X) (k : ℕ) (x : X) → slice_get xs k ≡ Some x → p x ≡ true → list_any p xs ≡ true
+pub any_at : {X : Type 0} (p : X → Bool) (xs : List X) (k : ℕ) (x : X) → slice_get xs k ≡ Some x → p x ≡ true → list_any p xs ≡ true
 any_at p [] k x is passes = cc
 any_at p (y ∷ ys) zero x is passes = let same : y ≡ x = cc in ap (λ b. b || list_any p ys) (ap p same ∙ passes)
 any_at p (y ∷ ys) (suc k) x is passes = or_right (p y) (list_any p ys) (any_at p ys k x is passes)
 
-any_in : {X A : Type 0} (p : A → Bool) (f : X → List A) (xs : List X) (k : ℕ) (x : X) → slice_get xs k ≡ Some x → list_any p (f x) ≡ true → list_any p (flat_map f xs) ≡ true
+pub any_in : {X A : Type 0} (p : A → Bool) (f : X → List A) (xs : List X) (k : ℕ) (x : X) → slice_get xs k ≡ Some x → list_any p (f x) ≡ true → list_any p (flat_map f xs) ≡ true
 any_in p f [] k x is passes = cc
 any_in p f (y ∷ ys) zero x is passes =
     let same : y ≡ x = cc in
@@ -151,20 +151,20 @@ declared_found packages o f d =
     (any_at (same_symbol (symbol_of o f.name)) (map (λ f. symbol_of o f.name) o.functions) d.index (symbol_of o f.name)
     (slice_get-map (λ f. symbol_of o f.name) o.functions d.index ∙ ap (option_map (λ f. symbol_of o f.name)) d.is) (same_itself (symbol_of o f.name))))
 
-not_missing : (b c : Bool) → b ≡ false → (c ≡ true → b ≡ true) → c ≡ false
+pub not_missing : (b c : Bool) → b ≡ false → (c ≡ true → b ≡ true) → c ≡ false
 not_missing b true e h = cc (h refl)
 not_missing b false e h = refl
 
-not_false : (b : Bool) → not b ≡ false → b ≡ true
+pub not_false : (b : Bool) → not b ≡ false → b ≡ true
 not_false true e = refl
 not_false false e = cc
 
 -- each function that an instruction of a linked package calls has a number
 pub called_found : (packages : List Object) (i j : ℕ) (o : Object) (s : Symbol) → name_missing packages ≡ false → slice_get packages i ≡ Some o → slice_get (code_of o) j ≡ Some (By_call (Call s)) → Found packages s
 called_found packages i j o s whole at is =
-    let missing : is_missing (names packages) (By_call (Call s)) ≡ false =
-    not_missing (name_missing packages) (is_missing (names packages) (By_call (Call s))) whole
-    (λ h. any_in (is_missing (names packages)) code_of packages i o at (any_at (is_missing (names packages)) (code_of o) j (By_call (Call s)) is h)) in
+    let missing : is_missing (names packages) (variables packages) (By_call (Call s)) ≡ false =
+    not_missing (name_missing packages) (is_missing (names packages) (variables packages) (By_call (Call s))) whole
+    (λ h. any_in (is_missing (names packages) (variables packages)) code_of packages i o at (any_at (is_missing (names packages) (variables packages)) (code_of o) j (By_call (Call s)) is h)) in
     found_by packages s (not_false (list_any (same_symbol s) (names packages)) missing)
 
 -- ---- main

@@ -5,7 +5,7 @@ use Rattle.std.specs.List.{flat_map, list_any}
 use Rattle.go_code.specs.Symbols.{Symbol}
 use Rattle.go_code.specs.Images.{Image}
 use Rattle.go_code.specs.Packages.{Object}
-use Rattle.go_link.specs.Links.{IsRefusal, code_of, has_main, is_missing, link_refusal, linked, name_missing, names}
+use Rattle.go_link.specs.Links.{Held, variables, IsRefusal, code_of, has_main, is_missing, link_refusal, linked, name_missing, names}
 use Rattle.go_link.specs.declared.link.LinkError.{LinkError}
 use Rattle.go_link.specs.declared.link.LinkError.TheVariants.{NoMain, NameMissing}
 
@@ -18,8 +18,8 @@ refused_as (Ok image) xs ys e is = tt
 refused_as (Err error) xs ys e is = subst (λ zs. IsRefusal error (link_refusal zs)) e is
 
 -- packages with a main and with no name missing are not refused
-pub allowed_by : (packages : List Object) (all : List Symbol) → has_main packages ≡ true → all ≡ names packages → list_any (is_missing all) (flat_map code_of packages) ≡ false → link_refusal packages ≡ None
-allowed_by packages all main same whole =
-    let missing : name_missing packages ≡ false = subst (λ ns. list_any (is_missing ns) (flat_map code_of packages) ≡ false) same whole in
+pub allowed_by : (packages : List Object) (all : List Symbol) (held : List Held) → has_main packages ≡ true → all ≡ names packages → held ≡ variables packages → list_any (is_missing all held) (flat_map code_of packages) ≡ false → link_refusal packages ≡ None
+allowed_by packages all held main same places whole =
+    let missing : name_missing packages ≡ false = subst (λ vs. list_any (is_missing (names packages) vs) (flat_map code_of packages) ≡ false) places (subst (λ ns. list_any (is_missing ns held) (flat_map code_of packages) ≡ false) same whole) in
     ap (λ b. if not b then Some NoMain else (if name_missing packages then Some NameMissing else None)) main
     ∙ ap (λ b. if b then Some NameMissing else None) missing

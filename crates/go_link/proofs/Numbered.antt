@@ -25,7 +25,7 @@ both true true e = (refl, refl)
 both true false e = cc
 both false b e = cc
 
-same_eq : (s t : Symbol) → same_symbol s t ≡ true → s ≡ t
+pub same_eq : (s t : Symbol) → same_symbol s t ≡ true → s ≡ t
 same_eq s t e =
     let parts = both (bytes_eq s.path t.path) (bytes_eq s.name t.name) e in
     ap (λ (p : List ℕ). record { path = p; name = s.name }) ((bytes_eq-Decides s.path t.path).0 parts.0)
@@ -37,7 +37,7 @@ same_itself s = ap (λ b. b && bytes_eq s.name s.name) ((bytes_eq-Decides s.path
 same_true : (s t : Symbol) → s ≡ t → same_symbol s t ≡ true
 same_true s t e = subst (λ u. same_symbol s u ≡ true) e (same_itself s)
 
-same_back : (s t : Symbol) → same_symbol s t ≡ same_symbol t s
+pub same_back : (s t : Symbol) → same_symbol s t ≡ same_symbol t s
 same_back s t = same_from_decides {P = s ≡ t} (same_symbol s t) (same_symbol t s) (same_eq s t, same_true s t) (λ h. sym (same_eq t s h), λ e. same_true t s (sym e))
 
 then_eq : (a b : Ordering) → is_eq (ordering_then a b) ≡ (is_eq a && is_eq b)
@@ -45,7 +45,7 @@ then_eq Less b = refl
 then_eq Equal b = refl
 then_eq Greater b = refl
 
-cmp_same : (m n : Name) → is_eq (name_cmp m n) ≡ same_symbol (symbol_at m) (symbol_at n)
+pub cmp_same : (m n : Name) → is_eq (name_cmp m n) ≡ same_symbol (symbol_at m) (symbol_at n)
 cmp_same m n =
     then_eq (slice_cmp nat_cmp m.0.now n.0.now) (slice_cmp nat_cmp m.1.now n.1.now)
     ∙ ap (λ b. b && is_eq (slice_cmp nat_cmp m.1.now n.1.now)) (is_eq-slice_cmp m.0.now n.0.now)

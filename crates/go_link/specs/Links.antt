@@ -1,5 +1,5 @@
 -- What objects are linked to.
-use Rattle.std.specs.Prelude.{◌≡◌, ℕ, ◌-◌, Bool, false, ◌&&◌, not, if◌then◌else◌, List, [], ◌∷◌, ◌++◌, length, map, slice_get, codes, Option, Some, None}
+use Rattle.std.specs.Prelude.{◌≡◌, ℕ, ◌+◌, ◌-◌, Bool, false, ◌&&◌, not, if◌then◌else◌, List, [], ◌∷◌, ◌++◌, length, map, slice_get, codes, Option, Some, None}
 use Rattle.std.specs.List.{filter, filter_map, flat_map, list_any, position_or_len, starts_with}
 use Rattle.std.specs.Str.{bytes_eq}
 use Rattle.std.specs.Prelude.{nat_eq}
@@ -7,13 +7,13 @@ use Rattle.go_code.specs.declared.cell.Cell.{Cell}
 use Rattle.go_code.specs.declared.image.Start.{Start}
 use Rattle.go_code.specs.declared.image.Start.TheVariants.{Setup as Set_up, Function as Run}
 use Rattle.go_code.specs.declared.instr.Instr.{Instr}
-use Rattle.go_code.specs.declared.instr.Instr.TheVariants.{Calls as By_call}
+use Rattle.go_code.specs.declared.instr.Instr.TheVariants.{Global as On_globals, Calls as By_call}
 use Rattle.go_code.specs.declared.instr.CallInstr.{CallInstr}
 use Rattle.go_code.specs.declared.instr.CallInstr.TheVariants.{Call, Return}
 use Rattle.go_code.specs.Functions.{Function, Setup}
 use Rattle.go_code.specs.Images.{Image}
 use Rattle.go_code.specs.Packages.{Object, PackageFunction}
-use Rattle.go_code.specs.Referred.{refer_function, refer_setup}
+use Rattle.go_code.specs.Referred.{Changes, place_of, refer_function, refer_setup}
 use Rattle.go_code.specs.Symbols.{Symbol}
 use Rattle.go_link.specs.declared.link.LinkError.{LinkError}
 use Rattle.go_link.specs.declared.link.LinkError.TheVariants.{Memory, NoMain, NameMissing}
@@ -38,23 +38,37 @@ names packages = flat_map (λ o. map (λ f. symbol_of o f.name) o.functions) pac
 abbrev pub number_of : List Symbol → Symbol → ℕ
 number_of names s = position_or_len (same_symbol s) names
 
+-- a variable's symbol, and how many cells it has
+abbrev pub Held : Type 0
+Held = Symbol × ℕ
+
+-- the variables, one package's behind another's, each package's in declaration order
+abbrev pub variables : List Object → List Held
+variables packages = flat_map (λ o. map (λ v. (symbol_of o v.name, length v.zero)) o.variables) packages
+
+-- the first cell of the variable that a symbol names, where the variables lie side by side
+abbrev pub place_in : List Held → Symbol → ℕ
+place_in [] s = 0
+place_in (v ∷ vs) s = if same_symbol s v.0 then 0 else v.1 + place_in vs s
+
 -- the call goes to none of the functions
 abbrev pub misses : List Symbol → CallInstr Symbol → Bool
 misses names (Call s) = not (list_any (same_symbol s) names)
 misses names (Return count) = false
 
--- the instruction refers to none of the functions
-abbrev pub is_missing : List Symbol → Instr Symbol → Bool
-is_missing names (By_call i) = misses names i
-is_missing names other = false
+-- the instruction refers to none of the functions, or to none of the variables
+abbrev pub is_missing : List Symbol → List Held → Instr Symbol → Bool
+is_missing names held (By_call i) = misses names i
+is_missing names held (On_globals i) = not (list_any (λ v. same_symbol (place_of i) v.0) held)
+is_missing names held other = false
 
 -- all code of a package
 abbrev pub code_of : Object → List (Instr Symbol)
 code_of o = flat_map (λ f. f.function.code) o.functions ++ flat_map (λ s. s.code) o.setups
 
--- some instruction of the packages refers to no function
+-- some instruction of the packages refers to no function or variable
 abbrev pub name_missing : List Object → Bool
-name_missing packages = list_any (is_missing (names packages)) (flat_map code_of packages)
+name_missing packages = list_any (is_missing (names packages) (variables packages)) (flat_map code_of packages)
 
 -- ---- main
 
@@ -84,12 +98,16 @@ IsRefusal NameMissing wrong = wrong ≡ Some NameMissing
 
 -- ---- the image
 
--- the function with numbers in place of symbols
-abbrev pub linked_function : List Symbol → PackageFunction → Function ℕ
-linked_function names f = refer_function (number_of names) f.function
+-- functions by their numbers, variables by their first cells
+abbrev pub numbers : List Symbol → List Held → Changes Symbol ℕ
+numbers names held = record { functions = number_of names; variables = place_in held }
 
-abbrev pub linked_setup : List Symbol → Setup Symbol → Start
-linked_setup names s = Set_up (refer_setup (number_of names) s)
+-- the function with numbers in place of symbols
+abbrev pub linked_function : List Symbol → List Held → PackageFunction → Function ℕ
+linked_function names held f = refer_function (numbers names held) f.function
+
+abbrev pub linked_setup : List Symbol → List Held → Setup Symbol → Start
+linked_setup names held s = Set_up (refer_setup (numbers names held) s)
 
 -- a function that is called as its package is initialized: the name is `init.` and a number
 abbrev pub is_init : PackageFunction → Bool
@@ -99,8 +117,8 @@ abbrev pub start_of : List Symbol → Object → List ℕ → Start
 start_of names o name = Run (number_of names (symbol_of o name))
 
 -- a package's setups, then its inits
-abbrev pub package_starts : List Symbol → Object → List Start
-package_starts names o = map (linked_setup names) o.setups ++ map (λ f. start_of names o f.name) (filter is_init o.functions)
+abbrev pub package_starts : List Symbol → List Held → Object → List Start
+package_starts names held o = map (linked_setup names held) o.setups ++ map (λ f. start_of names o f.name) (filter is_init o.functions)
 
 abbrev pub main_start : List Symbol → Option Object → List Start
 main_start names None = []
@@ -113,8 +131,8 @@ zeros_of o = flat_map (λ v. v.zero) o.variables
 abbrev pub linked : List Object → Image
 linked packages = record {
   globals = flat_map zeros_of packages;
-  functions = flat_map (λ o. map (linked_function (names packages)) o.functions) packages;
-  starts = flat_map (package_starts (names packages)) packages ++ main_start (names packages) (last_package packages);
+  functions = flat_map (λ o. map (linked_function (names packages) (variables packages)) o.functions) packages;
+  starts = flat_map (package_starts (names packages) (variables packages)) packages ++ main_start (names packages) (last_package packages);
 }
 
 -- the image that objects are linked to, the packages in an order

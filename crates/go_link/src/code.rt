@@ -2,13 +2,14 @@
 ghost use Rattle.std.specs.Prelude.{◌≡◌, ◌++◌, OnOk, IfOk, map};
 ghost use Rattle.std.specs.Arc.{arc_value};
 ghost use Rattle.std.specs.List.{flat_map};
-ghost use Rattle.go_code.specs.Referred.{refer, refer_call, refer_function};
-ghost use Rattle.go_link.specs.Links.{number_of, linked_function, zeros_of};
+ghost use Rattle.go_code.specs.Referred.{refer, refer_access, refer_call, refer_function};
+ghost use Rattle.go_link.specs.Links.{number_of, numbers, place_in, linked_function, zeros_of};
 
 use crate::names::Names;
+use crate::places::{Places, place_of};
 use go_code::cell::{Cell, push_copies};
 use go_code::function::Function;
-use go_code::instr::{CallInstr, FrameInstr, Instr, Symbol};
+use go_code::instr::{AccessInstr, CallInstr, FrameInstr, Instr, Symbol};
 use go_code::object::Object;
 use go_code::object::function::PackageFunction;
 use go_code::object::variable::PackageVariable;
@@ -39,14 +40,50 @@ fn link_call<'a>(names: &Names<'a>, instr: &'a CallInstr<Symbol>) -> CallInstr<u
     }
 }
 
-/// The instruction with the number of the function in place of its symbol.
-fn link_instr<'a>(names: &Names<'a>, instr: &'a Instr<Symbol>) -> Result<Instr<usize>, AllocError>
-    ensures { IfOk result (λ linked. linked ≡ refer (number_of names.now) instr.now) }
+/// The access of as many cells, whose place is said by something else.
+fn access_at<P, Q>(instr: &AccessInstr<P>, first: Q) -> AccessInstr<Q>
+    ensures { result ≡ refer_access (λ place. first) instr.now }
+{
+    match instr {
+        AccessInstr::Load { count, .. } => AccessInstr::Load {
+            first,
+            count: *count,
+        },
+        AccessInstr::Store { count, .. } => AccessInstr::Store {
+            first,
+            count: *count,
+        },
+        AccessInstr::LoadAt { count, .. } => AccessInstr::LoadAt {
+            first,
+            count: *count,
+        },
+        AccessInstr::StoreAt { count, .. } => AccessInstr::StoreAt {
+            first,
+            count: *count,
+        },
+    }
+}
+
+/// The access with the place of the variable in place of its symbol.
+fn link_access<'a>(places: &Places<'a>, instr: &'a AccessInstr<Symbol>) -> AccessInstr<usize>
+    ensures { result ≡ refer_access (place_in places.now) instr.now }
+{
+    let symbol = place_of(instr);
+    access_at(instr, places.place_in(symbol.path(), symbol.name()))
+}
+
+/// The instruction with a number in place of its symbol.
+fn link_instr<'a>(
+    names: &Names<'a>,
+    places: &Places<'a>,
+    instr: &'a Instr<Symbol>,
+) -> Result<Instr<usize>, AllocError>
+    ensures { IfOk result (λ linked. linked ≡ refer (numbers names.now places.now) instr.now) }
 {
     match instr {
         Instr::Frame(instr) => Ok(Instr::Frame(copy_frame(instr)?)),
-        Instr::Local(instr) => Ok(Instr::Local(*instr)),
-        Instr::Global(instr) => Ok(Instr::Global(*instr)),
+        Instr::Local(instr) => Ok(Instr::Local(access_at(instr, *place_of(instr)))),
+        Instr::Global(instr) => Ok(Instr::Global(link_access(places, instr))),
         Instr::Part(instr) => Ok(Instr::Part(*instr)),
         Instr::Operate(operator) => Ok(Instr::Operate(*operator)),
         Instr::Jump(instr) => Ok(Instr::Jump(*instr)),
@@ -55,30 +92,32 @@ fn link_instr<'a>(names: &Names<'a>, instr: &'a Instr<Symbol>) -> Result<Instr<u
     }
 }
 
-/// The code with numbers of functions in place of symbols. An `Err` only where memory ran out.
+/// The code with numbers in place of symbols. An `Err` only where memory ran out.
 pub(crate) fn link_code<'a>(
     alloc: Global,
     names: &Names<'a>,
+    places: &Places<'a>,
     code: &'a [Instr<Symbol>],
 ) -> Result<Vec<Instr<usize>>, AllocError>
-    ensures { IfOk result (λ linked. linked.items ≡ map (refer (number_of names.now)) code.now) }
+    ensures { IfOk result (λ linked. linked.items ≡ map (refer (numbers names.now places.now)) code.now) }
 {
     let mut linked = Vec::new(alloc);
     for instr in code {
-        linked.push(link_instr(names, instr)?)?;
+        linked.push(link_instr(names, places, instr)?)?;
     }
     Ok(linked)
 }
 
-/// The function with numbers of functions in place of symbols.
+/// The function with numbers in place of symbols.
 fn link_function<'a>(
     alloc: Global,
     names: &Names<'a>,
+    places: &Places<'a>,
     function: &'a Function<Symbol>,
 ) -> Result<Function<usize>, AllocError>
-    ensures { IfOk result (λ linked. linked ≡ refer_function (number_of names.now) function.now) }
+    ensures { IfOk result (λ linked. linked ≡ refer_function (numbers names.now places.now) function.now) }
 {
-    let code = link_code(alloc, names, function.code())?;
+    let code = link_code(alloc, names, places, function.code())?;
     Ok(Function::new(function.parameters(), function.cells(), code))
 }
 
@@ -87,12 +126,13 @@ fn push_functions<'a>(
     alloc: Global,
     linked: &mut Vec<Function<usize>>,
     names: &Names<'a>,
+    places: &Places<'a>,
     functions: &'a [PackageFunction],
 ) -> Result<(), AllocError>
-    ensures { OnOk result (linked.new.items ≡ linked.old.items ++ map (linked_function names.now) functions.now) }
+    ensures { OnOk result (linked.new.items ≡ linked.old.items ++ map (linked_function names.now places.now) functions.now) }
 {
     for function in functions {
-        linked.push(link_function(alloc, names, function.function())?)?;
+        linked.push(link_function(alloc, names, places, function.function())?)?;
     }
     Ok(())
 }
@@ -101,13 +141,14 @@ fn push_functions<'a>(
 pub(crate) fn link_functions<'a>(
     alloc: Global,
     names: &Names<'a>,
+    places: &Places<'a>,
     packages: &'a [Arc<Object>],
 ) -> Result<Vec<Function<usize>>, AllocError>
-    ensures { IfOk result (λ linked. linked.items ≡ flat_map (λ o. map (linked_function names.now) o.functions) (map arc_value packages.now)) }
+    ensures { IfOk result (λ linked. linked.items ≡ flat_map (λ o. map (linked_function names.now places.now) o.functions) (map arc_value packages.now)) }
 {
     let mut linked = Vec::new(alloc);
     for object in packages {
-        push_functions(alloc, &mut linked, names, object.functions())?;
+        push_functions(alloc, &mut linked, names, places, object.functions())?;
     }
     Ok(linked)
 }

@@ -4,5 +4,7 @@
 mod code;
 pub mod law;
 pub mod link;
+mod missing;
 mod names;
+mod places;
 mod starts;

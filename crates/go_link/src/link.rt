@@ -2,11 +2,13 @@
 ghost use Rattle.std.specs.Prelude.{◌≡◌, ◌<◌, length, map, IfOk, IfErr, OnOk, slice_get, Some, None};
 ghost use Rattle.std.specs.Arc.{arc_value};
 ghost use Rattle.std.specs.List.{All};
-ghost use Rattle.go_link.specs.Links.{IsRefusal, Links, in_order, link_refusal, linked, names as names_of};
+ghost use Rattle.go_link.specs.Links.{IsRefusal, Links, in_order, link_refusal, linked, names as names_of, variables};
 ghost use Rattle.go_link.specs.declared.link.LinkError.TheVariants.{Memory};
 
 use crate::code::{link_functions, link_globals};
-use crate::names::{Names, collect_names, name_missing};
+use crate::missing::name_missing;
+use crate::names::{Names, collect_names};
+use crate::places::{Places, collect_places};
 use crate::starts::{has_main, link_starts};
 use go_code::image::Image;
 use go_code::object::Object;
@@ -20,7 +22,7 @@ pub enum LinkError {
     /// There is no object, or the last one isn't of a package named main with a function main.
     #[error("no main")]
     NoMain,
-    /// An instruction refers to a function that no object has.
+    /// An instruction refers to a function or a variable that no object has.
     #[error("a name is missing")]
     NameMissing,
     /// Memory ran out.
@@ -64,14 +66,16 @@ fn packages_in_order(
 fn image_of<'a>(
     alloc: Global,
     names: &Names<'a>,
+    places: &Places<'a>,
     packages: &'a [Arc<Object>],
 ) -> Result<Image, AllocError>
-    requires { names.now ≡ names_of (map arc_value packages.now) }
+    requires functions { names.now ≡ names_of (map arc_value packages.now) }
+    requires variables { places.now ≡ variables (map arc_value packages.now) }
     ensures { IfOk result (λ image. image ≡ linked (map arc_value packages.now)) }
 {
     let globals = link_globals(alloc, packages)?;
-    let functions = link_functions(alloc, names, packages)?;
-    let starts = link_starts(alloc, names, packages)?;
+    let functions = link_functions(alloc, names, places, packages)?;
+    let starts = link_starts(alloc, names, places, packages)?;
     Ok(Image::new(globals, functions, starts))
 }
 
@@ -85,10 +89,11 @@ fn link_packages(alloc: Global, packages: &[Arc<Object>]) -> Result<Image, LinkE
         return Err(LinkError::NoMain);
     }
     let names = collect_names(alloc, packages)?;
-    if name_missing(&names, packages) {
+    let places = collect_places(alloc, packages)?;
+    if name_missing(&names, &places, packages) {
         return Err(LinkError::NameMissing);
     }
-    Ok(image_of(alloc, &names, packages)?)
+    Ok(image_of(alloc, &names, &places, packages)?)
 }
 
 /// The image of a program's objects, in the order in which their packages are initialized, by
@@ -96,8 +101,8 @@ fn link_packages(alloc: Global, packages: &[Arc<Object>]) -> Result<Image, LinkE
 /// steps: each package's setups and inits, package by package, and then the last one's main.
 ///
 /// An `Err` is the first that holds of `NoMain` and `NameMissing`, or says that memory ran out.
-/// A symbol means the first function of its path and name; where the paths of packages and the
-/// names of a package's functions differ there is one at most.
+/// A symbol means the first function or variable of its path and name; where the paths of packages
+/// and the names in a package differ there is one at most.
 pub fn link(alloc: Global, objects: &[Arc<Object>], order: &[usize]) -> Result<Image, LinkError>
     requires indexes { All (λ index. index < length objects.now) order.now }
     ensures linked { IfOk result (λ image. Links (map arc_value objects.now) order.now image) }

@@ -1,22 +1,19 @@
 //! The functions of packages by name and by number.
-ghost use Rattle.std.specs.Prelude.{◌≡◌, ◌++◌, ◌∷◌, [], List, length, OnOk, IfOk, map, not};
-ghost use Rattle.std.specs.List.{flat_map, list_any, position};
+ghost use Rattle.std.specs.Prelude.{◌≡◌, ◌++◌, ◌∷◌, [], List, length, OnOk, IfOk, map};
+ghost use Rattle.std.specs.List.{position};
 ghost use Rattle.std.specs.Arc.{arc_value};
 ghost use Rattle.go_code.specs.Symbols.{Symbol as ASymbol};
-ghost use Rattle.go_link.specs.Links.{same_symbol, symbol_of, names, number_of, is_missing, misses, code_of, name_missing};
+ghost use Rattle.go_link.specs.Links.{same_symbol, symbol_of, names, number_of};
 ghost use Rattle.go_link.specs.Named.{Numbers, symbol_at};
 
-use go_code::instr::{CallInstr, Instr, Symbol};
 use go_code::object::Object;
-use go_code::object::function::PackageFunction;
-use go_code::setup::Setup;
 use std::alloc::{AllocError, Global};
 use std::collections::BTreeMap;
 use std::marker::Model;
 use std::sync::Arc;
 
-/// A function by its package's path and its name.
-type Name<'a> = (&'a str, &'a str);
+/// A function or a variable by its package's path and its name.
+pub(crate) type Name<'a> = (&'a str, &'a str);
 
 /// The functions of packages in the image's order, and the number of each by its name: its
 /// index, or that of the first with the same path and name.
@@ -64,7 +61,8 @@ fn add_name<'a>(
     name: Name<'a>,
     number: usize,
 ) -> Result<(), AllocError>
-    ensures { OnOk result ((before : List ASymbol) → number ≡ length before → Numbers numbers.old before → Numbers numbers.new (before ++ symbol_at name.entry ∷ [])) }
+    ensures { OnOk result ((before : List ASymbol) → number ≡ length before → Numbers numbers.old before
+        → Numbers numbers.new (before ++ symbol_at name.entry ∷ [])) }
 {
     if !numbers.contains_key(&name) {
         numbers.insert(name, number)?;
@@ -110,76 +108,4 @@ pub(crate) fn collect_names<'a>(
     }
     let numbers = numbers_of(alloc, &all)?;
     Ok(Names { all, numbers })
-}
-
-/// Whether a call goes to none of the functions.
-fn call_misses<'a>(names: &Names<'a>, instr: &'a CallInstr<Symbol>) -> bool
-    ensures { result ≡ misses names.now instr.now }
-{
-    match instr {
-        CallInstr::Call(symbol) => names.number(symbol.path(), symbol.name()).is_none(),
-        CallInstr::Return(_) => false,
-    }
-}
-
-/// Whether an instruction refers to none of the functions.
-fn is_missing<'a>(names: &Names<'a>, instr: &'a Instr<Symbol>) -> bool
-    ensures { result ≡ is_missing names.now instr.now }
-{
-    match instr {
-        Instr::Calls(instr) => call_misses(names, instr),
-        _ => false,
-    }
-}
-
-/// Whether an instruction of a code refers to none of the functions.
-fn code_misses<'a>(names: &Names<'a>, code: &'a [Instr<Symbol>]) -> bool
-    ensures { result ≡ list_any (is_missing names.now) code.now }
-{
-    for instr in code {
-        if is_missing(names, instr) {
-            return true;
-        }
-    }
-    false
-}
-
-fn functions_miss<'a>(names: &Names<'a>, functions: &'a [PackageFunction]) -> bool
-    ensures { result ≡ list_any (is_missing names.now) (flat_map (λ f. f.function.code) functions.now) }
-{
-    for function in functions {
-        if code_misses(names, function.function().code()) {
-            return true;
-        }
-    }
-    false
-}
-
-fn setups_miss<'a>(names: &Names<'a>, setups: &'a [Setup<Symbol>]) -> bool
-    ensures { result ≡ list_any (is_missing names.now) (flat_map (λ s. s.code) setups.now) }
-{
-    for setup in setups {
-        if code_misses(names, setup.code()) {
-            return true;
-        }
-    }
-    false
-}
-
-fn object_misses<'a>(names: &Names<'a>, object: &'a Object) -> bool
-    ensures { result ≡ list_any (is_missing names.now) (code_of object.now) }
-{
-    functions_miss(names, object.functions()) || setups_miss(names, object.setups())
-}
-
-/// Whether some instruction of the packages refers to none of the functions.
-pub(crate) fn name_missing<'a>(names: &Names<'a>, packages: &'a [Arc<Object>]) -> bool
-    ensures { result ≡ list_any (is_missing names.now) (flat_map code_of (map arc_value packages.now)) }
-{
-    for object in packages {
-        if object_misses(names, object) {
-            return true;
-        }
-    }
-    false
 }

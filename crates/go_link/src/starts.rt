@@ -7,6 +7,7 @@ ghost use Rattle.go_link.specs.Links.{has_main, has_main_in, is_init, last_packa
 
 use crate::code::link_code;
 use crate::names::Names;
+use crate::places::Places;
 use go_code::image::Start;
 use go_code::instr::Symbol;
 use go_code::object::Object;
@@ -30,12 +31,13 @@ fn push_setups<'a>(
     alloc: Global,
     starts: &mut Vec<Start>,
     names: &Names<'a>,
+    places: &Places<'a>,
     setups: &'a [Setup<Symbol>],
 ) -> Result<(), AllocError>
-    ensures { OnOk result (starts.new.items ≡ starts.old.items ++ map (linked_setup names.now) setups.now) }
+    ensures { OnOk result (starts.new.items ≡ starts.old.items ++ map (linked_setup names.now places.now) setups.now) }
 {
     for setup in setups {
-        let code = link_code(alloc, names, setup.code())?;
+        let code = link_code(alloc, names, places, setup.code())?;
         starts.push(Start::Setup(Setup::new(setup.cells(), code)))?;
     }
     Ok(())
@@ -64,11 +66,12 @@ fn push_package<'a>(
     alloc: Global,
     starts: &mut Vec<Start>,
     names: &Names<'a>,
+    places: &Places<'a>,
     object: &'a Object,
 ) -> Result<(), AllocError>
-    ensures { OnOk result (starts.new.items ≡ starts.old.items ++ package_starts names.now object.now) }
+    ensures { OnOk result (starts.new.items ≡ starts.old.items ++ package_starts names.now places.now object.now) }
 {
-    push_setups(alloc, starts, names, object.setups())?;
+    push_setups(alloc, starts, names, places, object.setups())?;
     push_inits(starts, names, object)
 }
 
@@ -91,13 +94,15 @@ fn push_main<'a>(
 pub(crate) fn link_starts<'a>(
     alloc: Global,
     names: &Names<'a>,
+    places: &Places<'a>,
     packages: &'a [Arc<Object>],
 ) -> Result<Vec<Start>, AllocError>
-    ensures { IfOk result (λ starts. starts.items ≡ flat_map (package_starts names.now) (map arc_value packages.now) ++ main_start names.now (last_package (map arc_value packages.now))) }
+    ensures { IfOk result (λ starts. starts.items
+        ≡ flat_map (package_starts names.now places.now) (map arc_value packages.now) ++ main_start names.now (last_package (map arc_value packages.now))) }
 {
     let mut starts = Vec::new(alloc);
     for object in packages {
-        push_package(alloc, &mut starts, names, object)?;
+        push_package(alloc, &mut starts, names, places, object)?;
     }
     push_main(&mut starts, names, packages)?;
     Ok(starts)

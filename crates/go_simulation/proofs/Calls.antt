@@ -47,7 +47,7 @@ replicated : (m n : ℕ) (c : Cell) → replicate (m + n) c ≡ replicate m c ++
 replicated zero n c = let e : 0 + n ≡ n = omega arith in ap (λ k. replicate k c) e
 replicated (suc m) n c = let e : suc m + n ≡ suc (m + n) = omega arith in ap (λ k. replicate k c) e ∙ ap (λ l. c ∷ l) (replicated m n c)
 
-replicate_long : (n : ℕ) (c : Cell) → length (replicate n c) ≡ n
+pub replicate_long : (n : ℕ) (c : Cell) → length (replicate n c) ≡ n
 replicate_long zero c = refl
 replicate_long (suc n) c = ap suc (replicate_long n c)
 

@@ -1,20 +1,24 @@
--- Package variables at a program's start: the machine knows their zero cells, which lie where the package's code looks for them.
-use Rattle.std.proofs.Common.{◌≡◌, ℕ, zero, suc, ◌+◌, Bool, true, false, ◌&&◌, List, [], ◌∷◌, ◌++◌, map, replicate, refl, sym, ap, ◌∙◌, subst, append-nil}
+-- Package variables at a program's start: the machine knows their zero cells, which lie where linked code looks for them.
+use Rattle.std.proofs.Common.{◌≡◌, ℕ, zero, suc, ◌+◌, true, ◌&&◌, List, [], ◌∷◌, ◌++◌, length, map, replicate, refl, sym, ap, ◌∙◌}
 use Rattle.std.specs.Prelude.{if◌then◌else◌}
 use Rattle.std.specs.Bool.{one_answer}
 use Rattle.std.specs.List.{flat_map, list_all}
 use Rattle.std.specs.Str.{bytes_eq}
+use Rattle.std.proofs.lemmas.List.{map-append}
+use Rattle.std.proofs.lemmas.List.Concat.{flat_map-append}
 use Rattle.std.proofs.lemmas.List.Folds.{list_all-append}
 use Rattle.std.proofs.lemmas.Slice.Eq.{bytes_eq-Decides}
 use Rattle.go_types.specs.Types.{Type', basic, array, struct, named, Fields, no_fields, field}
 use Rattle.go_types.specs.Sizes.{cells}
 use Rattle.go_code.specs.declared.cell.Cell.{Cell}
 use Rattle.go_code.specs.Lines.{cell_fits}
+use Rattle.go_code.specs.Packages.{PackageVariable}
+use Rattle.go_link.specs.Links.{Held, symbol_of as code_symbol, variables, place_in}
 use Rattle.go_typed.specs.Trees.{Symbol, Variable, Package}
 use Rattle.go_meaning.specs.Values.{Value, pack, flat, flat_all, zero_of, zeros_of}
 use Rattle.go_meaning.specs.Meaning.{Stored, same_symbol}
 use Rattle.go_meaning.specs.Programs.{symbol_of, first_variables}
-use Rattle.go_emit.specs.Translation.{global_slot}
+use Rattle.go_emit.specs.Translation.{symbol_code, translated_variable, object_of}
 use Rattle.go_simulation.proofs.Runs.{Sized, held, global_at}
 use Rattle.go_simulation.proofs.Zeros.{zero_fits, zero_long}
 
@@ -46,12 +50,15 @@ held_known : (typed : Package) (vs : List Variable) → list_all cell_fits (held
 held_known typed [] = refl
 held_known typed (v ∷ vs) = both_fit (flat (zero_of v.of)) (held (map (stored_first typed) vs)) (zero_known v.of) (held_known typed vs)
 
--- one package, as packages
-alone : (typed : Package) → first_variables typed ≡ flat_map first_variables (typed ∷ [])
-alone typed = sym (append-nil (first_variables typed))
+-- the variables' cells lie side by side
+pub held_behind : (xs ys : List Stored) → held (xs ++ ys) ≡ held xs ++ held ys
+held_behind xs ys = flat_map-append (λ stored. flat stored.value) xs ys
 
-pub variables_known : (typed : Package) → list_all cell_fits (held (flat_map first_variables (typed ∷ []))) ≡ true
-variables_known typed = ap (λ vs. list_all cell_fits (held vs)) (sym (alone typed)) ∙ held_known typed typed.variables
+pub variables_known : (packages : List Package) → list_all cell_fits (held (flat_map first_variables packages)) ≡ true
+variables_known [] = refl
+variables_known (p ∷ packages) =
+    ap (list_all cell_fits) (held_behind (first_variables p) (flat_map first_variables packages))
+    ∙ both_fit (held (first_variables p)) (held (flat_map first_variables packages)) (held_known p p.variables) (variables_known packages)
 
 -- ---- where they lie
 
@@ -59,29 +66,41 @@ sized_each : (typed : Package) (vs : List Variable) → Sized (map (stored_first
 sized_each typed [] = tt
 sized_each typed (v ∷ vs) = (zero_long v.of, sized_each typed vs)
 
-pub variables_sized : (typed : Package) → Sized (flat_map first_variables (typed ∷ []))
-variables_sized typed = subst Sized (alone typed) (sized_each typed typed.variables)
+both_sized : (xs ys : List Stored) → Sized xs → Sized ys → Sized (xs ++ ys)
+both_sized [] ys a b = b
+both_sized (x ∷ xs) ys a b = (a.0, both_sized xs ys a.1 b)
+
+pub variables_sized : (packages : List Package) → Sized (flat_map first_variables packages)
+variables_sized [] = tt
+variables_sized (p ∷ packages) = both_sized (first_variables p) (flat_map first_variables packages) (sized_each p p.variables) (variables_sized packages)
+
+-- what the linker knows of a variable
+abbrev pub placed : Stored → Held
+placed x = (symbol_code x.symbol, length (flat x.value))
+
+variables_each : (typed : Package) (vs : List Variable) → map (λ (v : PackageVariable). (code_symbol (object_of typed) v.name, length v.zero)) (map translated_variable vs) ≡ map placed (map (stored_first typed) vs)
+variables_each typed [] = refl
+variables_each typed (v ∷ vs) = ap (λ l. placed (stored_first typed v) ∷ l) (variables_each typed vs)
+
+-- the linker's variables are those of the packages
+pub variables_linked : (packages : List Package) → variables (map object_of packages) ≡ map placed (flat_map first_variables packages)
+variables_linked [] = refl
+variables_linked (p ∷ packages) =
+    ap (λ l. l ++ variables (map object_of packages)) (variables_each p p.variables)
+    ∙ ap (λ l. map placed (first_variables p) ++ l) (variables_linked packages)
+    ∙ sym (map-append placed (first_variables p) (flat_map first_variables packages))
+
+lie_where : (xs : List Stored) (s : Symbol) → Sized xs → place_in (map placed xs) (symbol_code s) ≡ global_at xs s
+lie_where [] s sized = refl
+lie_where (x ∷ xs) s sized =
+    ap (λ n. if same_symbol s x.symbol then 0 else n + place_in (map placed xs) (symbol_code s)) sized.0
+    ∙ ap (λ n. if same_symbol s x.symbol then 0 else cells x.of + n) (lie_where xs s sized.1)
+
+-- the linker knows where they lie
+pub variables_lie : (packages : List Package) (s : Symbol) → place_in (variables (map object_of packages)) (symbol_code s) ≡ global_at (flat_map first_variables packages) s
+variables_lie packages s = ap (λ l. place_in l (symbol_code s)) (variables_linked packages) ∙ lie_where (flat_map first_variables packages) s (variables_sized packages)
+
+-- ---- texts
 
 pub text_other : (s t : List ℕ) → bytes_eq s t ≡ bytes_eq t s
 text_other s t = one_answer (bytes_eq s t) (bytes_eq t s) (bytes_eq-Decides s t) (λ e. sym ((bytes_eq-Decides t s).0 e), λ e. (bytes_eq-Decides t s).1 (sym e))
-
-either_way : (a b : Bool) → (a && b) ≡ (b && a)
-either_way true true = refl
-either_way true false = refl
-either_way false true = refl
-either_way false false = refl
-
--- the linker's test of names in another order
-same_test : (path name : List ℕ) (s : Symbol) → (bytes_eq name s.name && bytes_eq path s.path) ≡ same_symbol s (record { path = path; name = name })
-same_test path name s =
-    ap (λ b. b && bytes_eq path s.path) (text_other name s.name) ∙ ap (λ b. bytes_eq s.name name && b) (text_other path s.path) ∙ either_way (bytes_eq s.name name) (bytes_eq s.path path)
-
-lies_each : (typed : Package) (vs : List Variable) (s : Symbol) → global_slot typed.path vs s ≡ global_at (map (stored_first typed) vs) s
-lies_each typed [] s = refl
-lies_each typed (v ∷ vs) s =
-    ap (λ b. if b then 0 else cells v.of + global_slot typed.path vs s) (same_test typed.path v.name s)
-    ∙ ap (λ n. if same_symbol s (symbol_of typed v.name) then 0 else cells v.of + n) (lies_each typed vs s)
-
--- the package's code knows where its variables lie
-pub variables_lie : (typed : Package) (s : Symbol) → global_slot typed.path typed.variables s ≡ global_at (flat_map first_variables (typed ∷ [])) s
-variables_lie typed s = lies_each typed typed.variables s ∙ ap (λ vs. global_at vs s) (alone typed)

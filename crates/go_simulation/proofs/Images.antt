@@ -1,25 +1,25 @@
--- What the object of one package is linked to: its functions by their numbers, its variables' cells and its start steps.
-use Rattle.std.proofs.Common.{◌≡◌, ℕ, ◌+◌, Bool, true, false, not, List, [], ◌∷◌, ◌++◌, map, Option, Some, refl, sym, ap, ◌∙◌, cond, append-nil}
-use Rattle.std.specs.Prelude.{codes, slice_get}
+-- What the objects of packages are linked to: their functions by their numbers, their variables' cells and their start steps.
+use Rattle.std.proofs.Common.{◌≡◌, ℕ, ◌+◌, Bool, true, false, not, List, [], ◌∷◌, ◌++◌, length, map, Option, None, Some, refl, sym, ap, ◌∙◌, cond}
+use Rattle.std.specs.Prelude.{◌-◌, slice_get}
 use Rattle.std.specs.List.{filter, find, flat_map, position_or_len, prefix_len}
 use Rattle.std.specs.Option.{option_map}
-use Rattle.std.proofs.lemmas.List.{map-append}
+use Rattle.std.proofs.lemmas.List.{map-append, length-map}
 use Rattle.std.proofs.lemmas.List.Folds.{find_at}
 use Rattle.std.proofs.lemmas.Option.{slice_get-map}
 use Rattle.go_code.specs.declared.image.Start.{Start}
 use Rattle.go_code.specs.declared.image.Start.TheVariants.{Function as Run}
 use Rattle.go_code.specs.Functions as in_code
 use Rattle.go_code.specs.Images.{Image}
-use Rattle.go_code.specs.Packages.{PackageFunction, PackageVariable}
+use Rattle.go_code.specs.Packages.{Object, PackageFunction, PackageVariable}
 use Rattle.go_code.specs.Symbols as symbols
-use Rattle.go_link.specs.Links.{same_symbol as same_code, symbol_of as code_symbol, names, number_of, linked_function, zeros_of as object_zeros, is_init as is_object_init, linked, Links}
+use Rattle.go_link.specs.Links.{Held, same_symbol as same_code, symbol_of as code_symbol, names, variables, place_in, number_of, numbers, linked_function, zeros_of as object_zeros, is_init as is_object_init, package_starts, main_start, last_package as last_object, linked}
 use Rattle.go_typed.specs.Trees.{Symbol, Function, Variable, Package}
 use Rattle.go_meaning.specs.Values.{flat, zero_of}
 use Rattle.go_meaning.specs.Meaning.{same_symbol}
-use Rattle.go_meaning.specs.Programs.{Declared, symbol_of, function_at, is_init, Step, calls, start_steps, first_variables}
-use Rattle.go_emit.specs.Translation.{translated, global_slot, symbol_code, translated_function, translated_variable, object_of}
+use Rattle.go_meaning.specs.Programs.{Declared, symbol_of, package_functions, function_at, is_init, last_package, Step, calls, package_steps, main_steps, start_steps, first_variables}
+use Rattle.go_emit.specs.Translation.{translated, symbol_code, translated_function, translated_variable, object_of}
 use Rattle.go_simulation.proofs.Runs.{held}
-use Rattle.go_simulation.proofs.FirstVariables.{stored_first}
+use Rattle.go_simulation.proofs.FirstVariables.{stored_first, held_behind}
 use Rattle.go_simulation.proofs.ReferredBodies.{function_referred}
 
 -- ---- places of names
@@ -31,63 +31,80 @@ place_same p q h same (x ∷ xs) =
     ap (λ b. cond (not b) (1 + prefix_len (λ y. not (q y)) (map h xs)) 0) (same x)
     ∙ ap (λ n. cond (not (p x)) (1 + n) 0) (place_same p q h same xs)
 
--- the linker's number of a symbol, for the object of a package
-abbrev pub linked_number : Package → Symbol → ℕ
-linked_number typed s = number_of (names (object_of typed ∷ [])) (symbol_code s)
+-- the objects of packages
+abbrev pub objects_of : List Package → List Object
+objects_of packages = map object_of packages
 
--- where the package's variables lie
-abbrev pub slot_in : Package → Symbol → ℕ
-slot_in typed s = global_slot typed.path typed.variables s
+-- the functions of packages
+abbrev pub all_functions : List Package → List Declared
+all_functions packages = flat_map package_functions packages
 
--- a package's function in the image
-abbrev pub compiled : Package → Function → in_code.Function ℕ
-compiled typed f = translated (slot_in typed) (linked_number typed) f
+-- the linker's number of a symbol, for the objects of packages
+abbrev pub linked_number : List Package → Symbol → ℕ
+linked_number packages s = number_of (names (objects_of packages)) (symbol_code s)
 
-number_same : (typed : Package) (s : Symbol) → linked_number typed s ≡ position_or_len (λ f. same_symbol s (symbol_of typed f.name)) typed.functions
-number_same typed s =
-    let o = object_of typed in
-    let test : symbols.Symbol → Bool = same_code (symbol_code s) in
-    let symbol : PackageFunction → symbols.Symbol = λ f. code_symbol o f.name in
-    ap (position_or_len test) (append-nil (map symbol (map (translated_function typed) typed.functions)))
-    ∙ place_same (λ (f : PackageFunction). same_symbol s (symbol_of typed f.name)) test symbol (λ f. refl) (map (translated_function typed) typed.functions)
-    ∙ place_same (λ (f : Function). same_symbol s (symbol_of typed f.name)) (λ (f : PackageFunction). same_symbol s (symbol_of typed f.name)) (translated_function typed) (λ f. refl) typed.functions
+-- where the packages' variables lie
+abbrev pub slot_in : List Package → Symbol → ℕ
+slot_in packages s = place_in (variables (objects_of packages)) (symbol_code s)
 
-picked : (b : Bool) (d : Declared) (o : Option Declared) (rest : Option Function) → option_map (λ d1. d1.function) o ≡ rest → option_map (λ d1. d1.function) (cond b (Some d) o) ≡ cond b (Some d.function) rest
-picked true d o rest e = refl
-picked false d o rest e = e
+-- a function in the image of packages
+abbrev pub compiled : List Package → Function → in_code.Function ℕ
+compiled packages f = translated (slot_in packages) (linked_number packages) f
 
 abbrev pub declared_in : Package → Function → Declared
 declared_in typed f = record { symbol = symbol_of typed f.name; function = f }
 
-declared_found : (typed : Package) (s : Symbol) (fs : List Function) → option_map (λ (d : Declared). d.function) (find (λ (d : Declared). same_symbol s d.symbol) (map (declared_in typed) fs)) ≡ find (λ f. same_symbol s (symbol_of typed f.name)) fs
-declared_found typed s [] = refl
-declared_found typed s (f ∷ fs) =
-    picked (same_symbol s (symbol_of typed f.name)) (declared_in typed f) (find (λ (d : Declared). same_symbol s d.symbol) (map (declared_in typed) fs)) (find (λ g. same_symbol s (symbol_of typed g.name)) fs)
-    (declared_found typed s fs)
+abbrev pub symbol_in : Declared → symbols.Symbol
+symbol_in d = symbol_code d.symbol
 
--- a symbol finds the first function of its name
-pub found_alone : (typed : Package) (s : Symbol) → function_at (typed ∷ []) s ≡ find (λ f. same_symbol s (symbol_of typed f.name)) typed.functions
-found_alone typed s =
-    ap (λ l. option_map (λ (d : Declared). d.function) (find (λ (d : Declared). same_symbol s d.symbol) l)) (append-nil (map (declared_in typed) typed.functions))
-    ∙ declared_found typed s typed.functions
+names_each : (typed : Package) (fs : List Function) → map (λ (f : PackageFunction). code_symbol (object_of typed) f.name) (map translated_function fs) ≡ map symbol_in (map (declared_in typed) fs)
+names_each typed [] = refl
+names_each typed (f ∷ fs) = ap (λ l. symbol_code (symbol_of typed f.name) ∷ l) (names_each typed fs)
+
+-- the linker's names are those of the packages' functions
+pub names_linked : (packages : List Package) → names (objects_of packages) ≡ map symbol_in (all_functions packages)
+names_linked [] = refl
+names_linked (p ∷ packages) =
+    ap (λ l. l ++ names (objects_of packages)) (names_each p p.functions)
+    ∙ ap (λ l. map symbol_in (package_functions p) ++ l) (names_linked packages)
+    ∙ sym (map-append symbol_in (package_functions p) (all_functions packages))
+
+number_same : (packages : List Package) (s : Symbol) → linked_number packages s ≡ position_or_len (λ d. same_symbol s d.symbol) (all_functions packages)
+number_same packages s =
+    ap (position_or_len (same_code (symbol_code s))) (names_linked packages)
+    ∙ place_same (λ (d : Declared). same_symbol s d.symbol) (same_code (symbol_code s)) symbol_in (λ d. refl) (all_functions packages)
 
 -- ---- functions
 
-functions_linked : (typed : Package) (fs : List Function) → map (linked_function (names (object_of typed ∷ []))) (map (translated_function typed) fs) ≡ map (compiled typed) fs
-functions_linked typed [] = refl
-functions_linked typed (f ∷ fs) =
-    let all = names (object_of typed ∷ []) in
-    ap (λ g. g ∷ map (linked_function all) (map (translated_function typed) fs)) (function_referred (number_of all) (slot_in typed) symbol_code f)
-    ∙ ap (λ l. compiled typed f ∷ l) (functions_linked typed fs)
+functions_each : (typed : Package) (all : List symbols.Symbol) (held : List Held) (fs : List Function) → map (linked_function all held) (map translated_function fs) ≡ map (λ (d : Declared). translated (λ s. place_in held (symbol_code s)) (λ s. number_of all (symbol_code s)) d.function) (map (declared_in typed) fs)
+functions_each typed all held [] = refl
+functions_each typed all held (f ∷ fs) =
+    ap (λ g. g ∷ map (linked_function all held) (map translated_function fs)) (function_referred (numbers all held) symbol_code symbol_code f)
+    ∙ ap (λ l. translated (λ s. place_in held (symbol_code s)) (λ s. number_of all (symbol_code s)) f ∷ l) (functions_each typed all held fs)
 
-found_linked : (typed : Package) (s : Symbol) (f : Function) → function_at (typed ∷ []) s ≡ Some f → slice_get (linked (object_of typed ∷ [])).functions (linked_number typed s) ≡ Some (compiled typed f)
-found_linked typed s f e =
-    let all = names (object_of typed ∷ []) in
-    let functions = append-nil (map (linked_function all) (map (translated_function typed) typed.functions)) ∙ functions_linked typed typed.functions in
-    ap (λ l. slice_get l (linked_number typed s)) functions
-    ∙ ap (slice_get (map (compiled typed) typed.functions)) (number_same typed s)
-    ∙ slice_get-map (compiled typed) typed.functions _
-    ∙ ap (option_map (compiled typed)) (sym (find_at (λ (g : Function). same_symbol s (symbol_of typed g.name)) typed.functions) ∙ sym (found_alone typed s) ∙ e)
+functions_linked : (all : List symbols.Symbol) (held : List Held) (packages : List Package) → flat_map (λ (o : Object). map (linked_function all held) o.functions) (objects_of packages) ≡ map (λ (d : Declared). translated (λ s. place_in held (symbol_code s)) (λ s. number_of all (symbol_code s)) d.function) (all_functions packages)
+functions_linked all held [] = refl
+functions_linked all held (p ∷ packages) =
+    let image_of : Declared → in_code.Function ℕ = λ d. translated (λ s. place_in held (symbol_code s)) (λ s. number_of all (symbol_code s)) d.function in
+    ap (λ l. l ++ flat_map (λ (o : Object). map (linked_function all held) o.functions) (objects_of packages)) (functions_each p all held p.functions)
+    ∙ ap (λ l. map image_of (package_functions p) ++ l) (functions_linked all held packages)
+    ∙ sym (map-append image_of (package_functions p) (all_functions packages))
+
+-- what is made of what is found
+made_of : {B : Type 0} (h : Function → B) (o : Option Declared) (f : Function) → option_map (λ d. d.function) o ≡ Some f → option_map (λ d. h d.function) o ≡ Some (h f)
+made_of h None f e = absurd (cc)
+made_of h (Some d) f e = let same : d.function ≡ f = cc in ap (λ g. Some (h g)) same
+
+found_linked : (packages : List Package) (s : Symbol) (f : Function) → function_at packages s ≡ Some f → slice_get (linked (objects_of packages)).functions (linked_number packages s) ≡ Some (compiled packages f)
+found_linked packages s f e =
+    let ds = all_functions packages in
+    let image_of : Declared → in_code.Function ℕ = λ d. compiled packages d.function in
+    let is : Declared → Bool = λ d. same_symbol s d.symbol in
+    ap (λ l. slice_get l (linked_number packages s)) (functions_linked (names (objects_of packages)) (variables (objects_of packages)) packages)
+    ∙ ap (slice_get (map image_of ds)) (number_same packages s)
+    ∙ slice_get-map image_of ds _
+    ∙ ap (option_map image_of) (sym (find_at is ds))
+    ∙ made_of (compiled packages) (find is ds) f e
 
 -- ---- start steps
 
@@ -100,21 +117,36 @@ kept : {A B : Type 0} (b : Bool) (h : A → B) (x : A) (xs : List A) → map h (
 kept true h x xs = refl
 kept false h x xs = refl
 
-inits_linked : (typed : Package) (number : Symbol → ℕ) (fs : List Function) → map (λ (f : PackageFunction). Run (number (symbol_of typed f.name))) (filter is_object_init (map (translated_function typed) fs)) ≡ map (start_of number) (map (λ f. calls (symbol_of typed f.name)) (filter is_init fs))
+inits_linked : (typed : Package) (number : Symbol → ℕ) (fs : List Function) → map (λ (f : PackageFunction). Run (number (symbol_of typed f.name))) (filter is_object_init (map translated_function fs)) ≡ map (start_of number) (map (λ f. calls (symbol_of typed f.name)) (filter is_init fs))
 inits_linked typed number [] = refl
 inits_linked typed number (f ∷ fs) =
-    kept (is_init f) (λ (g : PackageFunction). Run (number (symbol_of typed g.name))) (translated_function typed f) (filter is_object_init (map (translated_function typed) fs))
+    kept (is_init f) (λ (g : PackageFunction). Run (number (symbol_of typed g.name))) (translated_function f) (filter is_object_init (map translated_function fs))
     ∙ ap (λ l. cond (is_init f) (Run (number (symbol_of typed f.name)) ∷ l) l) (inits_linked typed number fs)
     ∙ sym (ap (map (start_of number)) (kept (is_init f) (λ (g : Function). calls (symbol_of typed g.name)) f (filter is_init fs)) ∙ kept (is_init f) (start_of number) (calls (symbol_of typed f.name)) (map (λ (g : Function). calls (symbol_of typed g.name)) (filter is_init fs)))
 
-starts_linked : (typed : Package) → (linked (object_of typed ∷ [])).starts ≡ map (start_of (linked_number typed)) (start_steps (typed ∷ []))
-starts_linked typed =
-    let number = linked_number typed in
-    let main : List Start = Run (number (symbol_of typed (codes "main"))) ∷ [] in
-    let inits : List Step = map (λ (f : Function). calls (symbol_of typed f.name)) (filter is_init typed.functions) in
-    ap (λ l. l ++ main) (append-nil (map (λ (f : PackageFunction). Run (number (symbol_of typed f.name))) (filter is_object_init (map (translated_function typed) typed.functions))) ∙ inits_linked typed number typed.functions)
-    ∙ sym (map-append (start_of number) inits (calls (symbol_of typed (codes "main")) ∷ []))
-    ∙ ap (λ l. map (start_of number) (l ++ calls (symbol_of typed (codes "main")) ∷ [])) (sym (append-nil inits))
+-- package by package
+steps_linked : (all : List symbols.Symbol) (held : List Held) (packages : List Package) → flat_map (package_starts all held) (objects_of packages) ≡ map (start_of (λ s. number_of all (symbol_code s))) (flat_map package_steps packages)
+steps_linked all held [] = refl
+steps_linked all held (p ∷ packages) =
+    let number : Symbol → ℕ = λ s. number_of all (symbol_code s) in
+    ap (λ l. l ++ flat_map (package_starts all held) (objects_of packages)) (inits_linked p number p.functions)
+    ∙ ap (λ l. map (start_of number) (package_steps p) ++ l) (steps_linked all held packages)
+    ∙ sym (map-append (start_of number) (package_steps p) (flat_map package_steps packages))
+
+-- the last package's object is the last
+pub last_linked : (packages : List Package) → last_object (objects_of packages) ≡ option_map object_of (last_package packages)
+last_linked packages = ap (λ n. slice_get (objects_of packages) (n - 1)) (length-map packages object_of) ∙ slice_get-map object_of packages (length packages - 1)
+
+main_linked : (all : List symbols.Symbol) (o : Option Package) → main_start all (option_map object_of o) ≡ map (start_of (λ s. number_of all (symbol_code s))) (main_steps o)
+main_linked all None = refl
+main_linked all (Some p) = refl
+
+starts_linked : (packages : List Package) → (linked (objects_of packages)).starts ≡ map (start_of (linked_number packages)) (start_steps packages)
+starts_linked packages =
+    let all = names (objects_of packages) in
+    ap (λ l. l ++ main_start all (last_object (objects_of packages))) (steps_linked all (variables (objects_of packages)) packages)
+    ∙ ap (λ l. map (start_of (linked_number packages)) (flat_map package_steps packages) ++ l) (ap (main_start all) (last_linked packages) ∙ main_linked all (last_package packages))
+    ∙ sym (map-append (start_of (linked_number packages)) (flat_map package_steps packages) (main_steps (last_package packages)))
 
 -- ---- package variables
 
@@ -122,10 +154,13 @@ variables_held : (typed : Package) (vs : List Variable) → flat_map (λ (v : Pa
 variables_held typed [] = refl
 variables_held typed (v ∷ vs) = ap (λ l. flat (zero_of v.of) ++ l) (variables_held typed vs)
 
--- the image's globals are the cells of the package's variables
-globals_linked : (typed : Package) → (linked (object_of typed ∷ [])).globals ≡ held (flat_map first_variables (typed ∷ []))
-globals_linked typed =
-    append-nil (object_zeros (object_of typed)) ∙ variables_held typed typed.variables ∙ ap held (sym (append-nil (first_variables typed)))
+-- the image's globals are the cells of the packages' variables
+globals_linked : (packages : List Package) → (linked (objects_of packages)).globals ≡ held (flat_map first_variables packages)
+globals_linked [] = refl
+globals_linked (p ∷ packages) =
+    ap (λ l. l ++ flat_map object_zeros (objects_of packages)) (variables_held p p.variables)
+    ∙ ap (λ l. held (first_variables p) ++ l) (globals_linked packages)
+    ∙ sym (held_behind (first_variables p) (flat_map first_variables packages))
 
 -- ---- together
 
@@ -136,9 +171,9 @@ pub record Starts (packages : List Package) (image : Image) (globals numbers : S
   pub globals_held : image.globals ≡ held (flat_map first_variables packages)
   pub found : (s : Symbol) (f : Function) → function_at packages s ≡ Some f → slice_get image.functions (numbers s) ≡ Some (translated globals numbers f)
 
-pub links_starts : (typed : Package) (image : Image) → Links (object_of typed ∷ []) (0 ∷ []) image → Starts (typed ∷ []) image (slot_in typed) (linked_number typed)
-links_starts typed image l = record {
-  starts = ap (λ i. i.starts) l.1 ∙ starts_linked typed;
-  globals_held = ap (λ (i : Image). i.globals) l.1 ∙ globals_linked typed;
-  found = λ s f e. ap (λ (i : Image). slice_get i.functions (linked_number typed s)) l.1 ∙ found_linked typed s f e;
+pub links_starts : (packages : List Package) (image : Image) → image ≡ linked (objects_of packages) → Starts packages image (slot_in packages) (linked_number packages)
+links_starts packages image l = record {
+  starts = ap (λ i. i.starts) l ∙ starts_linked packages;
+  globals_held = ap (λ (i : Image). i.globals) l ∙ globals_linked packages;
+  found = λ s f e. ap (λ (i : Image). slice_get i.functions (linked_number packages s)) l ∙ found_linked packages s f e;
 }

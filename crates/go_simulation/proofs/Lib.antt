@@ -3,6 +3,7 @@ pub mod Addresses
 pub mod Assignments
 pub mod Calls
 pub mod Computed
+pub mod ComputedPackages
 pub mod Counters
 pub mod Defines
 pub mod Expressions
@@ -27,6 +28,7 @@ pub mod ReferredBodies
 pub mod Refusals
 pub mod Rows
 pub mod Runs
+pub mod Setups
 pub mod Shapes
 pub mod Sources
 pub mod Statements

@@ -1,80 +1,106 @@
--- The linker finds all that a well typed package calls: where it is a program, it is linked.
-use Rattle.std.proofs.Common.{◌≡◌, Bool, true, false, not, ◌||◌, ◌&&◌, List, [], ◌∷◌, map, Option, Some, None, refl, sym, ap, subst, ◌∙◌, append-nil}
-use Rattle.std.specs.Prelude.{codes, is_some, if◌then◌else◌}
+-- The linker finds all that well typed packages refer to: where they are a program, they are linked.
+use Rattle.std.proofs.Common.{◌≡◌, Bool, true, false, not, ◌||◌, List, [], ◌∷◌, ◌++◌, map, Option, Some, None, refl, sym, ap, ◌∙◌, cond, append-nil}
+use Rattle.std.specs.Prelude.{is_some, if◌then◌else◌}
 use Rattle.std.specs.List.{All, find, flat_map, list_any}
 use Rattle.std.specs.Option.{option_map}
+use Rattle.std.proofs.lemmas.List.Concat.{flat_map-append}
 use Rattle.std.proofs.lemmas.List.Elements.{All-head, All-tail}
-use Rattle.std.proofs.lemmas.Slice.Eq.{bytes_eq-Decides}
+use Rattle.go_code.specs.declared.instr.Instr.{Instr}
 use Rattle.go_code.specs.Packages.{PackageFunction}
+use Rattle.go_code.specs.Symbols as symbols
 use Rattle.go_link.specs.declared.link.LinkError.{LinkError}
 use Rattle.go_link.specs.declared.link.LinkError.TheVariants.{NoMain, NameMissing}
-use Rattle.go_link.specs.Links.{same_symbol as same_code, symbol_of as code_symbol, names, is_missing, code_of, name_missing, has_main, link_refusal}
-use Rattle.go_typed.specs.Trees.{Symbol, Function, Package}
-use Rattle.go_meaning.specs.Meaning.{same_symbol}
-use Rattle.go_meaning.specs.Programs.{Declared, symbol_of, package_functions, function_at, function_named, IsProgram}
-use Rattle.go_emit.specs.Translation.{global_slot, symbol_code, translated, translated_function, object_of}
+use Rattle.go_link.specs.Links.{Held, same_symbol as same_code, names, variables, is_missing, code_of, name_missing, has_main, link_refusal}
+use Rattle.go_typed.specs.Trees.{Function, Package}
+use Rattle.go_meaning.specs.Meaning.{Stored, same_symbol}
+use Rattle.go_meaning.specs.Programs.{Declared, package_functions, first_variables, IsProgram}
+use Rattle.go_emit.specs.Translation.{symbol_code, translated, translated_function, object_of}
 use Rattle.go_sound.specs.WellTyped.{setting, IsFunction, IsWellTyped}
-use Rattle.go_simulation.proofs.Images.{declared_in, found_alone}
-use Rattle.go_simulation.proofs.Named.{Named, Callable, both_named}
+use Rattle.go_simulation.proofs.FirstVariables.{placed, variables_linked}
+use Rattle.go_simulation.proofs.Images.{objects_of, all_functions, declared_in, symbol_in, names_linked}
+use Rattle.go_simulation.proofs.Named.{Present, Named, Callable, both_named}
 use Rattle.go_simulation.proofs.NamedBodies.{function_calls_named}
-use Rattle.go_simulation.proofs.Refusals.{either, main_same}
+use Rattle.go_simulation.proofs.Refusals.{has_main_if}
 
--- ---- what is called
+-- ---- what is referred to
 
-name_there : (typed : Package) (s : Symbol) (fs : List Function) → list_any (same_code (symbol_code s)) (map (λ (f : PackageFunction). code_symbol (object_of typed) f.name) (map (translated_function typed) fs)) ≡ is_some (find (λ f. same_symbol s (symbol_of typed f.name)) fs)
-name_there typed s [] = refl
-name_there typed s (f ∷ fs) =
-    ap (λ b. same_symbol s (symbol_of typed f.name) || b) (name_there typed s fs)
-    ∙ either (same_symbol s (symbol_of typed f.name)) f (find (λ g. same_symbol s (symbol_of typed g.name)) fs)
+-- what the linker knows of packages
+abbrev pub present : List Package → Present
+present packages = (names (objects_of packages), variables (objects_of packages))
 
-some_if : {B : Type 0} (h : Function → B) (o : Option Function) (x : B) → option_map h o ≡ Some x → is_some o ≡ true
+found_or : {A : Type 0} (b : Bool) (x : A) (o : Option A) → (b || is_some o) ≡ is_some (cond b (Some x) o)
+found_or true x o = refl
+found_or false x o = refl
+
+-- one of them passes where one is found
+any_found : {A B : Type 0} (p : A → Bool) (q : B → Bool) (h : A → B) → ((a : A) → q (h a) ≡ p a) → (xs : List A) → list_any q (map h xs) ≡ is_some (find p xs)
+any_found p q h same [] = refl
+any_found p q h same (x ∷ xs) =
+    ap (λ b. b || list_any q (map h xs)) (same x) ∙ ap (λ b. p x || b) (any_found p q h same xs) ∙ found_or (p x) x (find p xs)
+
+some_if : {A B : Type 0} (h : A → B) (o : Option A) (x : B) → option_map h o ≡ Some x → is_some o ≡ true
 some_if h None x e = absurd (cc)
 some_if h (Some f) x e = refl
 
--- a function that has a signature in the program is one of the object's
-called : (typed : Package) (f : Function) → Callable (names (object_of typed ∷ [])) symbol_code (setting (typed ∷ []) f)
-called typed f s x e =
-    let o = object_of typed in
-    ap (list_any (same_code (symbol_code s))) (append-nil (map (λ (g : PackageFunction). code_symbol o g.name) (map (translated_function typed) typed.functions)))
-    ∙ name_there typed s typed.functions
-    ∙ sym (ap is_some (found_alone typed s))
-    ∙ some_if (λ g. record { parameters = g.parameters; results = g.results }) (function_at (typed ∷ []) s) x e
+made_if : {A B C : Type 0} (h : A → B) (g : B → C) (o : Option A) (x : C) → option_map g (option_map h o) ≡ Some x → is_some o ≡ true
+made_if h g None x e = absurd (cc)
+made_if h g (Some a) x e = refl
 
--- ---- the code of an object
+-- a function that has a signature in the program, and a variable that has a type, is one of the objects'
+called : (packages : List Package) (f : Function) → Callable (present packages) symbol_code symbol_code (setting packages f)
+called packages f = (
+  (λ s x e.
+      let is : Declared → Bool = λ d. same_symbol s d.symbol in
+      ap (list_any (same_code (symbol_code s))) (names_linked packages)
+      ∙ any_found is (same_code (symbol_code s)) symbol_in (λ d. refl) (all_functions packages)
+      ∙ made_if (λ (d : Declared). d.function) (λ (g : Function). record { parameters = g.parameters; results = g.results }) (find is (all_functions packages)) x e),
+  (λ s t e.
+      let is : Stored → Bool = λ x. same_symbol s x.symbol in
+      let of : Held → Bool = λ v. same_code (symbol_code s) v.0 in
+      ap (list_any of) (variables_linked packages)
+      ∙ any_found is of placed (λ x. refl) (flat_map first_variables packages)
+      ∙ some_if (λ (x : Stored). x.of) (find is (flat_map first_variables packages)) t e),
+)
 
-codes_named : (typed : Package) (fs : List Function) → All (λ (d : Declared). IsFunction (typed ∷ []) d.function) (map (declared_in typed) fs) → Named (names (object_of typed ∷ [])) (flat_map (λ (f : PackageFunction). f.function.code) (map (translated_function typed) fs))
-codes_named typed [] h = refl
-codes_named typed (f ∷ fs) h =
-    let all = names (object_of typed ∷ []) in
-    let IsSound : Declared → Type 0 = λ d. IsFunction (typed ∷ []) d.function in
-    both_named all (translated (global_slot typed.path typed.variables) symbol_code f).code (flat_map (λ (g : PackageFunction). g.function.code) (map (translated_function typed) fs))
-    (function_calls_named all (typed ∷ []) (global_slot typed.path typed.variables) symbol_code f (called typed f) (All-head IsSound (declared_in typed f) (map (declared_in typed) fs) h))
-    (codes_named typed fs (All-tail IsSound (declared_in typed f) (map (declared_in typed) fs) h))
+-- ---- the code of objects
+
+abbrev code_in : Declared → List (Instr symbols.Symbol)
+code_in d = (translated symbol_code symbol_code d.function).code
+
+code_each : (typed : Package) (fs : List Function) → flat_map (λ (f : PackageFunction). f.function.code) (map translated_function fs) ≡ flat_map code_in (map (declared_in typed) fs)
+code_each typed [] = refl
+code_each typed (f ∷ fs) = ap (λ l. (translated symbol_code symbol_code f).code ++ l) (code_each typed fs)
+
+code_linked : (packages : List Package) → flat_map code_of (objects_of packages) ≡ flat_map code_in (all_functions packages)
+code_linked [] = refl
+code_linked (p ∷ packages) =
+    ap (λ l. l ++ flat_map code_of (objects_of packages)) (append-nil (flat_map (λ (f : PackageFunction). f.function.code) (map translated_function p.functions)) ∙ code_each p p.functions)
+    ∙ ap (λ l. flat_map code_in (package_functions p) ++ l) (code_linked packages)
+    ∙ sym (flat_map-append code_in (package_functions p) (all_functions packages))
+
+codes_named : (packages : List Package) (ds : List Declared) → All (λ (d : Declared). IsFunction packages d.function) ds → Named (present packages) (flat_map code_in ds)
+codes_named packages [] h = refl
+codes_named packages (d ∷ ds) h =
+    let IsSound : Declared → Type 0 = λ d. IsFunction packages d.function in
+    both_named (present packages) (code_in d) (flat_map code_in ds)
+    (function_calls_named (present packages) packages symbol_code symbol_code d.function (called packages d.function) (All-head IsSound d ds h))
+    (codes_named packages ds (All-tail IsSound d ds h))
 
 -- no name is missing
-pub names_found : (typed : Package) → IsWellTyped (typed ∷ []) → name_missing (object_of typed ∷ []) ≡ false
-names_found typed well =
-    let o = object_of typed in
-    let bodies = flat_map (λ (f : PackageFunction). f.function.code) (map (translated_function typed) typed.functions) in
-    ap (list_any (is_missing (names (o ∷ [])))) (append-nil (code_of o) ∙ append-nil bodies)
-    ∙ codes_named typed typed.functions (subst (All (λ (d : Declared). IsFunction (typed ∷ []) d.function)) (append-nil (package_functions typed)) well.functions)
+pub names_found : (packages : List Package) → IsWellTyped packages → name_missing (objects_of packages) ≡ false
+names_found packages well =
+    ap (list_any (is_missing (present packages).0 (present packages).1)) (code_linked packages) ∙ codes_named packages (all_functions packages) well.functions
 
 -- ---- the linker's answer
 
-has_main_in : (typed : Package) → IsProgram (typed ∷ []) → has_main (object_of typed ∷ []) ≡ true
-has_main_in typed is =
-    main_same typed
-    ∙ ap (λ b. b && is_some (function_named (codes "main") typed.functions)) ((bytes_eq-Decides typed.name (codes "main")).1 is.0)
-    ∙ is.1
-
-pub program_linked : (typed : Package) → IsWellTyped (typed ∷ []) → IsProgram (typed ∷ []) → link_refusal (object_of typed ∷ []) ≡ None
-program_linked typed well is =
-    ap (λ b. if not b then Some NoMain else (if name_missing (object_of typed ∷ []) then Some NameMissing else None)) (has_main_in typed is)
-    ∙ ap (λ b. if b then Some NameMissing else None) (names_found typed well)
+pub program_linked : (packages : List Package) → IsWellTyped packages → IsProgram packages → link_refusal (map object_of packages) ≡ None
+program_linked packages well is =
+    ap (λ b. if not b then Some NoMain else (if name_missing (objects_of packages) then Some NameMissing else None)) (has_main_if packages is)
+    ∙ ap (λ b. if b then Some NameMissing else None) (names_found packages well)
 
 -- a refusal is for want of a main alone
-pub refused_for : (typed : Package) → IsWellTyped (typed ∷ []) → (e : LinkError) → link_refusal (object_of typed ∷ []) ≡ Some e → e ≡ NoMain
-refused_for typed well e h = by_main (has_main (object_of typed ∷ [])) (ap (λ b. if not (has_main (object_of typed ∷ [])) then Some NoMain else (if b then Some NameMissing else None)) (sym (names_found typed well)) ∙ h)
+pub refused_for : (packages : List Package) → IsWellTyped packages → (e : LinkError) → link_refusal (map object_of packages) ≡ Some e → e ≡ NoMain
+refused_for packages well e h = by_main (has_main (objects_of packages)) (ap (λ b. if not (has_main (objects_of packages)) then Some NoMain else (if b then Some NameMissing else None)) (sym (names_found packages well)) ∙ h)
   where
     by_main : (b : Bool) → (if not b then Some NoMain else None) ≡ Some e → e ≡ NoMain
     by_main true k = absurd (cc)

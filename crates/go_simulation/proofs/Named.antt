@@ -1,4 +1,4 @@
--- The calls in the code of well typed expressions, values and assignments go to functions that there are.
+-- The code of well typed expressions, values and assignments refers to functions and package variables that there are.
 use Rattle.std.proofs.Common.{◌≡◌, ℕ, ◌+◌, Bool, true, false, ◌||◌, List, [], ◌∷◌, ◌++◌, length, Option, Some, None, refl, ap, ◌∙◌}
 use Rattle.std.specs.List.{flat_map, list_any}
 use Rattle.std.proofs.lemmas.List.Folds.{list_any-append}
@@ -6,33 +6,42 @@ use Rattle.go_types.specs.Types.{Type', basic, array, struct, named, Fields, no_
 use Rattle.go_types.specs.Relations.{underlying}
 use Rattle.go_types.specs.Sizes.{cells}
 use Rattle.go_code.specs.declared.instr.Instr.{Instr}
-use Rattle.go_code.specs.declared.instr.Instr.TheVariants.{Jump as Go_to, Calls as By_call}
+use Rattle.go_code.specs.declared.instr.Instr.TheVariants.{Global as On_globals, Jump as Go_to, Calls as By_call}
+use Rattle.go_code.specs.declared.instr.AccessInstr.{AccessInstr}
+use Rattle.go_code.specs.declared.instr.AccessInstr.TheVariants.{Load, LoadAt, StoreAt}
 use Rattle.go_code.specs.declared.instr.CallInstr.TheVariants.{Call}
 use Rattle.go_code.specs.declared.instr.JumpInstr.TheVariants.{JumpIf, JumpIfNot}
 use Rattle.go_code.specs.declared.operator.Operator as operators
+use Rattle.go_code.specs.Referred.{place_of}
 use Rattle.go_code.specs.Symbols as symbols
-use Rattle.go_link.specs.Links.{same_symbol, is_missing}
+use Rattle.go_link.specs.Links.{Held, same_symbol, is_missing}
 use Rattle.go_typed.specs.Trees as trees
 use Rattle.go_typed.specs.Trees.{Symbol, Expr, Exprs, no_exprs, some_exprs, Parts, no_parts, part, Steps, here, to_field, to_element, Left, blank, of_local, of_global, Source, each, results, zeros, expr_type}
 use Rattle.go_meaning.specs.Choices.{unary_operators, binary_operators, conversion_operators, field_type, element_type}
 use Rattle.go_emit.specs.Translation.{Places, expr_temps, zero_code, zeros_code, operators_code, index_code, decided_code, expr_code, exprs_code, parts_code, source_code, operands_code, or_type, steps_code, address_code, left_temps, left_operands, take_code, give_code, lefts_operands, keep_code, keeps_code, gives_code, define_code, defines_code, values_temps}
 use Rattle.go_sound.specs.WellTyped.{Signature, Setting, IsExpr, AreExprs, AreParts, IsSource, IsPart, LeadsTo, AreLefts}
 
--- code whose calls go to these functions
-abbrev pub Named : List symbols.Symbol → List (Instr symbols.Symbol) → Type 0
-Named all code = list_any (is_missing all) code ≡ false
+-- the functions and the package variables that there are
+abbrev pub Present : Type 0
+Present = List symbols.Symbol × List Held
 
--- each function that can be called is one of these
-abbrev pub Callable : List symbols.Symbol → (Symbol → symbols.Symbol) → Setting → Type 0
-Callable all functions g = (s : Symbol) (x : Signature) → g.functions s ≡ Some x → list_any (same_symbol (functions s)) all ≡ true
+-- code that refers to these functions and variables
+abbrev pub Named : Present → List (Instr symbols.Symbol) → Type 0
+Named all code = list_any (is_missing all.0 all.1) code ≡ false
 
-module _ (all : List symbols.Symbol) where
+-- each function and each variable that is known is one of these
+abbrev pub Callable : Present → (Symbol → symbols.Symbol) → (Symbol → symbols.Symbol) → Setting → Type 0
+Callable all globals functions g =
+    ((s : Symbol) (x : Signature) → g.functions s ≡ Some x → list_any (same_symbol (functions s)) all.0 ≡ true)
+    × ((s : Symbol) (t : Type') → g.variables s ≡ Some t → list_any (λ v. same_symbol (globals s) v.0) all.1 ≡ true)
+
+module _ (all : Present) where
   pub both_named : (xs ys : List (Instr symbols.Symbol)) → Named all xs → Named all ys → Named all (xs ++ ys)
-  both_named xs ys e d = list_any-append (is_missing all) xs ys ∙ ap (λ b. b || list_any (is_missing all) ys) e ∙ d
+  both_named xs ys e d = list_any-append (is_missing all.0 all.1) xs ys ∙ ap (λ b. b || list_any (is_missing all.0 all.1) ys) e ∙ d
 
   -- one instruction and others
-  pub then_named : (i : Instr symbols.Symbol) (xs : List (Instr symbols.Symbol)) → is_missing all i ≡ false → Named all xs → Named all (i ∷ xs)
-  then_named i xs e d = ap (λ b. b || list_any (is_missing all) xs) e ∙ d
+  pub then_named : (i : Instr symbols.Symbol) (xs : List (Instr symbols.Symbol)) → is_missing all.0 all.1 i ≡ false → Named all xs → Named all (i ∷ xs)
+  then_named i xs e d = ap (λ b. b || list_any (is_missing all.0 all.1) xs) e ∙ d
 
   mutual
     zero_named : (t : Type') → Named all (zero_code t)
@@ -60,20 +69,24 @@ module _ (all : List symbols.Symbol) where
   index_named (named path name t) = refl
 
   -- a jump over a right side
-  decided_named : (jump : ℕ → Instr symbols.Symbol) → ((n : ℕ) → is_missing all (jump n) ≡ false) → (answer : Bool) (a b : List (Instr symbols.Symbol)) → Named all a → Named all b → Named all (decided_code jump answer a b)
+  decided_named : (jump : ℕ → Instr symbols.Symbol) → ((n : ℕ) → is_missing all.0 all.1 (jump n) ≡ false) → (answer : Bool) (a b : List (Instr symbols.Symbol)) → Named all a → Named all b → Named all (decided_code jump answer a b)
   decided_named jump same answer a b e d =
       both_named (a ++ jump (length b + 1) ∷ b) _ (both_named a (jump (length b + 1) ∷ b) e (then_named (jump (length b + 1)) b (same (length b + 1)) d)) refl
 
   -- a call of a function that there is
-  call_named : (s : symbols.Symbol) → list_any (same_symbol s) all ≡ true → Named all (By_call (Call s) ∷ [])
+  call_named : (s : symbols.Symbol) → list_any (same_symbol s) all.0 ≡ true → Named all (By_call (Call s) ∷ [])
   call_named s e = rw e refl
 
-  module _ (p : Places symbols.Symbol) (g : Setting) (d : List ℕ) (there : Callable all p.functions g) where
+  -- an access to a variable that there is
+  global_named : (i : AccessInstr symbols.Symbol) → list_any (λ v. same_symbol (place_of i) v.0) all.1 ≡ true → Named all (On_globals i ∷ [])
+  global_named i e = rw e refl
+
+  module _ (p : Places symbols.Symbol) (g : Setting) (d : List ℕ) (there : Callable all p.globals p.functions g) where
     mutual
       pub expr_named : (k : ℕ) (e : Expr) → IsExpr g d e → Named all (expr_code p k e)
       expr_named k (trees.constant t c) h = refl
       expr_named k (trees.local t n) h = refl
-      expr_named k (trees.global t s) h = refl
+      expr_named k (trees.global t s) h = global_named (Load (p.globals s) (cells t)) (there.1 s t h)
       expr_named k (trees.field t e n) h = both_named (expr_code p k e) _ (expr_named k e h.0) refl
       expr_named k (trees.index t e i) h =
           both_named (expr_code p k e ++ expr_code p (k + expr_temps e) i) _
@@ -91,7 +104,7 @@ module _ (all : List symbols.Symbol) where
       expr_named k (trees.literal t ps) h =
           let parts : List (Instr symbols.Symbol) = parts_code p (underlying t) k (k + cells t) ps in
           both_named (zero_code t ++ _ ∷ parts) _ (both_named (zero_code t) (_ ∷ parts) (zero_named t) (parts_named (underlying t) t k (k + cells t) ps h.1)) refl
-      expr_named k (trees.call t s es) h = both_named (exprs_code p k es) _ (exprs_named k es h.0) (call_named (p.functions s) (there s _ h.1))
+      expr_named k (trees.call t s es) h = both_named (exprs_code p k es) _ (exprs_named k es h.0) (call_named (p.functions s) (there.0 s _ h.1))
 
       pub exprs_named : (k : ℕ) (es : Exprs) → AreExprs g d es → Named all (exprs_code p k es)
       exprs_named k no_exprs h = refl
@@ -103,7 +116,7 @@ module _ (all : List symbols.Symbol) where
 
     pub source_named : (k : ℕ) (s : Source) → IsSource g d s → Named all (source_code p k s)
     source_named k (each es) h = exprs_named k es h
-    source_named k (results ts s es) h = both_named (exprs_code p k es) _ (exprs_named k es h.0) (call_named (p.functions s) (there s _ h.1))
+    source_named k (results ts s es) h = both_named (exprs_code p k es) _ (exprs_named k es h.0) (call_named (p.functions s) (there.0 s _ h.1))
     source_named k (zeros ts) h = zeros_of_types ts
 
     -- ---- assignments
@@ -127,7 +140,7 @@ module _ (all : List symbols.Symbol) where
     lefts_named k (of_global s x ss ∷ ls) (t ∷ ts) h =
         both_named (left_operands p k (of_global s x ss)) _ (left_named k (of_global s x ss) t h.0) (lefts_named (k + left_temps (of_global s x ss)) ls ts h.1)
 
-  -- ---- code that calls nothing
+  -- ---- where values come from and go to
 
   steps_named : (t : Type') (k : ℕ) (ss : Steps) → Named all (steps_code t k ss)
   steps_named t k here = refl
@@ -135,17 +148,17 @@ module _ (all : List symbols.Symbol) where
   steps_named t k (to_element e ss) = steps_named (or_type t (element_type (underlying t))) (k + expr_temps e + 1) ss
 
   module _ (p : Places symbols.Symbol) where
-    pub take_named : (k : ℕ) (l : Left) (n : ℕ) → Named all (take_code p k l n)
-    take_named k blank n = refl
-    take_named k (of_local t v ss) n = both_named (address_code t k ss) _ (steps_named t k ss) refl
-    take_named k (of_global t s ss) n = both_named (address_code t k ss) _ (steps_named t k ss) refl
+    pub take_named : (g : Setting) (d : List ℕ) → Callable all p.globals p.functions g → (k : ℕ) (l : Left) (n : ℕ) (u : Type') → IsPart g d l u → Named all (take_code p k l n)
+    take_named g d there k blank n u h = refl
+    take_named g d there k (of_local t v ss) n u h = both_named (address_code t k ss) _ (steps_named t k ss) refl
+    take_named g d there k (of_global t s ss) n u h = both_named (address_code t k ss) _ (steps_named t k ss) (global_named (LoadAt (p.globals s) n) (there.1 s t h.0))
 
-    pub give_named : (k : ℕ) (l : Left) (temp n : ℕ) → Named all (give_code p k l temp n)
-    give_named k blank temp n = refl
-    give_named k (of_local t v ss) temp n = both_named (address_code t k ss) _ (steps_named t k ss) refl
-    give_named k (of_global t s ss) temp n = both_named (address_code t k ss) _ (steps_named t k ss) refl
+    pub give_named : (g : Setting) (d : List ℕ) → Callable all p.globals p.functions g → (k : ℕ) (l : Left) (temp n : ℕ) (u : Type') → IsPart g d l u → Named all (give_code p k l temp n)
+    give_named g d there k blank temp n u h = refl
+    give_named g d there k (of_local t v ss) temp n u h = both_named (address_code t k ss) _ (steps_named t k ss) refl
+    give_named g d there k (of_global t s ss) temp n u h = both_named (address_code t k ss) _ (steps_named t k ss) (global_named (StoreAt (p.globals s) n) (there.1 s t h.0))
 
-    pub keep_named : (l : Left) (n temp : ℕ) → is_missing all (keep_code l n temp) ≡ false
+    pub keep_named : (l : Left) (n temp : ℕ) → is_missing all.0 all.1 (keep_code l n temp) ≡ false
     keep_named blank n temp = refl
     keep_named (of_local t v ss) n temp = refl
     keep_named (of_global t s ss) n temp = refl
@@ -157,13 +170,23 @@ module _ (all : List symbols.Symbol) where
         let at : ℕ = k + values_temps ls counts in
         both_named (keeps_code ls counts k) _ (keeps_named ls counts k) (then_named (keep_code l n at) [] (keep_named l n at) refl)
 
-    pub gives_named : (k : ℕ) (ls : List Left) (counts : List ℕ) (temps : ℕ) → Named all (gives_code p k ls counts temps)
-    gives_named k [] counts temps = refl
-    gives_named k (l ∷ ls) [] temps = refl
-    gives_named k (l ∷ ls) (n ∷ counts) temps =
-        both_named (give_code p k l (temps + values_temps ls counts) n) _ (give_named k l (temps + values_temps ls counts) n) (gives_named (k + left_temps l) ls counts temps)
+    pub gives_named : (g : Setting) (d : List ℕ) → Callable all p.globals p.functions g → (k : ℕ) (ls : List Left) (counts : List ℕ) (temps : ℕ) (ts : List Type') → AreLefts g d ls ts → Named all (gives_code p k ls counts temps)
+    gives_named g d there k [] counts temps ts h = refl
+    gives_named g d there k (l ∷ ls) counts temps [] h = absurd h
+    gives_named g d there k (blank ∷ ls) [] temps (t ∷ ts) h = refl
+    gives_named g d there k (of_local u v ss ∷ ls) [] temps (t ∷ ts) h = refl
+    gives_named g d there k (of_global u s ss ∷ ls) [] temps (t ∷ ts) h = refl
+    gives_named g d there k (blank ∷ ls) (n ∷ counts) temps (t ∷ ts) h = gives_named g d there (k + left_temps blank) ls counts temps ts h
+    gives_named g d there k (of_local u v ss ∷ ls) (n ∷ counts) temps (t ∷ ts) h =
+        both_named (give_code p k (of_local u v ss) (temps + values_temps ls counts) n) _
+        (give_named g d there k (of_local u v ss) (temps + values_temps ls counts) n t h.0)
+        (gives_named g d there (k + left_temps (of_local u v ss)) ls counts temps ts h.1)
+    gives_named g d there k (of_global u s ss ∷ ls) (n ∷ counts) temps (t ∷ ts) h =
+        both_named (give_code p k (of_global u s ss) (temps + values_temps ls counts) n) _
+        (give_named g d there k (of_global u s ss) (temps + values_temps ls counts) n t h.0)
+        (gives_named g d there (k + left_temps (of_global u s ss)) ls counts temps ts h.1)
 
-    define_named : (v : Option ℕ) (n : ℕ) → is_missing all (define_code p v n) ≡ false
+    define_named : (v : Option ℕ) (n : ℕ) → is_missing all.0 all.1 (define_code p v n) ≡ false
     define_named None n = refl
     define_named (Some v) n = refl
 

@@ -1,4 +1,4 @@
--- So do the calls in the code of well typed statements and functions.
+-- So does the code of well typed statements and functions.
 use Rattle.std.proofs.Common.{ℕ, ◌+◌, Bool, true, false, List, [], ◌∷◌, ◌++◌, length, map, Option, Some, None, refl}
 use Rattle.std.specs.Prelude.{slice_index, sum}
 use Rattle.go_const.specs.declared.operator.ArithmeticOperator.TheVariants.{Add}
@@ -16,9 +16,9 @@ use Rattle.go_typed.specs.Trees.{Symbol, Expr, Exprs, no_exprs, some_exprs, Stmt
 use Rattle.go_meaning.specs.Choices.{binary_operators}
 use Rattle.go_emit.specs.Translation.{Places, total, slots, expr_temps, source_counts, source_temps, left_temps, lefts_temps, operators_code, load, store, expr_code, source_code, lefts_operands, keeps_code, keep_code, left_operands, take_code, give_code, exprs_code, expr_counts, case_temps, cases_temps, condition_code, stmt_temps, stmts_temps, if_code, loop_code, begin_code, counted_code, count_code, within_code, cases_code, joined, tests_code, leave_code, stmt_code, stmts_code, bodies_code, local_types, translated}
 use Rattle.go_sound.specs.WellTyped.{Setting, AreExprs, IsConditionOrNone, IsStmt, AreStmts, AreClauses, after, first, in_loop, in_clause, in_post, numbers, setting, IsFunction}
-use Rattle.go_simulation.proofs.Named.{Named, Callable, both_named, then_named, operators_named, expr_named, exprs_named, source_named, left_named, lefts_named, take_named, give_named, keep_named, keeps_named, gives_named, defines_named}
+use Rattle.go_simulation.proofs.Named.{Present, Named, Callable, both_named, then_named, operators_named, expr_named, exprs_named, source_named, left_named, lefts_named, take_named, give_named, keep_named, keeps_named, gives_named, defines_named}
 
-module _ (all : List symbols.Symbol) where
+module _ (all : Present) where
   abbrev Code : Type 0
   Code = List (Instr symbols.Symbol)
 
@@ -45,13 +45,13 @@ module _ (all : List symbols.Symbol) where
     counted_named at None = refl
     counted_named at (Some n) = refl
 
-    condition_named : (g : Setting) (d : List ℕ) → Callable all p.functions g → (k : ℕ) (o : Option Expr) → IsConditionOrNone g d o → Named all (condition_code p k o)
+    condition_named : (g : Setting) (d : List ℕ) → Callable all p.globals p.functions g → (k : ℕ) (o : Option Expr) → IsConditionOrNone g d o → Named all (condition_code p k o)
     condition_named g d there k None h = refl
     condition_named g d there k (Some e) h = expr_named all p g d there k e h.0
 
     -- ---- tests of a switch
 
-    cases_named : (g : Setting) (d : List ℕ) → Callable all p.functions g → (at : ℕ) (t : Type') (k : ℕ) (es : Exprs) (far : ℕ) → AreExprs g d es → Named all (cases_code p at t k es far)
+    cases_named : (g : Setting) (d : List ℕ) → Callable all p.globals p.functions g → (at : ℕ) (t : Type') (k : ℕ) (es : Exprs) (far : ℕ) → AreExprs g d es → Named all (cases_code p at t k es far)
     cases_named g d there at t k no_exprs far h = refl
     cases_named g d there at t k (some_exprs e es) far h =
         let ops = binary_operators (underlying t) (comparison Is_equal) in
@@ -60,7 +60,7 @@ module _ (all : List symbols.Symbol) where
         (both_named all (load at (cells t) ∷ expr_code p k e) (operators_code ops) (expr_named all p g d there k e h.0) (operators_named all ops))
         (cases_named g d there at t (k + expr_temps e) es far h.1)
 
-    tests_named : (g : Setting) (d : List ℕ) → Callable all p.functions g → (at : ℕ) (t u : Type') (k : ℕ) (cs : Clauses) (sizes : List ℕ) (before : ℕ) → AreClauses g d u cs → Named all (tests_code p at t k cs sizes before)
+    tests_named : (g : Setting) (d : List ℕ) → Callable all p.globals p.functions g → (at : ℕ) (t u : Type') (k : ℕ) (cs : Clauses) (sizes : List ℕ) (before : ℕ) → AreClauses g d u cs → Named all (tests_code p at t k cs sizes before)
     tests_named g d there at t u k no_clauses sizes before h = refl
     tests_named g d there at t u k (clause None body falls cs) [] before h = refl
     tests_named g d there at t u k (clause (Some es) body falls cs) [] before h = refl
@@ -75,7 +75,7 @@ module _ (all : List symbols.Symbol) where
     -- ---- statements
 
     mutual
-      stmt_named : (g : Setting) (d : List ℕ) → Callable all p.functions g → (k : ℕ) (s : Stmt) (b c : ℕ) → IsStmt g d s → Named all (stmt_code p k s b c)
+      stmt_named : (g : Setting) (d : List ℕ) → Callable all p.globals p.functions g → (k : ℕ) (s : Stmt) (b c : ℕ) → IsStmt g d s → Named all (stmt_code p k s b c)
       stmt_named g d there k (trees.define ns s) b c h = both_named all (source_code p k s) _ (source_named all p g d there k s h.0) (defines_named all p ns (source_counts s))
       stmt_named g d there k (trees.assign ls s) b c h =
           let values : ℕ = k + lefts_temps ls in
@@ -84,7 +84,7 @@ module _ (all : List symbols.Symbol) where
           (both_named all (lefts_operands p k ls ++ source_code p values s) _
           (both_named all (lefts_operands p k ls) _ (lefts_named all p g d there k ls _ h.0) (source_named all p g d there values s h.1))
           (keeps_named all p ls (source_counts s) temps))
-          (gives_named all p k ls (source_counts s) temps)
+          (gives_named all p g d there k ls (source_counts s) temps _ h.0)
       stmt_named g d there k (trees.update t l op e) b c h =
           let value : ℕ = k + left_temps l in
           let temp : ℕ = value + expr_temps e in
@@ -92,10 +92,10 @@ module _ (all : List symbols.Symbol) where
           both_named all (left_operands p k l ++ take_code p k l (cells t) ++ expr_code p value e ++ operators_code ops) _
           (both_named all (left_operands p k l ++ take_code p k l (cells t) ++ expr_code p value e) _
           (both_named all (left_operands p k l ++ take_code p k l (cells t)) _
-          (both_named all (left_operands p k l) _ (left_named all p g d there k l t h.0) (take_named all p k l (cells t)))
+          (both_named all (left_operands p k l) _ (left_named all p g d there k l t h.0) (take_named all p g d there k l (cells t) t h.0))
           (expr_named all p g d there value e h.1))
           (operators_named all ops))
-          (then_named all (keep_code l (cells t) temp) (give_code p k l temp (cells t)) (keep_named all p l (cells t) temp) (give_named all p k l temp (cells t)))
+          (then_named all (keep_code l (cells t) temp) (give_code p k l temp (cells t)) (keep_named all p l (cells t) temp) (give_named all p g d there k l temp (cells t) t h.0))
       stmt_named g d there k (trees.run ts s es) b c h = both_named all (source_code p k (results ts s es)) _ (source_named all p g d there k (results ts s es) h) refl
       stmt_named g d there k (trees.print es) b c h = both_named all (exprs_code p k es) (To_output (Print (sum (expr_counts es))) ∷ []) (exprs_named all p g d there k es h) refl
       stmt_named g d there k (trees.panic e) b c h = both_named all (expr_code p k e) _ (expr_named all p g d there k e h.0) refl
@@ -140,7 +140,7 @@ module _ (all : List symbols.Symbol) where
       stmt_named g d there k trees.continue b c h = refl
       stmt_named g d there k (trees.return s) b c h = both_named all (source_code p k s) _ (source_named all p g d there k s h.0) refl
 
-      stmts_named : (g : Setting) (d : List ℕ) → Callable all p.functions g → (k : ℕ) (ss : Stmts) (b c : ℕ) → AreStmts g d ss → Named all (stmts_code p k ss b c)
+      stmts_named : (g : Setting) (d : List ℕ) → Callable all p.globals p.functions g → (k : ℕ) (ss : Stmts) (b c : ℕ) → AreStmts g d ss → Named all (stmts_code p k ss b c)
       stmts_named g d there k no_stmts b c h = refl
       stmts_named g d there k (some_stmts s ss) b c h =
           let rest : Code = stmts_code p (k + stmt_temps s) ss b c in
@@ -149,7 +149,7 @@ module _ (all : List symbols.Symbol) where
           (stmts_named g (after d s) there (k + stmt_temps s) ss b c h.1)
 
       -- the codes of clauses, side by side
-      bodies_named : (g : Setting) (d : List ℕ) → Callable all p.functions g → (k : ℕ) (t : Type') (cs : Clauses) (c : ℕ) → AreClauses g d t cs → Named all (joined (bodies_code p k cs c))
+      bodies_named : (g : Setting) (d : List ℕ) → Callable all p.globals p.functions g → (k : ℕ) (t : Type') (cs : Clauses) (c : ℕ) → AreClauses g d t cs → Named all (joined (bodies_code p k cs c))
       bodies_named g d there k t no_clauses c h = refl
       bodies_named g d there k t (clause None body falls cs) c h =
           let rest : List Code = bodies_code p (k + stmts_temps body) cs c in
@@ -170,8 +170,8 @@ module _ (all : List symbols.Symbol) where
 
   -- ---- functions
 
-  -- the code of a function that is well typed in a program whose functions are these
-  pub function_calls_named : (packages : List Package) (globals : Symbol → ℕ) (functions : Symbol → symbols.Symbol) (f : trees.Function) → Callable all functions (setting packages f) → IsFunction packages f → Named all (translated globals functions f).code
+  -- the code of a function that is well typed in a program whose functions and variables are these
+  pub function_calls_named : (packages : List Package) (globals functions : Symbol → symbols.Symbol) (f : trees.Function) → Callable all globals functions (setting packages f) → IsFunction packages f → Named all (translated globals functions f).code
   function_calls_named packages globals functions f there h =
       let size : ℕ = total (local_types f) in
       let p : Places symbols.Symbol = record { locals = slice_index (slots 0 (local_types f)); globals = globals; functions = functions } in

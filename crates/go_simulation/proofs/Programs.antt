@@ -1,4 +1,4 @@
--- A linked program of one package does what its sources mean, where the machine follows functions' bodies.
+-- A linked program does what its sources mean, where the machine follows functions' bodies.
 use Rattle.std.proofs.Common.{◌≡◌, ℕ, zero, suc, ◌≤◌, Bool, true, false, List, [], ◌∷◌, map, Option, Some, None, refl, sym, ap, ◌∙◌, subst, arith}
 use Rattle.std.specs.Prelude.{slice_get, if◌then◌else◌, ⊤}
 use Rattle.std.specs.List.{list_all}
@@ -13,14 +13,14 @@ use Rattle.go_code.specs.Lines.{cell_fits}
 use Rattle.go_code.specs.Machine.{State, Goes, Stops, Leads, LeadsFrom, MachineMeaning, opened, started}
 use Rattle.go_code.proofs.Follows.{start_leads, start_cut, ended_leads}
 use Rattle.go_code.proofs.Steps.{meaning_once}
-use Rattle.go_link.specs.Links.{Links}
+use Rattle.go_link.specs.Links.{linked}
 use Rattle.go_typed.specs.Trees.{Symbol, Function, Package}
 use Rattle.go_meaning.specs.Values.{Value, are_of}
 use Rattle.go_meaning.specs.Meaning.{Stored, World, Outcome, Gives, Ends, Stuck, and_then, with_tick, exec_all}
 use Rattle.go_meaning.specs.Programs.{results_of, enter, first_locals, function_at, call_at, most_open, IsProgram, Step, calls, start_steps, step, step_all, first_world, IsOver, run, SourceMeaning}
-use Rattle.go_emit.specs.Translation.{total, translated, object_of}
+use Rattle.go_emit.specs.Translation.{total, translated}
 use Rattle.go_simulation.proofs.Runs.{Onward, onward_then, onward_map, Sized, held, global_at}
-use Rattle.go_simulation.proofs.Images.{start_of, Starts, slot_in, linked_number, links_starts}
+use Rattle.go_simulation.proofs.Images.{objects_of, start_of, Starts, slot_in, linked_number, links_starts}
 use Rattle.go_simulation.proofs.FirstVariables.{variables_known, variables_sized, variables_lie}
 
 -- ---- start steps
@@ -102,22 +102,22 @@ same_bound = refl
 begins : (image : Image) (ticks : ℕ) (final : Final) → list_all cell_fits image.globals ≡ true → Leads image (started image ticks) final → MachineMeaning image ticks final
 begins image ticks final known l = subst (λ b. LeadsFrom image (if b then Goes (started image ticks) else Stops BadCode) final) (sym known) l
 
--- what a package means its image does
-module _ (typed : Package) (image : Image) (bodies : (final : Final) → BodiesLead image final (typed ∷ []) (slot_in typed) (linked_number typed) 999) where
-  starts_follow : (ticks : ℕ) (ending : Ending) (output : List ℕ) → Starts (typed ∷ []) image (slot_in typed) (linked_number typed) → IsOver (run (typed ∷ []) ticks) ending output → MachineMeaning image ticks (Ends_with ending output)
+-- what packages mean their image does
+module _ (packages : List Package) (image : Image) (bodies : (final : Final) → BodiesLead image final packages (slot_in packages) (linked_number packages) 999) where
+  starts_follow : (ticks : ℕ) (ending : Ending) (output : List ℕ) → Starts packages image (slot_in packages) (linked_number packages) → IsOver (run packages ticks) ending output → MachineMeaning image ticks (Ends_with ending output)
   starts_follow ticks ending output s h =
       let final : Final = Ends_with ending output in
-      let w : World = first_world (typed ∷ []) ticks in
-      let meant : IsOver (step_all (call_at (typed ∷ []) (suc 999)) (start_steps (typed ∷ [])) w) ending output = subst (λ n. IsOver (step_all (call_at (typed ∷ []) n) (start_steps (typed ∷ [])) w) ending output) same_bound h in
-      begins image ticks final (ap (list_all cell_fits) s.globals_held ∙ variables_known typed)
+      let w : World = first_world packages ticks in
+      let meant : IsOver (step_all (call_at packages (suc 999)) (start_steps packages) w) ending output = subst (λ n. IsOver (step_all (call_at packages n) (start_steps packages) w) ending output) same_bound h in
+      begins image ticks final (ap (list_all cell_fits) s.globals_held ∙ variables_known packages)
       (subst (λ globals. Leads image (record { frames = []; starts = image.starts; globals = globals; ticks = ticks; output = [] }) final) (sym s.globals_held)
       (subst (λ starts. Leads image (between starts w) final) (sym s.starts)
-      (steps_run image final (typed ∷ []) (slot_in typed) (linked_number typed) s.found 999 (bodies final) ticks (start_steps (typed ∷ [])) w
-      (over_onward (step_all (call_at (typed ∷ []) (suc 999)) (start_steps (typed ∷ [])) w) ending output meant)
-      (variables_sized typed, variables_lie typed) (omega arith))))
+      (steps_run image final packages (slot_in packages) (linked_number packages) s.found 999 (bodies final) ticks (start_steps packages) w
+      (over_onward (step_all (call_at packages (suc 999)) (start_steps packages) w) ending output meant)
+      (variables_sized packages, variables_lie packages) (omega arith))))
 
-  pub program_follows : (ticks : ℕ) (ending : Ending) (output : List ℕ) → Links (object_of typed ∷ []) (0 ∷ []) image → SourceMeaning (typed ∷ []) ticks ending output → MachineMeaning image ticks (Ends_with ending output)
-  program_follows ticks ending output l h = starts_follow ticks ending output (links_starts typed image l) h.1
+  pub program_follows : (ticks : ℕ) (ending : Ending) (output : List ℕ) → image ≡ linked (objects_of packages) → SourceMeaning packages ticks ending output → MachineMeaning image ticks (Ends_with ending output)
+  program_follows ticks ending output l h = starts_follow ticks ending output (links_starts packages image l) h.1
 
   -- ---- and nothing else, where the sources' meaning isn't stuck
 
@@ -134,16 +134,16 @@ module _ (typed : Package) (image : Image) (bodies : (final : Final) → BodiesL
   over_some (Ends e out) h = record { ending = e; output = out; is = (refl, refl) }
   over_some Stuck h = absurd (h refl)
 
-  pub source_follows : (ticks : ℕ) (ending : Ending) (output : List ℕ) → Links (object_of typed ∷ []) (0 ∷ []) image → IsProgram (typed ∷ []) → (run (typed ∷ []) ticks ≡ Stuck → ⊥) → MachineMeaning image ticks (Ends_with ending output) → SourceMeaning (typed ∷ []) ticks ending output
+  pub source_follows : (ticks : ℕ) (ending : Ending) (output : List ℕ) → image ≡ linked (objects_of packages) → IsProgram packages → (run packages ticks ≡ Stuck → ⊥) → MachineMeaning image ticks (Ends_with ending output) → SourceMeaning packages ticks ending output
   source_follows ticks ending output l is goes h =
-      let o : Outcome ⊤ = run (typed ∷ []) ticks in
+      let o : Outcome ⊤ = run packages ticks in
       let over = over_some o goes in
       let same = final_same over.ending ending over.output output (meaning_once image ticks _ _ (program_follows ticks over.ending over.output l (is, over.is)) h) in
       (is, subst (λ e. IsOver o e output) same.0 (subst (IsOver o over.ending) same.1 over.is))
 
   -- its code makes sense there
-  pub makes_sense : (ticks : ℕ) → Links (object_of typed ∷ []) (0 ∷ []) image → IsProgram (typed ∷ []) → (run (typed ∷ []) ticks ≡ Stuck → ⊥) → MachineMeaning image ticks BadCode → ⊥
+  pub makes_sense : (ticks : ℕ) → image ≡ linked (objects_of packages) → IsProgram packages → (run packages ticks ≡ Stuck → ⊥) → MachineMeaning image ticks BadCode → ⊥
   makes_sense ticks l is goes h =
-      let over = over_some (run (typed ∷ []) ticks) goes in
+      let over = over_some (run packages ticks) goes in
       let same : Ends_with over.ending over.output ≡ BadCode = meaning_once image ticks _ _ (program_follows ticks over.ending over.output l (is, over.is)) h in
       cc

@@ -1,4 +1,4 @@
--- The code of expressions, values and assignments does not depend on what functions are referred to by.
+-- The code of expressions, values and assignments does not depend on what functions and package variables are referred to by.
 use Rattle.std.proofs.Common.{◌≡◌, ℕ, ◌+◌, Bool, List, [], ◌∷◌, ◌++◌, length, map, pos, Option, Some, None, refl, sym, ap, ◌∙◌}
 use Rattle.std.specs.List.{flat_map}
 use Rattle.std.proofs.lemmas.List.{map-append, length-map}
@@ -12,15 +12,15 @@ use Rattle.go_code.specs.declared.instr.FrameInstr.TheVariants.{Push}
 use Rattle.go_code.specs.declared.instr.PartInstr.TheVariants.{Move, Index}
 use Rattle.go_code.specs.declared.instr.JumpInstr.TheVariants.{JumpIf, JumpIfNot}
 use Rattle.go_code.specs.declared.operator.Operator as operators
-use Rattle.go_code.specs.Referred.{refer}
+use Rattle.go_code.specs.Referred.{Changes, refer}
 use Rattle.go_typed.specs.Trees as trees
 use Rattle.go_typed.specs.Trees.{Expr, Exprs, no_exprs, some_exprs, Parts, no_parts, part, Steps, here, to_field, to_element, Left, blank, of_local, of_global, Source, each, results, zeros, expr_type}
 use Rattle.go_meaning.specs.Choices.{unary_operators, binary_operators, conversion_operators, field_type, element_type}
 use Rattle.go_emit.specs.Translation.{Places, offset, expr_temps, zero_code, zeros_code, operators_code, index_code, load, store, decided_code, expr_code, exprs_code, parts_code, source_code, operands_code, or_type, elements_count, steps_code, address_code, left_temps, left_operands, take_code, give_code, lefts_operands, values_temps, keep_code, keeps_code, gives_code, define_code, defines_code}
 
--- the same places, where functions are referred to by other things
-abbrev pub referred : {R S : Type 0} → (R → S) → Places R → Places S
-referred g p = record { locals = p.locals; globals = p.globals; functions = λ s. g (p.functions s) }
+-- the same places, where functions and package variables are referred to by other things
+abbrev pub referred : {R S : Type 0} → Changes R S → Places R → Places S
+referred g p = record { locals = p.locals; globals = λ s. g.variables (p.globals s); functions = λ s. g.functions (p.functions s) }
 
 -- codes side by side
 pub joins : {A B : Type 0} {us vs : List B} (h : A → B) (xs ys : List A) → map h xs ≡ us → map h ys ≡ vs → map h (xs ++ ys) ≡ us ++ vs
@@ -30,7 +30,7 @@ joins {us} h xs ys a b = map-append h xs ys ∙ ap (λ l. l ++ map h ys) a ∙ a
 pub as_long : {A B : Type 0} {us : List B} (h : A → B) (xs : List A) → map h xs ≡ us → length xs ≡ length us
 as_long h xs e = sym (length-map xs h) ∙ ap length e
 
-module _ {R S : Type 0} (g : R → S) where
+module _ {R S : Type 0} (g : Changes R S) where
   -- the code with its references changed is this
   abbrev pub Refers : List (Instr R) → List (Instr S) → Type 0
   Refers xs us = map (refer g) xs ≡ us

@@ -1,4 +1,4 @@
--- Nor does the code of statements and functions depend on what functions are referred to by: jumps count instructions alone.
+-- Nor does the code of statements and functions depend on what functions and package variables are referred to by: jumps count instructions alone.
 use Rattle.std.proofs.Common.{◌≡◌, ℕ, ◌+◌, Bool, true, false, List, [], ◌∷◌, ◌++◌, length, map, pos, Option, Some, None, refl, ap, ◌∙◌}
 use Rattle.std.specs.Prelude.{slice_index}
 use Rattle.go_const.specs.declared.operator.ArithmeticOperator.TheVariants.{Add}
@@ -11,7 +11,7 @@ use Rattle.go_code.specs.declared.instr.Instr.{Instr}
 use Rattle.go_code.specs.declared.instr.Instr.TheVariants.{Frame as In_frame, Jump as Go_to}
 use Rattle.go_code.specs.declared.instr.FrameInstr.TheVariants.{Push}
 use Rattle.go_code.specs.declared.instr.JumpInstr.TheVariants.{Jump, JumpIf, JumpIfNot, LoopIf}
-use Rattle.go_code.specs.Referred.{refer, refer_function}
+use Rattle.go_code.specs.Referred.{Changes, refer, refer_function}
 use Rattle.go_typed.specs.declared.expression.Operator.TheVariants.{Arithmetic as arithmetic, Comparison as comparison}
 use Rattle.go_typed.specs.Trees as trees
 use Rattle.go_typed.specs.Trees.{Symbol, Expr, Exprs, no_exprs, some_exprs, Stmt, Stmts, no_stmts, some_stmts, Clauses, no_clauses, clause, results, expr_type}
@@ -21,7 +21,7 @@ use Rattle.go_simulation.proofs.Referred.{referred, joins, as_long, Refers, begi
 
 -- ---- codes side by side
 
-module _ {R S : Type 0} (g : R → S) where
+module _ {R S : Type 0} (g : Changes R S) where
   abbrev Changed : List (List (Instr R)) → List (List (Instr S)) → Type 0
   Changed xss uss = map (map (refer g)) xss ≡ uss
 
@@ -235,7 +235,7 @@ module _ {R S : Type 0} (g : R → S) where
 
   -- ---- functions
 
-  pub function_referred : (globals : Symbol → ℕ) (functions : Symbol → R) (f : trees.Function) → refer_function g (translated globals functions f) ≡ translated globals (λ s. g (functions s)) f
+  pub function_referred : (globals functions : Symbol → R) (f : trees.Function) → refer_function g (translated globals functions f) ≡ translated (λ s. g.variables (globals s)) (λ s. g.functions (functions s)) f
   function_referred globals functions f =
       let size : ℕ = total (local_types f) in
       let p : Places R = record { locals = slice_index (slots 0 (local_types f)); globals = globals; functions = functions } in

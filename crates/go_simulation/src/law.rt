@@ -1,5 +1,5 @@
-//! What holds of a linked program of one package: it means its sources.
-ghost use Rattle.std.specs.Prelude.{◌≡◌, ◌↔◌, ℕ, [], ◌∷◌, Some, None};
+//! What holds of a linked program: it means its sources.
+ghost use Rattle.std.specs.Prelude.{◌≡◌, ◌↔◌, ℕ, List, map, Some, None};
 ghost use Rattle.go_code.specs.Images.{Image};
 ghost use Rattle.go_link.specs.declared.link.LinkError.{LinkError};
 ghost use Rattle.go_link.specs.declared.link.LinkError.TheVariants.{NoMain};
@@ -13,25 +13,25 @@ ghost use Rattle.go_simulation.specs.Programs.{IsLinked, Follows, IsSafe, IsMean
 /// A linked program, given any number of ticks, prints and ends as its sources do. Where no rule of
 /// the language is broken it does nothing else, and its code makes sense.
 pub fn law_program_means_sources()
-    ensures means { (typed : Package) (image : Image) → IsLinked typed image → Follows typed image }
-    ensures meant { (typed : Package) (image : Image) (ticks : ℕ) → IsLinked typed image → IsSafe typed ticks → IsMeant typed image ticks }
-    ensures sense { (typed : Package) (image : Image) (ticks : ℕ) → IsLinked typed image → IsSafe typed ticks → MakesSense image ticks }
+    ensures means { (packages : List Package) (image : Image) → IsLinked packages image → Follows packages image }
+    ensures meant { (packages : List Package) (image : Image) (ticks : ℕ) → IsLinked packages image → IsSafe packages ticks → IsMeant packages image ticks }
+    ensures sense { (packages : List Package) (image : Image) (ticks : ℕ) → IsLinked packages image → IsSafe packages ticks → MakesSense image ticks }
 {}
 
-/// The object of a package is linked only where the package is a program; else the linker finds no
-/// main.
+/// The objects of packages are linked only where the packages are a program; else the linker finds
+/// no main.
 pub fn law_programs_are_linked()
-    ensures linked { (typed : Package) → link_refusal (object_of typed ∷ []) ≡ None → IsProgram (typed ∷ []) }
-    ensures no_main { (typed : Package) → (IsProgram (typed ∷ []) → ⊥) → link_refusal (object_of typed ∷ []) ≡ Some NoMain }
+    ensures linked { (packages : List Package) → link_refusal (map object_of packages) ≡ None → IsProgram packages }
+    ensures no_main { (packages : List Package) → (IsProgram packages → ⊥) → link_refusal (map object_of packages) ≡ Some NoMain }
 {}
 
-/// A well typed package that is linked means the same as its sources, whatever its number of ticks: its
-/// code always makes sense, and ends in a way. It is linked exactly where it is a program, and refused
-/// for want of a main alone: the linker finds all that it calls.
+/// Well typed packages that are linked mean the same as their sources, whatever the number of ticks:
+/// their code always makes sense, and ends in a way. They are linked exactly where they are a program,
+/// and refused for want of a main alone: the linker finds all that they refer to.
 pub fn law_well_typed_programs_are_meant()
-    ensures same { (typed : Package) (image : Image) → IsWellTyped (typed ∷ []) → IsLinked typed image → MeansTheSame typed image }
-    ensures sense { (typed : Package) (image : Image) (ticks : ℕ) → IsWellTyped (typed ∷ []) → IsLinked typed image → MakesSense image ticks }
-    ensures ends { (typed : Package) (image : Image) (ticks : ℕ) → IsWellTyped (typed ∷ []) → IsLinked typed image → HasMeaning image ticks }
-    ensures linked { (typed : Package) → IsWellTyped (typed ∷ []) → (link_refusal (object_of typed ∷ []) ≡ None) ↔ IsProgram (typed ∷ []) }
-    ensures refused { (typed : Package) (e : LinkError) → IsWellTyped (typed ∷ []) → link_refusal (object_of typed ∷ []) ≡ Some e → e ≡ NoMain }
+    ensures same { (packages : List Package) (image : Image) → IsWellTyped packages → IsLinked packages image → MeansTheSame packages image }
+    ensures sense { (packages : List Package) (image : Image) (ticks : ℕ) → IsWellTyped packages → IsLinked packages image → MakesSense image ticks }
+    ensures ends { (packages : List Package) (image : Image) (ticks : ℕ) → IsWellTyped packages → IsLinked packages image → HasMeaning image ticks }
+    ensures linked { (packages : List Package) → IsWellTyped packages → (link_refusal (map object_of packages) ≡ None) ↔ IsProgram packages }
+    ensures refused { (packages : List Package) (e : LinkError) → IsWellTyped packages → link_refusal (map object_of packages) ≡ Some e → e ≡ NoMain }
 {}

@@ -135,15 +135,15 @@ fn store_local_at(frames: &mut Frames<'_>, world: &World, first: usize, count: u
 pub(crate) fn obey_local(
     frames: &mut Frames<'_>,
     world: &World,
-    instr: AccessInstr,
+    instr: &AccessInstr<usize>,
 ) -> Result<Flow, AllocError>
-    ensures { IfOk result (λ flow. Does (on_locals (access instr)) frames.old world.now flow frames.new world.now) }
+    ensures { IfOk result (λ flow. Does (on_locals (access instr.now)) frames.old world.now flow frames.new world.now) }
 {
     match instr {
-        AccessInstr::Load { first, count } => load_local(frames, world, first, count),
-        AccessInstr::Store { first, count } => Ok(store_local(frames, world, first, count)),
-        AccessInstr::LoadAt { first, count } => load_local_at(frames, world, first, count),
-        AccessInstr::StoreAt { first, count } => Ok(store_local_at(frames, world, first, count)),
+        AccessInstr::Load { first, count } => load_local(frames, world, *first, *count),
+        AccessInstr::Store { first, count } => Ok(store_local(frames, world, *first, *count)),
+        AccessInstr::LoadAt { first, count } => load_local_at(frames, world, *first, *count),
+        AccessInstr::StoreAt { first, count } => Ok(store_local_at(frames, world, *first, *count)),
     }
 }
 
@@ -209,15 +209,15 @@ fn store_global_at(frames: &mut Frames<'_>, world: &mut World, first: usize, cou
 pub(crate) fn obey_global(
     frames: &mut Frames<'_>,
     world: &mut World,
-    instr: AccessInstr,
+    instr: &AccessInstr<usize>,
 ) -> Result<Flow, AllocError>
-    ensures { IfOk result (λ flow. Does (on_globals (access instr)) frames.old world.old flow frames.new world.new) }
+    ensures { IfOk result (λ flow. Does (on_globals (access instr.now)) frames.old world.old flow frames.new world.new) }
 {
     match instr {
-        AccessInstr::Load { first, count } => load_global(frames, world, first, count),
-        AccessInstr::Store { first, count } => Ok(store_global(frames, world, first, count)),
-        AccessInstr::LoadAt { first, count } => load_global_at(frames, world, first, count),
-        AccessInstr::StoreAt { first, count } => Ok(store_global_at(frames, world, first, count)),
+        AccessInstr::Load { first, count } => load_global(frames, world, *first, *count),
+        AccessInstr::Store { first, count } => Ok(store_global(frames, world, *first, *count)),
+        AccessInstr::LoadAt { first, count } => load_global_at(frames, world, *first, *count),
+        AccessInstr::StoreAt { first, count } => Ok(store_global_at(frames, world, *first, *count)),
     }
 }
 

@@ -164,8 +164,8 @@ fn perform<'a>(
 {
     match instr {
         Instr::Frame(instr) => obey_frame(frames, world, instr),
-        Instr::Local(instr) => obey_local(frames, world, *instr),
-        Instr::Global(instr) => obey_global(frames, world, *instr),
+        Instr::Local(instr) => obey_local(frames, world, instr),
+        Instr::Global(instr) => obey_global(frames, world, instr),
         Instr::Part(instr) => obey_part(frames, world, *instr),
         Instr::Operate(operator) => obey_operator(alloc, frames, world, *operator),
         Instr::Jump(instr) => Ok(obey_jump(frames, world, *instr)),

@@ -36,7 +36,7 @@ impl PackageFunction {
         self.name.as_str()
     }
 
-    /// The function, whose code refers to functions by their symbols.
+    /// The function, whose code refers to functions and package variables by their symbols.
     pub fn function(&self) -> &Function<Symbol>
         ensures { result.now ≡ self.now.function }
     {

@@ -1,6 +1,7 @@
 use Rattle.std.proofs.Common.{arith, ◌∙◌}
 use Rattle.go_types.specs.Views.{type_of}
 use Rattle.go_emit.specs.Views.{places_of}
+use Rattle.std.proofs.lemmas.Grind.{common_steps}
 use Rattle.go_emit.proofs.Closed.{cases_step}
 use Rattle.go_emit.proofs.Emitted.{row_back, exprs_left}
 use Rattle.go_emit.proofs.statement.emit_cases.Goals as goal
@@ -14,3 +15,6 @@ loop-i-preserved c =
           c.in_ok-expr_temps.ensures c.in_ok-behind-2.ensures c.loop-i.invariant.code c.len-end.ensures (c.in_ok-difference.ensures ∙ c.len.ensures) c.in_ok-passed.ensures c.in_ok-put.ensures c.in_ok-put_binary.ensures c.in_ok-emit_expr.ensures c.in_ok-count.ensures c.load.ensures c.in_ok-put-2.ensures;
       behind = exprs_left p c.args.k c.args.cases.now c.loop-i.i _ c.loop-i.behind _ _ _ row c.in_ok-expr_temps.ensures c.in_ok-behind-2.ensures c.loop-i.invariant.behind;
     }
+
+pub returns : goal.returns
+returns c = grind (arith, common_steps)

@@ -1,6 +1,7 @@
 use Rattle.std.proofs.Common.{◌∙◌, arith}
 use Rattle.go_types.specs.Views.{type_of}
 use Rattle.go_emit.specs.Views.{places_of}
+use Rattle.std.proofs.lemmas.Grind.{common_steps}
 use Rattle.go_emit.proofs.Closed.{row_value, tests_step, tests_left, before_left}
 use Rattle.go_emit.proofs.Emitted.{row_back}
 use Rattle.go_emit.proofs.statement.emit_tests.Goals as goal
@@ -16,3 +17,6 @@ loop-i-preserved c =
       behind = tests_left c.args.clauses.now c.loop-i.i _ c.loop-i.behind _ _ _ row c.in_ok-case_temps.ensures c.in_ok-behind-2.ensures c.loop-i.invariant.behind;
       before = before_left c.args.sizes.now c.loop-i.i _ c.loop-i.before _ _ sized c.in_ok-before-2.ensures c.loop-i.invariant.before;
     }
+
+pub returns : goal.returns
+returns c = grind (arith, common_steps)

@@ -6,5 +6,5 @@ use Rattle.go_link.proofs.code.link_functions.Given as goal
 
 abbrev pub invariant-loop-object : goal.invariant-loop-object
 invariant-loop-object l =
-    l.linked.items ++ flat_map (λ o. map (linked_function l.names) o.functions) (map arc_value (drop l.object-index l.packages))
-    ≡ flat_map (λ o. map (linked_function l.names) o.functions) (map arc_value l.packages)
+    l.linked.items ++ flat_map (λ o. map (linked_function l.names l.places) o.functions) (map arc_value (drop l.object-index l.packages))
+    ≡ flat_map (λ o. map (linked_function l.names l.places) o.functions) (map arc_value l.packages)

@@ -6,5 +6,5 @@ use Rattle.go_link.proofs.starts.link_starts.Given as goal
 
 abbrev pub invariant-loop-object : goal.invariant-loop-object
 invariant-loop-object l =
-    l.starts.items ++ flat_map (package_starts l.names) (map arc_value (drop l.object-index l.packages))
-    ≡ flat_map (package_starts l.names) (map arc_value l.packages)
+    l.starts.items ++ flat_map (package_starts l.names l.places) (map arc_value (drop l.object-index l.packages))
+    ≡ flat_map (package_starts l.names l.places) (map arc_value l.packages)

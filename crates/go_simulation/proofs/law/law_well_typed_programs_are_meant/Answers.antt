@@ -4,16 +4,16 @@ use Rattle.go_simulation.proofs.WellTyped.{means_the_same, always_sense, has_mea
 use Rattle.go_simulation.proofs.law.law_well_typed_programs_are_meant.Goals as goal
 
 pub returns-clause-same : goal.returns-clause-same
-returns-clause-same c typed image well linked = means_the_same typed image well linked
+returns-clause-same c packages image well linked = means_the_same packages image well linked
 
 pub returns-clause-sense : goal.returns-clause-sense
-returns-clause-sense c typed image ticks well linked = always_sense typed image well linked ticks
+returns-clause-sense c packages image ticks well linked = always_sense packages image well linked ticks
 
 pub returns-clause-ends : goal.returns-clause-ends
-returns-clause-ends c typed image ticks well linked = has_meaning typed image well linked ticks
+returns-clause-ends c packages image ticks well linked = has_meaning packages image well linked ticks
 
 pub returns-clause-linked : goal.returns-clause-linked
-returns-clause-linked c typed well = (linked_program typed, program_linked typed well)
+returns-clause-linked c packages well = (linked_program packages, program_linked packages well)
 
 pub returns-clause-refused : goal.returns-clause-refused
-returns-clause-refused c typed e well refused = refused_for typed well e refused
+returns-clause-refused c packages e well refused = refused_for packages well e refused

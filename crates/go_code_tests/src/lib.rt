@@ -1,3 +1,0 @@
-//! Tests of the machine: code, linking, runs.
-#[cfg(test)]
-mod tests;

@@ -1,5 +1,0 @@
-mod code;
-mod instructions;
-mod link;
-mod notation;
-mod vm;
