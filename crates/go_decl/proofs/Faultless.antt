@@ -10,7 +10,7 @@ use Rattle.go_scope.specs.Order.{DependsOnItself, Grounded}
 use Rattle.go_scope.proofs.Laws.{all_grounded}
 use Rattle.go_text.specs.declared.fault.FaultKind.TheVariants.{Redeclared, Recursive}
 use Rattle.go_ast.specs.Trees.{Name, TypeExpr, Expr, Exprs, no_exprs, some_exprs, ConstSpec, VarSpec, TypeSpec, constants, variables, types, TopLevel, declared, function, File}
-use Rattle.go_objects.specs.Objects.{Form, constant, valued_variable, Object, paired, unpaired, meant, constants_of, in_group, typed_object, result_objects, uncounted, variables_of, type_object, objects_in, objects_from, firsts, objects_of}
+use Rattle.go_objects.specs.Objects.{Form, constant, valued_variable, Object, begin_of, other_object, paired, unpaired, meant, constants_of, in_group, typed_object, result_objects, uncounted, variables_of, type_object, objects_in, objects_from, firsts, objects_of}
 use Rattle.go_objects.specs.Table.{number_of, rows}
 use Rattle.go_objects.specs.Numbers.{Numbered}
 use Rattle.go_objects.proofs.Firsts.{numbered_none, numbered_more}
@@ -41,28 +41,31 @@ fine_at t (x ∷ xs) (suc k) o f at = fine_at t xs k o f.1 at
 
 -- ---- specifications
 
-fine_unpaired : (t : Facts) (file : ℕ) (of : Option TypeExpr) (es : Exprs) (ns : List Name) → flat_map (name_faults t file) ns ≡ [] → AreFine t (unpaired file of es ns)
-fine_unpaired t file of es [] none = tt
-fine_unpaired t file of es (n ∷ ns) none = (
+fine_others : (t : Facts) (file : ℕ) (all : List Name) (of : Option TypeExpr) (es : Exprs) (ns : List Name) → flat_map (name_faults t file) ns ≡ [] → AreFine t (map (other_object file all of es) ns)
+fine_others t file all of es [] none = tt
+fine_others t file all of es (n ∷ ns) none = (
   none_front (name_faults t file n) (flat_map (name_faults t file) ns) none,
-  fine_unpaired t file of es ns (none_back (name_faults t file n) (flat_map (name_faults t file) ns) none),
+  fine_others t file all of es ns (none_back (name_faults t file n) (flat_map (name_faults t file) ns) none),
 )
 
-abbrev made : ℕ → (Expr → Form) → Name → Expr → Object
-made file form n e = record { file = file; name = n; form = form e }
+fine_unpaired : (t : Facts) (file : ℕ) (of : Option TypeExpr) (es : Exprs) (ns : List Name) → flat_map (name_faults t file) ns ≡ [] → AreFine t (unpaired file of es ns)
+fine_unpaired t file of es ns none = fine_others t file ns of es ns none
 
-fine_paired : (t : Facts) (file : ℕ) (form : Expr → Form) (ns : List Name) (es : Exprs) (os : List Object) → flat_map (name_faults t file) ns ≡ [] → paired (made file form) ns es ≡ Some os → AreFine t os
-fine_paired t file form [] no_exprs os none is = (let same : [] ≡ os = cc in subst (AreFine t) same tt)
-fine_paired t file form [] (some_exprs e es) os none is = cc
-fine_paired t file form (n ∷ ns) no_exprs os none is = cc
-fine_paired t file form (n ∷ ns) (some_exprs e es) os none is =
-    elim (paired (made file form) ns es) as (λ r. paired (made file form) ns es ≡ r → option_map (λ xs. made file form n e ∷ xs) r ≡ Some os → AreFine t os) [
+abbrev made : ℕ → List Name → (Expr → Form) → Name → Expr → Object
+made file all form n e = record { file = file; begins = begin_of all n; name = n; form = form e }
+
+fine_paired : (t : Facts) (file : ℕ) (all : List Name) (form : Expr → Form) (ns : List Name) (es : Exprs) (os : List Object) → flat_map (name_faults t file) ns ≡ [] → paired (made file all form) ns es ≡ Some os → AreFine t os
+fine_paired t file all form [] no_exprs os none is = (let same : [] ≡ os = cc in subst (AreFine t) same tt)
+fine_paired t file all form [] (some_exprs e es) os none is = cc
+fine_paired t file all form (n ∷ ns) no_exprs os none is = cc
+fine_paired t file all form (n ∷ ns) (some_exprs e es) os none is =
+    elim (paired (made file all form) ns es) as (λ r. paired (made file all form) ns es ≡ r → option_map (λ xs. made file all form n e ∷ xs) r ≡ Some os → AreFine t os) [
       | None ↦ λ at h. cc
       | Some rest ↦ λ at h. (
-          let same : made file form n e ∷ rest ≡ os = cc in
+          let same : made file all form n e ∷ rest ≡ os = cc in
           subst (AreFine t) same (
             none_front (name_faults t file n) (flat_map (name_faults t file) ns) none,
-            fine_paired t file form ns es rest (none_back (name_faults t file n) (flat_map (name_faults t file) ns) none) at,
+            fine_paired t file all form ns es rest (none_back (name_faults t file n) (flat_map (name_faults t file) ns) none) at,
           ))
     ] refl is
 
@@ -72,8 +75,8 @@ fine_either t (Some xs) os f g = f xs refl
 
 fine_constants : (t : Facts) (file iota : ℕ) (s : ConstSpec) → flat_map (name_faults t file) s.names ≡ [] → AreFine t (constants_of file iota s)
 fine_constants t file iota s none =
-    fine_either t (paired (made file (λ e. constant s.type e iota)) s.names s.values) (unpaired file s.type s.values s.names)
-    (λ xs is. fine_paired t file (λ e. constant s.type e iota) s.names s.values xs none is) (fine_unpaired t file s.type s.values s.names none)
+    fine_either t (paired (made file s.names (λ e. constant s.type e iota)) s.names s.values) (unpaired file s.type s.values s.names)
+    (λ xs is. fine_paired t file s.names (λ e. constant s.type e iota) s.names s.values xs none is) (fine_unpaired t file s.type s.values s.names none)
 
 names_fine : (t : Facts) (file iota : ℕ) (repeated : Bool) (ns : List Name) (of : Option TypeExpr) (es : Exprs) → constants_faults t file iota repeated (record { names = ns; type = of; values = es }) ≡ [] → flat_map (name_faults t file) ns ≡ []
 names_fine t file iota repeated [] of es none = refl
@@ -89,30 +92,30 @@ fine_group t file iota before (s ∷ ss) none =
     (fine_constants t file iota m (names_fine t file iota (is_repeated s) m.names m.type m.values (none_front own rest none)))
     (fine_group t file (suc iota) m ss (none_back own rest none))
 
-fine_typed : (t : Facts) (file : ℕ) (of : TypeExpr) (ns : List Name) → flat_map (name_faults t file) ns ≡ [] → AreFine t (map (typed_object file of) ns)
-fine_typed t file of [] none = tt
-fine_typed t file of (n ∷ ns) none = (
+fine_typed : (t : Facts) (file : ℕ) (all : List Name) (of : TypeExpr) (ns : List Name) → flat_map (name_faults t file) ns ≡ [] → AreFine t (map (typed_object file all of) ns)
+fine_typed t file all of [] none = tt
+fine_typed t file all of (n ∷ ns) none = (
   none_front (name_faults t file n) (flat_map (name_faults t file) ns) none,
-  fine_typed t file of ns (none_back (name_faults t file n) (flat_map (name_faults t file) ns) none),
+  fine_typed t file all of ns (none_back (name_faults t file n) (flat_map (name_faults t file) ns) none),
 )
 
-fine_results : (t : Facts) (file count number : ℕ) (e : Expr) (ns : List Name) → flat_map (name_faults t file) ns ≡ [] → AreFine t (result_objects file count number e ns)
-fine_results t file count number e [] none = tt
-fine_results t file count number e (n ∷ ns) none = (
+fine_results : (t : Facts) (file : ℕ) (all : List Name) (number : ℕ) (e : Expr) (ns : List Name) → flat_map (name_faults t file) ns ≡ [] → AreFine t (result_objects file all number e ns)
+fine_results t file all number e [] none = tt
+fine_results t file all number e (n ∷ ns) none = (
   none_front (name_faults t file n) (flat_map (name_faults t file) ns) none,
-  fine_results t file count (suc number) e ns (none_back (name_faults t file n) (flat_map (name_faults t file) ns) none),
+  fine_results t file all (suc number) e ns (none_back (name_faults t file n) (flat_map (name_faults t file) ns) none),
 )
 
 fine_uncounted : (t : Facts) (file : ℕ) (ns : List Name) (es : Exprs) → flat_map (name_faults t file) ns ≡ [] → AreFine t (uncounted file ns es)
 fine_uncounted t file ns no_exprs none = fine_unpaired t file None no_exprs ns none
-fine_uncounted t file ns (some_exprs e no_exprs) none = fine_results t file (length ns) 0 e ns none
+fine_uncounted t file ns (some_exprs e no_exprs) none = fine_results t file ns 0 e ns none
 fine_uncounted t file ns (some_exprs e (some_exprs f es)) none = fine_unpaired t file None (some_exprs e (some_exprs f es)) ns none
 
 fine_variables : (t : Facts) (file : ℕ) (ns : List Name) (of : Option TypeExpr) (es : Exprs) → flat_map (name_faults t file) ns ≡ [] → AreFine t (variables_of file (record { names = ns; type = of; values = es }))
 fine_variables t file ns None es none =
-    fine_either t (paired (made file valued_variable) ns es) (uncounted file ns es)
-    (λ xs is. fine_paired t file valued_variable ns es xs none is) (fine_uncounted t file ns es none)
-fine_variables t file ns (Some of) es none = fine_typed t file of ns none
+    fine_either t (paired (made file ns valued_variable) ns es) (uncounted file ns es)
+    (λ xs is. fine_paired t file ns valued_variable ns es xs none is) (fine_uncounted t file ns es none)
+fine_variables t file ns (Some of) es none = fine_typed t file ns of ns none
 
 var_names_fine : (t : Facts) (file : ℕ) (ns : List Name) (of : Option TypeExpr) (es : Exprs) → var_spec_faults t file (record { names = ns; type = of; values = es }) ≡ [] → flat_map (name_faults t file) ns ≡ []
 var_names_fine t file [] of es none = refl

@@ -3,3 +3,4 @@ pub mod Faultless
 pub mod Groups
 pub mod Marks
 pub mod Parts
+pub mod Single

@@ -1,22 +1,25 @@
 -- The faults of what the files of a package declare, in the order of the text.
-use Rattle.std.specs.Prelude.{ℕ, suc, Bool, true, false, ◌&&◌, not, IsTrue, ◌↔◌, nat_eq, bytes_eq, if◌then◌else◌, option_map, List, [], ◌∷◌, ◌++◌, map, codes, Option, Some, None}
-use Rattle.std.specs.List.{slice_get, flat_map}
+use Rattle.std.specs.Prelude.{ℕ, suc, Bool, true, false, ◌&&◌, ◌||◌, not, IsTrue, ◌↔◌, nat_eq, bytes_eq, if◌then◌else◌, option_map, List, [], ◌∷◌, ◌++◌, map, codes, is_some, Option, Some, None}
+use Rattle.std.specs.List.{slice_get, flat_map, list_any}
 use Rattle.go_text.specs.declared.place.Place.{Place}
 use Rattle.go_text.specs.declared.fault.FaultKind.{FaultKind}
 use Rattle.go_text.specs.declared.fault.FaultKind.TheVariants.{Redeclared, Recursive}
-use Rattle.go_ast.specs.Trees.{Name, TypeExpr, no_exprs, some_exprs, ConstSpec, VarSpec, TypeSpec, constants, variables, types, Function, TopLevel, declared, function, File}
+use Rattle.go_ast.specs.Trees.{Name, TypeExpr, Expr, no_exprs, some_exprs, ConstSpec, VarSpec, TypeSpec, constants, variables, types, Function, TopLevel, declared, function, File}
 use Rattle.ws_reach.specs.Worklist.{is_marked}
 use Rattle.go_types.specs.Types.{Type'}
+use Rattle.go_typed.specs.Trees.{Expr as Typed}
+use Rattle.go_scope.specs.Names.{Used, in_exprs}
 use Rattle.go_scope.specs.Order.{DependsOnItself}
-use Rattle.go_expr.specs.Known.{Names, Scope}
-use Rattle.go_expr.specs.Rules.{fine}
-use Rattle.go_expr.specs.Verdicts.{asked_both, broken, operands, type_verdict, type_faults, operands_faults}
+use Rattle.go_expr.specs.Known.{Names, Verdict, Fine, Scope}
+use Rattle.go_expr.specs.Rules.{fine, checked, least, constant_due, assigned, defaulted}
+use Rattle.go_expr.specs.Verdicts.{asked, both, asked_both, operand, verdict, broken, operands, type_verdict, type_faults, operands_faults}
 use Rattle.go_stmt.specs.Scopes.{Context}
 use Rattle.go_stmt.specs.Rules.{constants_of, variables_source}
 use Rattle.go_stmt.specs.Statements.{values_known, values_faults}
 use Rattle.go_stmt.specs.Functions.{function_at}
-use Rattle.go_objects.specs.Objects.{Object, meant, type_object}
-use Rattle.go_objects.specs.Table.{Package, number_of, scope_at, object_verdict}
+use Rattle.go_objects.specs.Objects as objects
+use Rattle.go_objects.specs.Objects.{constant, valued_variable, Object, variables_of, meant, type_object}
+use Rattle.go_objects.specs.Table.{Package, in_written, number_of, scope_at, object_verdict}
 
 -- a package, what is known of its objects, and of each object whether it depends on itself
 pub record Facts : Type 0 where
@@ -27,6 +30,10 @@ pub record Facts : Type 0 where
 -- the marks of those that depend on themselves
 abbrev pub AreRecursive : List (List ℕ) → List Bool → Type 0
 AreRecursive rows recursive = (k : ℕ) → IsTrue (is_marked recursive k) ↔ DependsOnItself rows k
+
+-- something is known of the object of a number
+abbrev pub is_known : Names → ℕ → Bool
+is_known known k = elim (slice_get known k) [ None ↦ false | Some n ↦ is_some n.1 ]
 
 -- faults of a file: each with its place
 abbrev pub Faults : Type 0
@@ -47,11 +54,54 @@ name_faults t file n = elim (number_of t.package.objects n.text) [
       else (if is_marked t.recursive k then (n.place, Recursive) ∷ [] else [])
 ]
 
--- ---- constants: https://go.dev/ref/spec#Constant_declarations
+-- ---- names by themselves
 
 -- the type that is written, if one is, where it is known
 abbrev pub written_type : Scope → Option TypeExpr → Option (Option Type')
 written_type s t = elim t [ None ↦ Some None | Some t ↦ option_map Some (fine (type_verdict s t)) ]
+
+-- https://go.dev/ref/spec#Constant_declarations
+-- a constant's value is constant, and assignable to the type that is written, if one is
+abbrev pub own_constant : Option Type' → Typed → Verdict Typed
+own_constant t e = checked (λ e. elim t [ None ↦ Fine e | Some t ↦ assigned t e ]) (constant_due e)
+
+abbrev pub constant_faults : Scope → Place → Option TypeExpr → Expr → Faults
+constant_faults s p t e = broken p (asked_both own_constant (written_type s t) (operand (verdict s e)))
+
+-- https://go.dev/ref/spec#Variable_declarations
+-- the value of a variable without a type lies in the type that it takes of it
+abbrev pub variable_faults : Scope → Place → Expr → Faults
+variable_faults s p e = broken p (asked defaulted (operand (verdict s e)))
+
+-- that of an object with a value of its own, where its specification begins
+abbrev pub object_faults : Facts → Object → Faults
+object_faults t o = elim o.form [
+  | constant of e iota ↦ constant_faults (scope_at t.package t.known o.file (Some iota)) o.begins of e
+  | valued_variable e ↦ variable_faults (scope_at t.package t.known o.file None) o.begins e
+  | _ ↦ []
+]
+
+-- an object is of the specification that begins at a place of a file
+abbrev pub is_of_spec : ℕ → Place → Option Object → Bool
+is_of_spec file p None = false
+is_of_spec file p (Some o) = nat_eq file o.file && (nat_eq p.line o.begins.line && nat_eq p.column o.begins.column)
+
+-- A name of which nothing is known, since its declaration is faulty, hides the faults of a specification that stands on it, unless it is of the specification.
+abbrev pub hides : Facts → ℕ → Place → Used → Bool
+hides t file p u = elim (number_of t.package.objects u.0) [
+  | None ↦ false
+  | Some k ↦ not (is_known t.known k) && not (is_of_spec file p (slice_get t.package.objects k))
+]
+
+-- of some faults the one of the least number, at a place
+abbrev pub least_at : Place → Faults → Faults
+least_at p fs = elim (least (map (λ f. f.1) fs)) [ None ↦ [] | Some kind ↦ (p, kind) ∷ [] ]
+
+-- A specification of which a part isn't known can't be asked as a whole. It is asked for each of its objects by itself, unless a name in it hides that.
+abbrev pub apart : Facts → ℕ → Place → Bool → List Used → List Object → Faults
+apart t file p whole us os = if whole || list_any (hides t file p) us then [] else least_at p (flat_map (object_faults t) os)
+
+-- ---- constants: https://go.dev/ref/spec#Constant_declarations
 
 -- as many values as names, all constant, each assignable to the type that is written
 abbrev pub spec_broken : Place → Scope → ConstSpec → Faults
@@ -68,12 +118,18 @@ parts_faults s spec = written_faults s spec.type ++ operands_faults s spec.value
 abbrev pub told_at : Bool → Place → Faults → Faults
 told_at repeated p fs = if repeated then map (λ f. (p, f.1)) fs else fs
 
+-- each of its constants by itself, where it can't be asked as a whole
+abbrev pub constants_apart : Facts → ℕ → ℕ → Place → Scope → ConstSpec → Faults
+constants_apart t file iota p s spec =
+    apart t file p (is_some (both (written_type s spec.type) (operands s spec.values))) (in_written spec.type ++ in_exprs spec.values)
+    (objects.constants_of file iota spec)
+
 -- a specification by what it means: its names, then its type and its values, then itself, at its first name
 abbrev pub constants_faults : Facts → ℕ → ℕ → Bool → ConstSpec → Faults
 constants_faults t file iota repeated spec = elim spec.names [
   | [] ↦ []
   | first ∷ others ↦ (let s = scope_at t.package t.known file (Some iota) in
-      flat_map (name_faults t file) spec.names ++ (told_at repeated first.place (parts_faults s spec) ++ spec_broken first.place s spec))
+      flat_map (name_faults t file) spec.names ++ (told_at repeated first.place (parts_faults s spec) ++ (spec_broken first.place s spec ++ constants_apart t file iota first.place s spec)))
 ]
 
 abbrev pub is_repeated : ConstSpec → Bool
@@ -97,12 +153,18 @@ var_parts_faults s spec = written_faults s spec.type ++ values_faults s spec.val
 abbrev pub var_broken : Place → Scope → VarSpec → Faults
 var_broken p s spec = broken p (asked_both (variables_source spec.names) (written_type s spec.type) (values_known s spec.values))
 
+-- each of its variables by itself, where it can't be asked as a whole
+abbrev pub variables_apart : Facts → ℕ → Place → Scope → VarSpec → Faults
+variables_apart t file p s spec =
+    apart t file p (is_some (both (written_type s spec.type) (values_known s spec.values))) (in_written spec.type ++ in_exprs spec.values)
+    (variables_of file spec)
+
 -- its names, then its type and its values, then itself, at its first name
 abbrev pub var_spec_faults : Facts → ℕ → VarSpec → Faults
 var_spec_faults t file spec = elim spec.names [
   | [] ↦ []
   | first ∷ others ↦ (let s = scope_at t.package t.known file None in
-      flat_map (name_faults t file) spec.names ++ (var_parts_faults s spec ++ var_broken first.place s spec))
+      flat_map (name_faults t file) spec.names ++ (var_parts_faults s spec ++ (var_broken first.place s spec ++ variables_apart t file first.place s spec)))
 ]
 
 -- https://go.dev/ref/spec#Function_declarations

@@ -1,17 +1,21 @@
 //! The faults of declarations of constants.
-ghost use Rattle.std.specs.Prelude.{◌≡◌, [], map, None, Ok, IfOk};
+ghost use Rattle.std.specs.Prelude.{◌≡◌, ◌++◌, [], map, is_some, None, Ok, IfOk};
 ghost use Rattle.std.specs.Option.{option_map};
 ghost use Rattle.go_ast.specs.Trees.{no_exprs};
 ghost use Rattle.go_ast.specs.Views.{const_of};
 ghost use Rattle.go_types.specs.Views.{type_of};
 ghost use Rattle.go_typed.specs.Views.{expr_of};
-ghost use Rattle.go_expr.specs.Verdicts.{asked_both, broken, operands};
+ghost use Rattle.go_scope.specs.Names.{in_exprs};
+ghost use Rattle.go_expr.specs.Verdicts.{both, asked_both, broken, operands};
 ghost use Rattle.go_expr.specs.Seen.{scope_of, all_of, Fails};
 ghost use Rattle.go_stmt.specs.Rules.{constants_of};
+ghost use Rattle.go_objects.specs.Objects as objects;
 ghost use Rattle.go_objects.specs.Seen.{spec_of};
-ghost use Rattle.go_decl.specs.Faults.{Faults, written_type, parts_faults, told_at, constants_faults, group_faults};
+ghost use Rattle.go_objects.specs.Table.{in_written};
+ghost use Rattle.go_decl.specs.Faults.{Faults, written_type, parts_faults, told_at, apart, constants_faults, group_faults};
 ghost use Rattle.go_decl.specs.Seen.{facts_of, Finds};
 
+use crate::apart::check_apart;
 use crate::facts::Facts;
 use crate::names::check_names;
 use crate::variables::check_written;
@@ -20,7 +24,7 @@ use go_ast::name::Name;
 use go_expr::error::ExprError;
 use go_expr::expression::check_operands;
 use go_expr::scope::Scope;
-use go_objects::declarations::{Spec, meant};
+use go_objects::declarations::{Spec, constants_of as constants_in, meant};
 use go_objects::evaluation::scope_in;
 use go_stmt::declaration::constants_of;
 use go_text::place::Place;
@@ -33,6 +37,14 @@ use std::alloc::Global;
 struct Parts {
     of: Option<Option<GoType>>,
     values: Option<Vec<TypedExpr>>,
+}
+
+impl Parts {
+    fn are_known(&self) -> bool
+        ensures { result ≡ is_some (both (option_map (option_map type_of) self.now.of) (option_map (all_of expr_of) self.now.values)) }
+    {
+        self.of.is_some() && self.values.is_some()
+    }
 }
 
 /// The first fault of a group of constants in a file.
@@ -76,7 +88,29 @@ fn check_constants(
     check_names(facts, file, spec.names)?;
     let scope = scope_in(facts.package(), facts.known(), file, Some(iota));
     let parts = told_at(repeated, first.place(), check_parts(alloc, &scope, spec))?;
-    check_spec(alloc, first.place(), spec.names, parts)
+    check_whole(alloc, facts, file, iota, first.place(), spec, parts)
+}
+
+// The first fault of a specification itself: as a whole where its parts are known, else that of its
+// constants.
+fn check_whole(
+    alloc: Global,
+    facts: &Facts<'_>,
+    file: usize,
+    iota: u64,
+    place: Place,
+    spec: Spec<'_>,
+    parts: Parts,
+) -> Result<(), ExprError>
+    ensures { Finds result (broken place (asked_both (constants_of (spec_of spec.entry).names) (option_map (option_map type_of) parts.of) (option_map (all_of expr_of) parts.values))
+        ++ apart (facts_of facts.now) file place (is_some (both (option_map (option_map type_of) parts.of) (option_map (all_of expr_of) parts.values)))
+        (in_written (spec_of spec.entry).type ++ in_exprs (spec_of spec.entry).values) (objects.constants_of file iota (spec_of spec.entry))) }
+{
+    if parts.are_known() {
+        return check_spec(alloc, place, spec.names, parts);
+    }
+    let objects = constants_in(alloc, file, iota, spec)?;
+    check_apart(alloc, facts, file, place, spec, &objects)
 }
 
 // An answer whose fault is told at a place, where what it speaks of is repeated there.

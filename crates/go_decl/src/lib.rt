@@ -1,6 +1,7 @@
 //! The faults of what a package declares, each with its file and its place.
 #![tactic(auto)]
 
+pub mod apart;
 mod constants;
 pub mod declarations;
 pub mod error;

@@ -1,17 +1,22 @@
 //! The faults of declarations of variables.
-ghost use Rattle.std.specs.Prelude.{◌≡◌, map, IfOk};
+ghost use Rattle.std.specs.Prelude.{◌≡◌, ◌++◌, map, is_some, IfOk};
 ghost use Rattle.std.specs.List.{flat_map};
 ghost use Rattle.std.specs.Option.{option_map};
 ghost use Rattle.go_ast.specs.Views.{var_of, type_of as type_tree};
 ghost use Rattle.go_types.specs.Views.{type_of};
-ghost use Rattle.go_expr.specs.Verdicts.{asked_both, broken};
+ghost use Rattle.go_scope.specs.Names.{in_exprs};
+ghost use Rattle.go_expr.specs.Verdicts.{both, asked_both, broken};
 ghost use Rattle.go_expr.specs.Seen.{scope_of};
 ghost use Rattle.go_stmt.specs.Rules.{variables_source};
 ghost use Rattle.go_stmt.specs.Statements.{values_known};
 ghost use Rattle.go_stmt.specs.Seen.{values_seen};
-ghost use Rattle.go_decl.specs.Faults.{written_type, written_faults, var_parts_faults, var_spec_faults};
+ghost use Rattle.go_objects.specs.Objects.{variables_of};
+ghost use Rattle.go_objects.specs.Seen.{spec_of};
+ghost use Rattle.go_objects.specs.Table.{in_written};
+ghost use Rattle.go_decl.specs.Faults.{written_type, written_faults, var_parts_faults, apart, var_spec_faults};
 ghost use Rattle.go_decl.specs.Seen.{facts_of, Finds};
 
+use crate::apart::check_apart;
 use crate::facts::Facts;
 use crate::names::check_names;
 use go_ast::declaration::VarSpec;
@@ -20,6 +25,7 @@ use go_ast::name::Name;
 use go_expr::error::ExprError;
 use go_expr::expression::check_type;
 use go_expr::scope::Scope;
+use go_objects::declarations::{Spec, variables_of};
 use go_objects::evaluation::scope_in;
 use go_stmt::declaration::variables_source;
 use go_stmt::values::{Values, check_values};
@@ -58,7 +64,40 @@ fn check_var_spec(
     check_names(facts, file, &spec.names)?;
     let scope = scope_in(facts.package(), facts.known(), file, None);
     let parts = check_parts(alloc, &scope, spec)?;
-    check_source(alloc, first.place(), &spec.names, parts)
+    check_whole(alloc, facts, file, first.place(), spec, parts)
+}
+
+// The first fault of a specification itself: as a whole where its parts are known, else that of its
+// variables.
+fn check_whole(
+    alloc: Global,
+    facts: &Facts<'_>,
+    file: usize,
+    place: Place,
+    spec: &VarSpec,
+    parts: Parts,
+) -> Result<(), ExprError>
+    ensures { Finds result (broken place (asked_both (variables_source (var_of spec.now).names) (option_map (option_map type_of) parts.of) (option_map values_seen parts.values))
+        ++ apart (facts_of facts.now) file place (is_some (both (option_map (option_map type_of) parts.of) (option_map values_seen parts.values)))
+        (in_written (var_of spec.now).type ++ in_exprs (var_of spec.now).values) (variables_of file (var_of spec.now))) }
+{
+    if parts.are_known() {
+        return check_source(alloc, place, &spec.names, parts);
+    }
+    let objects = variables_of(alloc, file, spec)?;
+    check_apart(alloc, facts, file, place, by_parts(spec), &objects)
+}
+
+// The parts of a specification.
+fn by_parts<'a>(spec: &'a VarSpec) -> Spec<'a>
+    ensures of { (spec_of result).type ≡ (var_of spec.now).type }
+    ensures values { (spec_of result).values ≡ (var_of spec.now).values }
+{
+    Spec {
+        names: spec.names.as_slice(),
+        type_expr: spec.type_expr.as_ref(),
+        values: spec.values.as_slice(),
+    }
 }
 
 // The type and the values of a specification, where they are known.
@@ -66,6 +105,14 @@ fn check_var_spec(
 struct Parts {
     of: Option<Option<GoType>>,
     values: Option<Values>,
+}
+
+impl Parts {
+    fn are_known(&self) -> bool
+        ensures { result ≡ is_some (both (option_map (option_map type_of) self.now.of) (option_map values_seen self.now.values)) }
+    {
+        self.of.is_some() && self.values.is_some()
+    }
 }
 
 // The type and the values of a specification, or the first fault in them.

@@ -1,14 +1,14 @@
 -- What is known has no fault.
-use Rattle.std.proofs.Common.{◌≡◌, ◌≢◌, Option, Some, None, List, [], ◌∷◌, ◌++◌, refl, ap, ◌∙◌}
+use Rattle.std.proofs.Common.{◌≡◌, ◌≢◌, ℕ, suc, Option, Some, None, List, [], ◌∷◌, ◌++◌, refl, ap, ◌∙◌}
 use Rattle.std.specs.Prelude.{option_map, map}
 use Rattle.go_text.specs.declared.place.Place.{Place}
 use Rattle.go_text.specs.declared.fault.FaultKind.{FaultKind}
-use Rattle.go_ast.specs.Trees.{TypeExpr, named, qualified, array, struct, Fields, no_fields, field, Expr, name, integer, rune, string, parenthesized, composite_lit, conversion, selector, index, call, unary, binary, Exprs, no_exprs, some_exprs, Elements, no_elements, element, Element, expression_element, value_element, place_of}
+use Rattle.go_ast.specs.Trees.{TypeExpr, named, qualified, array, struct, Fields, no_fields, field, Expr, name, integer, rune, string, parenthesized, composite_lit, conversion, selector, index, call, unary, binary, Exprs, no_exprs, some_exprs, Elements, no_elements, element, Element, expression_element, value_element}
 use Rattle.go_expr.specs.Known.{Verdict, Fine, Breaks, Passed, Scope, look_up}
 use Rattle.go_types.specs.Types.{Type'}
 use Rattle.go_typed.specs.Trees.{Expr as Typed}
-use Rattle.go_expr.specs.Rules.{fine, valued, type_due, array_of, declared_field, struct_of, value_due, unpackaged, literal, literal_of, untyped_literal, element_type, selected, index_of, binary_of, unary_of, converted, called}
-use Rattle.go_expr.specs.Verdicts.{asked, both, asked_both, joined, qualified_known, operand, callee, verdict, operands, elements, element_verdict, type_verdict, fields_known, broken, operand_broken, callee_broken, struct_place, faults, operands_faults, elements_faults, element_faults, type_faults, fields_faults}
+use Rattle.go_expr.specs.Rules.{fine, valued, type_due, array_of, declared_field, struct_of, value_due, unpackaged, selectable, callable, literal, literal_of, Due, element_due, due_type, untyped_literal, selected, exported_by, index_of, binary_of, unary_of, converted, called}
+use Rattle.go_expr.specs.Verdicts.{asked, both, asked_both, joined, qualified_known, operand, inside, subject, callee, key_text, verdict, operands, elements, element_verdict, type_verdict, fields_known, broken, bare_place, part_broken, operand_broken, struct_place, faults, operands_faults, elements_faults, element_faults, type_faults, fields_faults}
 
 abbrev IsKnown : {A : Type 0} → Option A → Type 0
 IsKnown {A} o = (x : A) × (o ≡ Some x)
@@ -56,18 +56,12 @@ none_of_four ws xs ys zs d e f g = none (ws ++ xs ++ ys) zs (none_of_three ws xs
 none_of_five : (vs ws xs ys zs : List (Place × FaultKind)) → vs ≡ [] → ws ≡ [] → xs ≡ [] → ys ≡ [] → zs ≡ [] → vs ++ ws ++ xs ++ ys ++ zs ≡ []
 none_of_five vs ws xs ys zs c d e f g = none (vs ++ ws ++ xs ++ ys) zs (none_of_four vs ws xs ys c d e f) g
 
--- where a value is due, and where anything but a package is
+-- where a value is due
 value_unbroken : (s : Scope) (e : Expr) → IsKnown (operand (verdict s e)) → operand_broken e (verdict s e) ≡ []
-value_unbroken s e k = own (place_of e) (asked value_due (fine (verdict s e))) k
+value_unbroken s e k = own (bare_place e) (asked value_due (fine (verdict s e))) k
 
 valued_in : (s : Scope) (e : Expr) → IsKnown (operand (verdict s e)) → IsKnown (fine (verdict s e))
 valued_in s e k = part value_due (fine (verdict s e)) k
-
-callee_unbroken : (s : Scope) (e : Expr) → IsKnown (fine (callee (verdict s e))) → callee_broken e (verdict s e) ≡ []
-callee_unbroken s e k = own (place_of e) (callee (verdict s e)) k
-
-called_on : (s : Scope) (e : Expr) → IsKnown (fine (callee (verdict s e))) → IsKnown (fine (verdict s e))
-called_on s e k = part unpackaged (fine (verdict s e)) k
 
 mutual
   clean : (s : Scope) (e : Expr) → IsKnown (fine (verdict s e)) → faults s e ≡ []
@@ -75,22 +69,27 @@ mutual
   clean s (integer p text) k = own p (valued (literal text)) k
   clean s (rune p z) k = refl
   clean s (string p bytes) k = refl
-  clean s (parenthesized p e) k = none (faults s e) (callee_broken e (verdict s e)) (clean s e (called_on s e k)) (callee_unbroken s e k)
+  clean s (parenthesized p e) k =
+      none (faults s e) (part_broken e (inside (verdict s e))) (clean s e (part unpackaged (fine (verdict s e)) k)) (own (bare_place e) (inside (verdict s e)) k)
   clean s (composite_lit p t q es) k =
-      let due = element_type (fine (type_verdict s t)) in
-      let ks = two (literal_of s.path) (fine (type_verdict s t)) (elements s due es) (plain (asked_both (literal_of s.path) (fine (type_verdict s t)) (elements s due es)) k) in
-      none_of_three (type_faults s t) (elements_faults s due es) _ (type_clean s t ks.0) (elements_clean s due es ks.1) (own p (verdict s (composite_lit p t q es)) k)
+      let of = fine (type_verdict s t) in
+      let ks = two (literal_of s.path) of (elements s of 0 es) (plain (asked_both (literal_of s.path) of (elements s of 0 es)) k) in
+      none_of_three (type_faults s t) (elements_faults s of 0 es) _ (type_clean s t ks.0) (elements_clean s of 0 es ks.1) (own p (verdict s (composite_lit p t q es)) k)
   clean s (conversion p t e) k =
       let ks = two converted (fine (type_verdict s t)) (operand (verdict s e)) (plain (asked_both converted (fine (type_verdict s t)) (operand (verdict s e))) k) in
       none_of_four (type_faults s t) (faults s e) (operand_broken e (verdict s e)) _ (type_clean s t ks.0) (clean s e (valued_in s e ks.1)) (value_unbroken s e ks.1) (own p (verdict s (conversion p t e)) k)
-  clean s (selector p e x) k = none (faults s e) _ (clean s e (part (selected s.path x.text) (fine (verdict s e)) k)) (own p (verdict s (selector p e x)) k)
+  clean s (selector p e x) k =
+      let known = part (selected s.path x.text) (fine (subject (verdict s e))) k in
+      none_of_three (faults s e) (part_broken e (subject (verdict s e))) _ (clean s e (part selectable (fine (verdict s e)) known)) (own (bare_place e) (subject (verdict s e)) known)
+      (own p (verdict s (selector p e x)) k)
   clean s (index p e i) k =
       let ks = two index_of (operand (verdict s e)) (operand (verdict s i)) (plain (asked_both index_of (operand (verdict s e)) (operand (verdict s i))) k) in
       none_of_five (faults s e) (operand_broken e (verdict s e)) (faults s i) (operand_broken i (verdict s i)) _
       (clean s e (valued_in s e ks.0)) (value_unbroken s e ks.0) (clean s i (valued_in s i ks.1)) (value_unbroken s i ks.1) (own p (verdict s (index p e i)) k)
   clean s (call p f es) k =
       let ks = two called (fine (callee (verdict s f))) (operands s es) k in
-      none_of_four (faults s f) (callee_broken f (verdict s f)) (operands_faults s es) _ (clean s f (called_on s f ks.0)) (callee_unbroken s f ks.0) (operands_clean s es ks.1) (own p (verdict s (call p f es)) k)
+      none_of_four (faults s f) (part_broken f (callee (verdict s f))) (operands_faults s es) _
+      (clean s f (part callable (fine (verdict s f)) ks.0)) (own (bare_place f) (callee (verdict s f)) ks.0) (operands_clean s es ks.1) (own p (verdict s (call p f es)) k)
   clean s (unary p op e) k =
       let known = part (unary_of op) (operand (verdict s e)) (plain (asked (unary_of op) (operand (verdict s e))) k) in
       none_of_three (faults s e) (operand_broken e (verdict s e)) _ (clean s e (valued_in s e known)) (value_unbroken s e known) (own p (verdict s (unary p op e)) k)
@@ -106,25 +105,26 @@ mutual
       let known = mapped (λ v. v ∷ []) (operand (verdict s e)) ks.0 in
       none_of_three (faults s e) (operand_broken e (verdict s e)) (operands_faults s es) (clean s e (valued_in s e known)) (value_unbroken s e known) (operands_clean s es ks.1)
 
-  elements_clean : (s : Scope) (of : Verdict Type') (es : Elements) → IsKnown (elements s of es) → elements_faults s of es ≡ []
-  elements_clean s of no_elements k = refl
-  elements_clean s of (element key v es) k =
-      let ks = joined_parts (option_map _ (fine (element_verdict s of v))) (elements s of es) k in
-      none (element_faults s of v) (elements_faults s of es) (element_clean s of v (mapped _ (fine (element_verdict s of v)) ks.0)) (elements_clean s of es ks.1)
+  elements_clean : (s : Scope) (of : Option Type') (n : ℕ) (es : Elements) → IsKnown (elements s of n es) → elements_faults s of n es ≡ []
+  elements_clean s of n no_elements k = refl
+  elements_clean s of n (element key v es) k =
+      let due = element_due of n (key_text key) in
+      let ks = joined_parts (option_map _ (fine (element_verdict s due v))) (elements s of (suc n) es) k in
+      none (element_faults s due v) (elements_faults s of (suc n) es) (element_clean s due v (mapped _ (fine (element_verdict s due v)) ks.0)) (elements_clean s of (suc n) es ks.1)
 
-  element_clean : (s : Scope) (of : Verdict Type') (v : Element) → IsKnown (fine (element_verdict s of v)) → element_faults s of v ≡ []
-  element_clean s of (expression_element e) k = none (faults s e) (operand_broken e (verdict s e)) (clean s e (valued_in s e k)) (value_unbroken s e k)
-  element_clean s of (value_element p es) k =
-      let due = element_type (fine of) in
-      let known = part (untyped_literal s.path of) (elements s due es) k in
-      none (elements_faults s due es) _ (elements_clean s due es known) (own p (element_verdict s of (value_element p es)) k)
+  element_clean : (s : Scope) (due : Due) (v : Element) → IsKnown (fine (element_verdict s due v)) → element_faults s due v ≡ []
+  element_clean s due (expression_element e) k = none (faults s e) (operand_broken e (verdict s e)) (clean s e (valued_in s e k)) (value_unbroken s e k)
+  element_clean s due (value_element p es) k =
+      let of = due_type due in
+      let known = part (untyped_literal s.path due) (elements s of 0 es) k in
+      none (elements_faults s of 0 es) _ (elements_clean s of 0 es known) (own p (element_verdict s due (value_element p es)) k)
 
   type_clean : (s : Scope) (t : TypeExpr) → IsKnown (fine (type_verdict s t)) → type_faults s t ≡ []
   type_clean s (named p x) k =
       none (broken p (look_up x.text s.names)) _ (own p (look_up x.text s.names) (part type_due (fine (look_up x.text s.names)) k)) (own p (type_verdict s (named p x)) k)
   type_clean s (qualified p m n) k =
       let known = part type_due (fine (qualified_known s m n)) k in
-      none_of_three (broken p (look_up m.text s.names)) (broken p (qualified_known s m n)) _ (own p (look_up m.text s.names) (part (selected s.path n.text) (fine (look_up m.text s.names)) known))
+      none_of_three (broken p (look_up m.text s.names)) (broken p (qualified_known s m n)) _ (own p (look_up m.text s.names) (part (exported_by n.text) (fine (look_up m.text s.names)) known))
       (own p (qualified_known s m n) known) (own p (type_verdict s (qualified p m n)) k)
   type_clean s (array p e t) k =
       let ks = two array_of (operand (verdict s e)) (fine (type_verdict s t)) k in
@@ -139,8 +139,8 @@ mutual
       none (type_faults s t) (fields_faults s fs) (type_clean s t (mapped (λ k. map (declared_field s.path k) names) (fine (type_verdict s t)) ks.0)) (fields_clean s fs ks.1)
 
 unknown : {A : Type 0} (o : Option A) (fs : List (Place × FaultKind)) → (IsKnown o → fs ≡ []) → fs ≢ [] → o ≡ None
-unknown None fs clean some = refl
-unknown (Some x) fs clean some = absurd (some (clean (x, refl)))
+unknown None fs none_of some = refl
+unknown (Some x) fs none_of some = absurd (some (none_of (x, refl)))
 
 -- nothing is known of what has a fault
 pub faulty_unknown : (s : Scope) (e : Expr) → faults s e ≢ [] → fine (verdict s e) ≡ None

@@ -4,5 +4,6 @@ pub mod Fineness
 pub mod Gathering
 pub mod Lists
 pub mod Lookups
+pub mod Named
 pub mod Nodes
 pub mod Numbers

@@ -7,7 +7,7 @@ use Rattle.std.specs.Prelude.{map, option_map, string_bytes}
 use Rattle.go_types.specs.Types as types
 use Rattle.go_types.specs.Views.{type_of, fields_in}
 use Rattle.go_types.specs.declared.types.Field.{Field}
-use Rattle.go_expr.specs.Rules.{fine, packed, listed, called, element_type}
+use Rattle.go_expr.specs.Rules.{fine, packed, listed, called}
 use Rattle.go_expr.specs.declared.error.ExprError.{ExprError}
 use Rattle.go_ast.specs.declared.expression.Expr.{Expr as Expression}
 use Rattle.go_ast.specs.declared.expression.ExprKind.{ExprKind, CompositeLit}
@@ -17,7 +17,7 @@ use Rattle.go_ast.specs.Views.{expr_of as expr_tree, type_of as type_tree}
 use Rattle.go_ast.proofs.Rows.{literal_seen}
 use Rattle.go_expr.specs.declared.known.Known.{Known as Found}
 use Rattle.go_expr.specs.Known.{Known, Verdict, Scope}
-use Rattle.go_expr.specs.Verdicts.{asked, asked_both, broken, callee, verdict, operands, type_verdict, callee_broken, faults, operands_faults, elements_faults, type_faults}
+use Rattle.go_expr.specs.Verdicts.{asked, asked_both, broken, callee, verdict, operands, type_verdict, part_broken, faults, operands_faults, elements_faults, type_faults}
 use Rattle.go_expr.specs.Seen.{known_of, elements_in, field_of, literal_verdict, Answers}
 
 -- where nothing is found before
@@ -33,16 +33,16 @@ of_part {X} {Y} {A} view r p q rule xs part o none is same h =
     (later view r xs (broken q (asked rule o)) (fine (asked rule o)) none h))
 
 -- a call whose callee has no fault
-pub call_asked : {X : Type 0} (view : X → Known) (r : Result (Option X) ExprError) (s : Scope) (p : Place) (f : Expr) (es : Exprs) (k : Option Known) → faults s f ++ callee_broken f (verdict s f) ≡ [] → fine (callee (verdict s f)) ≡ k → Answers view r (operands_faults s es ++ broken p (asked_both called k (operands s es))) (fine (asked_both called k (operands s es))) → Answers view r (faults s (call p f es)) (fine (verdict s (call p f es)))
+pub call_asked : {X : Type 0} (view : X → Known) (r : Result (Option X) ExprError) (s : Scope) (p : Place) (f : Expr) (es : Exprs) (k : Option Known) → faults s f ++ part_broken f (callee (verdict s f)) ≡ [] → fine (callee (verdict s f)) ≡ k → Answers view r (operands_faults s es ++ broken p (asked_both called k (operands s es))) (fine (asked_both called k (operands s es))) → Answers view r (faults s (call p f es)) (fine (verdict s (call p f es)))
 call_asked view r s p f es k none is h =
-    subst (λ (o : Option Known). Answers view r (faults s f ++ callee_broken f (verdict s f) ++ operands_faults s es ++ broken p (asked_both called o (operands s es))) (fine (asked_both called o (operands s es)))) (sym is)
+    subst (λ (o : Option Known). Answers view r (faults s f ++ part_broken f (callee (verdict s f)) ++ operands_faults s es ++ broken p (asked_both called o (operands s es))) (fine (asked_both called o (operands s es)))) (sym is)
     (subst (λ (l : List (Place × FaultKind)). Answers view r (l ++ operands_faults s es ++ broken p (asked_both called k (operands s es))) (fine (asked_both called k (operands s es)))) (sym none) h)
 
 -- a literal whose type has no fault
-pub literal_asked : {X : Type 0} (view : X → Known) (r : Result (Option X) ExprError) (s : Scope) (p q : Place) (t : TypeExpr) (es : Elements) (k : Option types.Type') → type_faults s t ≡ [] → fine (type_verdict s t) ≡ k → Answers view r (elements_faults s (element_type k) es ++ broken p (literal_verdict s k es)) (fine (literal_verdict s k es)) → Answers view r (faults s (composite_lit p t q es)) (fine (verdict s (composite_lit p t q es)))
+pub literal_asked : {X : Type 0} (view : X → Known) (r : Result (Option X) ExprError) (s : Scope) (p q : Place) (t : TypeExpr) (es : Elements) (k : Option types.Type') → type_faults s t ≡ [] → fine (type_verdict s t) ≡ k → Answers view r (elements_faults s k 0 es ++ broken p (literal_verdict s k es)) (fine (literal_verdict s k es)) → Answers view r (faults s (composite_lit p t q es)) (fine (verdict s (composite_lit p t q es)))
 literal_asked view r s p q t es k none is h =
-    subst (λ (o : Option types.Type'). Answers view r (type_faults s t ++ elements_faults s (element_type o) es ++ broken p (literal_verdict s o es)) (fine (literal_verdict s o es))) (sym is)
-    (subst (λ (l : List (Place × FaultKind)). Answers view r (l ++ elements_faults s (element_type k) es ++ broken p (literal_verdict s k es)) (fine (literal_verdict s k es))) (sym none) h)
+    subst (λ (o : Option types.Type'). Answers view r (type_faults s t ++ elements_faults s o 0 es ++ broken p (literal_verdict s o es)) (fine (literal_verdict s o es))) (sym is)
+    (subst (λ (l : List (Place × FaultKind)). Answers view r (l ++ elements_faults s k 0 es ++ broken p (literal_verdict s k es)) (fine (literal_verdict s k es))) (sym none) h)
 
 -- fields of the code as a list
 pub fields_packed : (fs : List Field) → fields_in fs ≡ packed (map field_of fs)
@@ -56,7 +56,7 @@ fields_listed (f ∷ fs) = ap (λ l. field_of f ∷ l) (fields_listed fs)
 -- the same of the code's literals
 pub literal_answered : (r : Result (Option Found) ExprError) (s : Scope) (e : Expression) (of : Box TypeNode Global) (q : Place) (rows : Vec ElementNode Global) (a : TypeNode) (es : List ElementNode) (k : Option types.Type') →
     e.kind ≡ CompositeLit of q rows → of.value ≡ a → es ≡ rows.items → type_faults s (type_tree a) ≡ [] → fine (type_verdict s (type_tree a)) ≡ k →
-    Answers known_of r (elements_faults s (element_type k) (elements_in es) ++ broken e.place (literal_verdict s k (elements_in es))) (fine (literal_verdict s k (elements_in es))) →
+    Answers known_of r (elements_faults s k 0 (elements_in es) ++ broken e.place (literal_verdict s k (elements_in es))) (fine (literal_verdict s k (elements_in es))) →
     Answers known_of r (faults s (expr_tree e)) (fine (verdict s (expr_tree e)))
 literal_answered r s e of q rows a es k is held same none known h =
     let seen : expr_tree e ≡ composite_lit e.place (type_tree a) q (elements_in es) =

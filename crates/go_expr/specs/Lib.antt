@@ -1,3 +1,4 @@
+pub mod Fields
 pub mod Known
 pub mod Rules
 pub mod Seen

@@ -4,10 +4,7 @@ use Rattle.std.specs.Char.{is_digit}
 use Rattle.std.specs.List.{filter, filter_map, find, flat_map, list_all, list_any, slice_get, zip}
 use Rattle.std.specs.Map.{lookup}
 use Rattle.std.specs.Ordering.{int_eq}
-use Rattle.std.specs.Str.{chars}
 use Rattle.std.specs.Str.Parse.{digits_value}
-use Rattle.ucd_category.specs.GeneralCategory.{general_category, general_category_eq}
-use Rattle.ucd_category.specs.declared.GeneralCategory.TheVariants.{UppercaseLetter}
 use Rattle.go_text.specs.declared.fault.FaultKind.{FaultKind}
 use Rattle.go_text.specs.declared.fault.FaultKind.TheVariants.{LeftOut, Size, Redeclared, Undeclared, Mismatch, Range, Constant, DivideByZero, Index, Assign, Count, Unexported}
 use Rattle.go_text.specs.Faults.{fault_number}
@@ -35,12 +32,14 @@ use Rattle.go_const.specs.Constants as constants
 use Rattle.go_types.specs.declared.types.Basic.TheVariants as basics
 use Rattle.go_types.specs.declared.types.Untyped.TheVariants as kinds
 use Rattle.go_types.specs.Types.{Type', basic, array, struct, Fields, no_fields, field}
+pub use Rattle.go_types.specs.Names.{is_exported}
 use Rattle.go_types.specs.Relations.{underlying, identical, assignable, convertible}
 use Rattle.go_types.specs.Sizes.{cells, nodes}
+pub use Rattle.go_scope.specs.Index.{differ}
 use Rattle.go_typed.specs.declared.expression.Operator.TheVariants as nodes
 use Rattle.go_typed.specs.Trees as typed
 use Rattle.go_typed.specs.Trees.{Symbol, Expr, Exprs, Parts, constant, expr_type, pack_exprs, pack_parts}
-use Rattle.go_expr.specs.Known.{value, type', function, println, length', panic', Known, declared, package', results, printed, panicked, Verdict, Fine, Breaks, Passed, named}
+use Rattle.go_expr.specs.Known.{value, type', function, println, length', panic', Names, Known, declared, package', results, printed, panicked, Verdict, Fine, Breaks, Passed, named}
 
 -- ---- what rules say
 
@@ -145,10 +144,6 @@ array_of size of = elim (constant_in size) [
   | _ ↦ Breaks Mismatch
 ]
 
--- https://go.dev/ref/spec#Exported_identifiers
-abbrev pub is_exported : List ℕ → Bool
-is_exported x = elim (chars x) [ [] ↦ false | c ∷ cs ↦ general_category_eq (general_category c) UppercaseLetter ]
-
 -- fields as a list: the path of the package where the name isn't exported, the name, and the type
 abbrev pub FieldList : Type 0
 FieldList = List (Option (List ℕ) × (List ℕ × Type'))
@@ -166,10 +161,6 @@ packed (f ∷ fs) = field f.0 (f.1).0 (f.1).1 (packed fs)
 abbrev pub listed : Fields → FieldList
 listed no_fields = []
 listed (field path x t fs) = (path, (x, t)) ∷ listed fs
-
-abbrev pub differ : List (List ℕ) → Bool
-differ [] = true
-differ (x ∷ xs) = not (list_any (bytes_eq x) xs) && differ xs
 
 -- https://go.dev/ref/spec#Struct_types
 abbrev pub struct_of : FieldList → Verdict Type'
@@ -203,6 +194,10 @@ settled e = as_type (default_type (expr_type e)) e
 abbrev pub defaulted : Expr → Verdict Expr
 defaulted e = assigned (default_type (expr_type e)) e
 
+-- the type that a variable takes of its value, where the value lies in it
+abbrev pub settled_type : Expr → Option Type'
+settled_type e = if lies_in (default_type (expr_type e)) e then Some (default_type (expr_type e)) else None
+
 -- https://go.dev/ref/spec#Operands
 abbrev pub value_due : Known → Verdict Expr
 value_due k = elim k [ declared (value e) ↦ Fine e | results ts s es ↦ Breaks Count | panicked e ↦ Breaks Count | _ ↦ Breaks Mismatch ]
@@ -218,6 +213,13 @@ condition e = if is_bool (expr_type e) then defaulted e else Breaks Mismatch
 -- a package is due before a dot alone
 abbrev pub unpackaged : Known → Verdict Known
 unpackaged k = elim k [ package' names ↦ Breaks Mismatch | k ↦ Fine k ]
+
+-- before a dot of an expression a value is due where no package is, and before arguments where no type and no function is
+abbrev pub selectable : Known → Verdict Known
+selectable k = elim k [ package' names ↦ Fine (package' names) | k ↦ valued (value_due k) ]
+
+abbrev pub callable : Known → Verdict Known
+callable k = elim k [ declared d ↦ Fine (declared d) | k ↦ valued (value_due k) ]
 
 -- https://go.dev/ref/spec#Integer_literals
 -- the base, and the digits with underscores among them
@@ -285,9 +287,12 @@ struct_faults path fs es =
     flat_map (key_fault path fs) (keys es) ++ when (not (differ (keys es))) Redeclared ++ when (not (is_counted fs es)) Count
     ++ when (not (all_keyed es) && not (list_all (λ f. is_visible path f.0) fs)) Unexported
 
--- where they aren't counted right no element is for a part
+-- where they aren't counted right an element is for a part by its key alone
+abbrev pub keyed_slot : FieldList → ℕ → Option (List ℕ) → Option (ℕ × Type')
+keyed_slot fs n key = if is_some key then field_slot fs n key else None
+
 abbrev pub struct_slot : FieldList → ElementList → ℕ → Option (List ℕ) → Option (ℕ × Type')
-struct_slot fs es = if is_counted fs es then field_slot fs else (λ n key. None)
+struct_slot fs es = if is_counted fs es then field_slot fs else keyed_slot fs
 
 abbrev pub struct_parts : List ℕ → FieldList → ElementList → Verdict (List (ℕ × Expr))
 struct_parts path fs es = each_unless (struct_faults path fs es) (parts_by (struct_slot fs es) es)
@@ -298,13 +303,25 @@ parts_of path t es = elim (underlying t) [ array n of ↦ array_parts n of es | 
 abbrev pub literal_of : List ℕ → Type' → ElementList → Verdict Expr
 literal_of path t es = checked (λ parts. Fine (typed.literal t (pack_parts parts))) (parts_of path t es)
 
--- one that leaves out its type; where none is due, since that of the literal around it isn't known, it is any value
-abbrev pub untyped_literal : List ℕ → Verdict Type' → ElementList → Verdict Expr
-untyped_literal path due es = elim due [ Fine t ↦ literal_of path t es | Breaks kind ↦ Breaks kind | Passed ↦ Fine (constant (basic basics.Bool) (Truth true)) ]
+-- what is due of an element that leaves out its type: it takes this one; it has to write it, though its own elements are those of its field, if it is for
+-- one; or nothing is due, since the literal around it isn't known or has no elements
+pub data Due : Type 0 where
+  taken : Type' → Due
+  written : Option Type' → Due
+  nothing : Due
 
--- the type of elements that leave it out: those of an array have its elements' type, and any other must be written
-abbrev pub element_type : Option Type' → Verdict Type'
-element_type o = elim o [ None ↦ Passed | Some t ↦ elim (underlying t) [ array n of ↦ Fine of | _ ↦ Breaks Mismatch ] ]
+-- by the type of the literal around it, its number, and its key
+abbrev pub element_due : Option Type' → ℕ → Option (List ℕ) → Due
+element_due None n key = nothing
+element_due (Some t) n key = elim (underlying t) [ array m of ↦ taken of | struct fs ↦ written (option_map (λ p. p.1) (field_slot (listed fs) n key)) | _ ↦ nothing ]
+
+-- the type that its own elements are of
+abbrev pub due_type : Due → Option Type'
+due_type due = elim due [ taken t ↦ Some t | written o ↦ o | nothing ↦ None ]
+
+-- one that leaves out its type; where nothing is due it is any value
+abbrev pub untyped_literal : List ℕ → Due → ElementList → Verdict Expr
+untyped_literal path due es = elim due [ taken t ↦ literal_of path t es | written o ↦ Breaks Mismatch | nothing ↦ Fine (constant (basic basics.Bool) (Truth true)) ]
 
 -- ---- selectors, index expressions and calls
 
@@ -318,11 +335,16 @@ field_of path x e = elim (field_named x (fields_of (expr_type e))) [
   | Some f ↦ if is_visible path (f.1).0 then Fine (typed.field ((f.1).1).1 e f.0) else Breaks Unexported
 ]
 
+-- https://go.dev/ref/spec#Qualified_identifiers
+abbrev pub exported : List ℕ → Names → Verdict Known
+exported x names = if is_exported x then unwrap_or (option_map named (lookup (bytes_eq x) names)) (Breaks Undeclared) else Breaks Unexported
+
 abbrev pub selected : List ℕ → List ℕ → Known → Verdict Known
-selected path x k = elim k [
-  | package' names ↦ if is_exported x then unwrap_or (option_map named (lookup (bytes_eq x) names)) (Breaks Undeclared) else Breaks Unexported
-  | k ↦ valued (checked (field_of path x) (value_due k))
-]
+selected path x k = elim k [ package' names ↦ exported x names | k ↦ valued (checked (field_of path x) (value_due k)) ]
+
+-- in a type a package is due before the dot
+abbrev pub exported_by : List ℕ → Known → Verdict Known
+exported_by x k = elim k [ package' names ↦ exported x names | _ ↦ Breaks Mismatch ]
 
 -- https://go.dev/ref/spec#Index_expressions
 -- a byte of a string, and an element of an array, and how many there are where that is known

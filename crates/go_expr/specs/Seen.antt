@@ -5,7 +5,6 @@ use Rattle.std.specs.Global.{Global}
 use Rattle.std.specs.List.{filter_map, flat_map}
 use Rattle.std.specs.Option.{option_map}
 use Rattle.go_text.specs.declared.fault.FaultKind.{FaultKind}
-use Rattle.go_text.specs.declared.fault.FaultKind.TheVariants.{Mismatch}
 use Rattle.go_text.specs.declared.place.Place.{Place}
 use Rattle.go_ast.specs.declared.expression.Element.{Element as ElementExpr}
 use Rattle.go_ast.specs.Trees as trees
@@ -13,7 +12,6 @@ use Rattle.go_ast.specs.Views.{element_of as element_tree}
 use Rattle.go_const.specs.declared.constant.Const.{Const}
 use Rattle.go_const.specs.declared.constant.Const.TheVariants.{Integer}
 use Rattle.go_types.specs.declared.types.Basic.TheVariants as basics
-use Rattle.go_types.specs.declared.types.Field.{Field}
 use Rattle.go_types.specs.declared.types.Untyped.TheVariants as kinds
 use Rattle.go_types.specs.Types.{Type', basic}
 use Rattle.go_types.specs.Views.{type_of}
@@ -30,6 +28,7 @@ use Rattle.go_expr.specs.declared.error.ExprError.{ExprError}
 use Rattle.go_expr.specs.declared.error.ExprError.TheVariants as errors
 use Rattle.go_expr.specs.declared.error.RuleError.{RuleError}
 use Rattle.go_expr.specs.declared.error.RuleError.TheVariants as rule_errors
+use Rattle.go_expr.specs.declared.fields.NamedFields.{NamedFields}
 use Rattle.go_expr.specs.declared.gather.Gathered.{Gathered}
 use Rattle.go_expr.specs.declared.known.Declared as declared
 use Rattle.go_expr.specs.declared.known.Declared.TheVariants as declarations
@@ -40,9 +39,11 @@ use Rattle.go_expr.specs.declared.operator.Operation.{Operation}
 use Rattle.go_expr.specs.declared.operator.Operation.TheVariants as operations
 use Rattle.go_expr.specs.declared.scope.Import as imports
 use Rattle.go_expr.specs.declared.scope.Scope as scopes
+pub use Rattle.go_expr.specs.Fields.{field_of}
 use Rattle.go_expr.specs.Known as known
 use Rattle.go_expr.specs.Known.{Verdict, Fine, Breaks, Passed}
-use Rattle.go_expr.specs.Rules.{fine, valued, wrong, lesser, least, constant_in, combined, shifted, field_slot, element_type, literal_of}
+use Rattle.go_expr.specs.Rules.{fine, valued, wrong, lesser, least, constant_in, combined, shifted, field_slot, keyed_slot, literal_of}
+use Rattle.go_expr.specs.Rules as rules
 use Rattle.go_expr.specs.Verdicts.{asked_both, elements, broken}
 
 abbrev pub function_of : Function → known.Declared
@@ -103,10 +104,6 @@ scope_of s = record { path = s.path.now; names = local_names (option_map (λ e. 
 -- each of some values
 abbrev pub all_of : {X Y : Type 0} → (X → Y) → Vec X Global → List Y
 all_of view xs = map view xs.items
-
--- a field: the path of its package where its name isn't exported, its name, and its type
-abbrev pub field_of : Field → Option (List ℕ) × (List ℕ × Type')
-field_of f = (option_map string_bytes f.package, (string_bytes f.name, type_of f.of))
 
 -- the first of the faults, unless memory ran out
 abbrev pub Fails : ExprError → List (Place × FaultKind) → Type 0
@@ -170,20 +167,23 @@ does (operations.Shifts operator) = shifted operator
 abbrev pub element_of : checked_elements.Element → Option (List ℕ) × typed.Expr
 element_of e = (option_map (λ k. k.now) e.key, expr_of e.value)
 
+abbrev pub fields_seen : NamedFields → List (Option (List ℕ) × (List ℕ × Type'))
+fields_seen fs = map field_of fs.fields.now
+
 abbrev pub slots_of : Slots → ℕ → Option (List ℕ) → Option (ℕ × Type')
 slots_of (slots.Elements t) = λ n key. Some (n, type_of t.now)
-slots_of (slots.Fields fs) = field_slot (map field_of fs.now)
-slots_of slots.Nothing = λ n key. None
+slots_of (slots.Fields fs) = field_slot (fields_seen fs)
+slots_of (slots.Named fs) = keyed_slot (fields_seen fs)
 
--- the type that a literal takes that leaves it out
-abbrev pub due_of : Due → Verdict Type'
-due_of (dues.Of t) = Fine (type_of t.now)
-due_of dues.Written = Breaks Mismatch
-due_of dues.Unknown = Passed
+-- what is due of a literal that leaves out its type
+abbrev pub due_of : Due → rules.Due
+due_of (dues.Taken t) = rules.taken (type_of t.now)
+due_of (dues.Written o) = rules.written (option_map (λ t. type_of t.now) o)
+due_of dues.Nothing = rules.nothing
 
 -- the elements of a literal, and what a literal is by its type and them
 abbrev pub elements_in : List ElementExpr → trees.Elements
 elements_in es = trees.pack_elements (map element_tree es)
 
 abbrev pub literal_verdict : known.Scope → Option Type' → trees.Elements → Verdict known.Known
-literal_verdict s o es = valued (asked_both (literal_of s.path) o (elements s (element_type o) es))
+literal_verdict s o es = valued (asked_both (literal_of s.path) o (elements s o 0 es))

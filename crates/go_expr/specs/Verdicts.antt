@@ -1,5 +1,5 @@
 -- What the rules say of each node, and the faults of nodes in their order: a node behind its parts, from left to right.
-use Rattle.std.specs.Prelude.{◌++◌, pos, bytes_eq, List, [], ◌∷◌, map, codes, Option, Some, None, option_map, unwrap_or}
+use Rattle.std.specs.Prelude.{ℕ, suc, ◌++◌, pos, bytes_eq, List, [], ◌∷◌, map, codes, Option, Some, None, option_map, unwrap_or}
 use Rattle.std.specs.List.{find}
 use Rattle.go_text.specs.declared.place.Place.{Place}
 use Rattle.go_text.specs.declared.fault.FaultKind.{FaultKind}
@@ -10,7 +10,7 @@ use Rattle.go_types.specs.declared.types.Untyped.TheVariants as kinds
 use Rattle.go_types.specs.Types.{Type', basic}
 use Rattle.go_typed.specs.Trees.{Expr as Typed, constant}
 use Rattle.go_expr.specs.Known.{Known, Verdict, Fine, Breaks, Passed, Scope, look_up}
-use Rattle.go_expr.specs.Rules.{fine, valued, type_due, array_of, FieldList, declared_field, struct_of, value_due, unpackaged, literal, ElementList, literal_of, untyped_literal, element_type, selected, index_of, binary_of, unary_of, converted, called}
+use Rattle.go_expr.specs.Rules.{fine, valued, type_due, array_of, FieldList, declared_field, struct_of, value_due, unpackaged, selectable, callable, literal, ElementList, literal_of, Due, element_due, due_type, untyped_literal, selected, exported_by, index_of, binary_of, unary_of, converted, called}
 
 -- a rule over parts, which is asked where they are fine
 abbrev pub asked : {A B : Type 0} → (A → Verdict B) → Option A → Verdict B
@@ -31,14 +31,23 @@ asked_both rule x y = asked (λ k. rule k.0 k.1) (both x y)
 
 -- what a qualified name finds
 abbrev pub qualified_known : Scope → Name → Name → Verdict Known
-qualified_known s m n = asked (selected s.path n.text) (fine (look_up m.text s.names))
+qualified_known s m n = asked (exported_by n.text) (fine (look_up m.text s.names))
 
--- what is known where a value is due, and where anything but a package is
+-- what is known where a value is due, in parentheses, before a dot, and before arguments
 abbrev pub operand : Verdict Known → Option Typed
 operand v = fine (asked value_due (fine v))
 
+abbrev pub inside : Verdict Known → Verdict Known
+inside v = asked unpackaged (fine v)
+
+abbrev pub subject : Verdict Known → Verdict Known
+subject v = asked selectable (fine v)
+
 abbrev pub callee : Verdict Known → Verdict Known
-callee v = asked unpackaged (fine v)
+callee v = asked callable (fine v)
+
+abbrev pub key_text : Option Name → Option (List ℕ)
+key_text key = option_map (λ (n : Name). n.text) key
 
 -- what expressions and types are
 abbrev mutual
@@ -47,10 +56,10 @@ abbrev mutual
   verdict s (integer p text) = valued (literal text)
   verdict s (rune p z) = valued (Fine (constant (basic (basics.Untyped kinds.Rune)) (Integer (pos z))))
   verdict s (string p bytes) = valued (Fine (constant (basic (basics.Untyped kinds.String)) (Text bytes)))
-  verdict s (parenthesized p e) = callee (verdict s e)
+  verdict s (parenthesized p e) = inside (verdict s e)
   verdict s (composite_lit p t q es) =
-      valued (asked_both (literal_of s.path) (fine (type_verdict s t)) (elements s (element_type (fine (type_verdict s t))) es))
-  verdict s (selector p e x) = asked (selected s.path x.text) (fine (verdict s e))
+      valued (asked_both (literal_of s.path) (fine (type_verdict s t)) (elements s (fine (type_verdict s t)) 0 es))
+  verdict s (selector p e x) = asked (selected s.path x.text) (fine (subject (verdict s e)))
   verdict s (index p e i) = valued (asked_both index_of (operand (verdict s e)) (operand (verdict s i)))
   verdict s (conversion p t e) = valued (asked_both converted (fine (type_verdict s t)) (operand (verdict s e)))
   verdict s (call p f es) = asked_both called (fine (callee (verdict s f))) (operands s es)
@@ -61,15 +70,15 @@ abbrev mutual
   operands s no_exprs = Some []
   operands s (some_exprs e es) = joined (option_map (λ v. v ∷ []) (operand (verdict s e))) (operands s es)
 
-  -- elements of a literal, by the type of those that leave it out
-  pub elements : Scope → Verdict Type' → Elements → Option ElementList
-  elements s of no_elements = Some []
-  elements s of (element key v es) =
-      joined (option_map (λ e. (option_map (λ (n : Name). n.text) key, e) ∷ []) (fine (element_verdict s of v))) (elements s of es)
+  -- elements of a literal of a type, from a number on
+  pub elements : Scope → Option Type' → ℕ → Elements → Option ElementList
+  elements s of n no_elements = Some []
+  elements s of n (element key v es) =
+      joined (option_map (λ e. (key_text key, e) ∷ []) (fine (element_verdict s (element_due of n (key_text key)) v))) (elements s of (suc n) es)
 
-  pub element_verdict : Scope → Verdict Type' → Element → Verdict Typed
-  element_verdict s of (expression_element e) = asked value_due (fine (verdict s e))
-  element_verdict s of (value_element p es) = asked (untyped_literal s.path of) (elements s (element_type (fine of)) es)
+  pub element_verdict : Scope → Due → Element → Verdict Typed
+  element_verdict s due (expression_element e) = asked value_due (fine (verdict s e))
+  element_verdict s due (value_element p es) = asked (untyped_literal s.path due) (elements s (due_type due) 0 es)
 
   pub type_verdict : Scope → TypeExpr → Verdict Type'
   type_verdict s (named p x) = asked type_due (fine (look_up x.text s.names))
@@ -85,12 +94,16 @@ abbrev mutual
 abbrev pub broken : {A : Type 0} → Place → Verdict A → List (Place × FaultKind)
 broken p v = elim v [ Breaks kind ↦ (p, kind) ∷ [] | _ ↦ [] ]
 
--- that of an expression where a value is due, and where anything but a package is
-abbrev pub operand_broken : Expr → Verdict Known → List (Place × FaultKind)
-operand_broken e v = broken (place_of e) (asked value_due (fine v))
+-- that of a part where something is due, which stands at what is in the part's parentheses
+abbrev pub bare_place : Expr → Place
+bare_place (parenthesized p e) = bare_place e
+bare_place e = place_of e
 
-abbrev pub callee_broken : Expr → Verdict Known → List (Place × FaultKind)
-callee_broken e v = broken (place_of e) (callee v)
+abbrev pub part_broken : {A : Type 0} → Expr → Verdict A → List (Place × FaultKind)
+part_broken e v = broken (bare_place e) v
+
+abbrev pub operand_broken : Expr → Verdict Known → List (Place × FaultKind)
+operand_broken e v = part_broken e (asked value_due (fine v))
 
 -- where the fault of a struct stands: at the first of its fields that is blank, if one is
 abbrev pub first_blank : List Name → Option Place
@@ -102,14 +115,14 @@ struct_place p (field names t fs) = unwrap_or (first_blank names) (struct_place 
 
 abbrev mutual
   pub faults : Scope → Expr → List (Place × FaultKind)
-  faults s (parenthesized p e) = faults s e ++ callee_broken e (verdict s e)
+  faults s (parenthesized p e) = faults s e ++ part_broken e (inside (verdict s e))
   faults s (composite_lit p t q es) =
-      type_faults s t ++ elements_faults s (element_type (fine (type_verdict s t))) es ++ broken p (verdict s (composite_lit p t q es))
-  faults s (selector p e x) = faults s e ++ broken p (verdict s (selector p e x))
+      type_faults s t ++ elements_faults s (fine (type_verdict s t)) 0 es ++ broken p (verdict s (composite_lit p t q es))
+  faults s (selector p e x) = faults s e ++ part_broken e (subject (verdict s e)) ++ broken p (verdict s (selector p e x))
   faults s (index p e i) =
       faults s e ++ operand_broken e (verdict s e) ++ faults s i ++ operand_broken i (verdict s i) ++ broken p (verdict s (index p e i))
   faults s (conversion p t e) = type_faults s t ++ faults s e ++ operand_broken e (verdict s e) ++ broken p (verdict s (conversion p t e))
-  faults s (call p f es) = faults s f ++ callee_broken f (verdict s f) ++ operands_faults s es ++ broken p (verdict s (call p f es))
+  faults s (call p f es) = faults s f ++ part_broken f (callee (verdict s f)) ++ operands_faults s es ++ broken p (verdict s (call p f es))
   faults s (unary p op e) = faults s e ++ operand_broken e (verdict s e) ++ broken p (verdict s (unary p op e))
   faults s (binary p op a b) =
       faults s a ++ operand_broken a (verdict s a) ++ faults s b ++ operand_broken b (verdict s b) ++ broken p (verdict s (binary p op a b))
@@ -119,14 +132,14 @@ abbrev mutual
   operands_faults s no_exprs = []
   operands_faults s (some_exprs e es) = faults s e ++ operand_broken e (verdict s e) ++ operands_faults s es
 
-  pub elements_faults : Scope → Verdict Type' → Elements → List (Place × FaultKind)
-  elements_faults s of no_elements = []
-  elements_faults s of (element key v es) = element_faults s of v ++ elements_faults s of es
+  pub elements_faults : Scope → Option Type' → ℕ → Elements → List (Place × FaultKind)
+  elements_faults s of n no_elements = []
+  elements_faults s of n (element key v es) = element_faults s (element_due of n (key_text key)) v ++ elements_faults s of (suc n) es
 
   -- one that leaves out its type is a node of its own, at its brace
-  pub element_faults : Scope → Verdict Type' → Element → List (Place × FaultKind)
-  element_faults s of (expression_element e) = faults s e ++ operand_broken e (verdict s e)
-  element_faults s of (value_element p es) = elements_faults s (element_type (fine of)) es ++ broken p (element_verdict s of (value_element p es))
+  pub element_faults : Scope → Due → Element → List (Place × FaultKind)
+  element_faults s due (expression_element e) = faults s e ++ operand_broken e (verdict s e)
+  element_faults s due (value_element p es) = elements_faults s (due_type due) 0 es ++ broken p (element_verdict s due (value_element p es))
 
   pub type_faults : Scope → TypeExpr → List (Place × FaultKind)
   type_faults s (named p x) = broken p (look_up x.text s.names) ++ broken p (type_verdict s (named p x))

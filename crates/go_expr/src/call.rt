@@ -5,8 +5,8 @@ ghost use Rattle.std.specs.Option.{option_map};
 ghost use Rattle.go_types.specs.Views.{type_of};
 ghost use Rattle.go_typed.specs.Views.{expr_of};
 ghost use Rattle.go_expr.specs.Known as known;
-ghost use Rattle.go_expr.specs.Rules.{assigned, conversion_to, converted, each_unless, function_call, length_in, length_of, one, printable, called, unpackaged, valued, value_due};
-ghost use Rattle.go_expr.specs.Verdicts.{asked, asked_both};
+ghost use Rattle.go_expr.specs.Rules.{assigned, conversion_to, converted, each_unless, function_call, length_in, length_of, one, printable, called, valued};
+ghost use Rattle.go_expr.specs.Verdicts.{asked_both};
 ghost use Rattle.go_expr.specs.Seen.{known_of, function_of, all_of, AnswersAt, Gives};
 
 use crate::error::{ExprError, RuleError};
@@ -14,7 +14,7 @@ use crate::evaluation::holds_call;
 use crate::gather::Gathered;
 use crate::known::{Function, Known};
 use crate::node::{call, constant, constant_in, conversion, length, type_in};
-use crate::selector::{value_at, value_due};
+use crate::selector::value_at;
 use crate::value::{
     assigned, defaulted, int, is_bool, is_integer, is_string, lies_in, string, take_constant,
 };
@@ -25,36 +25,6 @@ use go_typed::expression::TypedExpr;
 use go_types::relations::{convertible, underlying};
 use go_types::types::GoType;
 use std::alloc::{AllocError, Global};
-
-/// The value that is known at a place where one is due.
-/// [Operands](https://go.dev/ref/spec#Operands)
-pub(crate) fn operand_at(
-    place: Place,
-    known: Option<Known<'_>>,
-) -> Result<Option<TypedExpr>, ExprError>
-    ensures { AnswersAt expr_of result place (asked value_due (option_map known_of known.entry)) }
-{
-    let Some(known) = known else {
-        return Ok(None);
-    };
-    match value_due(known) {
-        Ok(value) => Ok(Some(value)),
-        Err(error) => Err(error.at(place)),
-    }
-}
-
-/// What is known at a place where anything but a package is due.
-pub(crate) fn not_package<'a>(
-    place: Place,
-    known: Option<Known<'a>>,
-) -> Result<Option<Known<'a>>, ExprError>
-    ensures { AnswersAt known_of result place (asked unpackaged (option_map known_of known.entry)) }
-{
-    match known {
-        Some(Known::Package(_)) => Err(ExprError::Faulty(place, FaultKind::Mismatch)),
-        known => Ok(known),
-    }
-}
 
 /// A conversion of a value to a type: a constant becomes one of the type. `Mismatch` where it can't
 /// be converted, `Range` where a constant lies outside.

@@ -1,23 +1,27 @@
 //! Composite literals. [Composite literals](https://go.dev/ref/spec#Composite_literals)
-ghost use Rattle.std.specs.Prelude.{◌≡◌, List, [], ◌∷◌, Err, OnOk, bytes_eq, map, not};
+ghost use Rattle.std.specs.Prelude.{◌≡◌, List, [], ◌∷◌, ◌++◌, Err, IfOk, OnOk, is_some, map, position};
 ghost use Rattle.std.specs.List.{flat_map, list_all, list_any};
 ghost use Rattle.std.specs.Option.{option_map};
+ghost use Rattle.std.specs.Str.{bytes_eq};
 ghost use Rattle.go_types.specs.Views.{type_of};
 ghost use Rattle.go_typed.specs.Trees.{Expr};
 ghost use Rattle.go_typed.specs.Views.{expr_of, part_of};
 ghost use Rattle.go_expr.specs.declared.error.RuleError.TheVariants.{Memory};
 ghost use Rattle.go_expr.specs.Known.{Verdict, Fine};
-ghost use Rattle.go_expr.specs.Rules.{fine, checked, valued, element_type, least, differ, keys, key_fault, any_keyed, all_keyed, is_counted, struct_faults, element_part, parts_by, struct_slot, each_unless, array_parts, struct_parts, parts_of, literal_of, untyped_literal, is_visible};
-ghost use Rattle.go_expr.specs.Verdicts.{asked, asked_both};
-ghost use Rattle.go_expr.specs.Seen.{known_of, element_of, field_of, slots_of, due_of, all_of, AnswersAt, Gathers, Gives};
+ghost use Rattle.go_expr.specs.Rules.{checked, valued, least, differ, keys, key_fault, any_keyed, all_keyed, is_counted, struct_faults, element_part, parts_by, field_slot, struct_slot, each_unless, array_parts, struct_parts, parts_of, literal_of, element_due, due_type, untyped_literal, is_visible};
+ghost use Rattle.go_expr.specs.Verdicts.{asked, asked_both, key_text};
+ghost use Rattle.go_expr.specs.Seen.{known_of, element_of, field_of, fields_seen, slots_of, due_of, all_of, AnswersAt, Gathers, Gives};
 
 use crate::error::{ExprError, RuleError};
+use crate::fields::NamedFields;
 use crate::gather::{Gathered, lesser, when};
 use crate::known::Known;
 use crate::node::{constant, literal};
 use crate::selector::{field_named, is_visible, value_at};
 use crate::value::assigned;
+use go_ast::name::Name;
 use go_const::constant::Const;
+use go_scope::name_index::NameIndex;
 use go_text::fault::FaultKind;
 use go_text::place::Place;
 use go_typed::expression::{TypedExpr, TypedPart};
@@ -35,32 +39,32 @@ pub(crate) struct Element<'a> {
 }
 
 /// The parts that elements are for.
-#[derive(Clone, Copy)]
+#[derive(Drop)]
 enum Slots<'a> {
     /// Elements of an array, all of one type.
     Elements(&'a GoType),
     /// Fields of a struct, by their names or in order.
-    Fields(&'a [Field]),
-    /// None.
-    Nothing,
+    Fields(NamedFields<'a>),
+    /// Fields of a struct, by their names alone.
+    Named(NamedFields<'a>),
 }
 
 impl<'a> Slots<'a> {
     /// The number and the type of the part that the element of a number and a key is for.
-    fn slot(self, number: usize, key: Option<&str>) -> Option<(usize, &'a GoType)>
-        ensures { option_map (λ s. (s.0, type_of s.1.now)) result ≡ slots_of self.entry number (option_map (λ k. k.now) key.entry) }
+    fn slot(&self, number: usize, key: Option<&str>) -> Option<(usize, &'a GoType)>
+        ensures { option_map (λ s. (s.0, type_of s.1.now)) result ≡ slots_of self.now number (option_map (λ k. k.now) key.entry) }
     {
         match (self, key) {
-            (Slots::Elements(of), _) => Some((number, of)),
-            (Slots::Fields(fields), Some(name)) => match field_named(fields, name) {
+            (Slots::Elements(of), _) => Some((number, *of)),
+            (Slots::Fields(fields) | Slots::Named(fields), Some(name)) => match fields.named(name) {
                 Some((number, field)) => Some((number, &field.of)),
                 None => None,
             },
-            (Slots::Fields(fields), None) => match fields.get(number) {
+            (Slots::Fields(fields), None) => match fields.fields.get(number) {
                 Some(field) => Some((number, &field.of)),
                 None => None,
             },
-            (Slots::Nothing, _) => None,
+            (Slots::Named(_), None) => None,
         }
     }
 }
@@ -80,11 +84,11 @@ fn part(number: usize, given: Result<TypedExpr, RuleError>) -> Result<TypedPart,
 fn add_element(
     alloc: Global,
     all: &mut Gathered<TypedPart>,
-    slots: Slots<'_>,
+    slots: &Slots<'_>,
     number: usize,
     element: Element<'_>,
 ) -> Result<(), AllocError>
-    ensures { OnOk result (Gathers part_of all.old all.new (element_part (slots_of slots.entry) number (element_of element.entry))) }
+    ensures { OnOk result (Gathers part_of all.old all.new (element_part (slots_of slots.now) number (element_of element.entry))) }
 {
     let Some(slot) = slots.slot(number, element.key) else {
         return Ok(());
@@ -96,11 +100,11 @@ fn add_element(
 /// Elements of a literal as the parts that they are for, unless there is a fault.
 fn parts_by(
     alloc: Global,
-    slots: Slots<'_>,
+    slots: &Slots<'_>,
     elements: Vec<Element<'_>>,
     fault: Option<FaultKind>,
 ) -> Result<Vec<TypedPart>, RuleError>
-    ensures { (ks : List FaultKind) → fault ≡ least ks → Gives (all_of part_of) result (each_unless ks (parts_by (slots_of slots.entry) (map element_of elements.entry.items))) }
+    ensures { (ks : List FaultKind) → fault ≡ least ks → Gives (all_of part_of) result (each_unless ks (parts_by (slots_of slots.now) (map element_of elements.entry.items))) }
 {
     let mut all = Gathered::new(alloc, fault);
     let mut number = 0;
@@ -135,65 +139,44 @@ fn all_keyed(elements: &[Element<'_>]) -> bool
     true
 }
 
-/// Whether an element has this key.
-fn is_for(element: &Element<'_>, name: &str) -> bool
-    ensures { result ≡ list_any (bytes_eq name.now) (keys (element_of element.now ∷ [])) }
+/// Adds the key of an element to names, if it has one. Answers whether it stood there before. An
+/// `Err` only where memory ran out.
+fn add_key<'a>(names: &mut NameIndex<'a>, element: &Element<'a>) -> Result<bool, AllocError>
+    ensures known { IfOk result (λ known. known ≡ list_any (λ x. is_some (position (bytes_eq x) names.old)) (keys (element_of element.now ∷ []))) }
+    ensures added { OnOk result (names.new ≡ names.old ++ keys (element_of element.now ∷ [])) }
 {
     match element.key {
-        Some(key) => name == key,
-        None => false,
+        Some(key) => Ok(names.insert(key)?.is_some()),
+        None => Ok(false),
     }
 }
 
-/// Whether one of some elements has this key.
-fn has_key(elements: &[Element<'_>], name: &str) -> bool
-    ensures { result ≡ list_any (bytes_eq name.now) (keys (map element_of elements.now)) }
+/// Whether the keys of elements differ. An `Err` only where memory ran out.
+fn keys_differ(alloc: Global, elements: &[Element<'_>]) -> Result<bool, AllocError>
+    ensures { IfOk result (λ differs. differs ≡ differ (keys (map element_of elements.now))) }
 {
+    let mut names = NameIndex::new(alloc);
     for element in elements {
-        if is_for(element, name) {
-            return true;
+        if add_key(&mut names, element)? {
+            return Ok(false);
         }
     }
-    false
-}
-
-/// Whether no other element has the key of an element.
-fn is_alone(element: &Element<'_>, others: &[Element<'_>]) -> bool
-    ensures { list_all (λ x. not (list_any (bytes_eq x) (keys (map element_of others.now)))) (keys (element_of element.now ∷ [])) ≡ result }
-{
-    match element.key {
-        Some(key) => !has_key(others, key),
-        None => true,
-    }
-}
-
-/// Whether the keys of elements differ.
-fn keys_differ(elements: &[Element<'_>]) -> bool
-    ensures { result ≡ differ (keys (map element_of elements.now)) }
-{
-    let mut rest = elements;
-    while let [element, others @ ..] = rest {
-        if !is_alone(element, others) {
-            return false;
-        }
-        rest = others;
-    }
-    true
+    Ok(true)
 }
 
 /// What is wrong with a key: it is no field, or one that the package of a path doesn't see.
-fn key_fault(path: &str, fields: &[Field], key: &str) -> Option<FaultKind>
-    ensures { result ≡ least (key_fault path.now (map field_of fields.now) key.now) }
+fn key_fault(path: &str, fields: &NamedFields<'_>, key: &str) -> Option<FaultKind>
+    ensures { result ≡ least (key_fault path.now (fields_seen fields.now) key.now) }
 {
-    match field_named(fields, key) {
+    match fields.named(key) {
         None => Some(FaultKind::Undeclared),
         Some((_, field)) => when(!is_visible(path, field), FaultKind::Unexported),
     }
 }
 
 /// What is wrong with the key of an element, if it has one.
-fn element_fault(path: &str, fields: &[Field], element: &Element<'_>) -> Option<FaultKind>
-    ensures { result ≡ least (flat_map (key_fault path.now (map field_of fields.now)) (keys (element_of element.now ∷ []))) }
+fn element_fault(path: &str, fields: &NamedFields<'_>, element: &Element<'_>) -> Option<FaultKind>
+    ensures { result ≡ least (flat_map (key_fault path.now (fields_seen fields.now)) (keys (element_of element.now ∷ []))) }
 {
     match element.key {
         Some(key) => key_fault(path, fields, key),
@@ -202,8 +185,8 @@ fn element_fault(path: &str, fields: &[Field], element: &Element<'_>) -> Option<
 }
 
 /// The least of what is wrong with keys.
-fn keys_fault(path: &str, fields: &[Field], elements: &[Element<'_>]) -> Option<FaultKind>
-    ensures { result ≡ least (flat_map (key_fault path.now (map field_of fields.now)) (keys (map element_of elements.now))) }
+fn keys_fault(path: &str, fields: &NamedFields<'_>, elements: &[Element<'_>]) -> Option<FaultKind>
+    ensures { result ≡ least (flat_map (key_fault path.now (fields_seen fields.now)) (keys (map element_of elements.now))) }
 {
     let mut fault = None;
     for element in elements {
@@ -231,29 +214,52 @@ fn is_counted(fields: &[Field], elements: &[Element<'_>]) -> bool
     all_keyed(elements) || (!any_keyed(elements) && elements.len() == fields.len())
 }
 
-/// The least of what is wrong with the keys, the number and the order of a struct's elements.
+/// The least of what is wrong with the keys, the number and the order of a struct's elements. An
+/// `Err` only where memory ran out.
 #[tactic(auto, using(crate::proofs::Gathering::least_both))]
-fn struct_fault(path: &str, fields: &[Field], elements: &[Element<'_>]) -> Option<FaultKind>
-    ensures { result ≡ least (struct_faults path.now (map field_of fields.now) (map element_of elements.now)) }
+fn struct_fault(
+    alloc: Global,
+    path: &str,
+    fields: &NamedFields<'_>,
+    elements: &[Element<'_>],
+) -> Result<Option<FaultKind>, AllocError>
+    ensures { IfOk result (λ fault. fault ≡ least (struct_faults path.now (fields_seen fields.now) (map element_of elements.now))) }
 {
     let keys = keys_fault(path, fields, elements);
-    let doubled = when(!keys_differ(elements), FaultKind::Redeclared);
-    let count = when(!is_counted(fields, elements), FaultKind::Count);
-    let hidden = !all_keyed(elements) && !all_visible(path, fields);
+    let differs = keys_differ(alloc, elements)?;
+    let doubled = when(!differs, FaultKind::Redeclared);
+    let count = when(!is_counted(fields.fields, elements), FaultKind::Count);
+    let hidden = !all_keyed(elements) && !all_visible(path, fields.fields);
     let hidden = when(hidden, FaultKind::Unexported);
     let keyed = lesser(keys, doubled);
     let counted = lesser(keyed, count);
-    lesser(counted, hidden)
+    Ok(lesser(counted, hidden))
 }
 
-/// The parts that elements of a struct are for: none where they aren't counted right.
-fn struct_slots<'a>(fields: &'a [Field], elements: &[Element<'_>]) -> Slots<'a>
-    ensures { slots_of result ≡ struct_slot (map field_of fields.now) (map element_of elements.now) }
+/// The parts that elements of a struct are for: where they aren't counted right, those of keys
+/// alone.
+fn struct_slots<'a>(fields: NamedFields<'a>, elements: &[Element<'_>]) -> Slots<'a>
+    ensures { slots_of result ≡ struct_slot (fields_seen fields.entry) (map element_of elements.now) }
 {
-    if is_counted(fields, elements) {
+    if is_counted(fields.fields, elements) {
         Slots::Fields(fields)
     } else {
-        Slots::Nothing
+        Slots::Named(fields)
+    }
+}
+
+/// Fields for the keys of some elements.
+fn fields_for<'a>(
+    alloc: Global,
+    fields: &'a [Field],
+    elements: &[Element<'_>],
+) -> Result<NamedFields<'a>, AllocError>
+    ensures { IfOk result (λ all. all.fields.now ≡ fields.now) }
+{
+    if elements.len() > 8 {
+        NamedFields::many(alloc, fields)
+    } else {
+        Ok(NamedFields::few(fields))
     }
 }
 
@@ -266,9 +272,10 @@ fn struct_parts(
 ) -> Result<Vec<TypedPart>, RuleError>
     ensures { Gives (all_of part_of) result (struct_parts path.now (map field_of fields.now) (map element_of elements.entry.items)) }
 {
-    let fault = struct_fault(path, fields, &elements);
+    let fields = fields_for(alloc, fields, &elements)?;
+    let fault = struct_fault(alloc, path, &fields, &elements)?;
     let slots = struct_slots(fields, &elements);
-    parts_by(alloc, slots, elements, fault)
+    parts_by(alloc, &slots, elements, fault)
 }
 
 /// The elements of an array of a length as its elements.
@@ -282,7 +289,7 @@ fn array_parts(
 {
     let keyed = when(any_keyed(&elements), FaultKind::LeftOut);
     let long = when((length as usize) < elements.len(), FaultKind::Index);
-    parts_by(alloc, Slots::Elements(of), elements, lesser(keyed, long))
+    parts_by(alloc, &Slots::Elements(of), elements, lesser(keyed, long))
 }
 
 /// The parts of a literal of a type.
@@ -295,8 +302,8 @@ fn parts_of(
     ensures { Gives (all_of part_of) result (parts_of path.now (type_of of.now) (map element_of elements.entry.items)) }
 {
     match underlying(of) {
-        GoType::Array(length, of) => array_parts(alloc, *length, of, elements),
-        GoType::Struct(fields) => struct_parts(alloc, path, fields, elements),
+        GoType::Array(length, of) => array_parts(alloc, *length, &of.of, elements),
+        GoType::Struct(fields) => struct_parts(alloc, path, &fields.list, elements),
         _ => Err(RuleError::Broken(FaultKind::Mismatch)),
     }
 }
@@ -318,45 +325,68 @@ pub(crate) fn literal_of(
     Ok(literal(of, parts))
 }
 
-/// The type that a literal takes that leaves it out.
-#[derive(Clone, Copy)]
-pub(crate) enum Due<'a> {
-    /// This type.
-    Of(&'a GoType),
-    /// None: it has to be written.
-    Written,
-    /// It isn't known.
-    Unknown,
+/// The text of a key, if there is one.
+pub(crate) fn key_text(key: &Option<Name>) -> Option<&str>
+    ensures { option_map (λ k. k.now) result ≡ key_text key.now }
+{
+    match key {
+        Some(name) => Some(name.text()),
+        None => None,
+    }
 }
 
-/// The type that elements of a literal take which leave it out, by the literal's type, where that
-/// is known.
-pub(crate) fn element_type<'a>(of: Option<&'a GoType>) -> Due<'a>
-    ensures { due_of result ≡ element_type (option_map (λ t. type_of t.now) of.entry) }
+/// What is due of a literal that leaves out its type.
+#[derive(Clone, Copy)]
+pub(crate) enum Due<'a> {
+    /// It takes this type.
+    Taken(&'a GoType),
+    /// It has to write its type; its elements are those of this one, if it is for a field.
+    Written(Option<&'a GoType>),
+    /// Nothing.
+    Nothing,
+}
+
+/// The type of the field that the element of a number and a key is for.
+fn field_type<'a>(fields: &'a [Field], number: usize, key: Option<&str>) -> Option<&'a GoType>
+    ensures { option_map (λ t. type_of t.now) result ≡ option_map (λ p. p.1) (field_slot (map field_of fields.now) number (option_map (λ k. k.now) key.entry)) }
+{
+    let Some(name) = key else {
+        return Some(&fields.get(number)?.of);
+    };
+    let (_, field) = field_named(fields, name)?;
+    Some(&field.of)
+}
+
+/// What is due of an element that leaves out its type, by the type of its literal, where that is
+/// known, by its number and its key.
+pub(crate) fn element_due<'a>(of: Option<&'a GoType>, number: usize, key: Option<&str>) -> Due<'a>
+    ensures { due_of result ≡ element_due (option_map (λ t. type_of t.now) of.entry) number (option_map (λ k. k.now) key.entry) }
 {
     let Some(of) = of else {
-        return Due::Unknown;
+        return Due::Nothing;
     };
     match underlying(of) {
-        GoType::Array(_, of) => Due::Of(of),
-        _ => Due::Written,
+        GoType::Array(_, of) => Due::Taken(&of.of),
+        GoType::Struct(fields) => Due::Written(field_type(&fields.list, number, key)),
+        _ => Due::Nothing,
     }
 }
 
 impl<'a> Due<'a> {
-    /// The type, where there is one.
-    pub(crate) fn known(self) -> Option<&'a GoType>
-        ensures { option_map (λ t. type_of t.now) result ≡ fine (due_of self.entry) }
+    /// The type that the elements are of, if there is one.
+    pub(crate) fn of(self) -> Option<&'a GoType>
+        ensures { option_map (λ t. type_of t.now) result ≡ due_type (due_of self.entry) }
     {
         match self {
-            Due::Of(of) => Some(of),
-            _ => None,
+            Due::Taken(of) => Some(of),
+            Due::Written(of) => of,
+            Due::Nothing => None,
         }
     }
 }
 
 /// A literal at a place that leaves out its type, in the package of a path, where its elements are
-/// known. Where no type is due it is any value, since nothing takes it.
+/// known. Where nothing is due it is any value, since nothing takes it.
 pub(crate) fn untyped_literal_at(
     alloc: Global,
     place: Place,
@@ -370,12 +400,12 @@ pub(crate) fn untyped_literal_at(
         return Ok(None);
     };
     match due {
-        Due::Of(of) => match literal_of(alloc, path, of.copy()?, elements) {
+        Due::Taken(of) => match literal_of(alloc, path, of.copy()?, elements) {
             Ok(value) => Ok(Some(value)),
             Err(error) => Err(error.at(place)),
         },
-        Due::Written => Err(ExprError::Faulty(place, FaultKind::Mismatch)),
-        Due::Unknown => {
+        Due::Written(_) => Err(ExprError::Faulty(place, FaultKind::Mismatch)),
+        Due::Nothing => {
             let truth = GoType::Basic(Basic::Bool);
             Ok(Some(constant(truth, Const::Bool(true))))
         }

@@ -1,22 +1,23 @@
 //! The checker of expressions and types.
 ghost use Rattle.std.specs.Prelude.{◌≡◌, ◌++◌, [], ◌∷◌, map, IfOk};
 ghost use Rattle.std.specs.Option.{option_map};
-ghost use Rattle.go_ast.specs.Trees.{Name as NameTree, struct, pack_fields};
+ghost use Rattle.go_ast.specs.Trees.{struct, pack_fields};
 ghost use Rattle.go_ast.specs.Views.{expr_of as expr_tree, exprs_in, value_of as element_tree, type_of as type_tree, field_of as field_tree};
 ghost use Rattle.go_types.specs.Views.{type_of};
 ghost use Rattle.go_typed.specs.Views.{expr_of};
-ghost use Rattle.go_expr.specs.Rules.{fine, called, element_type};
-ghost use Rattle.go_expr.specs.Verdicts.{asked_both, joined, broken, operand, callee, verdict, operands, elements as elements_known, element_verdict, type_verdict, fields_known, operand_broken, callee_broken, faults, operands_faults, elements_faults, element_faults, type_faults, fields_faults};
-ghost use Rattle.go_expr.specs.Seen.{known_of, element_of, elements_in, literal_verdict, due_of, field_of, scope_of, all_of, Answers, Behind};
+ghost use Rattle.go_expr.specs.Rules.{fine, called, element_due};
+ghost use Rattle.go_expr.specs.Verdicts.{asked_both, joined, broken, operand, inside, subject, callee, key_text, verdict, operands, elements as elements_known, element_verdict, type_verdict, fields_known, part_broken, operand_broken, faults, operands_faults, elements_faults, element_faults, type_faults, fields_faults};
+ghost use Rattle.go_expr.specs.Seen.{known_of, element_of, elements_in, literal_verdict, field_of, scope_of, all_of, Answers, Behind};
 
-use crate::call::{call_at, conversion_at, not_package, operand_at};
-use crate::composite::{Due, Element, element_type, literal_at, untyped_literal_at};
+use crate::call::{call_at, conversion_at};
+use crate::composite::{Element, element_due, key_text, literal_at, untyped_literal_at};
+use crate::due::{bare_place, callee_at, inside_at, operand_at, subject_at};
 use crate::error::ExprError;
 use crate::known::Known;
 use crate::literal::{literal, rune, text_constant};
 use crate::operator::{binary_at, unary_at};
 use crate::scope::Scope;
-use crate::selector::{index_at, selected, value_at};
+use crate::selector::{exported_at, index_at, selected, value_at};
 use crate::type_expr::{array_type, struct_place, struct_type, type_at, with_fields};
 use go_ast::expression::{
     Element as ElementExpr, ElementValue, Expr, ExprKind, Field as FieldExpr, TypeExpr, TypeKind,
@@ -42,13 +43,13 @@ pub fn check_expr<'a>(
         ExprKind::Integer(digits) => value_at(e.place, literal(digits.as_str())),
         ExprKind::Rune(value) => Ok(Some(Known::Value(rune(*value)))),
         ExprKind::String(bytes) => Ok(Some(Known::Value(text_constant(alloc, bytes)?))),
-        ExprKind::Parenthesized(inside) => check_unpackaged(alloc, scope, inside),
+        ExprKind::Parenthesized(inside) => check_inside(alloc, scope, inside),
         ExprKind::CompositeLit(of, _, elements) => {
             let of = check_type(alloc, scope, of)?;
             check_literal(alloc, scope, elements, e.place, of)
         }
         ExprKind::Selector(operand, field) => {
-            let operand = check_expr(alloc, scope, operand)?;
+            let operand = check_subject(alloc, scope, operand)?;
             selected(alloc, e.place, scope.path(), field.text(), operand)
         }
         ExprKind::Index(operand, index) => {
@@ -62,7 +63,7 @@ pub fn check_expr<'a>(
             conversion_at(alloc, e.place, of, operand)
         }
         ExprKind::Call(callee, arguments) => {
-            let callee = check_unpackaged(alloc, scope, callee)?;
+            let callee = check_callee(alloc, scope, callee)?;
             check_call(alloc, scope, e.place, callee, arguments)
         }
         ExprKind::Unary(operator, operand) => {
@@ -88,48 +89,51 @@ fn check_literal<'a>(
     of: Option<GoType>,
 ) -> Result<Option<Known<'a>>, ExprError>
     ensures { let s = scope_of scope.now in let t = option_map type_of of in let es = elements_in elements.now in
-        Behind known_of result (elements_faults s (element_type t) es) place (literal_verdict s t es) }
+        Behind known_of result (elements_faults s t 0 es) place (literal_verdict s t es) }
 {
-    let elements = check_elements(alloc, scope, elements, element_type(of.as_ref()))?;
+    let elements = check_elements(alloc, scope, elements, of.as_ref())?;
     literal_at(alloc, place, scope.path(), of, elements)
 }
 
-/// The elements of a literal in their order, where all are known, or the first fault in them; those
-/// that leave out their type take the type that is due.
+/// The elements of a literal of a type in their order, where all are known, or the first fault in
+/// them.
 #[cycle(check)]
 fn check_elements<'e>(
     alloc: Global,
     scope: &Scope<'_>,
     elements: &'e [ElementExpr],
-    due: Due<'_>,
+    of: Option<&GoType>,
 ) -> Result<Option<Vec<Element<'e>>>, ExprError>
-    ensures { let s = scope_of scope.now in let es = elements_in elements.now in
-        Answers (all_of element_of) result (elements_faults s (due_of due.entry) es) (elements_known s (due_of due.entry) es) }
+    ensures { let s = scope_of scope.now in let t = option_map (λ t. type_of t.now) of.entry in let es = elements_in elements.now in
+        Answers (all_of element_of) result (elements_faults s t 0 es) (elements_known s t 0 es) }
 {
     let mut all = Some(Vec::new(alloc));
-    for element in elements {
-        let value = check_element(alloc, scope, &element.value, due)?;
+    for (number, element) in elements.iter().enumerate() {
+        let value = check_element(alloc, scope, element, number, of)?;
         all = with_element(all, &element.key, value)?;
     }
     Ok(all)
 }
 
-/// The value of an element of a literal, or the first fault in it.
+/// The value of the element of a number in a literal of a type, or the first fault in it; one that
+/// leaves out its type takes that which is due.
 #[cycle(check)]
 #[tactic(auto, unfolding(go_ast::specs::Views::expr_of, go_ast::specs::Views::value_of))]
 fn check_element(
     alloc: Global,
     scope: &Scope<'_>,
-    element: &ElementValue,
-    due: Due<'_>,
+    element: &ElementExpr,
+    number: usize,
+    of: Option<&GoType>,
 ) -> Result<Option<TypedExpr>, ExprError>
-    ensures { let s = scope_of scope.now in let e = element_tree element.now in
-        Answers expr_of result (element_faults s (due_of due.entry) e) (fine (element_verdict s (due_of due.entry) e)) }
+    ensures { let s = scope_of scope.now in let due = element_due (option_map (λ t. type_of t.now) of.entry) number (key_text element.now.key) in
+        let e = element_tree element.now.value in Answers expr_of result (element_faults s due e) (fine (element_verdict s due e)) }
 {
-    match element {
+    match &element.value {
         ElementValue::Expression(e) => check_operand(alloc, scope, e),
         ElementValue::Value(place, elements) => {
-            let elements = check_elements(alloc, scope, elements, element_type(due.known()))?;
+            let due = element_due(of, number, key_text(&element.key));
+            let elements = check_elements(alloc, scope, elements, due.of())?;
             untyped_literal_at(alloc, *place, scope.path(), due, elements)
         }
     }
@@ -141,7 +145,7 @@ fn with_element<'e>(
     key: &'e Option<Name>,
     value: Option<TypedExpr>,
 ) -> Result<Option<Vec<Element<'e>>>, AllocError>
-    ensures { let own = option_map (λ e. (option_map (λ (n : NameTree). n.text) key.now, e) ∷ []) (option_map expr_of value) in
+    ensures { let own = option_map (λ e. (key_text key.now, e) ∷ []) (option_map expr_of value) in
         IfOk result (λ more. option_map (all_of element_of) more ≡ joined (option_map (all_of element_of) all.entry) own) }
 {
     let Some(mut all) = all else {
@@ -150,10 +154,7 @@ fn with_element<'e>(
     let Some(value) = value else {
         return Ok(None);
     };
-    let key = match key {
-        Some(name) => Some(name.text()),
-        None => None,
-    };
+    let key = key_text(key);
     all.push(Element { key, value })?;
     Ok(Some(all))
 }
@@ -175,18 +176,46 @@ fn check_call<'a>(
     call_at(alloc, place, callee, arguments)
 }
 
-/// What is known of an expression where anything but a package is due, or the first fault in it.
+/// What is known of an expression in parentheses, or the first fault in it.
 #[cycle(check)]
-pub fn check_unpackaged<'a>(
+fn check_inside<'a>(
     alloc: Global,
     scope: &Scope<'a>,
     e: &Expr,
 ) -> Result<Option<Known<'a>>, ExprError>
-    ensures { Answers known_of result (faults (scope_of scope.now) (expr_tree e.now) ++ callee_broken (expr_tree e.now) (verdict (scope_of scope.now) (expr_tree e.now)))
-        (fine (callee (verdict (scope_of scope.now) (expr_tree e.now)))) }
+    ensures { let v = verdict (scope_of scope.now) (expr_tree e.now) in
+        Answers known_of result (faults (scope_of scope.now) (expr_tree e.now) ++ part_broken (expr_tree e.now) (inside v)) (fine (inside v)) }
 {
     let known = check_expr(alloc, scope, e)?;
-    not_package(e.place, known)
+    inside_at(bare_place(e), known)
+}
+
+/// What is known of an expression before a dot, or the first fault in it.
+#[cycle(check)]
+fn check_subject<'a>(
+    alloc: Global,
+    scope: &Scope<'a>,
+    e: &Expr,
+) -> Result<Option<Known<'a>>, ExprError>
+    ensures { let v = verdict (scope_of scope.now) (expr_tree e.now) in
+        Answers known_of result (faults (scope_of scope.now) (expr_tree e.now) ++ part_broken (expr_tree e.now) (subject v)) (fine (subject v)) }
+{
+    let known = check_expr(alloc, scope, e)?;
+    subject_at(bare_place(e), known)
+}
+
+/// What is known of an expression before arguments, or the first fault in it.
+#[cycle(check)]
+fn check_callee<'a>(
+    alloc: Global,
+    scope: &Scope<'a>,
+    e: &Expr,
+) -> Result<Option<Known<'a>>, ExprError>
+    ensures { let v = verdict (scope_of scope.now) (expr_tree e.now) in
+        Answers known_of result (faults (scope_of scope.now) (expr_tree e.now) ++ part_broken (expr_tree e.now) (callee v)) (fine (callee v)) }
+{
+    let known = check_expr(alloc, scope, e)?;
+    callee_at(bare_place(e), known)
 }
 
 /// The value of an operand, or the first fault in it.
@@ -200,7 +229,7 @@ pub fn check_operand(
         (operand (verdict (scope_of scope.now) (expr_tree e.now))) }
 {
     let known = check_expr(alloc, scope, e)?;
-    operand_at(e.place, known)
+    operand_at(bare_place(e), known)
 }
 
 /// The values of operands, in their order, where all are known, or the first fault in
@@ -255,7 +284,7 @@ pub fn check_type(
         }
         TypeKind::Qualified(package, name) => {
             let package = scope.look_up(of.place, package.text())?;
-            let known = selected(alloc, of.place, scope.path(), name.text(), package)?;
+            let known = exported_at(of.place, name.text(), package)?;
             type_at(of.place, known)
         }
         TypeKind::Array(length, element) => {

@@ -3,9 +3,11 @@
 
 mod call;
 mod composite;
+pub mod due;
 pub mod error;
 mod evaluation;
 pub mod expression;
+mod fields;
 pub mod gather;
 pub mod known;
 pub mod law;

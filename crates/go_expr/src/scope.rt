@@ -98,7 +98,7 @@ impl<'a> Scope<'a> {
     /// What a name at a place finds, or its fault.
     /// [Declarations and scope](https://go.dev/ref/spec#Declarations_and_scope)
     #[tactic(auto, unfolding(crate::specs::Seen::scope_of))]
-    pub(crate) fn look_up(&self, place: Place, name: &str) -> Result<Option<Known<'a>>, ExprError>
+    pub fn look_up(&self, place: Place, name: &str) -> Result<Option<Known<'a>>, ExprError>
         ensures { AnswersAt known_of result place (look_up name.now (scope_of self.now).names) }
     {
         match local(self.locals, name) {

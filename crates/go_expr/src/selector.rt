@@ -4,8 +4,8 @@ ghost use Rattle.std.specs.Option.{option_map};
 ghost use Rattle.go_types.specs.Views.{type_of};
 ghost use Rattle.go_typed.specs.Views.{expr_of};
 ghost use Rattle.go_typed.specs.Trees.{Expr};
-ghost use Rattle.go_expr.specs.Known.{Verdict, package'};
-ghost use Rattle.go_expr.specs.Rules.{checked, valued, is_exported, is_visible, field_named, fields_of, field_of, value_due, selected, constant_in, indexed_type, known_length, is_within, index_of};
+ghost use Rattle.go_expr.specs.Known.{Verdict};
+ghost use Rattle.go_expr.specs.Rules.{checked, valued, is_visible, field_named, fields_of, field_of, value_due, exported, selected, exported_by, constant_in, indexed_type, known_length, is_within, index_of};
 ghost use Rattle.go_expr.specs.Verdicts.{asked, asked_both};
 ghost use Rattle.go_expr.specs.Seen.{known_of, names_of, field_of as field_seen, AnswersAt, Gives};
 
@@ -17,21 +17,10 @@ use go_const::constant::Const;
 use go_text::fault::FaultKind;
 use go_text::place::Place;
 use go_typed::expression::TypedExpr;
+use go_types::names::is_exported;
 use go_types::relations::underlying;
 use go_types::types::{Basic, Field, GoType, IntKind};
 use std::alloc::{AllocError, Global};
-use ucd_category::GeneralCategory;
-
-/// Whether a name is exported: its first character is an upper-case letter.
-/// [Exported identifiers](https://go.dev/ref/spec#Exported_identifiers)
-pub fn is_exported(name: &str) -> bool
-    ensures { result ≡ is_exported name.now }
-{
-    match name.chars().next() {
-        Some(first) => GeneralCategory::for_char(first) == GeneralCategory::UppercaseLetter,
-        None => false,
-    }
-}
 
 /// Whether the package of a path sees a field.
 pub(crate) fn is_visible(path: &str, field: &Field) -> bool
@@ -60,7 +49,7 @@ fn fields_of(of: &GoType) -> &[Field]
     ensures { map field_seen result.now ≡ fields_of (type_of of.now) }
 {
     match underlying(of) {
-        GoType::Struct(fields) => fields,
+        GoType::Struct(fields) => &fields.list,
         _ => &[],
     }
 }
@@ -92,14 +81,10 @@ pub fn value_due(known: Known<'_>) -> Result<TypedExpr, RuleError>
     }
 }
 
-/// What a name at a place selects from a package that exports some names.
-fn member<'a>(
-    place: Place,
-    path: &str,
-    names: &Names,
-    name: &str,
-) -> Result<Option<Known<'a>>, ExprError>
-    ensures { AnswersAt known_of result place (selected path.now name.now (package' (names_of names.now))) }
+/// What a name at a place finds in a package that exports some names.
+/// [Qualified identifiers](https://go.dev/ref/spec#Qualified_identifiers)
+fn exported<'a>(place: Place, names: &Names, name: &str) -> Result<Option<Known<'a>>, ExprError>
+    ensures { AnswersAt known_of result place (exported name.now (names_of names.now)) }
 {
     if !is_exported(name) {
         return Err(ExprError::Faulty(place, FaultKind::Unexported));
@@ -130,9 +115,37 @@ pub(crate) fn selected<'a>(
 {
     match operand {
         None => Ok(None),
-        Some(Known::Package(names)) => member(place, path, names, name),
+        Some(Known::Package(names)) => exported(place, names, name),
         Some(known) => value_at(place, field_in(alloc, path, name, known)),
     }
+}
+
+/// What a name at a place finds in what stands before its dot in a type: a package is due.
+fn exported_by<'a>(
+    place: Place,
+    name: &str,
+    operand: &Known<'_>,
+) -> Result<Option<Known<'a>>, ExprError>
+    ensures { AnswersAt known_of result place (exported_by name.now (known_of operand.now)) }
+{
+    match operand {
+        Known::Package(names) => exported(place, names, name),
+        _ => Err(ExprError::Faulty(place, FaultKind::Mismatch)),
+    }
+}
+
+/// The same, where what stands before the dot is known.
+pub(crate) fn exported_at<'a>(
+    place: Place,
+    name: &str,
+    operand: Option<Known<'_>>,
+) -> Result<Option<Known<'a>>, ExprError>
+    ensures { AnswersAt known_of result place (asked (exported_by name.now) (option_map known_of operand.entry)) }
+{
+    let Some(operand) = operand else {
+        return Ok(None);
+    };
+    exported_by(place, name, &operand)
 }
 
 /// What a rule gives of a node at a place, as a value.
@@ -153,7 +166,7 @@ fn indexed_type(of: &GoType) -> Result<Option<GoType>, AllocError>
     ensures { IfOk result (λ t. option_map type_of t ≡ indexed_type (type_of of.now)) }
 {
     if let GoType::Array(_, element) = underlying(of) {
-        return Ok(Some(element.copy()?));
+        return Ok(Some(element.of.copy()?));
     }
     if is_string(of) {
         return Ok(Some(GoType::Basic(Basic::Integer(IntKind::Uint8))));

@@ -7,22 +7,23 @@ ghost use Rattle.go_ast.specs.Views.{field_of as field_tree};
 ghost use Rattle.go_types.specs.Types.{struct};
 ghost use Rattle.go_types.specs.Views.{type_of};
 ghost use Rattle.go_typed.specs.Views.{expr_of};
-ghost use Rattle.go_expr.specs.Rules.{type_due, is_small, array_of, declared_field, field_names, packed, differ, struct_of};
+ghost use Rattle.go_expr.specs.Rules.{type_due, is_small, array_of, declared_field, field_names, packed, struct_of};
 ghost use Rattle.go_expr.specs.Verdicts.{asked, asked_both, joined, first_blank, struct_place};
 ghost use Rattle.go_expr.specs.Seen.{known_of, field_of, all_of, AnswersAt, Gives};
 
 use crate::error::{ExprError, RuleError};
+use crate::fields::differ;
 use crate::known::Known;
 use crate::node::constant_in;
-use crate::selector::is_exported;
 use go_ast::expression::Field as FieldExpr;
 use go_ast::name::Name;
 use go_const::constant::Const;
 use go_text::fault::FaultKind;
 use go_text::place::Place;
 use go_typed::expression::TypedExpr;
+use go_types::names::is_exported;
 use go_types::sizes::{cells, nodes};
-use go_types::types::{Field, GoType};
+use go_types::types::{Element, Field, Fields, GoType};
 use std::alloc::{AllocError, Global};
 use std::sync::Arc;
 
@@ -74,7 +75,7 @@ fn array_of(
     if *length > 65_536 {
         return Err(ExprError::Faulty(place, FaultKind::Size));
     }
-    let array = GoType::Array(*length as u32, Arc::new(alloc, of)?);
+    let array = GoType::Array(*length as u32, Arc::new(alloc, Element::new(of))?);
     if !is_small(&array) {
         return Err(ExprError::Faulty(place, FaultKind::Size));
     }
@@ -176,25 +177,11 @@ fn has_name(fields: &[Field], name: &str) -> bool
     false
 }
 
-/// Whether the names of fields differ.
-fn differ(fields: &[Field]) -> bool
-    ensures { result ≡ differ (field_names (map field_of fields.now)) }
-{
-    let mut rest = fields;
-    while let [field, others @ ..] = rest {
-        if has_name(others, field.name.as_str()) {
-            return false;
-        }
-        rest = others;
-    }
-    true
-}
-
 /// The struct of some fields.
 fn struct_of(alloc: Global, fields: Vec<Field>) -> Result<GoType, AllocError>
     ensures { IfOk result (λ of. type_of of ≡ struct (packed (map field_of fields.items))) }
 {
-    Ok(GoType::Struct(Arc::new(alloc, fields)?))
+    Ok(GoType::Struct(Arc::new(alloc, Fields::new(fields))?))
 }
 
 /// A struct type at a place, where its fields are known.
@@ -212,7 +199,7 @@ pub(crate) fn struct_type(
     if has_name(&fields, "_") {
         return Err(ExprError::Faulty(place, FaultKind::LeftOut));
     }
-    let differs = differ(&fields);
+    let differs = differ(alloc, &fields)?;
     let of = struct_of(alloc, fields)?;
     if !is_small(&of) {
         return Err(ExprError::Faulty(place, FaultKind::Size));

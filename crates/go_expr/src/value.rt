@@ -1,8 +1,9 @@
 //! Values of types.
 ghost use Rattle.std.specs.Prelude.{◌≡◌, IfOk, is_some};
+ghost use Rattle.std.specs.Option.{option_map};
 ghost use Rattle.go_types.specs.Views.{type_of};
 ghost use Rattle.go_typed.specs.Views.{expr_of};
-ghost use Rattle.go_expr.specs.Rules.{int_kind, is_integer, is_string, is_bool, is_untyped, in_kind, lies_in, constant_in, as_type, assigned, default_type, defaulted, condition, settled, int, uint, string};
+ghost use Rattle.go_expr.specs.Rules.{int_kind, is_integer, is_string, is_bool, is_untyped, in_kind, lies_in, constant_in, as_type, assigned, default_type, defaulted, condition, settled, settled_type, int, uint, string};
 ghost use Rattle.go_expr.specs.Seen.{Gives, IsTaken};
 
 use crate::error::RuleError;
@@ -185,6 +186,19 @@ pub fn defaulted(alloc: Global, value: TypedExpr) -> Result<TypedExpr, RuleError
 {
     let of = default_type(type_in(&value))?;
     assigned(alloc, of, value)
+}
+
+/// The type that a variable takes of its value, where the value lies in it. An `Err` only where
+/// memory ran out. [Variable declarations](https://go.dev/ref/spec#Variable_declarations)
+pub fn settled_type(value: &TypedExpr) -> Result<Option<GoType>, AllocError>
+    ensures { IfOk result (λ t. option_map type_of t ≡ settled_type (expr_of value.now)) }
+{
+    let of = default_type(type_in(value))?;
+    if lies_in(&of, value) {
+        Ok(Some(of))
+    } else {
+        Ok(None)
+    }
 }
 
 /// A value where a condition is due. `Mismatch` where its underlying type isn't bool.

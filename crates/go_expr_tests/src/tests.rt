@@ -40,6 +40,6 @@ fn expressions(rt: HostRuntime) -> Result<(), AllocError> {
     for row in ROWS.lines() {
         count = count.saturating_add(u64::from(row.contains(" | ")));
     }
-    assert!(rt; count == 461);
+    assert!(rt; count == 539);
     Ok(())
 }

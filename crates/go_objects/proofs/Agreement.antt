@@ -3,13 +3,13 @@ use Rattle.std.proofs.Common.{◌≡◌, ℕ, suc, Bool, true, false, List, [], 
 use Rattle.std.specs.Prelude.{option_map}
 use Rattle.std.specs.List.{Contains}
 use Rattle.ws_reach.proofs.Reached.{contains_get, get_contains}
-use Rattle.go_ast.specs.Trees.{Name, TypeExpr, named, qualified, array, struct, Fields, no_fields, field, Expr, name, integer, rune, string, parenthesized, composite_lit, conversion, selector, index, call, unary, binary, Exprs, no_exprs, some_exprs, Elements, no_elements, element, Element, expression_element, value_element}
+use Rattle.go_ast.specs.Trees.{TypeExpr, named, qualified, array, struct, Fields, no_fields, field, Expr, name, integer, rune, string, parenthesized, composite_lit, conversion, selector, index, call, unary, binary, Exprs, no_exprs, some_exprs, Elements, no_elements, element, Element, expression_element, value_element}
 use Rattle.go_types.specs.Types.{Type'}
 use Rattle.go_scope.specs.Names.{Used, in_type, in_fields, in_expr, in_exprs, in_elements, in_element}
 use Rattle.go_typed.specs.Trees.{Expr as Typed}
 use Rattle.go_expr.specs.Known.{Known, Verdict, Scope, look_up}
-use Rattle.go_expr.specs.Rules.{fine, checked, valued, type_due, array_of, declared_field, struct_of, value_due, ElementList, literal_of, untyped_literal, element_type, selected, index_of, unary_of, binary_of, converted, called}
-use Rattle.go_expr.specs.Verdicts.{asked, asked_both, joined, operand, callee, verdict, operands, elements, element_verdict, type_verdict, fields_known}
+use Rattle.go_expr.specs.Rules.{fine, checked, valued, type_due, array_of, declared_field, struct_of, value_due, ElementList, literal_of, Due, element_due, due_type, untyped_literal, selected, exported_by, index_of, unary_of, binary_of, converted, called}
+use Rattle.go_expr.specs.Verdicts.{asked, asked_both, joined, operand, callee, inside, subject, key_text, verdict, operands, elements, element_verdict, type_verdict, fields_known}
 
 -- at each name that is used
 abbrev Agree : Scope → Scope → List Used → Type 0
@@ -52,16 +52,16 @@ mutual
   same s r p dotted (integer q text) h = refl
   same s r p dotted (rune q z) h = refl
   same s r p dotted (string q bytes) h = refl
-  same s r p dotted (parenthesized q e) h = ap callee (same s r p false e h)
+  same s r p dotted (parenthesized q e) h = ap inside (same s r p false e h)
   same s r p dotted (composite_lit q t b es) h =
       let of : fine (type_verdict s t) ≡ fine (type_verdict r t) = ap fine (same_type s r p t (first s r (in_type t) (in_elements es) h)) in
-      ap (λ path. valued (asked_both (literal_of path) (fine (type_verdict s t)) (elements s (element_type (fine (type_verdict s t))) es))) p
+      ap (λ path. valued (asked_both (literal_of path) (fine (type_verdict s t)) (elements s (fine (type_verdict s t)) 0 es))) p
       ∙ ap valued (by_both (literal_of r.path) _ _ _ _ of
-      (ap (λ o. elements s (element_type o) es) of ∙ same_elements s r p (element_type (fine (type_verdict r t))) es (second s r (in_type t) (in_elements es) h)))
+      (ap (λ o. elements s o 0 es) of ∙ same_elements s r p (fine (type_verdict r t)) 0 es (second s r (in_type t) (in_elements es) h)))
   same s r p dotted (conversion q t e) h =
       ap valued (by_both converted _ _ _ _ (ap fine (same_type s r p t (first s r (in_type t) (in_expr false e) h))) (ap operand (same s r p false e (second s r (in_type t) (in_expr false e) h))))
   same s r p dotted (selector q e x) h =
-      ap (λ path. asked (selected path x.text) (fine (verdict s e))) p ∙ ap (λ (v : Verdict Known). asked (selected r.path x.text) (fine v)) (same s r p true e h)
+      ap (λ path. asked (selected path x.text) (fine (subject (verdict s e)))) p ∙ ap (λ (v : Verdict Known). asked (selected r.path x.text) (fine (subject v))) (same s r p true e h)
   same s r p dotted (index q e i) h = by_value index_of _ _ _ _ (same s r p false e (first s r (in_expr false e) (in_expr false i) h)) (same s r p false i (second s r (in_expr false e) (in_expr false i) h))
   same s r p dotted (call q f es) h =
       by_both called _ _ _ _ (ap (λ v. fine (callee v)) (same s r p false f (first s r (in_expr false f) (in_exprs es) h))) (same_operands s r p es (second s r (in_expr false f) (in_exprs es) h))
@@ -74,23 +74,23 @@ mutual
       by_joined _ _ _ _ (ap (λ (v : Verdict Known). option_map (λ x. x ∷ []) (operand v)) (same s r p false e (first s r (in_expr false e) (in_exprs es) h)))
       (same_operands s r p es (second s r (in_expr false e) (in_exprs es) h))
 
-  same_elements : (s r : Scope) → s.path ≡ r.path → (of : Verdict Type') (es : Elements) → Agree s r (in_elements es) → elements s of es ≡ elements r of es
-  same_elements s r p of no_elements h = refl
-  same_elements s r p of (element key e es) h =
-      by_joined _ _ _ _ (ap (λ (v : Verdict Typed). option_map (λ e. (option_map (λ (n : Name). n.text) key, e) ∷ []) (fine v)) (same_element s r p of e (first s r (in_element e) (in_elements es) h)))
-      (same_elements s r p of es (second s r (in_element e) (in_elements es) h))
+  same_elements : (s r : Scope) → s.path ≡ r.path → (of : Option Type') (n : ℕ) (es : Elements) → Agree s r (in_elements es) → elements s of n es ≡ elements r of n es
+  same_elements s r p of n no_elements h = refl
+  same_elements s r p of n (element key e es) h =
+      by_joined _ _ _ _
+      (ap (λ (v : Verdict Typed). option_map (λ e. (key_text key, e) ∷ []) (fine v)) (same_element s r p (element_due of n (key_text key)) e (first s r (in_element e) (in_elements es) h)))
+      (same_elements s r p of (suc n) es (second s r (in_element e) (in_elements es) h))
 
-  same_element : (s r : Scope) → s.path ≡ r.path → (of : Verdict Type') (e : Element) → Agree s r (in_element e) → element_verdict s of e ≡ element_verdict r of e
-  same_element s r p of (expression_element e) h = ap (λ (v : Verdict Known). asked value_due (fine v)) (same s r p false e h)
-  same_element s r p of (value_element q es) h =
-      ap (λ path. asked (untyped_literal path of) (elements s (element_type (fine of)) es)) p
-      ∙ ap (λ (o : Option ElementList). asked (untyped_literal r.path of) o) (same_elements s r p (element_type (fine of)) es h)
+  same_element : (s r : Scope) → s.path ≡ r.path → (due : Due) (e : Element) → Agree s r (in_element e) → element_verdict s due e ≡ element_verdict r due e
+  same_element s r p due (expression_element e) h = ap (λ (v : Verdict Known). asked value_due (fine v)) (same s r p false e h)
+  same_element s r p due (value_element q es) h =
+      ap (λ path. asked (untyped_literal path due) (elements s (due_type due) 0 es)) p
+      ∙ ap (λ (o : Option ElementList). asked (untyped_literal r.path due) o) (same_elements s r p (due_type due) 0 es h)
 
   same_type : (s r : Scope) → s.path ≡ r.path → (t : TypeExpr) → Agree s r (in_type t) → type_verdict s t ≡ type_verdict r t
   same_type s r p (named q x) h = ap (λ (v : Verdict Known). asked type_due (fine v)) h.0
   same_type s r p (qualified q m n) h =
-      ap (λ path. asked type_due (fine (asked (selected path n.text) (fine (look_up m.text s.names))))) p
-      ∙ ap (λ (v : Verdict Known). asked type_due (fine (asked (selected r.path n.text) (fine v)))) h.0
+      ap (λ (v : Verdict Known). asked type_due (fine (asked (exported_by n.text) (fine v)))) h.0
   same_type s r p (array q e t) h =
       by_both array_of _ _ _ _ (ap operand (same s r p false e (first s r (in_expr false e) (in_type t) h))) (ap fine (same_type s r p t (second s r (in_expr false e) (in_type t) h)))
   same_type s r p (struct q fs) h = ap (asked struct_of) (same_fields s r p fs h)

@@ -1,6 +1,6 @@
 -- What names find by a package's table, and that what is known of an object depends on its needs alone.
 use Rattle.std.proofs.Common.{◌≡◌, ℕ, zero, suc, ◌<◌, Bool, true, false, not, List, [], ◌∷◌, ◌++◌, Option, Some, None, map, length, refl, sym, ap, ◌∙◌, subst, inl, inr, arith}
-use Rattle.std.specs.Prelude.{if◌then◌else◌, option_map, unwrap_or, bytes_eq}
+use Rattle.std.specs.Prelude.{if◌then◌else◌, option_map, option_and_then, unwrap_or, bytes_eq}
 use Rattle.std.specs.List.{slice_get, cons_option, filter, filter_map, flat_map, Contains}
 use Rattle.std.specs.Map.{lookup}
 use Rattle.std.proofs.lemmas.Bool.{cases_Bool}
@@ -11,10 +11,10 @@ use Rattle.ws_reach.specs.Reach.{Edge, EdgesStayWithin}
 use Rattle.ws_reach.proofs.Reached.{contains_get, get_contains}
 use Rattle.go_ast.specs.Trees.{TypeExpr, Expr, Parameter}
 use Rattle.go_types.specs.Types.{Type'}
-use Rattle.go_typed.specs.Trees.{Symbol, expr_type}
+use Rattle.go_typed.specs.Trees.{Symbol}
 use Rattle.go_scope.specs.Names.{Used, in_type, in_expr}
 use Rattle.go_expr.specs.Known.{Names, Known, declared, function, package', Verdict, Fine, Breaks, Scope, named as known_name, look_up, universe}
-use Rattle.go_expr.specs.Rules.{fine, valued, constant_due, default_type, differ}
+use Rattle.go_expr.specs.Rules.{fine, valued, constant_due, settled_type, differ}
 use Rattle.go_expr.specs.Rules as rules
 use Rattle.go_expr.specs.Seen.{iota_of}
 use Rattle.go_expr.specs.Verdicts.{asked, asked_both, joined, operand, verdict, type_verdict}
@@ -160,7 +160,7 @@ same_form : (s r : Scope) (x : Symbol) (f : Form) → s.path ≡ r.path → Agre
 same_form s r x (constant t e iota) p h = ap (λ v. valued (asked constant_due v)) (same_value s r p t e h)
 same_form s r x (type' t) p h = ap (λ (v : Verdict Type'). asked (named_type x.path x.name) (fine v)) (type_verdict_same s r t p h)
 same_form s r x (typed_variable t) p h = ap (λ (v : Verdict Type'). variable x (fine v)) (type_verdict_same s r t p h)
-same_form s r x (valued_variable e) p h = ap (λ (v : Verdict Known). variable x (option_map (λ e. default_type (expr_type e)) (operand v))) (verdict_same s r e p h)
+same_form s r x (valued_variable e) p h = ap (λ (v : Verdict Known). variable x (option_and_then settled_type (operand v))) (verdict_same s r e p h)
 same_form s r x (result_variable number count e) p h = ap (λ (v : Verdict Known). variable x (result_type number count (fine v))) (verdict_same s r e p h)
 same_form s r x (function' ps ts) p h =
     let parameters = flat_map (λ (q : Parameter). in_type q.type) ps in

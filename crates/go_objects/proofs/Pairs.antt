@@ -8,7 +8,7 @@ use Rattle.go_ast.specs.Views.{type_of, expr_of, exprs_in, if_some}
 use Rattle.go_ast.specs.declared.expression.Expr.{Expr}
 use Rattle.go_ast.specs.declared.expression.TypeExpr.{TypeExpr}
 use Rattle.go_objects.specs.Objects as objects
-use Rattle.go_objects.specs.Objects.{paired, unpaired, constants_of, valued_object, uncounted, result_objects, variables_of}
+use Rattle.go_objects.specs.Objects.{begin_of, paired, unpaired, constants_of, valued_object, uncounted, result_objects, variables_of}
 use Rattle.go_objects.specs.declared.object.Object.{Object}
 use Rattle.go_objects.specs.Seen.{object_of}
 
@@ -55,30 +55,30 @@ added old new part left rest all grown next before = ap (λ l. l ++ rest) grown 
 -- ---- specifications
 
 pub constants_paired : (file iota : ℕ) (ns : List Name) (t : Option trees.TypeExpr) (es : List Expr) → length ns ≡ length es →
-    constants_of file iota (record { names = ns; type = t; values = exprs_in es }) ≡ pairs (λ n e. record { file = file; name = n; form = objects.constant t e iota }) ns es
+    constants_of file iota (record { names = ns; type = t; values = exprs_in es }) ≡ pairs (λ n e. record { file = file; begins = begin_of ns n; name = n; form = objects.constant t e iota }) ns es
 constants_paired file iota ns t es l =
-    ap (λ (o : Option (List objects.Object)). unwrap_or o (unpaired file t (exprs_in es) ns)) (all_paired (λ n e. record { file = file; name = n; form = objects.constant t e iota }) ns es l)
+    ap (λ (o : Option (List objects.Object)). unwrap_or o (unpaired file t (exprs_in es) ns)) (all_paired (λ n e. record { file = file; begins = begin_of ns n; name = n; form = objects.constant t e iota }) ns es l)
 
 pub constants_unpaired : (file iota : ℕ) (ns : List Name) (t : Option trees.TypeExpr) (es : List Expr) → (length ns ≡ length es → ⊥) →
     constants_of file iota (record { names = ns; type = t; values = exprs_in es }) ≡ unpaired file t (exprs_in es) ns
 constants_unpaired file iota ns t es l =
-    ap (λ (o : Option (List objects.Object)). unwrap_or o (unpaired file t (exprs_in es) ns)) (none_paired (λ n e. record { file = file; name = n; form = objects.constant t e iota }) ns es l)
+    ap (λ (o : Option (List objects.Object)). unwrap_or o (unpaired file t (exprs_in es) ns)) (none_paired (λ n e. record { file = file; begins = begin_of ns n; name = n; form = objects.constant t e iota }) ns es l)
 
-pub variables_paired : (file : ℕ) (ns : List Name) (es : List Expr) → length ns ≡ length es → variables_of file (record { names = ns; type = None; values = exprs_in es }) ≡ pairs (valued_object file) ns es
-variables_paired file ns es l = ap (λ (o : Option (List objects.Object)). unwrap_or o (uncounted file ns (exprs_in es))) (all_paired (valued_object file) ns es l)
+pub variables_paired : (file : ℕ) (ns : List Name) (es : List Expr) → length ns ≡ length es → variables_of file (record { names = ns; type = None; values = exprs_in es }) ≡ pairs (valued_object file ns) ns es
+variables_paired file ns es l = ap (λ (o : Option (List objects.Object)). unwrap_or o (uncounted file ns (exprs_in es))) (all_paired (valued_object file ns) ns es l)
 
 pub variables_unpaired : (file : ℕ) (ns : List Name) (es : List Expr) → (length ns ≡ length es → ⊥) →
     variables_of file (record { names = ns; type = None; values = exprs_in es }) ≡ uncounted file ns (exprs_in es)
-variables_unpaired file ns es l = ap (λ (o : Option (List objects.Object)). unwrap_or o (uncounted file ns (exprs_in es))) (none_paired (valued_object file) ns es l)
+variables_unpaired file ns es l = ap (λ (o : Option (List objects.Object)). unwrap_or o (uncounted file ns (exprs_in es))) (none_paired (valued_object file ns) ns es l)
 
 pub not_alone : (file : ℕ) (ns : List Name) (es : List Expr) → (length es ≡ 1 → ⊥) → uncounted file ns (exprs_in es) ≡ unpaired file None (exprs_in es) ns
 not_alone file ns [] l = refl
 not_alone file ns (e ∷ []) l = absurd (l refl)
 not_alone file ns (e ∷ f ∷ es) l = refl
 
-pub alone : (file : ℕ) (ns : List Name) (es : List Expr) (e : Expr) → length es ≡ 1 → e ≡ get_or es 0 e → uncounted file ns (exprs_in es) ≡ result_objects file (length ns) 0 (expr_of e) ns
+pub alone : (file : ℕ) (ns : List Name) (es : List Expr) (e : Expr) → length es ≡ 1 → e ≡ get_or es 0 e → uncounted file ns (exprs_in es) ≡ result_objects file ns 0 (expr_of e) ns
 alone file ns [] e l is = absurd (omega (arith, l))
-alone file ns (f ∷ []) e l is = ap (λ (x : Expr). result_objects file (length ns) 0 (expr_of x) ns) (sym is)
+alone file ns (f ∷ []) e l is = ap (λ (x : Expr). result_objects file ns 0 (expr_of x) ns) (sym is)
 alone file ns (f ∷ g ∷ es) e l is = absurd (omega (arith, l))
 
 pub meant_own : (before : trees.ConstSpec) (ns : List Name) (t : Option trees.TypeExpr) (es : List Expr) → nat_eq (length es) 0 ≡ false →

@@ -1,7 +1,8 @@
 -- What a package declares: https://go.dev/ref/spec#Declarations_and_scope
 use Rattle.std.specs.Prelude.{ℕ, suc, ◌||◌, if◌then◌else◌, List, [], ◌∷◌, ◌++◌, length, map, codes, Option, Some, None, option_map, unwrap_or}
-use Rattle.std.specs.List.{flat_map, list_any}
+use Rattle.std.specs.List.{slice_get, flat_map, list_any}
 use Rattle.std.specs.Str.{bytes_eq}
+use Rattle.go_text.specs.declared.place.Place.{Place}
 use Rattle.go_ast.specs.Trees.{Name, TypeExpr, Expr, Exprs, no_exprs, some_exprs, ConstSpec, VarSpec, TypeSpec, constants, variables, types, Parameter, TopLevel, declared, function, File}
 
 -- A constant has the type that is written, if one is, its own value, and the value of iota. A variable has the type that is written;
@@ -16,9 +17,10 @@ pub data Form : Type 0 where
   function' : List Parameter → List TypeExpr → Form
   other : Option TypeExpr → Exprs → Form
 
--- what is declared: the number of its file, its name and its form
+-- what is declared: the number of its file, where its specification begins, its name and its form
 pub record Object : Type 0 where
   pub file : ℕ
+  pub begins : Place
   pub name : Name
   pub form : Form
 
@@ -28,9 +30,16 @@ paired f [] no_exprs = Some []
 paired f (n ∷ ns) (some_exprs e es) = option_map (λ xs. f n e ∷ xs) (paired f ns es)
 paired f _ _ = None
 
--- names, each with all that stands in its specification
+-- the specification of some names, and of this one, begins at the first of them
+abbrev pub begin_of : List Name → Name → Place
+begin_of ns n = (unwrap_or (slice_get ns 0) n).place
+
+-- one of some names, with all that stands in their specification
+abbrev pub other_object : ℕ → List Name → Option TypeExpr → Exprs → Name → Object
+other_object file all t values n = record { file = file; begins = begin_of all n; name = n; form = other t values }
+
 abbrev pub unpaired : ℕ → Option TypeExpr → Exprs → List Name → List Object
-unpaired file t values = map (λ n. record { file = file; name = n; form = other t values })
+unpaired file t values ns = map (other_object file ns t values) ns
 
 -- https://go.dev/ref/spec#Constant_declarations
 -- a specification of constants without values means the type and the values of the one before
@@ -39,7 +48,7 @@ meant before spec = elim spec.values [ no_exprs ↦ record { names = spec.names;
 
 abbrev pub constants_of : ℕ → ℕ → ConstSpec → List Object
 constants_of file iota s =
-    unwrap_or (paired (λ n e. record { file = file; name = n; form = constant s.type e iota }) s.names s.values) (unpaired file s.type s.values s.names)
+    unwrap_or (paired (λ n e. record { file = file; begins = begin_of s.names n; name = n; form = constant s.type e iota }) s.names s.values) (unpaired file s.type s.values s.names)
 
 -- iota counts the specifications of a group from 0 on
 abbrev pub in_group : ℕ → ℕ → ConstSpec → List ConstSpec → List Object
@@ -47,32 +56,33 @@ in_group file iota before [] = []
 in_group file iota before (s ∷ ss) = constants_of file iota (meant before s) ++ in_group file (suc iota) (meant before s) ss
 
 -- https://go.dev/ref/spec#Variable_declarations
-abbrev pub typed_object : ℕ → TypeExpr → Name → Object
-typed_object file t n = record { file = file; name = n; form = typed_variable t }
+-- one of some names
+abbrev pub typed_object : ℕ → List Name → TypeExpr → Name → Object
+typed_object file all t n = record { file = file; begins = begin_of all n; name = n; form = typed_variable t }
 
-abbrev pub valued_object : ℕ → Name → Expr → Object
-valued_object file n e = record { file = file; name = n; form = valued_variable e }
+abbrev pub valued_object : ℕ → List Name → Name → Expr → Object
+valued_object file all n e = record { file = file; begins = begin_of all n; name = n; form = valued_variable e }
 
--- names, each with its number among as many, and the call that gives them values
-abbrev pub result_objects : ℕ → ℕ → ℕ → Expr → List Name → List Object
-result_objects file count number e [] = []
-result_objects file count number e (n ∷ ns) =
-    record { file = file; name = n; form = result_variable number count e } ∷ result_objects file count (suc number) e ns
+-- each with its number among all, and the call that gives them values
+abbrev pub result_objects : ℕ → List Name → ℕ → Expr → List Name → List Object
+result_objects file all number e [] = []
+result_objects file all number e (n ∷ ns) =
+    record { file = file; begins = begin_of all n; name = n; form = result_variable number (length all) e } ∷ result_objects file all (suc number) e ns
 
 -- where there aren't as many values as names, one may be a call
 abbrev pub uncounted : ℕ → List Name → Exprs → List Object
-uncounted file ns (some_exprs e no_exprs) = result_objects file (length ns) 0 e ns
+uncounted file ns (some_exprs e no_exprs) = result_objects file ns 0 e ns
 uncounted file ns es = unpaired file None es ns
 
 abbrev pub variables_of : ℕ → VarSpec → List Object
 variables_of file s = elim s.type [
-  | Some t ↦ map (typed_object file t) s.names
-  | None ↦ unwrap_or (paired (valued_object file) s.names s.values) (uncounted file s.names s.values)
+  | Some t ↦ map (typed_object file s.names t) s.names
+  | None ↦ unwrap_or (paired (valued_object file s.names) s.names s.values) (uncounted file s.names s.values)
 ]
 
 -- https://go.dev/ref/spec#Type_declarations
 abbrev pub type_object : ℕ → TypeSpec → Object
-type_object file s = record { file = file; name = s.name; form = type' s.type }
+type_object file s = record { file = file; begins = s.name.place; name = s.name; form = type' s.type }
 
 abbrev pub objects_in : ℕ → TopLevel → List Object
 objects_in file (declared (constants p ss)) = in_group file 0 (record { names = []; type = None; values = no_exprs }) ss
@@ -82,7 +92,7 @@ objects_in file (declared (types p ss)) = map (type_object file) ss
 -- init declares no name
 objects_in file (function f) =
     if bytes_eq f.name.text (codes "init") then []
-    else record { file = file; name = f.name; form = function' f.parameters f.results } ∷ []
+    else record { file = file; begins = f.name.place; name = f.name; form = function' f.parameters f.results } ∷ []
 
 abbrev pub objects_from : ℕ → List File → List Object
 objects_from file [] = []

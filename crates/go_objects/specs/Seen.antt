@@ -18,7 +18,7 @@ form_of (forms.Function ps ts) = objects.function' (map parameter_of ps.now) (ma
 form_of (forms.Other t es) = objects.other (option_map (λ t. type_of t.now) t) (exprs_in es.now)
 
 abbrev pub object_of : Object → objects.Object
-object_of o = record { file = o.file; name = o.name.now; form = form_of o.form }
+object_of o = record { file = o.file; begins = o.begins; name = o.name.now; form = form_of o.form }
 
 -- a specification of constants or variables, by what it means
 abbrev pub spec_of : Spec → trees.ConstSpec

@@ -1,15 +1,15 @@
 -- What is known of each object of a package, in whatever order they are declared.
-use Rattle.std.specs.Prelude.{◌≡◌, ℕ, suc, Bool, false, not, nat_eq, bytes_eq, codes, length, if◌then◌else◌, List, [], ◌∷◌, ◌++◌, map, Option, Some, None, option_map, unwrap_or}
+use Rattle.std.specs.Prelude.{◌≡◌, ℕ, suc, Bool, false, not, nat_eq, bytes_eq, codes, length, if◌then◌else◌, List, [], ◌∷◌, ◌++◌, map, Option, Some, None, option_map, option_and_then, unwrap_or}
 use Rattle.std.specs.List.{slice_get, flat_map, filter, filter_map, list_any}
 use Rattle.go_text.specs.declared.fault.FaultKind.TheVariants.{Size, Redeclared}
 use Rattle.go_ast.specs.Trees.{Name, TypeExpr, Expr, Parameter}
 use Rattle.go_types.specs.Types.{Type', named}
 use Rattle.go_types.specs.Relations.{underlying}
-use Rattle.go_typed.specs.Trees.{Symbol, Expr as Typed, global, expr_type}
+use Rattle.go_typed.specs.Trees.{Symbol, Expr as Typed, global}
 use Rattle.go_scope.specs.Names.{Used, in_type, in_expr, in_exprs}
 use Rattle.go_scope.specs.Order.{Grounded}
 use Rattle.go_expr.specs.Known.{Declared, value, type', function, Names, Known, declared, package', results, Verdict, Fine, Breaks, Passed, Scope, named as known_name, universe}
-use Rattle.go_expr.specs.Rules.{fine, valued, is_small, constant_due, assigned, default_type, differ}
+use Rattle.go_expr.specs.Rules.{fine, valued, is_small, constant_due, assigned, settled_type, differ}
 use Rattle.go_expr.specs.Seen.{iota_of}
 use Rattle.go_expr.specs.Verdicts.{asked, joined, asked_both, operand, verdict, type_verdict}
 use Rattle.go_objects.specs.Objects.{Form, Object}
@@ -119,7 +119,7 @@ form_verdict s x form = elim form [
   | forms.constant t e iota ↦ constant_verdict s t e
   | forms.type' t ↦ asked (named_type x.path x.name) (fine (type_verdict s t))
   | forms.typed_variable t ↦ variable x (fine (type_verdict s t))
-  | forms.valued_variable e ↦ variable x (option_map (λ e. default_type (expr_type e)) (operand (verdict s e)))
+  | forms.valued_variable e ↦ variable x (option_and_then settled_type (operand (verdict s e)))
   | forms.result_variable number count e ↦ variable x (result_type number count (fine (verdict s e)))
   | forms.function' ps ts ↦ function_verdict s x ps ts
   | forms.other t es ↦ Passed

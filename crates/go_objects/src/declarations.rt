@@ -5,7 +5,7 @@ ghost use Rattle.go_ast.specs.Trees.{no_exprs};
 ghost use Rattle.go_ast.specs.Trees as trees;
 ghost use Rattle.go_ast.specs.Views.{type_of, expr_of, exprs_in, const_of, var_of, type_spec_of, function_of, top_of, file_of};
 ghost use Rattle.go_objects.specs.Objects as objects;
-ghost use Rattle.go_objects.specs.Objects.{unpaired, constants_of, in_group, typed_object, result_objects, uncounted, variables_of, type_object, objects_in, objects_from};
+ghost use Rattle.go_objects.specs.Objects.{begin_of, unpaired, constants_of, in_group, typed_object, result_objects, uncounted, variables_of, type_object, objects_in, objects_from};
 ghost use Rattle.go_objects.specs.Seen.{object_of, spec_of};
 
 use crate::object::{Form, Object};
@@ -13,6 +13,7 @@ use go_ast::declaration::{ConstSpec, Decl, TypeSpec, VarSpec};
 use go_ast::expression::{Expr, TypeExpr};
 use go_ast::file::{File, Function, TopLevel};
 use go_ast::name::Name;
+use go_text::place::Place;
 use std::alloc::{AllocError, Global};
 
 /// What some files declare. An `Err` only where memory ran out.
@@ -105,6 +106,20 @@ fn add_group<'a>(
     Ok(())
 }
 
+/// What a specification of constants declares, by what it means. An `Err` only where memory ran out.
+pub fn constants_of<'a>(
+    alloc: Global,
+    file: usize,
+    iota: u64,
+    spec: Spec<'a>,
+) -> Result<Vec<Object<'a>>, AllocError>
+    ensures { IfOk result (λ found. map object_of found.items ≡ constants_of file iota (spec_of spec.entry)) }
+{
+    let mut found = Vec::new(alloc);
+    add_constants(file, iota, spec, &mut found)?;
+    Ok(found)
+}
+
 fn add_constants<'a>(
     file: usize,
     iota: u64,
@@ -132,6 +147,7 @@ fn add_paired_constants<'a>(
     for (name, value) in spec.names.iter().zip(spec.values) {
         found.push(Object {
             file,
+            begins: begin_of(spec.names, name),
             name,
             form: Form::Constant {
                 type_expr: spec.type_expr,
@@ -141,6 +157,16 @@ fn add_paired_constants<'a>(
         })?;
     }
     Ok(())
+}
+
+// The specification of some names, and of this one, begins at the first of them.
+fn begin_of(names: &[Name], name: &Name) -> Place
+    ensures { result ≡ begin_of names.now name.now }
+{
+    match names.first() {
+        Some(first) => first.place(),
+        None => name.place(),
+    }
 }
 
 // Each name with all that stands in its specification.
@@ -153,10 +179,27 @@ fn add_unpaired<'a>(
         ≡ map object_of found.old.items ++ unpaired file (spec_of spec.entry).type (spec_of spec.entry).values (spec_of spec.entry).names) }
 {
     for name in spec.names {
-        let form = Form::Other(spec.type_expr, spec.values);
-        found.push(Object { file, name, form })?;
+        found.push(Object {
+            file,
+            begins: begin_of(spec.names, name),
+            name,
+            form: Form::Other(spec.type_expr, spec.values),
+        })?;
     }
     Ok(())
+}
+
+/// What a specification of variables declares. An `Err` only where memory ran out.
+pub fn variables_of<'a>(
+    alloc: Global,
+    file: usize,
+    spec: &'a VarSpec,
+) -> Result<Vec<Object<'a>>, AllocError>
+    ensures { IfOk result (λ found. map object_of found.items ≡ variables_of file (var_of spec.now)) }
+{
+    let mut found = Vec::new(alloc);
+    add_variables(file, spec, &mut found)?;
+    Ok(found)
 }
 
 // Variables of a type that is written, or else each with its own value, or with its place among the
@@ -182,11 +225,15 @@ fn add_typed_variables<'a>(
     type_expr: &'a TypeExpr,
     found: &mut Vec<Object<'a>>,
 ) -> Result<(), AllocError>
-    ensures { OnOk result (map object_of found.new.items ≡ map object_of found.old.items ++ map (typed_object file (type_of type_expr.now)) names.now) }
+    ensures { OnOk result (map object_of found.new.items ≡ map object_of found.old.items ++ map (typed_object file names.now (type_of type_expr.now)) names.now) }
 {
     for name in names {
-        let form = Form::TypedVariable(type_expr);
-        found.push(Object { file, name, form })?;
+        found.push(Object {
+            file,
+            begins: begin_of(names, name),
+            name,
+            form: Form::TypedVariable(type_expr),
+        })?;
     }
     Ok(())
 }
@@ -234,11 +281,15 @@ fn add_result_variables<'a>(
     found: &mut Vec<Object<'a>>,
 ) -> Result<(), AllocError>
     ensures { OnOk result (map object_of found.new.items
-        ≡ map object_of found.old.items ++ result_objects file (length names.now) 0 (expr_of value.now) names.now) }
+        ≡ map object_of found.old.items ++ result_objects file names.now 0 (expr_of value.now) names.now) }
 {
     for (number, name) in names.iter().enumerate() {
-        let form = Form::ResultVariable(number, names.len(), value);
-        found.push(Object { file, name, form })?;
+        found.push(Object {
+            file,
+            begins: begin_of(names, name),
+            name,
+            form: Form::ResultVariable(number, names.len(), value),
+        })?;
     }
     Ok(())
 }
@@ -254,8 +305,12 @@ fn add_paired_variables<'a>(
         ≡ map object_of found.old.items ++ variables_of file (record { names = names.now; type = None; values = exprs_in values.now })) }
 {
     for (name, value) in names.iter().zip(values) {
-        let form = Form::ValuedVariable(value);
-        found.push(Object { file, name, form })?;
+        found.push(Object {
+            file,
+            begins: begin_of(names, name),
+            name,
+            form: Form::ValuedVariable(value),
+        })?;
     }
     Ok(())
 }
@@ -283,6 +338,7 @@ fn add_types<'a>(
     for spec in specs {
         found.push(Object {
             file,
+            begins: spec.name.place(),
             name: &spec.name,
             form: Form::Type(&spec.type_expr),
         })?;
@@ -303,6 +359,7 @@ fn add_function<'a>(
     }
     found.push(Object {
         file,
+        begins: function.name.place(),
         name: &function.name,
         form: Form::Function(&function.parameters, &function.results),
     })?;

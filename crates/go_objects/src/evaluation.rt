@@ -1,11 +1,10 @@
 //! What is known of one object, by what is known of the others.
-ghost use Rattle.std.specs.Prelude.{◌≡◌, nat_eq, if◌then◌else◌, length, slice_get, Some, None, IfOk};
+ghost use Rattle.std.specs.Prelude.{◌≡◌, nat_eq, if◌then◌else◌, length, slice_get, option_and_then, Some, None, IfOk};
 ghost use Rattle.std.specs.Option.{option_map};
 ghost use Rattle.go_ast.specs.Views.{expr_of as expr_tree, type_of as type_tree};
 ghost use Rattle.go_types.specs.Views.{type_of};
-ghost use Rattle.go_typed.specs.Trees.{expr_type};
 ghost use Rattle.go_typed.specs.Views.{expr_of};
-ghost use Rattle.go_expr.specs.Rules.{fine, valued, constant_due, is_small, default_type};
+ghost use Rattle.go_expr.specs.Rules.{fine, valued, constant_due, is_small, settled_type};
 ghost use Rattle.go_expr.specs.Verdicts.{operand, verdict, type_verdict};
 ghost use Rattle.go_expr.specs.Seen.{declared_of, names_of, scope_of};
 ghost use Rattle.go_objects.specs.Table.{scope_at, value_of, constant_verdict, named_type, result_type, variable, iota_in, form_verdict, object_verdict, declared_in};
@@ -21,7 +20,7 @@ use go_expr::expression::{check_expr, check_operand, check_type};
 use go_expr::known::{Declared, Known, Names};
 use go_expr::node::{constant_in as constant_of_value, type_in as type_of_value};
 use go_expr::scope::Scope;
-use go_expr::value::{assigned, default_type};
+use go_expr::value::{assigned, settled_type};
 use go_typed::expression::TypedExpr;
 use go_typed::symbol::Symbol;
 use go_types::relations::underlying;
@@ -181,13 +180,13 @@ pub(crate) fn symbol(alloc: Global, path: &str, name: &str) -> Result<Symbol, Al
     Ok(Symbol::new(path, name))
 }
 
-// The type that a variable takes of its value, if that is known.
+// The type that a variable takes of its value, if that is known and lies in it.
 fn value_type(alloc: Global, scope: &Scope<'_>, value: &Expr) -> Result<Option<GoType>, AllocError>
     ensures { IfOk result (λ t. option_map type_of t
-        ≡ option_map (λ e. default_type (expr_type e)) (operand (verdict (scope_of scope.now) (expr_tree value.now)))) }
+        ≡ option_and_then settled_type (operand (verdict (scope_of scope.now) (expr_tree value.now)))) }
 {
     match operand_in(alloc, scope, value)? {
-        Some(value) => Ok(Some(default_type(type_of_value(&value))?)),
+        Some(value) => settled_type(&value),
         None => Ok(None),
     }
 }
@@ -227,8 +226,8 @@ fn numbered_type(
     }
 }
 
-// The value that an operand is, if it is known.
-fn operand_in(
+/// The value that an operand is, if it is known. An `Err` only where memory ran out.
+pub fn operand_in(
     alloc: Global,
     scope: &Scope<'_>,
     value: &Expr,
@@ -242,8 +241,8 @@ fn operand_in(
     }
 }
 
-// The type that is written, if it is known.
-pub(crate) fn type_in(
+/// The type that is written, if it is known. An `Err` only where memory ran out.
+pub fn type_in(
     alloc: Global,
     scope: &Scope<'_>,
     of: &TypeExpr,
@@ -267,11 +266,9 @@ pub fn named_type(
 ) -> Result<Option<Declared>, AllocError>
     ensures { IfOk result (λ d. option_map declared_of d ≡ declared_in (fine (named_type path.now name.now (type_of of.now)))) }
 {
-    let named = Named {
-        path: String::from_str(alloc, path)?,
-        name: String::from_str(alloc, name)?,
-        underlying: underlying(of).copy()?,
-    };
+    let path = String::from_str(alloc, path)?;
+    let name = String::from_str(alloc, name)?;
+    let named = Named::new(path, name, underlying(of).copy()?);
     let of = GoType::Named(Arc::new(alloc, named)?);
     if is_small(&of) {
         Ok(Some(Declared::Type(of)))

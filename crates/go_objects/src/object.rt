@@ -2,6 +2,7 @@
 use go_ast::expression::{Expr, TypeExpr};
 use go_ast::file::Parameter;
 use go_ast::name::Name;
+use go_text::place::Place;
 
 /// How something is declared.
 #[derive(Clone, Copy)]
@@ -36,6 +37,8 @@ pub enum Form<'a> {
 pub struct Object<'a> {
     /// The number of its file.
     pub file: usize,
+    /// Where its specification begins.
+    pub begins: Place,
     /// Its name.
     pub name: &'a Name,
     /// How it is declared.

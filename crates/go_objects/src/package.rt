@@ -6,9 +6,10 @@ ghost use Rattle.go_ast.specs.Views.{type_of, exprs_in, parameter_of};
 ghost use Rattle.go_scope.specs.Names.{in_type, in_exprs, used};
 ghost use Rattle.ws_reach.specs.Reach.{EdgesStayWithin, rows_of};
 ghost use Rattle.go_objects.specs.Table.{in_written, used_by, is_hidden, imports_at, needs, rows};
-ghost use Rattle.go_objects.specs.Seen.{form_of, object_of};
+ghost use Rattle.go_objects.specs.Seen.{form_of, object_of, spec_of};
 ghost use Rattle.go_objects.specs.Packages.{imports_of, package_of};
 
+use crate::declarations::Spec;
 use crate::object::{Form, Object};
 use crate::objects::Objects;
 use go_ast::expression::{Expr, TypeExpr};
@@ -84,6 +85,15 @@ fn is_hidden(imports: &[Import<'_>], name: &str) -> bool
         }
     }
     false
+}
+
+/// The names in the type and the values of a specification. An `Err` only where memory ran out.
+pub fn spec_names<'a>(alloc: Global, spec: Spec<'a>) -> Result<Vec<UsedName<'a>>, AllocError>
+    ensures { IfOk result (λ names. map used names.items ≡ in_written (spec_of spec.entry).type ++ in_exprs (spec_of spec.entry).values) }
+{
+    let mut names = Vec::new(alloc);
+    add_used(Form::Other(spec.type_expr, spec.values), &mut names)?;
+    Ok(names)
 }
 
 // Adds the names that a form uses.

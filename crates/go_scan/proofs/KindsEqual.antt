@@ -1,20 +1,23 @@
 -- Kinds of tokens are equal, as `==` compares them, exactly where they are the same.
 use denote.Enum.Bare.{same_true, true_same}
-use Rattle.std.proofs.Common.{rules, ◌≡◌, ◌↔◌, true, refl, sym, ap, ◌∙◌}
+use Rattle.std.proofs.Common.{◌≡◌, ◌↔◌, false, true, refl, sym, ap, ◌∙◌}
 use Rattle.go_scan.specs.contracts.keyword.Keyword as keyword
 use Rattle.go_scan.specs.contracts.punctuation.Punctuation as punctuation
 use Rattle.go_scan.specs.declared.token.TokenKind.{TokenKind}
 use Rattle.go_scan.specs.declared.token.TokenKind.TheVariants as kinds
 use Rattle.go_scan.specs.Kinds.{kind_eq}
 
+never : false ≡ true → ⊥
+never e = cc
+
 equal_kinds : (a b : TokenKind) → kind_eq a b ≡ true → a ≡ b
 equal_kinds kinds.Name kinds.Name e = refl
 equal_kinds kinds.Integer kinds.Integer e = refl
 equal_kinds kinds.Rune kinds.Rune e = refl
 equal_kinds kinds.String kinds.String e = refl
-equal_kinds (kinds.Keyword j) (kinds.Keyword k) e = ap kinds.Keyword (same_true keyword.the_type (search rules) j k e)
-equal_kinds (kinds.Punctuation p) (kinds.Punctuation q) e = ap kinds.Punctuation (same_true punctuation.the_type (search rules) p q e)
-equal_kinds a b e = cc
+equal_kinds (kinds.Keyword j) (kinds.Keyword k) e = ap kinds.Keyword (same_true keyword.the_type tt j k e)
+equal_kinds (kinds.Punctuation p) (kinds.Punctuation q) e = ap kinds.Punctuation (same_true punctuation.the_type tt p q e)
+equal_kinds a b e = absurd (never e)
 
 kind_itself : (a : TokenKind) → kind_eq a a ≡ true
 kind_itself kinds.Name = refl

@@ -1,3 +1,4 @@
+pub mod Indexes
 pub mod Laws
 pub mod Lookups
 pub mod Orders

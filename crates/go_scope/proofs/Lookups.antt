@@ -25,11 +25,11 @@ added m key value q block entries view is none inserted =
     ∙ ap (λ b. b ++ (string_bytes key, value) ∷ []) view ∙ ap (λ b. block ++ (b, value) ∷ []) is
 
 -- what is found first, or else last
-abbrev or_else : {A : Type 0} → Option A → Option A → Option A
+abbrev pub or_else : {A : Type 0} → Option A → Option A → Option A
 or_else (Some a) b = Some a
 or_else None b = b
 
-lookup_append : {T : Type 0} (test : List ℕ → Bool) (a b : Block T) → lookup test (a ++ b) ≡ or_else (lookup test a) (lookup test b)
+pub lookup_append : {T : Type 0} (test : List ℕ → Bool) (a b : Block T) → lookup test (a ++ b) ≡ or_else (lookup test a) (lookup test b)
 lookup_append test [] b = refl
 lookup_append test (e ∷ es) b = elim (cases_Bool (test e.0)) [ inl t ↦ rw t refl | inr f ↦ rw f (lookup_append test es b) ]
 

@@ -1,4 +1,5 @@
 pub mod Blocks
+pub mod Index
 pub mod Names
 pub mod Order
 pub mod Placing

@@ -2,6 +2,7 @@
 #![tactic(auto)]
 
 mod block;
+pub mod name_index;
 pub mod names;
 pub mod order;
 pub mod scopes;

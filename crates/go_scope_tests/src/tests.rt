@@ -1,3 +1,4 @@
 //! What names stand for, and which names a form uses.
+mod name_index;
 mod names;
 mod scopes;

@@ -1,15 +1,14 @@
 -- Clauses of a switch, one behind another.
 use Rattle.std.proofs.Common.{◌≡◌, ℕ, ◌+◌, ◌∷◌, ◌||◌, Bool, not, is_some, List, drop, Option, Some, None, refl, ap, sym, ◌∙◌}
 use Rattle.go_ast.specs.declared.statement.Clause.{Clause}
-use Rattle.go_typed.specs.Trees as typed
-use Rattle.go_expr.specs.Known.{Verdict}
+use Rattle.go_types.specs.Types.{Type'}
 use Rattle.go_stmt.specs.Scopes.{Env, Context, appended, single}
 use Rattle.go_stmt.specs.Statements.{cases_at, clauses_at, is_last}
 use Rattle.go_stmt.specs.Seen.{cases_tree, clauses_trees, clause_in}
 use Rattle.go_ast.specs.Trees.{Exprs}
 
 -- those that are left are the next one and the others
-pub clauses_left : (k : Context) (v : Option (Verdict typed.Expr)) (again last more : Bool) (cs : List Clause) (i : ℕ) (s : Clause) (env : Env) →
+pub clauses_left : (k : Context) (v : Option Type') (again last more : Bool) (cs : List Clause) (i : ℕ) (s : Clause) (env : Env) →
     drop i cs ≡ s ∷ drop (i + 1) cs → last ≡ is_last (clauses_trees (drop (i + 1) cs)) → more ≡ (again || not (is_some (cases_tree s.values))) →
     clauses_at k v again (clauses_trees (drop i cs)) env ≡ appended (single (clause_in k v again last s)) (clauses_at k v more (clauses_trees (drop (i + 1) cs))) env
 clauses_left k v again last more cs i s env next end default =

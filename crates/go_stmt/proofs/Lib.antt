@@ -13,3 +13,4 @@ pub mod Shown
 pub mod Tests
 pub mod Naming
 pub mod Several
+pub mod Unknown

@@ -1,6 +1,7 @@
 -- Forms one behind another.
-use Rattle.std.proofs.Common.{◌≡◌, ℕ, suc, ◌+◌, ◌<◌, Option, Some, None, List, [], ◌∷◌, ◌++◌, length, drop, get_or, append_assoc, append-nil, add-one, refl, sym, ap, ◌∙◌}
+use Rattle.std.proofs.Common.{◌≡◌, ℕ, suc, ◌+◌, ◌<◌, arith, Option, Some, None, List, [], ◌∷◌, ◌++◌, length, drop, get_or, append_assoc, append-nil, add-one, refl, sym, ap, ◌∙◌}
 use Rattle.std.proofs.Math.Seq.{drop-cons}
+use Rattle.std.specs.List.{zip}
 use Rattle.std.specs.Option.{option_map}
 use Rattle.go_expr.specs.Verdicts.{both}
 use Rattle.go_stmt.specs.Scopes.{Env, Checked, follow, appended}
@@ -45,3 +46,13 @@ pub appended_known : {A : Type 0} (first second : Env → Checked (List A)) (env
 appended_known first second env there all done more next same known is grown =
     same ∙ ap (λ o. joined done (option_map (λ k. k.0 ++ k.1) o)) (later_known first second env there next known is)
     ∙ joined_thrice done next (second there).known ∙ ap (λ o. joined o (second there).known) (sym grown)
+
+-- lists without elements
+pub none_there : {A : Type 0} (xs : List A) → length xs ≡ 0 → xs ≡ []
+none_there [] h = refl
+none_there (x ∷ xs) h = absurd (let n : ⊥ = omega arith in n)
+
+pub none_left : {A B : Type 0} (xs : List A) (ys : List B) → ys ≡ [] → zip xs ys ≡ []
+none_left [] ys h = refl
+none_left (x ∷ xs) [] h = refl
+none_left (x ∷ xs) (y ∷ ys) h = cc

@@ -1,12 +1,12 @@
 -- Values that stand together.
 use Rattle.std.proofs.Common.{◌≡◌, ◌≤◌, List, [], ◌∷◌, map, length, arith, refl, ap}
+use Rattle.std.specs.Prelude.{option_and_then}
 use Rattle.std.specs.Option.{option_map}
 use Rattle.go_ast.specs.Views.{exprs_in}
 use Rattle.go_ast.specs.Trees as trees
 use Rattle.go_ast.specs.declared.expression.Expr.{Expr}
-use Rattle.go_typed.specs.Trees.{expr_type}
 use Rattle.go_expr.specs.Known.{Scope}
-use Rattle.go_expr.specs.Rules.{default_type}
+use Rattle.go_expr.specs.Rules.{settled_type}
 use Rattle.go_expr.specs.Verdicts.{operand, verdict}
 use Rattle.go_stmt.specs.Rules.{separate, all_some}
 use Rattle.go_stmt.specs.Statements.{each_of, operands_faults, values_faults, values_known, value_types}
@@ -22,7 +22,7 @@ known_of_several s [] h = absurd (let n : ⊥ = omega arith in n)
 known_of_several s (e ∷ []) h = absurd (let n : ⊥ = omega arith in n)
 known_of_several s (e ∷ f ∷ es) h = refl
 
-pub types_of_several : (s : Scope) (es : List Expr) → 2 ≤ length es → each_of (λ e. option_map (λ e. default_type (expr_type e)) (operand (verdict s e))) (exprs_in es) ≡ value_types s (exprs_in es)
+pub types_of_several : (s : Scope) (es : List Expr) → 2 ≤ length es → each_of (λ e. option_and_then settled_type (operand (verdict s e))) (exprs_in es) ≡ value_types s (exprs_in es)
 types_of_several s [] h = absurd (let n : ⊥ = omega arith in n)
 types_of_several s (e ∷ []) h = absurd (let n : ⊥ = omega arith in n)
 types_of_several s (e ∷ f ∷ es) h = refl

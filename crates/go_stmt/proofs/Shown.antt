@@ -1,5 +1,5 @@
 -- Statements of the code, by the forms that they are, and nodes by their parts.
-use Rattle.std.proofs.Common.{◌≡◌, ◌++◌, [], Result, Option, refl, ap, sym, ◌∙◌, subst}
+use Rattle.std.proofs.Common.{◌≡◌, ◌++◌, [], Result, Ok, Err, Option, refl, ap, sym, ◌∙◌, subst}
 use Rattle.std.specs.Prelude.{OnOk}
 use Rattle.go_expr.specs.declared.error.ExprError.{ExprError}
 use Rattle.go_text.specs.declared.place.Place.{Place}
@@ -7,7 +7,7 @@ use Rattle.go_expr.specs.Known.{Verdict}
 use Rattle.go_expr.specs.Verdicts.{asked, both}
 use Rattle.go_expr.specs.Seen.{AnswersAt}
 use Rattle.go_expr.proofs.Nodes.{of_part}
-use Rattle.go_stmt.specs.Scopes.{Env, Checked, Faults, enter, follow, node, inside}
+use Rattle.go_stmt.specs.Scopes.{Env, Checked, Faults, enter, leave, follow, node, inside}
 use Rattle.go_stmt.specs.Seen.{Answered}
 
 -- what holds of one form holds of the form that it is
@@ -27,3 +27,34 @@ answered_inside {X} {A} {B} view r p rule first second env there behind a b ente
     let is : (parts there).known ≡ both a b =
     ap (λ (o : Option A). both o (second (first there).after).known) known ∙ ap (λ (x : Env). both a (second x).known) (sym after) ∙ ap (both a) known_behind in
     subst (λ (x : Env). Answered view r (node p rule parts x)) entered (of_part view r p p rule (parts there).faults (parts there).known (both a b) no is refl h)
+
+-- a node of three parts in a block, the last of which stands on what is known of the second
+module _ {A B C D : Type 0} (p : Place) (rule : A × (B × C) → Verdict D) (first : Env → Checked A) (second : Env → Checked B) (third : Option B → Env → Checked C) where
+  abbrev pub upon : Env → Checked D
+  upon env = inside (λ env. node p rule (follow first (follow second (third (second (first env).after).known))) env) env
+
+  pub answered_upon : {X : Type 0} (view : X → D) (r : Result (Option X) ExprError) (env there behind : Env) (a : Option A) (b : Option B) (c : Option C) → there ≡ enter env → (first there).faults ≡ [] →
+      (first there).known ≡ a → behind ≡ (first there).after → (second behind).faults ≡ [] → (second behind).known ≡ b → behind ≡ (second behind).after →
+      (third b behind).faults ≡ [] → (third b behind).known ≡ c → AnswersAt view r p (asked rule (both a (both b c))) → Answered view r (upon env)
+  answered_upon view r env there behind a b c entered none known after none_second known_second same none_third known_third h =
+      let k : Option B = (second (first (enter env)).after).known in
+      let is : k ≡ b = ap (λ (x : Env). (second (first x).after).known) (sym entered) ∙ ap (λ (x : Env). (second x).known) (sym after) ∙ known_second in
+      let last : third k (second behind).after ≡ third b behind = ap (λ (o : Option B). third o (second behind).after) is ∙ ap (third b) (sym same) in
+      let none_behind : (follow second (third k) behind).faults ≡ [] =
+      ap (λ (l : Faults). l ++ (third k (second behind).after).faults) none_second ∙ ap (λ (x : Checked C). x.faults) last ∙ none_third in
+      let known_behind : (follow second (third k) behind).known ≡ both b c =
+      ap (λ (o : Option B). both o (third k (second behind).after).known) known_second ∙ ap (λ (x : Checked C). both b x.known) last ∙ ap (both b) known_third in
+      answered_inside view r p rule first (follow second (third k)) env there behind a (both b c) entered none known after none_behind known_behind h
+
+  pub after_upon : (env there behind end : Env) (b : Option B) → there ≡ enter env → behind ≡ (first there).after → (second behind).known ≡ b → behind ≡ (second behind).after →
+      end ≡ leave (third b behind).after → end ≡ (upon env).after
+  after_upon env there behind end b entered after known_second same is =
+      let there_is : (first (enter env)).after ≡ behind = ap (λ (x : Env). (first x).after) (sym entered) ∙ sym after in
+      is ∙ ap (λ (x : Checked C). leave x.after) (sym (
+      ap (λ (x : Env). third (second x).known (second x).after) there_is
+      ∙ ap (λ (o : Option B). third o (second behind).after) known_second ∙ ap (third b) (sym same)))
+
+-- what holds whatever a result is
+pub on_ok : {A E : Type 0} (r : Result A E) (P : Type 0) → P → OnOk r P
+on_ok (Ok a) P h = h
+on_ok (Err e) P h = tt

@@ -1,5 +1,5 @@
 -- What the rules say of a statement whose parts are known, in the order of the Go specification's sections.
-use Rattle.std.specs.Prelude.{ℕ, pos, Bool, true, false, ◌&&◌, ◌||◌, not, nat_eq, bytes_eq, if◌then◌else◌, length, List, [], ◌∷◌, ◌++◌, map, Option, Some, None, option_map, is_some}
+use Rattle.std.specs.Prelude.{ℕ, pos, Bool, true, false, ◌&&◌, ◌||◌, not, nat_eq, bytes_eq, if◌then◌else◌, length, List, [], ◌∷◌, ◌++◌, map, Option, Some, None, option_map, unwrap_or, is_some}
 use Rattle.std.specs.List.{zip, list_all, list_any}
 use Rattle.go_text.specs.declared.fault.FaultKind.TheVariants.{Redeclared, Mismatch, NoReturn, Assign, Count, Branch}
 use Rattle.go_ast.specs.declared.expression.BinaryOperator.{BinaryOperator}
@@ -86,17 +86,30 @@ abbrev pub differ : List Name → Bool
 differ [] = true
 differ (n ∷ ns) = (is_blank n.text || not (list_any (λ m. bytes_eq n.text m.text) ns)) && differ ns
 
-abbrev pub is_new : Name × Option Declared → Bool
-is_new (n, d) = not (is_blank n.text || is_some d)
+abbrev pub is_new : Name → Option (Option Declared) → Bool
+is_new n own = not (is_blank n.text || is_some own)
 
--- the type that is due for a variable that the block has
-abbrev pub due_for : Option Declared → Option (Option Type')
-due_for d = elim d [ None ↦ Some None | Some (value (local t n)) ↦ Some (Some t) | _ ↦ None ]
+-- what is due for a name, by what the block has under it: none for a new one, and the type of a variable, where something is known of it
+abbrev pub due_for : Option (Option Declared) → Option (Option (Option Type'))
+due_for own = elim own [ None ↦ Some (Some None) | Some None ↦ Some None | Some (Some (value (local t n))) ↦ Some (Some (Some t)) | _ ↦ None ]
 
-abbrev pub redefined : List Name → List (Option Declared) → Values → Verdict Source
-redefined ns own values =
-    if not (differ ns && list_any is_new (zip ns own)) then Breaks Redeclared
-    else (elim (all_some (map due_for own)) [ None ↦ Breaks Mismatch | Some due ↦ suited due values ])
+-- values are passed over where it isn't known what is due for them
+abbrev pub suited_if : Option (Option Type') × Expr → Verdict Expr
+suited_if (due, e) = asked (λ t. suited_one (t, e)) due
+
+abbrev pub suited_partly : List (Option (Option Type')) → Values → Verdict Source
+suited_partly due (separate es) =
+    if nat_eq (length due) (length es) then checked (λ es. Passed) (each_unless [] (map suited_if (zip due es))) else Breaks Count
+suited_partly due values = checked (λ source. Passed) (suited (map (λ t. unwrap_or t None) due) values)
+
+-- the names are no uses: where nothing is known of one, all is asked but whether its own value is assignable
+abbrev pub redefined : (Name → Option (Option Declared)) → List Name → Values → Verdict Source
+redefined own ns values =
+    if not (differ ns && list_any (λ n. is_new n (own n)) ns) then Breaks Redeclared
+    else (elim (all_some (map (λ n. due_for (own n)) ns)) [
+      | None ↦ Breaks Mismatch
+      | Some due ↦ elim (all_some due) [ None ↦ suited_partly due values | Some due ↦ suited due values ]
+    ])
 
 -- ---- simple statements
 
@@ -169,37 +182,26 @@ looped before e post ss = checked (λ e. Fine (before ++ for_statement e (pack_s
 abbrev pub counted : Expr → Verdict Expr
 counted e = if is_integer (expr_type e) then defaulted e else Breaks Mismatch
 
-abbrev pub is_blank_name : Option Name → Bool
-is_blank_name None = false
-is_blank_name (Some n) = is_blank n.text
-
--- the variable isn't blank, if there is one; what the range breaks is told whether the body, in which the variable may stand, is known or not
-abbrev pub ranged : Option Name → Option ℕ → Expr → Option (List Stmt) → Verdict (List Stmt)
-ranged name number e body =
-    if is_blank_name name then Breaks Redeclared
-    else checked (λ e. asked (λ ss. Fine (range_statement number (expr_type e) e (pack_stmts ss) ∷ [])) body) (counted e)
+-- what the range breaks is told whether the body, in which the variable may stand, is known or not
+abbrev pub ranged : Option ℕ → Expr → Option (List Stmt) → Verdict (List Stmt)
+ranged number e body = checked (λ e. asked (λ ss. Fine (range_statement number (expr_type e) e (pack_stmts ss) ∷ [])) body) (counted e)
 
 -- https://go.dev/ref/spec#Expression_switches
 abbrev pub Clause : Type 0
 Clause = Option Exprs × (Stmts × Bool)
 
--- the values of a case, compared with that of the switch
-abbrev pub case_value : Expr → Expr → Verdict Expr
-case_value tag e = checked (λ t. Fine (as_type t e)) (operand_type (Comparison Equal) tag e)
-
--- the values of a case; a tag outside of the type that it takes is a fault of the switch alone
-abbrev pub case_values : Verdict Expr → List Expr → Verdict (List Expr)
-case_values (Fine tag) es = each_unless [] (map (case_value tag) es)
-case_values (Breaks kind) es = Fine es
-case_values Passed es = Fine es
+-- a value of a case, compared with a variable of the tag's type: whether the tag lies in that type is the switch's own matter
+abbrev pub case_value : Type' → Expr → Verdict Expr
+case_value t e = checked (λ t. Fine (as_type t e)) (operand_type (Comparison Equal) (local t 0) e)
 
 -- a case, or a default, behind another or not
-abbrev pub clause_of : Option (Verdict Expr) → Bool → Bool → Option (List Expr) → List Stmt → Verdict Clause
+abbrev pub clause_of : Option Type' → Bool → Bool → Option (List Expr) → List Stmt → Verdict Clause
 clause_of tag again falls None ss = if again then Breaks Branch else Fine (None, (pack_stmts ss, falls))
-clause_of tag again falls (Some es) ss = checked (λ es. Fine (Some (pack_exprs es), (pack_stmts ss, falls))) (asked (λ v. case_values v es) tag)
+clause_of tag again falls (Some es) ss =
+    checked (λ es. Fine (Some (pack_exprs es), (pack_stmts ss, falls))) (asked (λ t. each_unless [] (map (case_value t) es)) tag)
 
-abbrev pub switched : List Stmt → Verdict Expr → List Clause → Verdict (List Stmt)
-switched before tag cs = checked (λ tag. Fine (before ++ switch_statement tag (pack_clauses cs) ∷ [])) tag
+abbrev pub switched : List Stmt → Expr → List Clause → Verdict (List Stmt)
+switched before tag cs = checked (λ tag. Fine (before ++ switch_statement tag (pack_clauses cs) ∷ [])) (defaulted tag)
 
 -- a break, a continue or a fallthrough, where it may stand
 abbrev pub branch : Bool → List Stmt → Verdict (List Stmt)

@@ -129,6 +129,6 @@ inside form env = record { faults = (form (enter env)).faults; known = (form (en
 abbrev pub declaring : {A : Type 0} → (Env → Env) → (Env → Checked A) → Env → Checked A
 declaring change form env = record { faults = (form env).faults; known = (form env).known; after = change env }
 
--- a form that may be known or not
-abbrev pub perhaps : {A : Type 0} → (Env → Checked A) → Env → Checked (Option A)
-perhaps form env = record { faults = (form env).faults; known = Some (form env).known; after = (form env).after }
+-- a form that may be known or not; where it is hidden, it isn't known even whether it is
+abbrev pub perhaps : {A : Type 0} → Bool → (Env → Checked A) → Env → Checked (Option A)
+perhaps hidden form env = record { faults = (form env).faults; known = if hidden then None else Some (form env).known; after = (form env).after }

@@ -1,11 +1,14 @@
 -- How the code's values stand for those of the definitions, and what its answers say.
-use Rattle.std.specs.Prelude.{◌≡◌, Bool, ◌&&◌, not, List, [], map, Option, option_map, Result, Ok, Err, Vec, Box}
+use Rattle.std.specs.Prelude.{◌≡◌, ℕ, Bool, ◌&&◌, not, List, [], map, Option, option_map, Result, Ok, Err, Vec, Box}
 use Rattle.std.specs.Global.{Global}
+use Rattle.std.specs.List.{filter}
 use Rattle.go_text.specs.declared.place.Place.{Place}
 use Rattle.go_text.specs.declared.fault.FaultKind.{FaultKind}
 use Rattle.go_types.specs.Types.{Type'}
+use Rattle.go_types.specs.declared.types.GoType.{GoType}
 use Rattle.go_types.specs.Views.{type_of}
 use Rattle.go_ast.specs.Trees as trees
+use Rattle.go_ast.specs.Trees.{Name}
 use Rattle.go_ast.specs.Views.{expr_of as expr_tree, exprs_in as exprs_trees, stmt_of as stmt_tree, if_some, if_boxed, simple_of, block_of, clause_of, type_of as type_tree}
 use Rattle.go_ast.specs.Machine.{pack_clauses}
 use Rattle.go_ast.specs.declared.statement.Stmt.{Stmt}
@@ -16,13 +19,11 @@ use Rattle.go_ast.specs.declared.statement.For.{For}
 use Rattle.go_ast.specs.declared.statement.Range.{Range}
 use Rattle.go_typed.specs.Trees as typed
 use Rattle.go_typed.specs.Views.{expr_of, exprs_in, stmt_of, clause_of as typed_clause}
-use Rattle.go_typed.specs.declared.expression.TypedExpr.{TypedExpr}
 use Rattle.go_typed.specs.declared.statement.TypedClause.{TypedClause}
 use Rattle.go_typed.specs.declared.statement.TypedStmt.{TypedStmt}
 use Rattle.go_expr.specs.declared.error.ExprError.{ExprError}
 use Rattle.go_expr.specs.declared.known.Declared.{Declared}
 use Rattle.go_expr.specs.Known as known
-use Rattle.go_expr.specs.Known.{Verdict, Fine, Breaks}
 use Rattle.go_expr.specs.Seen.{declared_of, names_in, Answers, Fails}
 use Rattle.go_scope.specs.Scopes as blocks
 use Rattle.go_stmt.specs.declared.constants.Spec.{Spec}
@@ -32,7 +33,7 @@ use Rattle.go_stmt.specs.declared.function.Inside.{Inside}
 use Rattle.go_stmt.specs.declared.values.Values as values
 use Rattle.go_stmt.specs.declared.values.Values.TheVariants as variants
 use Rattle.go_stmt.specs.Rules.{Clause as ClauseValue, Values, separate, together, no_values}
-use Rattle.go_stmt.specs.Scopes.{Env, Context, Checked}
+use Rattle.go_stmt.specs.Scopes.{Env, Context, Checked, is_blank}
 use Rattle.go_stmt.specs.Statements.{leads_on, in_clause, clause_at, list_at}
 
 -- names of blocks, each with what it declares where that is known
@@ -79,17 +80,12 @@ typed_in v = map stmt_of v.items
 abbrev pub clauses_of : Vec TypedClause Global → List ClauseValue
 clauses_of v = map typed_clause v.items
 
--- the value that cases are compared with, or what is wrong with it
-abbrev pub tag_of : Result TypedExpr FaultKind → Verdict typed.Expr
-tag_of (Ok e) = Fine (expr_of e)
-tag_of (Err kind) = Breaks kind
-
 -- the results and the statements of a function
 abbrev pub inside_of : Inside → List Type' × List typed.Stmt
 inside_of i = (map type_of i.results.items, typed_in i.statements)
 
 -- a clause of the code, behind a default or not, and the last one or not
-abbrev pub clause_in : Context → Option (Verdict typed.Expr) → Bool → Bool → Clause → Env → Checked ClauseValue
+abbrev pub clause_in : Context → Option Type' → Bool → Bool → Clause → Env → Checked ClauseValue
 clause_in c tag again last s =
     (let ss = trees_in s.statements.items in clause_at c tag again (leads_on ss && not last) s.place (cases_tree s.values) (list_at (in_clause c (not last)) ss))
 
@@ -106,6 +102,14 @@ abbrev pub values_seen : values.Values → Values
 values_seen (variants.Separate es) = separate (map expr_of es.items)
 values_seen (variants.Together ts f es) = together (map type_of ts.items) f (exprs_in es.items)
 values_seen variants.Nothing = no_values
+
+-- the texts of names that aren't blank
+abbrev pub own_texts : List Name → List (List ℕ)
+own_texts ns = map (λ (n : Name). n.text) (filter (λ (n : Name). not (is_blank n.text)) ns)
+
+-- what is due for a name, where that is known
+abbrev pub due_seen : Option (Option GoType) → Option (Option Type')
+due_seen due = option_map (option_map type_of) due
 
 -- a specification of constants, by what it means
 abbrev pub spec_of : Spec → trees.ConstSpec

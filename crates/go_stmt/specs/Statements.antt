@@ -1,5 +1,5 @@
 -- The statements of a function: the faults in each, in the order of the text, a node behind its parts; its typed tree; and what is in scope behind it.
-use Rattle.std.specs.Prelude.{ℕ, suc, Bool, true, false, ◌&&◌, ◌||◌, not, bytes_eq, if◌then◌else◌, List, [], ◌∷◌, ◌++◌, map, Option, Some, None, option_map, is_some}
+use Rattle.std.specs.Prelude.{ℕ, suc, Bool, true, false, ◌&&◌, ◌||◌, not, bytes_eq, if◌then◌else◌, List, [], ◌∷◌, ◌++◌, map, Option, Some, None, option_map, option_and_then, option_to_list, is_some}
 use Rattle.std.specs.List.{list_any}
 use Rattle.go_text.specs.declared.place.Place.{Place}
 use Rattle.go_text.specs.declared.fault.FaultKind.TheVariants.{Redeclared}
@@ -10,10 +10,13 @@ use Rattle.go_types.specs.declared.types.Basic.TheVariants as basics
 use Rattle.go_types.specs.Types.{Type', basic}
 use Rattle.go_typed.specs.Trees as typed
 use Rattle.go_typed.specs.Trees.{expr_type, pack_stmts}
-use Rattle.go_expr.specs.Known.{Declared, value, Verdict, Fine, Scope}
-use Rattle.go_expr.specs.Rules.{fine, checked, is_integer, default_type, assigned, defaulted}
+use Rattle.go_expr.specs.Known.{Declared, value, Fine, Passed, Scope, look_up}
+use Rattle.go_expr.specs.Rules.{fine, checked, is_integer, default_type, settled_type, assigned}
 use Rattle.go_expr.specs.Verdicts as verdicts
-use Rattle.go_expr.specs.Verdicts.{asked, both, operand, operands, verdict, type_verdict, broken, operand_broken, faults, type_faults}
+use Rattle.go_expr.specs.Verdicts.{asked, both, operand, operands, verdict, type_verdict, operand_broken, part_broken, faults, type_faults}
+use Rattle.go_scope.specs.Names.{Used}
+use Rattle.go_uses.specs.Uses as uses
+use Rattle.go_uses.specs.Uses.{texts, outside}
 use Rattle.go_stmt.specs.Scopes.{Env, Context, scope_in, is_blank, declare, paired, declare_new, own, number_of, Faults, Checked, still, given, follow, seen, single, appended, node, inside, declaring, perhaps}
 use Rattle.go_stmt.specs.Rules.{all_some, Values, separate, together, no_values, values_of, constants_of, variables_source, redefined, performed, assigned_to, updated, stepped, conditional, looped, ranged, Clause, clause_of, switched, branch, returned}
 
@@ -36,7 +39,7 @@ values_known s (some_exprs e no_exprs) = fine (asked values_of (fine (verdict s 
 values_known s es = option_map separate (all_some (each_of (λ e. operand (verdict s e)) es))
 
 abbrev pub values_faults : Scope → Exprs → Faults
-values_faults s (some_exprs e no_exprs) = faults s e ++ broken (place_of e) (asked values_of (fine (verdict s e)))
+values_faults s (some_exprs e no_exprs) = faults s e ++ part_broken e (asked values_of (fine (verdict s e)))
 values_faults s es = operands_faults s es
 
 abbrev pub values_at : Context → Exprs → Env → Checked Values
@@ -45,13 +48,13 @@ values_at c es env = (let s = scope_in c None env in still (values_faults s es) 
 -- the types of variables that get values, each by what is known of its own value
 abbrev pub alone_types : Option Values → List (Option Type')
 alone_types None = None ∷ []
-alone_types (Some (separate es)) = map (λ e. Some (default_type (expr_type e))) es
+alone_types (Some (separate es)) = map settled_type es
 alone_types (Some (together ts f es)) = map Some ts
 alone_types (Some no_values) = []
 
 abbrev pub value_types : Scope → Exprs → List (Option Type')
 value_types s (some_exprs e no_exprs) = alone_types (values_known s (some_exprs e no_exprs))
-value_types s es = each_of (λ e. option_map (λ e. default_type (expr_type e)) (operand (verdict s e))) es
+value_types s es = each_of (λ e. option_and_then settled_type (operand (verdict s e))) es
 
 -- ---- declarations
 
@@ -153,16 +156,11 @@ abbrev pub lefts_at : Context → Exprs → Env → Checked (List (Option typed.
 lefts_at c no_exprs env = given [] env
 lefts_at c (some_exprs e es) env = appended (left_at c e) (lefts_at c es) env
 
--- what the block has under names that get values, where that is known
-abbrev pub own_known : Env → Name → Option (Option Declared)
-own_known env n = elim (own env n) [ None ↦ Some None | Some None ↦ None | Some (Some d) ↦ Some (Some d) ]
-
 -- https://go.dev/ref/spec#Short_variable_declarations
 abbrev pub short_at : Context → Place → List Name → Exprs → Env → Checked typed.Stmt
 short_at c p ns es env =
     let change = declare_new (paired ns (value_types (scope_in c None env) es)) in
-    declaring change (node p (λ k. checked (λ source. Fine (typed.define (map (number_of (change env)) ns) source)) (redefined ns k.0 k.1))
-    (follow (still [] (all_some (map (own_known env) ns))) (values_at c es))) env
+    declaring change (node p (λ k. checked (λ source. Fine (typed.define (map (number_of (change env)) ns) source)) (redefined (own env) ns k)) (values_at c es)) env
 
 -- where it begins
 abbrev pub begins_at : Place → Simple → Place
@@ -220,29 +218,38 @@ abbrev pub is_last : Clauses → Bool
 is_last cs = elim cs [ no_clauses ↦ true | clause p es ss rest ↦ false ]
 
 -- https://go.dev/ref/spec#Expression_switches
--- the value that cases are compared with, as one of the type that it takes; without one it is true
-abbrev pub tag_at : Context → Option Expr → Env → Checked (Verdict typed.Expr)
-tag_at c None env = given (Fine (typed.constant (basic basics.Bool) (Truth true))) env
-tag_at c (Some e) env = seen defaulted (value_at c e) env
+-- the value that cases are compared with; without one it is true
+abbrev pub tag_at : Context → Option Expr → Env → Checked typed.Expr
+tag_at c None env = given (typed.constant (basic basics.Bool) (Truth true)) env
+tag_at c (Some e) env = value_at c e env
 
 -- the values of a case; a default has none
 abbrev pub cases_at : Context → Option Exprs → Env → Checked (Option (List typed.Expr))
 cases_at c None env = given None env
 cases_at c (Some es) env = (let s = scope_in c None env in still (verdicts.operands_faults s es) (option_map Some (operands s es)) env)
 
--- a clause with some statements, behind a default or not
-abbrev pub clause_at : Context → Option (Verdict typed.Expr) → Bool → Bool → Place → Option Exprs → (Env → Checked (List typed.Stmt)) → Env → Checked Clause
+-- a clause with some statements, by the tag's type, behind a default or not
+abbrev pub clause_at : Context → Option Type' → Bool → Bool → Place → Option Exprs → (Env → Checked (List typed.Stmt)) → Env → Checked Clause
 clause_at c tag again falls p values body env = inside (node p (λ k. clause_of tag again falls k.0 k.1) (follow (cases_at c values) body)) env
 
 -- https://go.dev/ref/spec#For_range
+-- the type of the variable that counts, where the range breaks no rule
 abbrev pub range_type : Option typed.Expr → Option Type'
-range_type o = elim o [ None ↦ None | Some e ↦ if is_integer (expr_type e) then Some (default_type (expr_type e)) else None ]
+range_type o = elim o [ None ↦ None | Some e ↦ if is_integer (expr_type e) then settled_type e else None ]
 
 abbrev pub range_names : Option Name → Option Type' → List (Name × Option Type')
 range_names o t = elim o [ None ↦ [] | Some n ↦ (n, t) ∷ [] ]
 
 abbrev pub range_number : Option Name → Env → Option ℕ
 range_number o env = elim o [ None ↦ None | Some n ↦ number_of env n ]
+
+-- a name that is used stands for a declaration of which nothing is known
+abbrev pub is_unknown : Scope → Used → Bool
+is_unknown s u = elim (look_up u.0 s.names) [ Passed ↦ true | _ ↦ false ]
+
+-- what a range breaks isn't told where such a name, but its own variable, stands in its body
+abbrev pub is_hidden : Scope → Option Name → Option Type' → Block → Bool
+is_hidden s o t b = not (is_some t) && list_any (is_unknown s) (outside (texts (option_to_list o)) (uses.in_block b))
 
 abbrev mutual
   pub statement_at : Context → Stmt → Env → Checked (List typed.Stmt)
@@ -259,11 +266,13 @@ abbrev mutual
       inside (node p (λ k. looped k.0 (k.1).0 ((k.1).1).0 ((k.1).1).1)
       (follow (optional_at c p before) (follow (condition_at c e) (follow (optional_at c p post) (block_at (in_loop c) b))))) env
   statement_at c (range_statement p o e b) env =
-      inside (λ env. (let change = declare_new (range_names o (range_type (operand (verdict (scope_in c None env) e)))) in
-      node p (λ k. ranged o (range_number o (change env)) k.0 k.1)
-      (follow (value_at c e) (perhaps (λ env. block_at (in_loop c) b (change env)))) env)) env
+      inside (λ env. (let s = scope_in c None env in
+      let t = range_type (operand (verdict s e)) in
+      let change = declare_new (range_names o t) in
+      node p (λ k. ranged (range_number o (change env)) k.0 k.1)
+      (follow (value_at c e) (perhaps (is_hidden s o t b) (λ env. block_at (in_loop c) b (change env)))) env)) env
   statement_at c (switch_statement p before tag cs) env =
-      inside (λ env. (let compared = (tag_at c tag (optional_at c p before env).after).known in
+      inside (λ env. (let compared = option_map (λ e. default_type (expr_type e)) (tag_at c tag (optional_at c p before env).after).known in
       node p (λ k. switched k.0 (k.1).0 (k.1).1)
       (follow (optional_at c p before) (follow (tag_at c tag) (clauses_at c compared false cs))) env)) env
 
@@ -285,7 +294,7 @@ abbrev mutual
   list_at c (some_stmts s ss) env = appended (statement_at (before_others c ss) s) (list_at c ss) env
 
   -- behind a default or not
-  pub clauses_at : Context → Option (Verdict typed.Expr) → Bool → Clauses → Env → Checked (List Clause)
+  pub clauses_at : Context → Option Type' → Bool → Clauses → Env → Checked (List Clause)
   clauses_at c tag again no_clauses env = given [] env
   clauses_at c tag again (clause p values ss rest) env =
       appended

@@ -248,7 +248,7 @@ fn check_constants(
     ensures answer { Answered typed_in result (constants_at (context_of context.entry) place iota repeated (spec_of spec.entry) (env_of env.old)) }
     ensures after { OnOk result (env_of env.new ≡ (constants_at (context_of context.entry) place iota repeated (spec_of spec.entry) (env_of env.old)).after) }
 {
-    check_names(env, spec.names)?;
+    check_names(alloc, env, spec.names)?;
     let first = place_at(place, spec.names);
     let parts = match check_parts(alloc, &env.scope(context, Some(iota)), spec) {
         Ok(parts) => parts,

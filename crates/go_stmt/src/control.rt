@@ -1,5 +1,5 @@
 //! What statements with statements in them are, by what their parts are.
-ghost use Rattle.std.specs.Prelude.{◌≡◌, ◌++◌, ◌∷◌, [], Some, List, IfOk, OnOk, map, option_map};
+ghost use Rattle.std.specs.Prelude.{◌≡◌, ◌++◌, ◌∷◌, [], Some, None, List, if◌then◌else◌, IfOk, OnOk, map, option_map};
 ghost use Rattle.go_ast.specs.Trees as trees;
 ghost use Rattle.go_ast.specs.Views.{expr_of as expr_tree, exprs_in as exprs_trees, if_boxed};
 ghost use Rattle.go_types.specs.Views.{type_of};
@@ -8,7 +8,7 @@ ghost use Rattle.go_typed.specs.Views.{expr_of, stmt_of};
 ghost use Rattle.go_expr.specs.Known.{Verdict};
 ghost use Rattle.go_expr.specs.Verdicts.{asked, both};
 ghost use Rattle.go_expr.specs.Seen.{Gives, AnswersAt};
-ghost use Rattle.go_stmt.specs.Rules.{conditional, loop_condition, looped, counted, is_blank_name, ranged, branch, returned};
+ghost use Rattle.go_stmt.specs.Rules.{conditional, loop_condition, looped, counted, ranged, branch, returned};
 ghost use Rattle.go_stmt.specs.Scopes.{declare_new};
 ghost use Rattle.go_stmt.specs.Statements.{one_block, range_type, range_names, range_number, value_at, condition_at, statement_at};
 ghost use Rattle.go_stmt.specs.Seen.{context_of, env_of, typed_in, values_seen, Answered};
@@ -21,7 +21,7 @@ use go_ast::name::Name;
 use go_expr::error::{ExprError, RuleError};
 use go_expr::expression::check_operand;
 use go_expr::node::type_in;
-use go_expr::value::{condition as condition_due, default_type, defaulted, is_integer};
+use go_expr::value::{condition as condition_due, defaulted, is_integer, settled_type};
 use go_text::fault::FaultKind;
 use go_text::place::Place;
 use go_typed::expression::TypedExpr;
@@ -279,14 +279,12 @@ pub(crate) fn one_block(
     }
 }
 
-/// The type of the variable that counts, where that is known.
+/// The type of the variable that counts, where the range breaks no rule.
 pub(crate) fn range_type(operand: &Option<TypedExpr>) -> Result<Option<GoType>, AllocError>
     ensures { IfOk result (λ t. option_map type_of t ≡ range_type (option_map expr_of operand.now)) }
 {
     match operand {
-        Some(operand) if is_integer(type_in(operand)) => {
-            Ok(Some(default_type(type_in(operand))?))
-        }
+        Some(operand) if is_integer(type_in(operand)) => settled_type(operand),
         _ => Ok(None),
     }
 }
@@ -315,16 +313,6 @@ fn range_of(
     Ok(TypedStmt::Range(number, of, operand, body))
 }
 
-/// Whether a name is there and blank.
-fn is_blank(name: &Option<Name>) -> bool
-    ensures { result ≡ is_blank_name name.now }
-{
-    match name {
-        Some(name) => name.text() == "_",
-        None => false,
-    }
-}
-
 /// A loop over a range that counts, where its body is known.
 fn counting(
     alloc: Global,
@@ -345,40 +333,39 @@ fn counting(
     }
 }
 
-/// A loop over a range at a place. `Redeclared` where its variable is blank, which declares none.
+/// A loop over a range at a place.
 fn loop_over(
     alloc: Global,
     place: Place,
-    name: &Option<Name>,
     number: Option<usize>,
     operand: TypedExpr,
     body: Option<Vec<TypedStmt>>,
 ) -> Result<Option<Vec<TypedStmt>>, ExprError>
-    ensures { AnswersAt typed_in result place (ranged name.now number (expr_of operand) (option_map typed_in body)) }
+    ensures { AnswersAt typed_in result place (ranged number (expr_of operand) (option_map typed_in body)) }
 {
-    if is_blank(name) {
-        return Err(ExprError::Faulty(place, FaultKind::Redeclared));
-    }
     match counted(alloc, operand) {
         Ok(operand) => Ok(counting(alloc, number, operand, body)?),
         Err(error) => Err(error.at(place)),
     }
 }
 
-/// A loop over a range at a place, where the range is known.
+/// A loop over a range at a place, where the range is known and what it breaks isn't hidden.
 pub(crate) fn ranged(
     alloc: Global,
     place: Place,
-    name: &Option<Name>,
     number: Option<usize>,
     operand: Option<TypedExpr>,
+    hidden: bool,
     body: Option<Vec<TypedStmt>>,
 ) -> Result<Option<Vec<TypedStmt>>, ExprError>
     ensures { AnswersAt typed_in result place
-        (asked (λ k. ranged name.now number k.0 k.1) (both (option_map expr_of operand) (Some (option_map typed_in body)))) }
+        (asked (λ k. ranged number k.0 k.1) (both (option_map expr_of operand) (if hidden then None else Some (option_map typed_in body)))) }
 {
+    if hidden {
+        return Ok(None);
+    }
     match operand {
-        Some(operand) => loop_over(alloc, place, name, number, operand, body),
+        Some(operand) => loop_over(alloc, place, number, operand, body),
         None => Ok(None),
     }
 }

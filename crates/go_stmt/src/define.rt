@@ -1,22 +1,23 @@
 //! Variables that get values. [Short variable declarations](https://go.dev/ref/spec#Short_variable_declarations)
-ghost use Rattle.std.specs.Prelude.{◌≡◌, IfOk, OnOk, map};
-ghost use Rattle.std.specs.List.{zip, list_any};
+ghost use Rattle.std.specs.Prelude.{◌≡◌, IfOk, OnOk, map, option_copied};
+ghost use Rattle.std.specs.List.{list_any};
 ghost use Rattle.std.specs.Option.{option_map};
 ghost use Rattle.go_ast.specs.Views.{exprs_in as exprs_trees};
 ghost use Rattle.go_types.specs.Views.{type_of};
 ghost use Rattle.go_typed.specs.Trees as typed;
 ghost use Rattle.go_typed.specs.Views.{source_of, stmt_of};
 ghost use Rattle.go_expr.specs.Known.{Verdict};
-ghost use Rattle.go_expr.specs.Verdicts.{asked, both};
+ghost use Rattle.go_expr.specs.Verdicts.{asked};
 ghost use Rattle.go_expr.specs.Seen.{all_of, declared_of, Gives, AnswersAt};
-ghost use Rattle.go_stmt.specs.Scopes.{number_of, paired, declare_new};
-ghost use Rattle.go_stmt.specs.Rules.{all_some, differ, is_new, due_for, redefined};
-ghost use Rattle.go_stmt.specs.Statements.{own_known, short_at};
-ghost use Rattle.go_stmt.specs.Seen.{context_of, env_of, values_seen, Answered};
+ghost use Rattle.go_stmt.specs.Scopes.{own, number_of, paired, declare_new};
+ghost use Rattle.go_stmt.specs.Rules.{all_some, is_new, due_for, redefined};
+ghost use Rattle.go_stmt.specs.Statements.{short_at};
+ghost use Rattle.go_stmt.specs.Seen.{context_of, env_of, values_seen, due_seen, Answered};
 
 use crate::context::Context;
 use crate::env::Env;
-use crate::names::is_among;
+use crate::names::differ;
+use crate::partly::{Due, known_due, suited_partly};
 use crate::values::{Valued, Values, check_values, suited};
 use go_ast::expression::Expr;
 use go_ast::name::Name;
@@ -28,95 +29,44 @@ use go_typed::statement::{TypedSource, TypedStmt};
 use go_types::types::GoType;
 use std::alloc::{AllocError, Global};
 
-/// Whether no name stands twice but the blank one.
-fn differ(names: &[Name]) -> bool
-    ensures { result ≡ differ names.now }
-{
-    let mut rest = names;
-    while let [name, others @ ..] = rest {
-        if name.text() != "_" && is_among(name, others) {
-            return false;
-        }
-        rest = others;
-    }
-    true
-}
-
 /// Whether a name is new, by what its block has under it.
-fn is_new(name: &Name, own: &Option<Declared>) -> bool
-    ensures { result ≡ is_new (name.now, option_map declared_of own.now) }
+fn is_new(name: &Name, own: Option<&Option<Declared>>) -> bool
+    ensures { result ≡ is_new name.now (option_map (option_map declared_of) (option_copied own.entry)) }
 {
     name.text() != "_" && own.is_none()
 }
 
 /// Whether one of some names is new.
-fn any_new(names: &[Name], own: &[Option<Declared>]) -> bool
-    ensures { result ≡ list_any is_new (zip names.now (map (option_map declared_of) own.now)) }
+fn any_new(env: &Env, names: &[Name]) -> bool
+    ensures { result ≡ list_any (λ n. is_new n (own (env_of env.now) n)) names.now }
 {
-    let mut rest = own;
     for name in names {
-        let [first, others @ ..] = rest else {
-            return false;
-        };
-        if is_new(name, first) {
+        if is_new(name, env.own(name)) {
             return true;
         }
-        rest = others;
     }
     false
 }
 
-/// What the block has under a name, where that is known.
-fn own_known(env: &Env, name: &Name) -> Result<Option<Option<Declared>>, AllocError>
-    ensures { IfOk result (λ own. option_map (option_map declared_of) own ≡ own_known (env_of env.now) name.now) }
+/// What is due for a name, by what its block has under it. `None` of what is no variable.
+fn due_for(own: Option<&Option<Declared>>) -> Result<Option<Due>, AllocError>
+    ensures { IfOk result (λ due. option_map due_seen due ≡ due_for (option_map (option_map declared_of) (option_copied own.entry))) }
 {
-    match env.own(name) {
-        None => Ok(Some(None)),
-        Some(None) => Ok(None),
-        Some(Some(declared)) => Ok(Some(Some(declared.copy()?))),
+    match own {
+        None => Ok(Some(Some(None))),
+        Some(None) => Ok(Some(None)),
+        Some(Some(Declared::Local(of, _))) => Ok(Some(Some(Some(of.copy()?)))),
+        Some(Some(_)) => Ok(None),
     }
 }
 
-/// What the block has under some names, where that is known.
-fn all_own(
-    alloc: Global,
-    env: &Env,
-    names: &[Name],
-) -> Result<Option<Vec<Option<Declared>>>, AllocError>
-    ensures { IfOk result (λ own. option_map (all_of (option_map declared_of)) own ≡ all_some (map (own_known (env_of env.now)) names.now)) }
+/// What is due for some names, where each may get a value.
+fn all_due_for(alloc: Global, env: &Env, names: &[Name]) -> Result<Option<Vec<Due>>, AllocError>
+    ensures { IfOk result (λ due. option_map (all_of due_seen) due ≡ all_some (map (λ n. due_for (own (env_of env.now) n)) names.now)) }
 {
     let mut all = Vec::with_capacity(alloc, names.len())?;
     for name in names {
-        let Some(own) = own_known(env, name)? else {
-            return Ok(None);
-        };
-        all.push(own)?;
-    }
-    Ok(Some(all))
-}
-
-/// The type that is due for what a block has under a name: that of a variable, and none of what is
-/// new. `None` of what is no variable.
-fn due_for(own: &Option<Declared>) -> Result<Option<Option<GoType>>, AllocError>
-    ensures { IfOk result (λ due. option_map (option_map type_of) due ≡ due_for (option_map declared_of own.now)) }
-{
-    match own {
-        None => Ok(Some(None)),
-        Some(Declared::Local(of, _)) => Ok(Some(Some(of.copy()?))),
-        Some(_) => Ok(None),
-    }
-}
-
-/// The types that are due for what a block has under some names, where each may get a value.
-fn all_due_for(
-    alloc: Global,
-    own: &[Option<Declared>],
-) -> Result<Option<Vec<Option<GoType>>>, AllocError>
-    ensures { IfOk result (λ due. option_map (all_of (option_map type_of)) due ≡ all_some (map due_for (map (option_map declared_of) own.now))) }
-{
-    let mut all = Vec::with_capacity(alloc, own.len())?;
-    for one in own {
-        let Some(due) = due_for(one)? else {
+        let Some(due) = due_for(env.own(name))? else {
             return Ok(None);
         };
         all.push(due)?;
@@ -124,24 +74,29 @@ fn all_due_for(
     Ok(Some(all))
 }
 
-/// The values of some names, of which their block has some. `Redeclared` where one stands twice or
-/// none is new; `Mismatch` where one is no variable; `Count` where the values aren't as many; else
-/// `Range` or `Assign` where one isn't assignable.
+/// The values of some names, of which their block has some, at a place. `Redeclared` where one stands
+/// twice or none is new; `Mismatch` where one is no variable; `Count` where the values aren't as many;
+/// else `Range` or `Assign` where one isn't assignable. Nothing is known of them where nothing is of
+/// one of the names.
 fn redefined(
     alloc: Global,
+    place: Place,
+    env: &Env,
     names: &[Name],
-    own: &[Option<Declared>],
     values: Values,
-) -> Result<TypedSource, RuleError>
-    ensures { Gives source_of result (redefined names.now (map (option_map declared_of) own.now) (values_seen values)) }
+) -> Result<Option<TypedSource>, ExprError>
+    ensures { AnswersAt source_of result place (redefined (own (env_of env.now)) names.now (values_seen values)) }
 {
-    if !differ(names) || !any_new(names, own) {
-        return Err(RuleError::Broken(FaultKind::Redeclared));
+    if !differ(alloc, names)? || !any_new(env, names) {
+        return Err(ExprError::Faulty(place, FaultKind::Redeclared));
     }
-    let Some(due) = all_due_for(alloc, own)? else {
-        return Err(RuleError::Broken(FaultKind::Mismatch));
+    let Some(due) = all_due_for(alloc, env, names)? else {
+        return Err(ExprError::Faulty(place, FaultKind::Mismatch));
     };
-    suited(alloc, &due, values)
+    match known_due(alloc, &due)? {
+        Some(due) => sourced(place, suited(alloc, &due, values)),
+        None => suited_partly(alloc, place, &due, values),
+    }
 }
 
 /// The values that a rule gives of a node at a place, or its fault.
@@ -157,24 +112,20 @@ pub(crate) fn sourced(
     }
 }
 
-/// The values of some names at a place, where all of them are known and what the block has.
+/// The values of some names at a place, where all of them are known.
 fn redefined_at(
     alloc: Global,
     place: Place,
+    env: &Env,
     names: &[Name],
-    own: Option<Vec<Option<Declared>>>,
     values: Option<Values>,
 ) -> Result<Option<TypedSource>, ExprError>
-    ensures { AnswersAt source_of result place
-        (asked (λ k. redefined names.now k.0 k.1) (both (option_map (all_of (option_map declared_of)) own) (option_map values_seen values))) }
+    ensures { AnswersAt source_of result place (asked (redefined (own (env_of env.now)) names.now) (option_map values_seen values)) }
 {
-    let Some(own) = own else {
-        return Ok(None);
-    };
-    let Some(values) = values else {
-        return Ok(None);
-    };
-    sourced(place, redefined(alloc, names, &own, values))
+    match values {
+        Some(values) => redefined(alloc, place, env, names, values),
+        None => Ok(None),
+    }
 }
 
 /// Declares variables for those of some names that the block hasn't. An `Err` only where memory ran
@@ -242,9 +193,8 @@ pub(crate) fn check_short(
     ensures answer { Answered stmt_of result (short_at (context_of context.entry) place names.now (exprs_trees es.now) (env_of env.old)) }
     ensures after { OnOk result (env_of env.new ≡ (short_at (context_of context.entry) place names.now (exprs_trees es.now) (env_of env.old)).after) }
 {
-    let own = all_own(alloc, env, names)?;
     let Valued { types, known } = check_values(alloc, &env.scope(context, None), es)?;
-    let source = redefined_at(alloc, place, names, own, known)?;
+    let source = redefined_at(alloc, place, env, names, known)?;
     let numbers = declare_all(alloc, env, names, types)?;
     Ok(defined(numbers, source))
 }

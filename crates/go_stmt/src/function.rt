@@ -80,7 +80,7 @@ fn check_parameter(
     ensures answer { Answered (all_of type_of) result (parameter_at (context_of context.entry) (parameter_of parameter.now) (env_of env.old)) }
     ensures after { OnOk result (env_of env.new ≡ (parameter_at (context_of context.entry) (parameter_of parameter.now) (env_of env.old)).after) }
 {
-    check_names(env, &parameter.names)?;
+    check_names(alloc, env, &parameter.names)?;
     let of = check_type(alloc, &context.outside(), &parameter.type_expr)?;
     declare_parameters(env, &parameter.names, &of)?;
     Ok(types_of(alloc, of, &parameter.names)?)

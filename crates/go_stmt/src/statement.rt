@@ -2,10 +2,11 @@
 ghost use Rattle.std.specs.Prelude.{◌≡◌, false, OnOk, option_map};
 ghost use Rattle.go_ast.specs.Trees.{block_statement};
 ghost use Rattle.go_ast.specs.Views.{stmt_of as stmt_tree, else_of, block_of, if_of};
+ghost use Rattle.go_types.specs.Views.{type_of};
 ghost use Rattle.go_typed.specs.Views.{clause_of as typed_clause};
 ghost use Rattle.go_stmt.specs.Statements.{statement_at, if_at, else_at, block_at, list_at, clauses_at};
 ghost use Rattle.go_stmt.specs.Seen.{context_of, env_of, typed_in, trees_in, for_of as for_tree, range_of as range_tree, switch_of};
-ghost use Rattle.go_stmt.specs.Seen.{clauses_trees, clauses_of, clause_in, tag_of, Answered};
+ghost use Rattle.go_stmt.specs.Seen.{clauses_trees, clauses_of, clause_in, Answered};
 
 use crate::context::Context;
 use crate::control::{
@@ -13,15 +14,18 @@ use crate::control::{
     one_block, range_type, ranged,
 };
 use crate::env::Env;
+use crate::hidden::is_hidden;
 use crate::local::{check_declaration, check_optional, check_single};
 use crate::switch::{
-    Tag, check_cases, check_tag, clause, falls_through, has_default, is_last, switched, with_clause,
+    check_cases, check_tag, clause, falls_through, has_default, is_last, switched, tag_type,
+    with_clause,
 };
 use go_ast::expression::Expr;
 use go_ast::statement::{Block, Clause, Else, For, If, Range, Simple, Stmt};
 use go_expr::error::ExprError;
 use go_text::place::Place;
 use go_typed::statement::{TypedClause, TypedStmt};
+use go_types::types::GoType;
 use std::alloc::Global;
 
 /// What a statement is.
@@ -117,10 +121,11 @@ fn check_range(
     env.enter()?;
     let operand = check_value(alloc, context, env, &s.operand)?;
     let of = range_type(&operand)?;
+    let hidden = is_hidden(alloc, context, env, &s.name, &of, &s.body)?;
     let number = declare_range(env, &s.name, of)?;
     let body = check_block(alloc, context.in_loop(), env, &s.body)?;
     env.leave();
-    ranged(alloc, s.place, &s.name, number, operand, body)
+    ranged(alloc, s.place, number, operand, hidden, body)
 }
 
 /// What a switch is. [Expression switches](https://go.dev/ref/spec#Expression_switches)
@@ -141,9 +146,10 @@ fn check_switch(
     env.enter()?;
     let before = check_optional(alloc, context, env, place, before)?;
     let tag = check_tag(alloc, context, env, tag)?;
-    let clauses = check_clauses(alloc, context, env, &tag, clauses)?;
+    let of = tag_type(&tag)?;
+    let clauses = check_clauses(alloc, context, env, &of, clauses)?;
     env.leave();
-    switched(place, before, tag, clauses)
+    switched(alloc, place, before, tag, clauses)
 }
 
 /// What clauses are, one behind the other.
@@ -152,12 +158,12 @@ fn check_clauses(
     alloc: Global,
     context: Context<'_>,
     env: &mut Env,
-    tag: &Option<Tag>,
+    tag: &Option<GoType>,
     clauses: &[Clause],
 ) -> Result<Option<Vec<TypedClause>>, ExprError>
-    ensures answer { let known = option_map tag_of tag.now in
+    ensures answer { let known = option_map type_of tag.now in
         Answered clauses_of result (clauses_at (context_of context.entry) known false (clauses_trees clauses.now) (env_of env.old)) }
-    ensures after { let known = option_map tag_of tag.now in
+    ensures after { let known = option_map type_of tag.now in
         OnOk result (env_of env.new ≡ (clauses_at (context_of context.entry) known false (clauses_trees clauses.now) (env_of env.old)).after) }
 {
     let mut known = Some(Vec::new(alloc));
@@ -177,13 +183,13 @@ fn check_clause(
     alloc: Global,
     context: Context<'_>,
     env: &mut Env,
-    tag: &Option<Tag>,
+    tag: &Option<GoType>,
     again: bool,
     last: bool,
     s: &Clause,
 ) -> Result<Option<TypedClause>, ExprError>
-    ensures answer { Answered typed_clause result (clause_in (context_of context.entry) (option_map tag_of tag.now) again last s.now (env_of env.old)) }
-    ensures after { let known = option_map tag_of tag.now in
+    ensures answer { Answered typed_clause result (clause_in (context_of context.entry) (option_map type_of tag.now) again last s.now (env_of env.old)) }
+    ensures after { let known = option_map type_of tag.now in
         OnOk result (env_of env.new ≡ (clause_in (context_of context.entry) known again last s.now (env_of env.old)).after) }
 {
     env.enter()?;

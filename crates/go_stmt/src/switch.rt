@@ -2,14 +2,16 @@
 //! [Expression switches](https://go.dev/ref/spec#Expression_switches)
 ghost use Rattle.std.specs.Prelude.{◌≡◌, ◌++◌, ◌∷◌, [], ◌&&◌, ◌||◌, false, not, is_some, IfOk, map, option_map};
 ghost use Rattle.go_ast.specs.Views.{expr_of as expr_tree, if_boxed};
+ghost use Rattle.go_types.specs.Views.{type_of};
 ghost use Rattle.go_typed.specs.Trees as typed;
+ghost use Rattle.go_typed.specs.Trees.{expr_type};
 ghost use Rattle.go_typed.specs.Views.{expr_of, stmt_of, clause_of as typed_clause, clauses_in};
-ghost use Rattle.go_expr.specs.Rules.{defaulted, each_unless};
+ghost use Rattle.go_expr.specs.Rules.{default_type, each_unless};
 ghost use Rattle.go_expr.specs.Verdicts.{asked, both, joined};
 ghost use Rattle.go_expr.specs.Seen.{all_of, Gives, AnswersAt};
-ghost use Rattle.go_stmt.specs.Rules.{case_value, case_values, clause_of, switched};
+ghost use Rattle.go_stmt.specs.Rules.{case_value, clause_of, switched};
 ghost use Rattle.go_stmt.specs.Statements.{leads_on, is_last, tag_at, cases_at};
-ghost use Rattle.go_stmt.specs.Seen.{context_of, env_of, trees_in, typed_in, cases_tree, clauses_trees, clauses_of, tag_of, Answered};
+ghost use Rattle.go_stmt.specs.Seen.{context_of, env_of, trees_in, typed_in, cases_tree, clauses_trees, clauses_of, Answered};
 
 use crate::context::{Context, all_empty};
 use crate::control::{check_value, located, with_last};
@@ -21,29 +23,15 @@ use go_const::operator::{BinaryOperator, ComparisonOperator};
 use go_expr::error::{ExprError, RuleError};
 use go_expr::expression::check_operands;
 use go_expr::gather::Gathered;
-use go_expr::node::constant;
+use go_expr::node::{constant, type_in};
 use go_expr::operator::operand_type;
-use go_expr::value::{as_type, defaulted};
+use go_expr::value::{as_type, default_type, defaulted};
 use go_text::fault::FaultKind;
 use go_text::place::Place;
-use go_typed::expression::TypedExpr;
+use go_typed::expression::{TypedExpr, TypedExprKind};
 use go_typed::statement::{TypedClause, TypedStmt};
 use go_types::types::{Basic, GoType};
 use std::alloc::{AllocError, Global};
-
-/// The value that cases are compared with, or what is wrong with it, which is a fault of the switch.
-pub(crate) type Tag = Result<TypedExpr, FaultKind>;
-
-/// A value as one of the type that it takes where none is due, or what is wrong with it.
-fn settled(alloc: Global, value: TypedExpr) -> Result<Tag, AllocError>
-    ensures { IfOk result (λ tag. tag_of tag ≡ defaulted (expr_of value)) }
-{
-    match defaulted(alloc, value) {
-        Ok(value) => Ok(Ok(value)),
-        Err(RuleError::Broken(kind)) => Ok(Err(kind)),
-        Err(RuleError::Memory) => Err(AllocError),
-    }
-}
 
 /// The value that cases are compared with. Without one it is true.
 pub(crate) fn check_tag(
@@ -51,15 +39,22 @@ pub(crate) fn check_tag(
     context: Context<'_>,
     env: &Env,
     tag: &Option<Box<Expr>>,
-) -> Result<Option<Tag>, ExprError>
-    ensures { Answered tag_of result (tag_at (context_of context.entry) (if_boxed expr_tree tag.now) (env_of env.now)) }
+) -> Result<Option<TypedExpr>, ExprError>
+    ensures { Answered expr_of result (tag_at (context_of context.entry) (if_boxed expr_tree tag.now) (env_of env.now)) }
 {
     match tag {
-        Some(tag) => match check_value(alloc, context, env, tag)? {
-            Some(value) => Ok(Some(settled(alloc, value)?)),
-            None => Ok(None),
-        },
-        None => Ok(Some(Ok(constant(GoType::Basic(Basic::Bool), Const::Bool(true))))),
+        Some(tag) => check_value(alloc, context, env, tag),
+        None => Ok(Some(constant(GoType::Basic(Basic::Bool), Const::Bool(true)))),
+    }
+}
+
+/// The type that cases are compared as, where the tag is known.
+pub(crate) fn tag_type(tag: &Option<TypedExpr>) -> Result<Option<GoType>, AllocError>
+    ensures { IfOk result (λ t. option_map type_of t ≡ option_map (λ e. default_type (expr_type e)) (option_map expr_of tag.now)) }
+{
+    match tag {
+        Some(tag) => Ok(Some(default_type(type_in(tag))?)),
+        None => Ok(None),
     }
 }
 
@@ -81,59 +76,57 @@ pub(crate) fn check_cases(
     }
 }
 
-/// A value of a case, as one of the type that it has in common with the tag. `Mismatch` where they
-/// have none, `Range` where it lies outside.
-fn case_value(alloc: Global, tag: &TypedExpr, value: TypedExpr) -> Result<TypedExpr, RuleError>
-    ensures { Gives expr_of result (case_value (expr_of tag.now) (expr_of value)) }
+/// A variable of a type.
+#[tactic(auto, unfolding(go_typed::specs::Views::expr_of))]
+fn variable_of(of: &GoType) -> Result<TypedExpr, AllocError>
+    ensures { IfOk result (λ e. expr_of e ≡ typed.local (type_of of.now) 0) }
+{
+    Ok(TypedExpr {
+        of: of.copy()?,
+        kind: TypedExprKind::Local(0),
+    })
+}
+
+/// A value of a case, as one of the type that it has in common with a variable of the tag's type.
+/// `Mismatch` where they have none, `Range` where it lies outside.
+fn case_value(alloc: Global, of: &GoType, value: TypedExpr) -> Result<TypedExpr, RuleError>
+    ensures { Gives expr_of result (case_value (type_of of.now) (expr_of value)) }
 {
     let equal = BinaryOperator::Comparison(ComparisonOperator::Equal);
-    let of = operand_type(equal, tag, &value)?;
+    let variable = variable_of(of)?;
+    let of = operand_type(equal, &variable, &value)?;
     Ok(as_type(alloc, of, value)?)
 }
 
 fn compare_each(
     alloc: Global,
-    tag: &TypedExpr,
+    of: &GoType,
     values: Vec<TypedExpr>,
 ) -> Result<Vec<TypedExpr>, RuleError>
-    ensures { Gives (all_of expr_of) result (each_unless [] (map (case_value (expr_of tag.now)) (map expr_of values.items))) }
+    ensures { Gives (all_of expr_of) result (each_unless [] (map (case_value (type_of of.now)) (map expr_of values.items))) }
 {
     let mut all = Gathered::new(alloc, None);
     for value in values {
-        all.add(case_value(alloc, tag, value))?;
+        all.add(case_value(alloc, of, value))?;
     }
     all.finish()
 }
 
-/// The values of a case behind a comparison with the tag, unless that has a fault of its own.
-fn case_values(
-    alloc: Global,
-    tag: &Tag,
-    values: Vec<TypedExpr>,
-) -> Result<Vec<TypedExpr>, RuleError>
-    ensures { Gives (all_of expr_of) result (case_values (tag_of tag.now) (map expr_of values.items)) }
-{
-    match tag {
-        Ok(tag) => compare_each(alloc, tag, values),
-        Err(_) => Ok(values),
-    }
-}
-
-/// A case at a place, where the tag is known.
+/// A case at a place, where the tag's type is known.
 fn case_at(
     alloc: Global,
     place: Place,
-    tag: &Option<Tag>,
+    tag: &Option<GoType>,
     falls: bool,
     values: Vec<TypedExpr>,
     body: Vec<TypedStmt>,
 ) -> Result<Option<TypedClause>, ExprError>
-    ensures { AnswersAt typed_clause result place (clause_of (option_map tag_of tag.now) false falls (Some (map expr_of values.items)) (typed_in body)) }
+    ensures { AnswersAt typed_clause result place (clause_of (option_map type_of tag.now) false falls (Some (map expr_of values.items)) (typed_in body)) }
 {
-    let Some(tag) = tag else {
+    let Some(of) = tag else {
         return Ok(None);
     };
-    match case_values(alloc, tag, values) {
+    match compare_each(alloc, of, values) {
         Ok(values) => Ok(Some(TypedClause {
             cases: Some(values),
             body,
@@ -166,14 +159,14 @@ fn default_at(
 pub(crate) fn clause(
     alloc: Global,
     place: Place,
-    tag: &Option<Tag>,
+    tag: &Option<GoType>,
     again: bool,
     falls: bool,
     values: Option<Option<Vec<TypedExpr>>>,
     body: Option<Vec<TypedStmt>>,
 ) -> Result<Option<TypedClause>, ExprError>
     ensures { AnswersAt typed_clause result place
-        (asked (λ k. clause_of (option_map tag_of tag.now) again falls k.0 k.1)
+        (asked (λ k. clause_of (option_map type_of tag.now) again falls k.0 k.1)
         (both (option_map (option_map (all_of expr_of)) values) (option_map typed_in body))) }
 {
     match (values, body) {
@@ -247,33 +240,34 @@ fn switch_over(tag: TypedExpr, clauses: Vec<TypedClause>) -> TypedStmt
     TypedStmt::Switch(tag, clauses)
 }
 
-/// A switch behind the statement before its tag.
+/// A switch behind the statement before its tag. `Range` where the tag lies outside of the type that
+/// it takes.
 fn switch_behind(
+    alloc: Global,
     before: Vec<TypedStmt>,
-    tag: Tag,
+    tag: TypedExpr,
     clauses: Vec<TypedClause>,
 ) -> Result<Vec<TypedStmt>, RuleError>
-    ensures { Gives typed_in result (switched (typed_in before) (tag_of tag) (clauses_of clauses)) }
+    ensures { Gives typed_in result (switched (typed_in before) (expr_of tag) (clauses_of clauses)) }
 {
-    match tag {
-        Ok(tag) => Ok(with_last(before, switch_over(tag, clauses))?),
-        Err(kind) => Err(RuleError::Broken(kind)),
-    }
+    let tag = defaulted(alloc, tag)?;
+    Ok(with_last(before, switch_over(tag, clauses))?)
 }
 
 /// A switch at a place, where its parts are known.
 pub(crate) fn switched(
+    alloc: Global,
     place: Place,
     before: Option<Vec<TypedStmt>>,
-    tag: Option<Tag>,
+    tag: Option<TypedExpr>,
     clauses: Option<Vec<TypedClause>>,
 ) -> Result<Option<Vec<TypedStmt>>, ExprError>
     ensures { AnswersAt typed_in result place
-        (asked (λ k. switched k.0 (k.1).0 (k.1).1) (both (option_map typed_in before) (both (option_map tag_of tag) (option_map clauses_of clauses)))) }
+        (asked (λ k. switched k.0 (k.1).0 (k.1).1) (both (option_map typed_in before) (both (option_map expr_of tag) (option_map clauses_of clauses)))) }
 {
     match (before, tag, clauses) {
         (Some(before), Some(tag), Some(clauses)) => {
-            located(place, switch_behind(before, tag, clauses))
+            located(place, switch_behind(alloc, before, tag, clauses))
         }
         _ => Ok(None),
     }

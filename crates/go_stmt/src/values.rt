@@ -1,28 +1,27 @@
 //! Values that stand together, and the types that are due for them.
 //! [Assignment statements](https://go.dev/ref/spec#Assignment_statements)
-ghost use Rattle.std.specs.Prelude.{◌≡◌, [], Some, IfOk, map};
+ghost use Rattle.std.specs.Prelude.{◌≡◌, [], IfOk, map, option_and_then};
 ghost use Rattle.std.specs.List.{zip, list_all};
 ghost use Rattle.std.specs.Option.{option_map};
-ghost use Rattle.go_ast.specs.Trees.{some_exprs, no_exprs, place_of};
+ghost use Rattle.go_ast.specs.Trees.{some_exprs, no_exprs};
 ghost use Rattle.go_ast.specs.Views.{expr_of as expr_tree, exprs_in as exprs_trees};
 ghost use Rattle.go_types.specs.Views.{type_of};
-ghost use Rattle.go_typed.specs.Trees.{expr_type};
 ghost use Rattle.go_typed.specs.Views.{expr_of, source_of};
-ghost use Rattle.go_expr.specs.Rules.{default_type, fine, each_unless};
-ghost use Rattle.go_expr.specs.Verdicts.{operand, verdict, asked};
+ghost use Rattle.go_expr.specs.Rules.{settled_type, fine, each_unless};
+ghost use Rattle.go_expr.specs.Verdicts.{operand, verdict, asked, bare_place};
 ghost use Rattle.go_expr.specs.Seen.{known_of, scope_of, all_of, Gives, AnswersAt};
 ghost use Rattle.go_stmt.specs.Rules.{separate, values_of, all_some, suited_one, suited, takes};
 ghost use Rattle.go_stmt.specs.Statements.{each_of, operands_faults, alone_types, values_known, values_faults, value_types};
 ghost use Rattle.go_stmt.specs.Seen.{values_seen, Finds};
 
 use go_ast::expression::Expr;
+use go_expr::due::bare_place;
 use go_expr::error::{ExprError, RuleError};
 use go_expr::expression::{check_expr, check_operand};
 use go_expr::gather::Gathered;
 use go_expr::known::Known;
-use go_expr::node::type_in;
 use go_expr::scope::Scope;
-use go_expr::value::{assigned, default_type, defaulted};
+use go_expr::value::{assigned, defaulted, settled_type};
 use go_text::fault::FaultKind;
 use go_typed::expression::TypedExpr;
 use go_typed::statement::TypedSource;
@@ -54,9 +53,8 @@ pub struct Valued {
 
 /// What one expression gives that stands alone. `Count` comes where it is a call of panic or has
 /// no result, once that is asked; `Mismatch` where it is no value.
-#[tactic(auto, using(go_ast::proofs::Rows::placed))]
 fn alone<'a>(alloc: Global, e: &Expr, known: Option<Known<'a>>) -> Result<Option<Values>, ExprError>
-    ensures { AnswersAt values_seen result (place_of (expr_tree e.now)) (asked values_of (option_map known_of known.entry)) }
+    ensures { AnswersAt values_seen result (bare_place (expr_tree e.now)) (asked values_of (option_map known_of known.entry)) }
 {
     match known {
         None => Ok(None),
@@ -65,7 +63,7 @@ fn alone<'a>(alloc: Global, e: &Expr, known: Option<Known<'a>>) -> Result<Option
             Ok(Some(Values::Together(types, symbol, arguments)))
         }
         Some(Known::Panicked(_)) => Ok(Some(Values::Nothing)),
-        Some(_) => Err(ExprError::Faulty(e.place, FaultKind::Mismatch)),
+        Some(_) => Err(ExprError::Faulty(bare_place(e), FaultKind::Mismatch)),
     }
 }
 
@@ -102,35 +100,33 @@ pub(crate) fn all_known(
     Ok(Some(all))
 }
 
-/// The type of a variable that gets a value, where no type is due.
-fn type_by(value: &TypedExpr) -> Result<GoType, AllocError>
-    ensures { IfOk result (λ t. type_of t ≡ default_type (expr_type (expr_of value.now))) }
+/// The type that a variable takes of a value, where that is known.
+fn type_by(value: &Option<TypedExpr>) -> Result<Option<GoType>, AllocError>
+    ensures { IfOk result (λ t. option_map type_of t ≡ option_and_then settled_type (option_map expr_of value.now)) }
 {
-    default_type(type_in(value))
+    match value {
+        Some(value) => settled_type(value),
+        None => Ok(None),
+    }
 }
 
 fn types_by(alloc: Global, values: &[Option<TypedExpr>]) -> Result<Vec<Option<GoType>>, AllocError>
-    ensures { IfOk result (λ ts. map (option_map type_of) ts.items ≡
-        map (option_map (λ e. default_type (expr_type e))) (map (option_map expr_of) values.now)) }
+    ensures { IfOk result (λ ts. map (option_map type_of) ts.items ≡ map (option_and_then settled_type) (map (option_map expr_of) values.now)) }
 {
     let mut all = Vec::with_capacity(alloc, values.len())?;
     for value in values {
-        let of = match value {
-            Some(value) => Some(type_by(value)?),
-            None => None,
-        };
-        all.push(of)?;
+        all.push(type_by(value)?)?;
     }
     Ok(all)
 }
 
-/// The types of values.
+/// The types that variables take of values.
 fn types_in(alloc: Global, values: &[TypedExpr]) -> Result<Vec<Option<GoType>>, AllocError>
-    ensures { IfOk result (λ ts. map (option_map type_of) ts.items ≡ map (λ e. Some (default_type (expr_type e))) (map expr_of values.now)) }
+    ensures { IfOk result (λ ts. map (option_map type_of) ts.items ≡ map settled_type (map expr_of values.now)) }
 {
     let mut all = Vec::with_capacity(alloc, values.len())?;
     for value in values {
-        all.push(Some(type_by(value)?))?;
+        all.push(settled_type(value)?)?;
     }
     Ok(all)
 }
@@ -175,7 +171,7 @@ fn check_alone(alloc: Global, scope: &Scope<'_>, e: &Expr) -> Result<Valued, Exp
 fn check_separate(alloc: Global, scope: &Scope<'_>, es: &[Expr]) -> Result<Valued, ExprError>
     ensures faults { Finds result (operands_faults (scope_of scope.now) (exprs_trees es.now)) }
     ensures types { IfOk result (λ v. map (option_map type_of) v.types.items ≡
-        each_of (λ e. option_map (λ e. default_type (expr_type e)) (operand (verdict (scope_of scope.now) e))) (exprs_trees es.now)) }
+        each_of (λ e. option_and_then settled_type (operand (verdict (scope_of scope.now) e))) (exprs_trees es.now)) }
     ensures known { IfOk result (λ v. option_map values_seen v.known ≡
         option_map separate (all_some (each_of (λ e. operand (verdict (scope_of scope.now) e)) (exprs_trees es.now)))) }
 {
@@ -202,7 +198,11 @@ pub fn check_values(alloc: Global, scope: &Scope<'_>, es: &[Expr]) -> Result<Val
 }
 
 /// A value as one of the type that is due, or of the type that it takes where none is.
-fn suit_one(alloc: Global, of: &Option<GoType>, value: TypedExpr) -> Result<TypedExpr, RuleError>
+pub(crate) fn suit_one(
+    alloc: Global,
+    of: &Option<GoType>,
+    value: TypedExpr,
+) -> Result<TypedExpr, RuleError>
     ensures { Gives expr_of result (suited_one (option_map type_of of.now, expr_of value)) }
 {
     match of {

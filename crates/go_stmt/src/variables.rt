@@ -119,7 +119,7 @@ fn check_variables(
     ensures after { OnOk result (env_of env.new ≡ (variables_at (context_of context.entry) place (var_of spec.now) (env_of env.old)).after) }
 {
     let names = spec.names.as_slice();
-    check_names(env, names)?;
+    check_names(alloc, env, names)?;
     let parts = check_parts(alloc, context, env, spec)?;
     let first = place_at(place, names);
     let source = source_at(alloc, first, names, parts.written, parts.values)?;

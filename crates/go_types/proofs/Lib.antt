@@ -1,2 +1,3 @@
 pub mod OneText
-pub mod Rows
+pub mod Spelled
+pub mod Crossing

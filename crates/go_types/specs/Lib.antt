@@ -1,3 +1,6 @@
+pub mod Codes
+pub mod Depths
+pub mod Names
 pub mod Relations
 pub mod Sizes
 pub mod Texts

@@ -1,5 +1,6 @@
 -- How large types are.
-use Rattle.std.specs.Prelude.{ℕ, ◌+◌, ◌*◌}
+use Rattle.std.specs.Prelude.{◌≡◌, ℕ, ◌+◌, ◌*◌, min}
+use Rattle.go_types.specs.declared.types.Size.{Size}
 use Rattle.go_types.specs.Types.{Type', basic, array, struct, named, Fields, no_fields, field}
 
 -- how many cells a value of the type has
@@ -25,3 +26,12 @@ abbrev mutual
   pub nodes_of : Fields → ℕ
   nodes_of no_fields = 0
   nodes_of (field path name t fields) = nodes t + nodes_of fields
+
+-- a number as it is kept: none above the limit is told from another
+abbrev pub kept : ℕ → ℕ
+kept n = min n 65537
+
+-- the numbers are those of the type
+pub record IsSized (t : Type') (size : Size) : Type 0 where
+  pub cells : size.cells ≡ kept (cells t)
+  pub nodes : size.nodes ≡ kept (nodes t)

@@ -3,7 +3,9 @@
 #![tactic(auto)]
 
 pub mod law;
+pub mod names;
 pub mod relations;
 pub mod sizes;
 pub mod texts;
 pub mod types;
+pub mod writable;

@@ -31,8 +31,8 @@ pub fn identical(a: &GoType, b: &GoType) -> bool
 {
     match (a, b) {
         (GoType::Basic(a), GoType::Basic(b)) => is_same(*a, *b),
-        (GoType::Array(m, a), GoType::Array(n, b)) => m == n && identical(a, b),
-        (GoType::Struct(a), GoType::Struct(b)) => all_identical(a, b),
+        (GoType::Array(m, a), GoType::Array(n, b)) => m == n && identical(&a.of, &b.of),
+        (GoType::Struct(a), GoType::Struct(b)) => all_identical(&a.list, &b.list),
         (GoType::Named(a), GoType::Named(b)) => a.path == b.path && a.name == b.name,
         _ => false,
     }

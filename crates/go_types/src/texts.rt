@@ -95,11 +95,11 @@ fn push_type(alloc: Global, text: &mut Vec<u8>, of: &GoType) -> Result<(), Alloc
         GoType::Basic(basic) => push_part(text, basic_name(*basic).as_bytes()),
         GoType::Array(length, element) => {
             push_length(alloc, text, *length)?;
-            push_type(alloc, text, element)
+            push_type(alloc, text, &element.of)
         }
         GoType::Struct(fields) => {
             push_part(text, b"struct{")?;
-            push_fields(alloc, text, fields)?;
+            push_fields(alloc, text, &fields.list)?;
             push_part(text, b"}")
         }
         GoType::Named(named) => {

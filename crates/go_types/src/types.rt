@@ -1,9 +1,10 @@
 //! Types as trees, with names resolved.
-ghost use Rattle.std.specs.Prelude.{◌≡◌, IfOk};
-ghost use Rattle.go_types.specs.Views.{type_of};
+ghost use Rattle.std.specs.Prelude.{◌≡◌, IfOk, string_bytes};
 
+use crate::sizes::{named_size, size_of, struct_size};
 pub use go_const::kind::IntKind;
 use std::alloc::AllocError;
+use std::marker::Model;
 use std::sync::Arc;
 
 /// The kinds of constants and comparisons without a type. [Constants](https://go.dev/ref/spec#Constants)
@@ -32,6 +33,13 @@ pub enum Basic {
     Untyped(Untyped),
 }
 
+/// How many cells and nodes a type has; 65,537 where they are more than 65,536.
+#[derive(Clone, Copy, Drop)]
+pub(crate) struct Size {
+    pub(crate) cells: u32,
+    pub(crate) nodes: u32,
+}
+
 /// A type. [Types](https://go.dev/ref/spec#Types) A tree is as deep as it has nodes at most: what
 /// bounds the stack of the calls that go down one, and of letting go of one, is `nodes`.
 #[cycle(types)]
@@ -40,9 +48,9 @@ pub enum GoType {
     /// A type that has no parts.
     Basic(Basic),
     /// Arrays of a length, of elements of a type.
-    Array(u32, Arc<GoType>),
+    Array(u32, Arc<Element>),
     /// Structs of some fields, in their order.
-    Struct(Arc<Vec<Field>>),
+    Struct(Arc<Fields>),
     /// A declared type.
     Named(Arc<Named>),
 }
@@ -59,7 +67,69 @@ pub struct Field {
     pub of: GoType,
 }
 
-/// A declared type.
+/// The type of an array's elements, which keeps how large it is.
+#[cycle(types)]
+#[derive(Drop)]
+pub struct Element {
+    /// The type.
+    pub of: GoType,
+    pub(crate) size: Size,
+}
+
+impl Model for Element {
+    ghost use Rattle.go_types.specs.Types.{Type'};
+    ghost use Rattle.go_types.specs.Codes.{type_code};
+
+    ghost Value = { Type' };
+
+    ghost coded = { type_code };
+
+    ghost use Rattle.go_types.specs.Views.{type_of};
+    ghost use Rattle.go_types.specs.Sizes.{nodes, IsSized};
+
+    ghost view = { λ a. type_of a.of };
+
+    ghost invariant = { λ a. IsSized (type_of a.of) a.size };
+
+    ghost size = { nodes };
+
+    ghost use Rattle.go_types.specs.Depths.{parts_fall};
+
+    ghost size_decreases = { λ a h. parts_fall a.of };
+}
+
+/// The fields of a struct, which keep how large it is.
+#[cycle(types)]
+#[derive(Drop)]
+pub struct Fields {
+    /// The fields, in their order.
+    pub list: Vec<Field>,
+    pub(crate) size: Size,
+}
+
+impl Model for Fields {
+    ghost use Rattle.go_types.specs.Types as types;
+    ghost use Rattle.go_types.specs.Codes.{fields_code};
+
+    ghost Value = { types.Fields };
+
+    ghost coded = { fields_code };
+
+    ghost use Rattle.go_types.specs.Views.{fields_in};
+    ghost use Rattle.go_types.specs.Sizes.{nodes_of, IsSized};
+
+    ghost view = { λ a. fields_in a.list.items };
+
+    ghost invariant = { λ a. IsSized (types.struct (fields_in a.list.items)) a.size };
+
+    ghost size = { nodes_of };
+
+    ghost use Rattle.go_types.specs.Depths.{fields_fall};
+
+    ghost size_decreases = { λ a h. fields_fall a.list.items };
+}
+
+/// A declared type, which keeps how large it is.
 #[cycle(types)]
 #[derive(Drop)]
 pub struct Named {
@@ -69,9 +139,35 @@ pub struct Named {
     pub name: String,
     /// The type that it is declared as, written out.
     pub underlying: GoType,
+    pub(crate) size: Size,
+}
+
+impl Model for Named {
+    ghost use Rattle.go_types.specs.Types.{Declared};
+    ghost use Rattle.go_types.specs.Codes.{declared_code};
+
+    ghost Value = { Declared };
+
+    ghost coded = { declared_code };
+
+    ghost use Rattle.std.specs.Prelude.{string_bytes};
+    ghost use Rattle.go_types.specs.Views.{type_of, declared};
+    ghost use Rattle.go_types.specs.Sizes.{nodes, IsSized};
+
+    ghost view = { λ a. record { path = string_bytes a.path; name = string_bytes a.name; type = type_of a.underlying } };
+
+    ghost invariant = { λ a. IsSized (declared (record { path = string_bytes a.path; name = string_bytes a.name; type = type_of a.underlying })) a.size };
+
+    ghost size = { λ v. nodes v.type };
+
+    ghost use Rattle.go_types.specs.Depths.{parts_fall};
+
+    ghost size_decreases = { λ a h. parts_fall a.underlying };
 }
 
 impl GoType {
+    ghost use Rattle.go_types.specs.Views.{type_of};
+
     /// Another of equal contents, which has its parts in common with this one. An `Err` only where memory ran out.
     pub fn copy(&self) -> Result<GoType, AllocError>
         ensures { IfOk result (λ t. type_of t ≡ type_of self.now) }
@@ -82,5 +178,48 @@ impl GoType {
             GoType::Struct(fields) => GoType::Struct(Arc::try_clone(fields)?),
             GoType::Named(named) => GoType::Named(Arc::try_clone(named)?),
         })
+    }
+}
+
+impl Element {
+    ghost use Rattle.go_types.specs.Views.{type_of};
+
+    /// The elements of a type.
+    pub fn new(of: GoType) -> Element
+        ensures { result ≡ type_of of }
+    {
+        let size = size_of(&of);
+        Element { of, size }
+    }
+}
+
+impl Fields {
+    ghost use Rattle.go_types.specs.Views.{fields_in};
+
+    /// The fields of a list.
+    pub fn new(list: Vec<Field>) -> Fields
+        ensures { result ≡ fields_in list.items }
+    {
+        let size = struct_size(&list);
+        Fields { list, size }
+    }
+}
+
+impl Named {
+    ghost use Rattle.go_types.specs.Views.{type_of};
+
+    /// The type that the package of a path declares under a name, by what it is declared as.
+    pub fn new(path: String, name: String, underlying: GoType) -> Named
+        ensures path { result.path ≡ string_bytes path }
+        ensures name { result.name ≡ string_bytes name }
+        ensures underlying { result.type ≡ type_of underlying }
+    {
+        let size = named_size(&underlying);
+        Named {
+            path,
+            name,
+            underlying,
+            size,
+        }
     }
 }

@@ -1,141 +1,118 @@
--- Which names a file refers to outside of its functions: those that are written before a dot where nothing in a function declares them.
+-- Which names forms use that nothing in them declares, and which names a file refers to: those of them before a dot.
 -- https://go.dev/ref/spec#Declarations_and_scope
-use Rattle.std.specs.Prelude.{ℕ, Bool, false, ◌&&◌, ◌||◌, not, bytes_eq, List, [], ◌∷◌, Option, Some, None}
-use Rattle.std.specs.List.{list_any}
+use Rattle.std.specs.Prelude.{ℕ, Bool, false, ◌&&◌, not, bytes_eq, List, [], ◌∷◌, ◌++◌, map, Option, Some, None, option_to_list}
+use Rattle.std.specs.List.{filter, flat_map, list_any}
 use Rattle.go_ast.specs.Trees.{Name, TypeExpr, Expr, Exprs, Simple, call_statement, increment, decrement, assignment, operator_assignment, short_var_decl, ConstSpec, VarSpec, TypeSpec, Decl, constants, variables, types, Stmt, declaration, simple, return, block_statement, if_statement, for_statement, range_statement, switch_statement, Block, block, If, conditional, Else, no_else, else_block, else_if, Stmts, no_stmts, some_stmts, Clauses, no_clauses, clause, Parameter, Function, TopLevel, declared, function, File}
 use Rattle.go_scope.specs.Names.{Used, in_type, in_expr, in_exprs}
 
--- ---- expressions and types
+abbrev pub texts : List Name → List (List ℕ)
+texts ns = map (λ (n : Name). n.text) ns
 
-abbrev pub is_dotted : List ℕ → List Used → Bool
-is_dotted x us = list_any (λ u. u.1 && bytes_eq x u.0) us
+-- names outside of declarations that hide some
+abbrev pub outside : List (List ℕ) → List Used → List Used
+outside xs us = filter (λ (u : Used). not (list_any (bytes_eq u.0) xs)) us
 
-abbrev pub type_refers : List ℕ → TypeExpr → Bool
-type_refers x t = is_dotted x (in_type t)
-
-abbrev pub expr_refers : List ℕ → Expr → Bool
-expr_refers x e = is_dotted x (in_expr false e)
-
-abbrev pub exprs_refer : List ℕ → Exprs → Bool
-exprs_refer x es = is_dotted x (in_exprs es)
-
-abbrev pub written_refers : List ℕ → Option TypeExpr → Bool
-written_refers x t = elim t [ None ↦ false | Some t ↦ type_refers x t ]
-
-abbrev pub condition_refers : List ℕ → Option Expr → Bool
-condition_refers x e = elim e [ None ↦ false | Some e ↦ expr_refers x e ]
-
-abbrev pub case_refers : List ℕ → Option Exprs → Bool
-case_refers x es = elim es [ None ↦ false | Some es ↦ exprs_refer x es ]
+abbrev pub if_any : {A : Type 0} → (A → List Used) → Option A → List Used
+if_any uses o = elim o [ None ↦ [] | Some x ↦ uses x ]
 
 -- ---- declarations
 
-abbrev pub is_one : List ℕ → List Name → Bool
-is_one x ns = list_any (λ (n : Name). bytes_eq x n.text) ns
+abbrev pub in_const : ConstSpec → List Used
+in_const s = if_any in_type s.type ++ in_exprs s.values
 
--- behind names that hide it
-abbrev pub behind : Bool → Bool → Bool
-behind hidden refers = not hidden && refers
-
-abbrev pub const_refers : List ℕ → ConstSpec → Bool
-const_refers x s = written_refers x s.type || exprs_refer x s.values
-
-abbrev pub var_refers : List ℕ → VarSpec → Bool
-var_refers x s = written_refers x s.type || exprs_refer x s.values
+abbrev pub in_var : VarSpec → List Used
+in_var s = if_any in_type s.type ++ in_exprs s.values
 
 -- in a function a name holds from the end of its specification on
-abbrev pub consts_refer : List ℕ → List ConstSpec → Bool
-consts_refer x [] = false
-consts_refer x (s ∷ ss) = const_refers x s || behind (is_one x s.names) (consts_refer x ss)
+abbrev pub in_consts : List ConstSpec → List Used
+in_consts [] = []
+in_consts (s ∷ ss) = in_const s ++ outside (texts s.names) (in_consts ss)
 
-abbrev pub vars_refer : List ℕ → List VarSpec → Bool
-vars_refer x [] = false
-vars_refer x (s ∷ ss) = var_refers x s || behind (is_one x s.names) (vars_refer x ss)
+abbrev pub in_vars : List VarSpec → List Used
+in_vars [] = []
+in_vars (s ∷ ss) = in_var s ++ outside (texts s.names) (in_vars ss)
 
 -- types aren't declared in functions
-abbrev pub decl_refers : List ℕ → Decl → Bool
-decl_refers x (constants p ss) = consts_refer x ss
-decl_refers x (variables p ss) = vars_refer x ss
-decl_refers x (types p ss) = false
+abbrev pub in_decl : Decl → List Used
+in_decl (constants p ss) = in_consts ss
+in_decl (variables p ss) = in_vars ss
+in_decl (types p ss) = []
 
-abbrev pub decl_declares : List ℕ → Decl → Bool
-decl_declares x (constants p ss) = list_any (λ (s : ConstSpec). is_one x s.names) ss
-decl_declares x (variables p ss) = list_any (λ (s : VarSpec). is_one x s.names) ss
-decl_declares x (types p ss) = false
+abbrev pub decl_names : Decl → List (List ℕ)
+decl_names (constants p ss) = flat_map (λ (s : ConstSpec). texts s.names) ss
+decl_names (variables p ss) = flat_map (λ (s : VarSpec). texts s.names) ss
+decl_names (types p ss) = []
 
 -- ---- statements
 
-abbrev pub simple_refers : List ℕ → Simple → Bool
-simple_refers x (call_statement e) = expr_refers x e
-simple_refers x (increment e) = expr_refers x e
-simple_refers x (decrement e) = expr_refers x e
-simple_refers x (assignment ls rs) = exprs_refer x ls || exprs_refer x rs
-simple_refers x (operator_assignment op l r) = expr_refers x l || expr_refers x r
-simple_refers x (short_var_decl ns es) = exprs_refer x es
+abbrev pub in_simple : Simple → List Used
+in_simple (call_statement e) = in_expr false e
+in_simple (increment e) = in_expr false e
+in_simple (decrement e) = in_expr false e
+in_simple (assignment ls rs) = in_exprs ls ++ in_exprs rs
+in_simple (operator_assignment op l r) = in_expr false l ++ in_expr false r
+in_simple (short_var_decl ns es) = in_exprs es
 
-abbrev pub simple_declares : List ℕ → Simple → Bool
-simple_declares x s = elim s [ short_var_decl ns es ↦ is_one x ns | _ ↦ false ]
+abbrev pub simple_names : Simple → List (List ℕ)
+simple_names s = elim s [ short_var_decl ns es ↦ texts ns | _ ↦ [] ]
 
-abbrev pub optional_refers : List ℕ → Option Simple → Bool
-optional_refers x s = elim s [ None ↦ false | Some s ↦ simple_refers x s ]
+abbrev pub optional_names : Option Simple → List (List ℕ)
+optional_names s = elim s [ None ↦ [] | Some s ↦ simple_names s ]
 
-abbrev pub optional_declares : List ℕ → Option Simple → Bool
-optional_declares x s = elim s [ None ↦ false | Some s ↦ simple_declares x s ]
-
-abbrev pub stmt_declares : List ℕ → Stmt → Bool
-stmt_declares x s = elim s [ declaration p d ↦ decl_declares x d | simple p s ↦ simple_declares x s | _ ↦ false ]
-
-abbrev pub is_named : List ℕ → Option Name → Bool
-is_named x o = elim o [ None ↦ false | Some n ↦ bytes_eq x n.text ]
+abbrev pub stmt_names : Stmt → List (List ℕ)
+stmt_names s = elim s [ declaration p d ↦ decl_names d | simple p s ↦ simple_names s | _ ↦ [] ]
 
 abbrev mutual
-  pub stmt_refers : List ℕ → Stmt → Bool
-  stmt_refers x (declaration p d) = decl_refers x d
-  stmt_refers x (simple p s) = simple_refers x s
-  stmt_refers x (return p es) = exprs_refer x es
-  stmt_refers x (block_statement b) = block_refers x b
-  stmt_refers x (if_statement i) = if_refers x i
-  stmt_refers x (for_statement p before e post b) =
-      optional_refers x before || behind (optional_declares x before) (condition_refers x e || (optional_refers x post || block_refers x b))
-  stmt_refers x (range_statement p o e b) = expr_refers x e || behind (is_named x o) (block_refers x b)
-  stmt_refers x (switch_statement p before tag cs) =
-      optional_refers x before || behind (optional_declares x before) (condition_refers x tag || clauses_refer x cs)
-  stmt_refers x s = false
+  pub in_stmt : Stmt → List Used
+  in_stmt (declaration p d) = in_decl d
+  in_stmt (simple p s) = in_simple s
+  in_stmt (return p es) = in_exprs es
+  in_stmt (block_statement b) = in_block b
+  in_stmt (if_statement i) = in_if i
+  in_stmt (for_statement p before e post b) =
+      if_any in_simple before ++ outside (optional_names before) (if_any (in_expr false) e ++ (if_any in_simple post ++ in_block b))
+  in_stmt (range_statement p o e b) = in_expr false e ++ outside (texts (option_to_list o)) (in_block b)
+  in_stmt (switch_statement p before tag cs) =
+      if_any in_simple before ++ outside (optional_names before) (if_any (in_expr false) tag ++ in_clauses cs)
+  in_stmt s = []
 
-  pub block_refers : List ℕ → Block → Bool
-  block_refers x (block p ss q) = list_refers x ss
+  pub in_block : Block → List Used
+  in_block (block p ss q) = in_list ss
 
-  pub if_refers : List ℕ → If → Bool
-  if_refers x (conditional p before e b other) =
-      optional_refers x before || behind (optional_declares x before) (expr_refers x e || (block_refers x b || else_refers x other))
+  pub in_if : If → List Used
+  in_if (conditional p before e b other) =
+      if_any in_simple before ++ outside (optional_names before) (in_expr false e ++ (in_block b ++ in_else other))
 
-  pub else_refers : List ℕ → Else → Bool
-  else_refers x no_else = false
-  else_refers x (else_block b) = block_refers x b
-  else_refers x (else_if i) = if_refers x i
+  pub in_else : Else → List Used
+  in_else no_else = []
+  in_else (else_block b) = in_block b
+  in_else (else_if i) = in_if i
 
-  pub list_refers : List ℕ → Stmts → Bool
-  list_refers x no_stmts = false
-  list_refers x (some_stmts s ss) = stmt_refers x s || behind (stmt_declares x s) (list_refers x ss)
+  pub in_list : Stmts → List Used
+  in_list no_stmts = []
+  in_list (some_stmts s ss) = in_stmt s ++ outside (stmt_names s) (in_list ss)
 
-  pub clauses_refer : List ℕ → Clauses → Bool
-  clauses_refer x no_clauses = false
-  clauses_refer x (clause p es ss rest) = case_refers x es || (list_refers x ss || clauses_refer x rest)
+  pub in_clauses : Clauses → List Used
+  in_clauses no_clauses = []
+  in_clauses (clause p es ss rest) = if_any in_exprs es ++ (in_list ss ++ in_clauses rest)
 
 -- ---- files
 
 -- parameters and results are looked up outside of the function
-abbrev pub function_refers : List ℕ → Function → Bool
-function_refers x f =
-    list_any (λ (p : Parameter). type_refers x p.type) f.parameters
-    || (list_any (type_refers x) f.results || behind (list_any (λ (p : Parameter). is_one x p.names) f.parameters) (block_refers x f.body))
+abbrev pub in_function : Function → List Used
+in_function f =
+    flat_map (λ (p : Parameter). in_type p.type) f.parameters
+    ++ (flat_map in_type f.results ++ outside (flat_map (λ (p : Parameter). texts p.names) f.parameters) (in_block f.body))
 
 -- names of the package hide no name of its files
-abbrev pub top_refers : List ℕ → TopLevel → Bool
-top_refers x (declared (constants p ss)) = list_any (const_refers x) ss
-top_refers x (declared (variables p ss)) = list_any (var_refers x) ss
-top_refers x (declared (types p ss)) = list_any (λ (s : TypeSpec). type_refers x s.type) ss
-top_refers x (function f) = function_refers x f
+abbrev pub in_top : TopLevel → List Used
+in_top (declared (constants p ss)) = flat_map in_const ss
+in_top (declared (variables p ss)) = flat_map in_var ss
+in_top (declared (types p ss)) = flat_map (λ (s : TypeSpec). in_type s.type) ss
+in_top (function f) = in_function f
+
+abbrev pub is_dotted : List ℕ → List Used → Bool
+is_dotted x us = list_any (λ u. u.1 && bytes_eq x u.0) us
 
 abbrev pub file_refers : List ℕ → File → Bool
-file_refers x f = list_any (top_refers x) f.declarations
+file_refers x f = is_dotted x (flat_map in_top f.declarations)

@@ -1,103 +1,102 @@
-//! Names before a dot in declarations.
-ghost use Rattle.std.specs.Prelude.{◌≡◌, map, IfOk};
-ghost use Rattle.std.specs.List.{list_any};
+//! Names in declarations.
+ghost use Rattle.std.specs.Prelude.{◌≡◌, ◌++◌, map, IfOk, OnOk};
+ghost use Rattle.std.specs.List.{flat_map};
 ghost use Rattle.go_ast.specs.Trees as trees;
 ghost use Rattle.go_ast.specs.Views.{const_of, var_of, decl_of};
-ghost use Rattle.go_uses.specs.Uses.{is_one, const_refers, var_refers, consts_refer, vars_refer, decl_refers, decl_declares};
+ghost use Rattle.go_scope.specs.Names.{used};
+ghost use Rattle.go_uses.specs.Uses.{texts, in_const, in_var, in_consts, in_vars, in_decl, decl_names};
 
-use crate::expressions::{exprs_refer, is_one, written_refers};
+use crate::expressions::{in_exprs, in_written};
+use crate::hidden::{hide, joined, outside};
 use go_ast::declaration::{ConstSpec, Decl, VarSpec};
+use go_scope::name_index::NameIndex;
+use go_scope::names::UsedName;
 use std::alloc::{AllocError, Global};
 
-/// Whether a specification of constants refers to a name. An `Err` only where memory ran out.
-pub(crate) fn const_refers(alloc: Global, name: &str, spec: &ConstSpec) -> Result<bool, AllocError>
-    ensures { IfOk result (λ b. b ≡ const_refers name.now (const_of spec.now)) }
+/// The names that a specification of constants uses. An `Err` only where memory ran out.
+pub(crate) fn in_const<'a>(
+    alloc: Global,
+    spec: &'a ConstSpec,
+) -> Result<Vec<UsedName<'a>>, AllocError>
+    ensures { IfOk result (λ names. map used names.items ≡ in_const (const_of spec.now)) }
 {
-    if written_refers(alloc, name, spec.type_expr.as_ref())? {
-        return Ok(true);
-    }
-    exprs_refer(alloc, name, &spec.values)
+    let names = in_written(alloc, spec.type_expr.as_ref())?;
+    joined(names, in_exprs(alloc, &spec.values)?)
 }
 
-/// Whether a specification of variables does.
-pub(crate) fn var_refers(alloc: Global, name: &str, spec: &VarSpec) -> Result<bool, AllocError>
-    ensures { IfOk result (λ b. b ≡ var_refers name.now (var_of spec.now)) }
+/// Those of a specification of variables.
+pub(crate) fn in_var<'a>(alloc: Global, spec: &'a VarSpec) -> Result<Vec<UsedName<'a>>, AllocError>
+    ensures { IfOk result (λ names. map used names.items ≡ in_var (var_of spec.now)) }
 {
-    if written_refers(alloc, name, spec.type_expr.as_ref())? {
-        return Ok(true);
-    }
-    exprs_refer(alloc, name, &spec.values)
+    let names = in_written(alloc, spec.type_expr.as_ref())?;
+    joined(names, in_exprs(alloc, &spec.values)?)
 }
 
-// Whether one of some specifications does, in front of which none declares the name.
-fn consts_refer(alloc: Global, name: &str, specs: &[ConstSpec]) -> Result<bool, AllocError>
-    ensures { IfOk result (λ b. b ≡ consts_refer name.now (map const_of specs.now)) }
+/// Those of constants in a function, each of which holds behind its specification.
+fn in_consts<'a>(alloc: Global, specs: &'a [ConstSpec]) -> Result<Vec<UsedName<'a>>, AllocError>
+    ensures { IfOk result (λ names. map used names.items ≡ in_consts (map const_of specs.now)) }
 {
+    let mut hidden = NameIndex::new(alloc);
+    let mut found = Vec::new(alloc);
     for spec in specs {
-        if const_refers(alloc, name, spec)? {
-            return Ok(true);
-        }
-        if is_one(name, &spec.names) {
-            return Ok(false);
-        }
+        let names = in_const(alloc, spec)?;
+        found = joined(found, outside(alloc, &hidden, &names)?)?;
+        hide(&mut hidden, &spec.names)?;
     }
-    Ok(false)
+    Ok(found)
 }
 
-fn vars_refer(alloc: Global, name: &str, specs: &[VarSpec]) -> Result<bool, AllocError>
-    ensures { IfOk result (λ b. b ≡ vars_refer name.now (map var_of specs.now)) }
+/// Those of variables.
+fn in_vars<'a>(alloc: Global, specs: &'a [VarSpec]) -> Result<Vec<UsedName<'a>>, AllocError>
+    ensures { IfOk result (λ names. map used names.items ≡ in_vars (map var_of specs.now)) }
 {
+    let mut hidden = NameIndex::new(alloc);
+    let mut found = Vec::new(alloc);
     for spec in specs {
-        if var_refers(alloc, name, spec)? {
-            return Ok(true);
-        }
-        if is_one(name, &spec.names) {
-            return Ok(false);
-        }
+        let names = in_var(alloc, spec)?;
+        found = joined(found, outside(alloc, &hidden, &names)?)?;
+        hide(&mut hidden, &spec.names)?;
     }
-    Ok(false)
+    Ok(found)
 }
 
-/// Whether a declaration in a function refers to a name.
-pub(crate) fn decl_refers(alloc: Global, name: &str, decl: &Decl) -> Result<bool, AllocError>
-    ensures { IfOk result (λ b. b ≡ decl_refers name.now (decl_of decl.now)) }
+/// Those of a declaration in a function.
+pub(crate) fn in_decl<'a>(alloc: Global, decl: &'a Decl) -> Result<Vec<UsedName<'a>>, AllocError>
+    ensures { IfOk result (λ names. map used names.items ≡ in_decl (decl_of decl.now)) }
 {
     match decl {
-        Decl::Constants(_, specs) => consts_refer(alloc, name, specs),
-        Decl::Variables(_, specs) => vars_refer(alloc, name, specs),
-        Decl::Types(_, _) => Ok(false),
+        Decl::Constants(_, specs) => in_consts(alloc, specs),
+        Decl::Variables(_, specs) => in_vars(alloc, specs),
+        Decl::Types(_, _) => Ok(Vec::new(alloc)),
     }
 }
 
-fn consts_declare(name: &str, specs: &[ConstSpec]) -> bool
-    ensures { result ≡ list_any (λ (s : trees.ConstSpec). is_one name.now s.names) (map const_of specs.now) }
+/// Hides the names of constants. An `Err` only where memory ran out.
+fn hide_consts<'a>(hidden: &mut NameIndex<'a>, specs: &'a [ConstSpec]) -> Result<(), AllocError>
+    ensures { OnOk result (hidden.new ≡ hidden.old ++ flat_map (λ (s : trees.ConstSpec). texts s.names) (map const_of specs.now)) }
 {
     for spec in specs {
-        if is_one(name, &spec.names) {
-            return true;
-        }
+        hide(hidden, &spec.names)?;
     }
-    false
+    Ok(())
 }
 
-fn vars_declare(name: &str, specs: &[VarSpec]) -> bool
-    ensures { result ≡ list_any (λ (s : trees.VarSpec). is_one name.now s.names) (map var_of specs.now) }
+fn hide_vars<'a>(hidden: &mut NameIndex<'a>, specs: &'a [VarSpec]) -> Result<(), AllocError>
+    ensures { OnOk result (hidden.new ≡ hidden.old ++ flat_map (λ (s : trees.VarSpec). texts s.names) (map var_of specs.now)) }
 {
     for spec in specs {
-        if is_one(name, &spec.names) {
-            return true;
-        }
+        hide(hidden, &spec.names)?;
     }
-    false
+    Ok(())
 }
 
-/// Whether a declaration in a function declares a name.
-pub(crate) fn decl_declares(name: &str, decl: &Decl) -> bool
-    ensures { result ≡ decl_declares name.now (decl_of decl.now) }
+/// Hides the names that a declaration in a function declares.
+pub(crate) fn hide_decl<'a>(hidden: &mut NameIndex<'a>, decl: &'a Decl) -> Result<(), AllocError>
+    ensures { OnOk result (hidden.new ≡ hidden.old ++ decl_names (decl_of decl.now)) }
 {
     match decl {
-        Decl::Constants(_, specs) => consts_declare(name, specs),
-        Decl::Variables(_, specs) => vars_declare(name, specs),
-        Decl::Types(_, _) => false,
+        Decl::Constants(_, specs) => hide_consts(hidden, specs),
+        Decl::Variables(_, specs) => hide_vars(hidden, specs),
+        Decl::Types(_, _) => Ok(()),
     }
 }

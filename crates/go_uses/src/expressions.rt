@@ -1,79 +1,78 @@
-//! Names before a dot in expressions and types.
-ghost use Rattle.std.specs.Prelude.{◌≡◌, map, IfOk};
-ghost use Rattle.std.specs.List.{list_any};
+//! Names in expressions and types.
+ghost use Rattle.std.specs.Prelude.{◌≡◌, map, false, IfOk};
 ghost use Rattle.std.specs.Option.{option_map};
-ghost use Rattle.go_ast.specs.Views.{type_of, expr_of, exprs_in};
-ghost use Rattle.go_scope.specs.Names.{in_exprs, used};
-ghost use Rattle.go_uses.specs.Uses.{is_dotted, type_refers, expr_refers, exprs_refer, written_refers, is_one};
+ghost use Rattle.go_ast.specs.Views.{type_of, expr_of, exprs_in, if_boxed, if_some};
+ghost use Rattle.go_scope.specs.Names.{in_type, in_expr, in_exprs, used};
+ghost use Rattle.go_uses.specs.Uses.{if_any};
 
 use go_ast::expression::{Expr, TypeExpr};
-use go_ast::name::Name;
 use go_scope::names::{UsedName, add_names, add_type_names};
 use std::alloc::{AllocError, Global};
 
-// Whether a name is one before a dot.
-fn is_dotted(name: &str, names: &[UsedName<'_>]) -> bool
-    ensures { result ≡ is_dotted name.now (map used names.now) }
-{
-    for used in names {
-        if used.dotted && name == used.text {
-            return true;
-        }
-    }
-    false
-}
-
-/// Whether a type refers to a name. An `Err` only where memory ran out.
-pub(crate) fn type_refers(alloc: Global, name: &str, of: &TypeExpr) -> Result<bool, AllocError>
-    ensures { IfOk result (λ b. b ≡ type_refers name.now (type_of of.now)) }
+/// The names that a type uses. An `Err` only where memory ran out.
+pub(crate) fn in_type<'a>(alloc: Global, of: &'a TypeExpr) -> Result<Vec<UsedName<'a>>, AllocError>
+    ensures { IfOk result (λ names. map used names.items ≡ in_type (type_of of.now)) }
 {
     let mut names = Vec::new(alloc);
     add_type_names(of, &mut names)?;
-    Ok(is_dotted(name, &names))
+    Ok(names)
 }
 
-/// Whether an expression does.
-pub(crate) fn expr_refers(alloc: Global, name: &str, e: &Expr) -> Result<bool, AllocError>
-    ensures { IfOk result (λ b. b ≡ expr_refers name.now (expr_of e.now)) }
+/// Those of an expression.
+pub(crate) fn in_expr<'a>(alloc: Global, e: &'a Expr) -> Result<Vec<UsedName<'a>>, AllocError>
+    ensures { IfOk result (λ names. map used names.items ≡ in_expr false (expr_of e.now)) }
 {
     let mut names = Vec::new(alloc);
     add_names(e, &mut names)?;
-    Ok(is_dotted(name, &names))
+    Ok(names)
 }
 
-/// Whether one of some expressions does.
-pub(crate) fn exprs_refer(alloc: Global, name: &str, es: &[Expr]) -> Result<bool, AllocError>
-    ensures { IfOk result (λ b. b ≡ exprs_refer name.now (exprs_in es.now)) }
+/// Those of some expressions.
+pub(crate) fn in_exprs<'a>(alloc: Global, es: &'a [Expr]) -> Result<Vec<UsedName<'a>>, AllocError>
+    ensures { IfOk result (λ names. map used names.items ≡ in_exprs (exprs_in es.now)) }
 {
     let mut names = Vec::new(alloc);
     for e in es {
         add_names(e, &mut names)?;
     }
-    Ok(is_dotted(name, &names))
+    Ok(names)
 }
 
-/// Whether the type that is written does, if one is.
-pub(crate) fn written_refers(
+/// Those of the type that is written, if one is.
+pub(crate) fn in_written<'a>(
     alloc: Global,
-    name: &str,
-    of: Option<&TypeExpr>,
-) -> Result<bool, AllocError>
-    ensures { IfOk result (λ b. b ≡ written_refers name.now (option_map (λ t. type_of t.now) of.entry)) }
+    of: Option<&'a TypeExpr>,
+) -> Result<Vec<UsedName<'a>>, AllocError>
+    ensures { IfOk result (λ names. map used names.items ≡ if_any in_type (option_map (λ t. type_of t.now) of.entry)) }
 {
     match of {
-        Some(of) => type_refers(alloc, name, of),
-        None => Ok(false),
+        Some(of) => in_type(alloc, of),
+        None => Ok(Vec::new(alloc)),
     }
 }
 
-/// Whether a name is one of some names.
-pub(crate) fn is_one(name: &str, names: &[Name]) -> bool
-    ensures { result ≡ is_one name.now names.now }
+/// Those of a condition, if there is one.
+pub(crate) fn in_condition<'a>(
+    alloc: Global,
+    condition: &'a Option<Box<Expr>>,
+) -> Result<Vec<UsedName<'a>>, AllocError>
+    ensures { IfOk result (λ names. map used names.items ≡ if_any (in_expr false) (if_boxed expr_of condition.now)) }
 {
-    for other in names {
-        if name == other.text() {
-            return true;
-        }
+    match condition {
+        Some(condition) => in_expr(alloc, condition),
+        None => Ok(Vec::new(alloc)),
     }
-    false
+}
+
+/// Those of the values of a case, if it is no default.
+pub(crate) fn in_case<'a>(
+    alloc: Global,
+    values: &'a Option<Vec<Expr>>,
+) -> Result<Vec<UsedName<'a>>, AllocError>
+    ensures { IfOk result (λ names. map used names.items ≡ if_any in_exprs (if_some (λ es. exprs_in es.items) values.now)) }
+{
+    match values {
+        Some(values) => in_exprs(alloc, values),
+        None => Ok(Vec::new(alloc)),
+    }
 }

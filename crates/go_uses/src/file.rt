@@ -1,17 +1,147 @@
 //! Names that a file refers to.
-ghost use Rattle.std.specs.Prelude.{◌≡◌, map, IfOk};
-ghost use Rattle.std.specs.List.{list_any};
+ghost use Rattle.std.specs.Prelude.{◌≡◌, ◌++◌, map, IfOk, OnOk};
+ghost use Rattle.std.specs.List.{flat_map};
 ghost use Rattle.go_ast.specs.Trees as trees;
-ghost use Rattle.go_ast.specs.Views.{type_of, const_of, var_of, type_spec_of, parameter_of, function_of, top_of, file_of};
-ghost use Rattle.go_uses.specs.Uses.{type_refers, is_one, const_refers, var_refers, function_refers, top_refers, file_refers};
+ghost use Rattle.go_ast.specs.Views.{type_of, const_of, var_of, type_spec_of, block_of, parameter_of, function_of, top_of, file_of};
+ghost use Rattle.go_scope.specs.Names.{in_type, used};
+ghost use Rattle.go_uses.specs.Uses.{texts, outside, in_block, in_const, in_var, in_function, in_top, is_dotted, file_refers};
 
-use crate::declarations::{const_refers, var_refers};
-use crate::expressions::{is_one, type_refers};
-use crate::statements::list_refers;
+use crate::declarations::{in_const, in_var};
+use crate::expressions::in_type;
+use crate::hidden::{hide, joined, outside};
+use crate::statements::in_block;
 use go_ast::declaration::{ConstSpec, Decl, TypeSpec, VarSpec};
 use go_ast::expression::TypeExpr;
 use go_ast::file::{File, Function, Parameter, TopLevel};
+use go_ast::statement::Block;
+use go_scope::name_index::NameIndex;
+use go_scope::names::UsedName;
 use std::alloc::{AllocError, Global};
+
+fn in_all_consts<'a>(alloc: Global, specs: &'a [ConstSpec]) -> Result<Vec<UsedName<'a>>, AllocError>
+    ensures { IfOk result (λ names. map used names.items ≡ flat_map in_const (map const_of specs.now)) }
+{
+    let mut found = Vec::new(alloc);
+    for spec in specs {
+        found = joined(found, in_const(alloc, spec)?)?;
+    }
+    Ok(found)
+}
+
+fn in_all_vars<'a>(alloc: Global, specs: &'a [VarSpec]) -> Result<Vec<UsedName<'a>>, AllocError>
+    ensures { IfOk result (λ names. map used names.items ≡ flat_map in_var (map var_of specs.now)) }
+{
+    let mut found = Vec::new(alloc);
+    for spec in specs {
+        found = joined(found, in_var(alloc, spec)?)?;
+    }
+    Ok(found)
+}
+
+fn in_all_types<'a>(alloc: Global, specs: &'a [TypeSpec]) -> Result<Vec<UsedName<'a>>, AllocError>
+    ensures { IfOk result (λ names. map used names.items ≡ flat_map (λ (s : trees.TypeSpec). in_type s.type) (map type_spec_of specs.now)) }
+{
+    let mut found = Vec::new(alloc);
+    for spec in specs {
+        found = joined(found, in_type(alloc, &spec.type_expr)?)?;
+    }
+    Ok(found)
+}
+
+fn in_parameters<'a>(
+    alloc: Global,
+    parameters: &'a [Parameter],
+) -> Result<Vec<UsedName<'a>>, AllocError>
+    ensures { IfOk result (λ names. map used names.items ≡ flat_map (λ (p : trees.Parameter). in_type p.type) (map parameter_of parameters.now)) }
+{
+    let mut found = Vec::new(alloc);
+    for parameter in parameters {
+        found = joined(found, in_type(alloc, &parameter.type_expr)?)?;
+    }
+    Ok(found)
+}
+
+fn in_results<'a>(alloc: Global, results: &'a [TypeExpr]) -> Result<Vec<UsedName<'a>>, AllocError>
+    ensures { IfOk result (λ names. map used names.items ≡ flat_map in_type (map type_of results.now)) }
+{
+    let mut found = Vec::new(alloc);
+    for of in results {
+        found = joined(found, in_type(alloc, of)?)?;
+    }
+    Ok(found)
+}
+
+/// Hides the names of parameters. An `Err` only where memory ran out.
+fn hide_parameters<'a>(
+    hidden: &mut NameIndex<'a>,
+    parameters: &'a [Parameter],
+) -> Result<(), AllocError>
+    ensures { OnOk result (hidden.new ≡ hidden.old ++ flat_map (λ (p : trees.Parameter). texts p.names) (map parameter_of parameters.now)) }
+{
+    for parameter in parameters {
+        hide(hidden, &parameter.names)?;
+    }
+    Ok(())
+}
+
+/// Those of a body, where no parameter hides them.
+fn in_body<'a>(
+    alloc: Global,
+    parameters: &'a [Parameter],
+    body: &'a Block,
+) -> Result<Vec<UsedName<'a>>, AllocError>
+    ensures { let hidden = flat_map (λ (p : trees.Parameter). texts p.names) (map parameter_of parameters.now) in
+        IfOk result (λ names. map used names.items ≡ outside hidden (in_block (block_of body.now))) }
+{
+    let mut hidden = NameIndex::new(alloc);
+    hide_parameters(&mut hidden, parameters)?;
+    let names = in_block(alloc, body)?;
+    outside(alloc, &hidden, &names)
+}
+
+fn in_function<'a>(alloc: Global, function: &'a Function) -> Result<Vec<UsedName<'a>>, AllocError>
+    ensures { IfOk result (λ names. map used names.items ≡ in_function (function_of function.now)) }
+{
+    let parameters = in_parameters(alloc, &function.parameters)?;
+    let results = in_results(alloc, &function.results)?;
+    let body = in_body(alloc, &function.parameters, &function.body)?;
+    joined(parameters, joined(results, body)?)
+}
+
+fn in_top<'a>(alloc: Global, top: &'a TopLevel) -> Result<Vec<UsedName<'a>>, AllocError>
+    ensures { IfOk result (λ names. map used names.items ≡ in_top (top_of top.now)) }
+{
+    match top {
+        TopLevel::Declared(Decl::Constants(_, specs)) => in_all_consts(alloc, specs),
+        TopLevel::Declared(Decl::Variables(_, specs)) => in_all_vars(alloc, specs),
+        TopLevel::Declared(Decl::Types(_, specs)) => in_all_types(alloc, specs),
+        TopLevel::Function(function) => in_function(alloc, function),
+    }
+}
+
+/// The names that a file uses where nothing in a function declares them. An `Err` only where memory
+/// ran out.
+pub fn names_in_file<'a>(alloc: Global, file: &'a File) -> Result<Vec<UsedName<'a>>, AllocError>
+    ensures { IfOk result (λ names. map used names.items ≡ flat_map in_top (file_of file.now).declarations) }
+{
+    let mut found = Vec::new(alloc);
+    for top in &file.declarations {
+        found = joined(found, in_top(alloc, top)?)?;
+    }
+    Ok(found)
+}
+
+/// Whether a name is one before a dot.
+fn is_dotted(name: &str, names: &[UsedName<'_>]) -> bool
+    ensures { result ≡ is_dotted name.now (map used names.now) }
+{
+    for used in names {
+        if used.dotted && name == used.text {
+            return true;
+        }
+    }
+    false
+}
 
 /// Whether a file refers to a name, as that of an import: it is written before a dot where nothing
 /// in a function declares it. An `Err` only where memory ran out.
@@ -19,106 +149,6 @@ use std::alloc::{AllocError, Global};
 pub fn file_refers(alloc: Global, name: &str, file: &File) -> Result<bool, AllocError>
     ensures { IfOk result (λ b. b ≡ file_refers name.now (file_of file.now)) }
 {
-    for top in &file.declarations {
-        if top_refers(alloc, name, top)? {
-            return Ok(true);
-        }
-    }
-    Ok(false)
-}
-
-fn top_refers(alloc: Global, name: &str, top: &TopLevel) -> Result<bool, AllocError>
-    ensures { IfOk result (λ b. b ≡ top_refers name.now (top_of top.now)) }
-{
-    match top {
-        TopLevel::Declared(Decl::Constants(_, specs)) => one_const_refers(alloc, name, specs),
-        TopLevel::Declared(Decl::Variables(_, specs)) => one_var_refers(alloc, name, specs),
-        TopLevel::Declared(Decl::Types(_, specs)) => one_type_refers(alloc, name, specs),
-        TopLevel::Function(function) => function_refers(alloc, name, function),
-    }
-}
-
-fn one_const_refers(alloc: Global, name: &str, specs: &[ConstSpec]) -> Result<bool, AllocError>
-    ensures { IfOk result (λ b. b ≡ list_any (const_refers name.now) (map const_of specs.now)) }
-{
-    for spec in specs {
-        if const_refers(alloc, name, spec)? {
-            return Ok(true);
-        }
-    }
-    Ok(false)
-}
-
-fn one_var_refers(alloc: Global, name: &str, specs: &[VarSpec]) -> Result<bool, AllocError>
-    ensures { IfOk result (λ b. b ≡ list_any (var_refers name.now) (map var_of specs.now)) }
-{
-    for spec in specs {
-        if var_refers(alloc, name, spec)? {
-            return Ok(true);
-        }
-    }
-    Ok(false)
-}
-
-fn one_type_refers(alloc: Global, name: &str, specs: &[TypeSpec]) -> Result<bool, AllocError>
-    ensures { IfOk result (λ b. b ≡ list_any (λ (s : trees.TypeSpec). type_refers name.now s.type) (map type_spec_of specs.now)) }
-{
-    for spec in specs {
-        if type_refers(alloc, name, &spec.type_expr)? {
-            return Ok(true);
-        }
-    }
-    Ok(false)
-}
-
-fn function_refers(alloc: Global, name: &str, function: &Function) -> Result<bool, AllocError>
-    ensures { IfOk result (λ b. b ≡ function_refers name.now (function_of function.now)) }
-{
-    if one_parameter_refers(alloc, name, &function.parameters)? {
-        return Ok(true);
-    }
-    if one_result_refers(alloc, name, &function.results)? {
-        return Ok(true);
-    }
-    if one_declares(name, &function.parameters) {
-        return Ok(false);
-    }
-    list_refers(alloc, name, &function.body.statements)
-}
-
-fn one_parameter_refers(
-    alloc: Global,
-    name: &str,
-    parameters: &[Parameter],
-) -> Result<bool, AllocError>
-    ensures { IfOk result (λ b. b ≡ list_any (λ (p : trees.Parameter). type_refers name.now p.type) (map parameter_of parameters.now)) }
-{
-    for parameter in parameters {
-        if type_refers(alloc, name, &parameter.type_expr)? {
-            return Ok(true);
-        }
-    }
-    Ok(false)
-}
-
-fn one_result_refers(alloc: Global, name: &str, results: &[TypeExpr]) -> Result<bool, AllocError>
-    ensures { IfOk result (λ b. b ≡ list_any (type_refers name.now) (map type_of results.now)) }
-{
-    for of in results {
-        if type_refers(alloc, name, of)? {
-            return Ok(true);
-        }
-    }
-    Ok(false)
-}
-
-fn one_declares(name: &str, parameters: &[Parameter]) -> bool
-    ensures { result ≡ list_any (λ (p : trees.Parameter). is_one name.now p.names) (map parameter_of parameters.now) }
-{
-    for parameter in parameters {
-        if is_one(name, &parameter.names) {
-            return true;
-        }
-    }
-    false
+    let names = names_in_file(alloc, file)?;
+    Ok(is_dotted(name, &names))
 }

@@ -1,7 +1,8 @@
-//! Which names a file refers to outside of its functions, as those of its imports.
+//! Which names forms use that nothing in them declares, and which of them may be those of imports.
 #![tactic(auto)]
 
 mod declarations;
 mod expressions;
 pub mod file;
-mod statements;
+mod hidden;
+pub mod statements;

@@ -1,247 +1,227 @@
-//! Names before a dot in statements.
-ghost use Rattle.std.specs.Prelude.{◌≡◌, map, IfOk};
+//! Names in statements.
+ghost use Rattle.std.specs.Prelude.{◌≡◌, ◌++◌, map, false, option_to_list, IfOk, OnOk};
 ghost use Rattle.go_ast.specs.Machine.{pack_clauses};
 ghost use Rattle.go_ast.specs.Trees.{pack_stmts};
-ghost use Rattle.go_ast.specs.Views.{if_boxed, if_some, expr_of, exprs_in, simple_of, stmt_of, else_of, block_of, if_of, clause_of};
+ghost use Rattle.go_ast.specs.Views.{if_boxed, expr_of, exprs_in, simple_of, stmt_of, else_of, block_of, if_of, clause_of};
+ghost use Rattle.go_scope.specs.Names.{in_expr, used};
 ghost use Rattle.go_uses.specs.Seen.{for_of, range_of};
-ghost use Rattle.go_uses.specs.Uses.{condition_refers, case_refers, simple_refers, simple_declares, optional_refers, optional_declares, stmt_declares, is_named, behind, stmt_refers, block_refers, if_refers, else_refers, list_refers, clauses_refer};
+ghost use Rattle.go_uses.specs.Uses.{if_any, texts, outside, in_simple, simple_names, optional_names, stmt_names, in_stmt, in_block, in_if, in_else, in_list, in_clauses};
 
-use crate::declarations::{decl_declares, decl_refers};
-use crate::expressions::{expr_refers, exprs_refer, is_one};
+use crate::declarations::{hide_decl, in_decl};
+use crate::expressions::{in_case, in_condition, in_expr, in_exprs};
+use crate::hidden::{hide, joined, outside};
 use go_ast::expression::Expr;
 use go_ast::name::Name;
 use go_ast::statement::{Block, Clause, Else, For, If, Range, Simple, Stmt};
+use go_scope::name_index::NameIndex;
+use go_scope::names::UsedName;
 use std::alloc::{AllocError, Global};
 
-fn simple_refers(alloc: Global, name: &str, simple: &Simple) -> Result<bool, AllocError>
-    ensures { IfOk result (λ b. b ≡ simple_refers name.now (simple_of simple.now)) }
+/// The names that a simple statement uses. An `Err` only where memory ran out.
+fn in_simple<'a>(alloc: Global, simple: &'a Simple) -> Result<Vec<UsedName<'a>>, AllocError>
+    ensures { IfOk result (λ names. map used names.items ≡ in_simple (simple_of simple.now)) }
 {
     match simple {
-        Simple::Call(e) | Simple::Increment(e) | Simple::Decrement(e) => {
-            expr_refers(alloc, name, e)
-        }
+        Simple::Call(e) | Simple::Increment(e) | Simple::Decrement(e) => in_expr(alloc, e),
         Simple::Assignment(lefts, rights) => {
-            if exprs_refer(alloc, name, lefts)? {
-                return Ok(true);
-            }
-            exprs_refer(alloc, name, rights)
+            joined(in_exprs(alloc, lefts)?, in_exprs(alloc, rights)?)
         }
         Simple::OperatorAssignment(_, left, right) => {
-            if expr_refers(alloc, name, left)? {
-                return Ok(true);
-            }
-            expr_refers(alloc, name, right)
+            joined(in_expr(alloc, left)?, in_expr(alloc, right)?)
         }
-        Simple::ShortVarDecl(_, values) => exprs_refer(alloc, name, values),
+        Simple::ShortVarDecl(_, values) => in_exprs(alloc, values),
     }
 }
 
-fn simple_declares(name: &str, simple: &Simple) -> bool
-    ensures { result ≡ simple_declares name.now (simple_of simple.now) }
-{
-    match simple {
-        Simple::ShortVarDecl(names, _) => is_one(name, names),
-        _ => false,
-    }
-}
-
-fn optional_refers(
+fn in_optional<'a>(
     alloc: Global,
-    name: &str,
-    simple: &Option<Box<Simple>>,
-) -> Result<bool, AllocError>
-    ensures { IfOk result (λ b. b ≡ optional_refers name.now (if_boxed simple_of simple.now)) }
+    simple: &'a Option<Box<Simple>>,
+) -> Result<Vec<UsedName<'a>>, AllocError>
+    ensures { IfOk result (λ names. map used names.items ≡ if_any in_simple (if_boxed simple_of simple.now)) }
 {
     match simple {
-        Some(simple) => simple_refers(alloc, name, simple),
-        None => Ok(false),
+        Some(simple) => in_simple(alloc, simple),
+        None => Ok(Vec::new(alloc)),
     }
 }
 
-fn optional_declares(name: &str, simple: &Option<Box<Simple>>) -> bool
-    ensures { result ≡ optional_declares name.now (if_boxed simple_of simple.now) }
+/// Hides the names that a simple statement declares. An `Err` only where memory ran out.
+fn hide_simple<'a>(hidden: &mut NameIndex<'a>, simple: &'a Simple) -> Result<(), AllocError>
+    ensures { OnOk result (hidden.new ≡ hidden.old ++ simple_names (simple_of simple.now)) }
 {
     match simple {
-        Some(simple) => simple_declares(name, simple),
-        None => false,
+        Simple::ShortVarDecl(names, _) => hide(hidden, names),
+        _ => Ok(()),
     }
 }
 
-fn condition_refers(
-    alloc: Global,
-    name: &str,
-    condition: &Option<Box<Expr>>,
-) -> Result<bool, AllocError>
-    ensures { IfOk result (λ b. b ≡ condition_refers name.now (if_boxed expr_of condition.now)) }
+fn hide_optional<'a>(
+    hidden: &mut NameIndex<'a>,
+    simple: &'a Option<Box<Simple>>,
+) -> Result<(), AllocError>
+    ensures { OnOk result (hidden.new ≡ hidden.old ++ optional_names (if_boxed simple_of simple.now)) }
 {
-    match condition {
-        Some(condition) => expr_refers(alloc, name, condition),
-        None => Ok(false),
+    match simple {
+        Some(simple) => hide_simple(hidden, simple),
+        None => Ok(()),
     }
 }
 
-fn is_named(name: &str, given: &Option<Name>) -> bool
-    ensures { result ≡ is_named name.now given.now }
-{
-    match given {
-        Some(given) => name == given.text(),
-        None => false,
-    }
-}
-
-// Whether a statement declares a name in the block that it stands in.
+/// Hides the names that a statement declares in the block that it stands in.
 #[tactic(auto, unfolding(go_ast::specs::Views::stmt_of))]
-fn stmt_declares(name: &str, statement: &Stmt) -> bool
-    ensures { result ≡ stmt_declares name.now (stmt_of statement.now) }
+fn hide_stmt<'a>(hidden: &mut NameIndex<'a>, statement: &'a Stmt) -> Result<(), AllocError>
+    ensures { OnOk result (hidden.new ≡ hidden.old ++ stmt_names (stmt_of statement.now)) }
 {
     match statement {
-        Stmt::Declaration(_, decl) => decl_declares(name, decl),
-        Stmt::Simple(_, simple) => simple_declares(name, simple),
-        _ => false,
+        Stmt::Declaration(_, decl) => hide_decl(hidden, decl),
+        Stmt::Simple(_, simple) => hide_simple(hidden, simple),
+        _ => Ok(()),
     }
 }
 
-// Whether a statement refers to a name.
+/// Those of a statement before others, and of these.
+fn behind<'a>(
+    alloc: Global,
+    before: &'a Option<Box<Simple>>,
+    names: &[UsedName<'a>],
+) -> Result<Vec<UsedName<'a>>, AllocError>
+    ensures { let o = if_boxed simple_of before.now in
+        IfOk result (λ all. map used all.items ≡ if_any in_simple o ++ outside (optional_names o) (map used names.now)) }
+{
+    let mut hidden = NameIndex::new(alloc);
+    hide_optional(&mut hidden, before)?;
+    let first = in_optional(alloc, before)?;
+    joined(first, outside(alloc, &hidden, names)?)
+}
+
+/// The names that a statement uses.
 #[cycle(uses)]
 #[tactic(auto, using(go_ast::proofs::StatementRows::block_seen, go_ast::proofs::StatementRows::if_seen, go_ast::proofs::StatementRows::for_seen, go_ast::proofs::StatementRows::range_seen, go_ast::proofs::StatementRows::switch_seen, go_ast::proofs::StatementRows::declaration_seen, go_ast::proofs::StatementRows::simple_seen, go_ast::proofs::StatementRows::return_seen, go_ast::proofs::StatementRows::empty_seen, go_ast::proofs::StatementRows::break_seen, go_ast::proofs::StatementRows::continue_seen, go_ast::proofs::StatementRows::fallthrough_seen))]
-fn stmt_refers(alloc: Global, name: &str, statement: &Stmt) -> Result<bool, AllocError>
-    ensures { IfOk result (λ b. b ≡ stmt_refers name.now (stmt_of statement.now)) }
+fn in_stmt<'a>(alloc: Global, statement: &'a Stmt) -> Result<Vec<UsedName<'a>>, AllocError>
+    ensures { IfOk result (λ names. map used names.items ≡ in_stmt (stmt_of statement.now)) }
 {
     match statement {
-        Stmt::Declaration(_, decl) => decl_refers(alloc, name, decl),
-        Stmt::Simple(_, simple) => simple_refers(alloc, name, simple),
-        Stmt::Return(_, values) => exprs_refer(alloc, name, values),
-        Stmt::Block(block) => block_refers(alloc, name, block),
-        Stmt::If(conditional) => if_refers(alloc, name, conditional),
-        Stmt::For(looped) => for_refers(alloc, name, looped),
-        Stmt::Range(ranged) => range_refers(alloc, name, ranged),
-        Stmt::Switch(_, init, tag, clauses) => {
-            if optional_refers(alloc, name, init)? {
-                return Ok(true);
-            }
-            if optional_declares(name, init) {
-                return Ok(false);
-            }
-            if condition_refers(alloc, name, tag)? {
-                return Ok(true);
-            }
-            clauses_refer(alloc, name, clauses)
+        Stmt::Declaration(_, decl) => in_decl(alloc, decl),
+        Stmt::Simple(_, simple) => in_simple(alloc, simple),
+        Stmt::Return(_, values) => in_exprs(alloc, values),
+        Stmt::Block(block) => in_block(alloc, block),
+        Stmt::If(conditional) => in_if(alloc, conditional),
+        Stmt::For(looped) => in_for(alloc, looped),
+        Stmt::Range(ranged) => in_range(alloc, ranged),
+        Stmt::Switch(_, before, tag, clauses) => in_switch(alloc, before, tag, clauses),
+        Stmt::Empty(_) | Stmt::Break(_) | Stmt::Continue(_) | Stmt::Fallthrough(_) => {
+            Ok(Vec::new(alloc))
         }
-        Stmt::Empty(_) | Stmt::Break(_) | Stmt::Continue(_) | Stmt::Fallthrough(_) => Ok(false),
     }
 }
 
+/// The names that a block uses. An `Err` only where memory ran out.
 #[cycle(uses)]
-fn block_refers(alloc: Global, name: &str, block: &Block) -> Result<bool, AllocError>
-    ensures { IfOk result (λ b. b ≡ block_refers name.now (block_of block.now)) }
+pub(crate) fn in_block<'a>(alloc: Global, block: &'a Block) -> Result<Vec<UsedName<'a>>, AllocError>
+    ensures { IfOk result (λ names. map used names.items ≡ in_block (block_of block.now)) }
 {
-    list_refers(alloc, name, &block.statements)
+    in_list(alloc, &block.statements)
 }
 
 #[cycle(uses)]
-fn if_refers(alloc: Global, name: &str, conditional: &If) -> Result<bool, AllocError>
-    ensures { IfOk result (λ b. b ≡ if_refers name.now (if_of conditional.now)) }
+fn in_if<'a>(alloc: Global, conditional: &'a If) -> Result<Vec<UsedName<'a>>, AllocError>
+    ensures { IfOk result (λ names. map used names.items ≡ in_if (if_of conditional.now)) }
 {
-    if optional_refers(alloc, name, &conditional.init)? {
-        return Ok(true);
-    }
-    if optional_declares(name, &conditional.init) {
-        return Ok(false);
-    }
-    if expr_refers(alloc, name, &conditional.condition)? {
-        return Ok(true);
-    }
-    if block_refers(alloc, name, &conditional.body)? {
-        return Ok(true);
-    }
-    else_refers(alloc, name, &conditional.otherwise)
+    let condition = in_expr(alloc, &conditional.condition)?;
+    let body = in_block(alloc, &conditional.body)?;
+    let otherwise = in_else(alloc, &conditional.otherwise)?;
+    let names = joined(condition, joined(body, otherwise)?)?;
+    behind(alloc, &conditional.init, &names)
 }
 
 #[cycle(uses)]
 #[tactic(auto, using(go_ast::proofs::StatementRows::no_else_seen, go_ast::proofs::StatementRows::else_block_seen, go_ast::proofs::StatementRows::else_if_seen))]
-fn else_refers(alloc: Global, name: &str, otherwise: &Else) -> Result<bool, AllocError>
-    ensures { IfOk result (λ b. b ≡ else_refers name.now (else_of otherwise.now)) }
+fn in_else<'a>(alloc: Global, otherwise: &'a Else) -> Result<Vec<UsedName<'a>>, AllocError>
+    ensures { IfOk result (λ names. map used names.items ≡ in_else (else_of otherwise.now)) }
 {
     match otherwise {
-        Else::Nothing => Ok(false),
-        Else::Block(block) => block_refers(alloc, name, block),
-        Else::If(conditional) => if_refers(alloc, name, conditional),
+        Else::Nothing => Ok(Vec::new(alloc)),
+        Else::Block(block) => in_block(alloc, block),
+        Else::If(conditional) => in_if(alloc, conditional),
     }
 }
 
 #[cycle(uses)]
-fn for_refers(alloc: Global, name: &str, looped: &For) -> Result<bool, AllocError>
-    ensures { IfOk result (λ b. b ≡ stmt_refers name.now (for_of looped.now)) }
+fn in_for<'a>(alloc: Global, looped: &'a For) -> Result<Vec<UsedName<'a>>, AllocError>
+    ensures { IfOk result (λ names. map used names.items ≡ in_stmt (for_of looped.now)) }
 {
-    if optional_refers(alloc, name, &looped.init)? {
-        return Ok(true);
-    }
-    if optional_declares(name, &looped.init) {
-        return Ok(false);
-    }
-    if condition_refers(alloc, name, &looped.condition)? {
-        return Ok(true);
-    }
-    if optional_refers(alloc, name, &looped.post)? {
-        return Ok(true);
-    }
-    block_refers(alloc, name, &looped.body)
+    let condition = in_condition(alloc, &looped.condition)?;
+    let post = in_optional(alloc, &looped.post)?;
+    let body = in_block(alloc, &looped.body)?;
+    let names = joined(condition, joined(post, body)?)?;
+    behind(alloc, &looped.init, &names)
 }
 
 #[cycle(uses)]
-fn range_refers(alloc: Global, name: &str, ranged: &Range) -> Result<bool, AllocError>
-    ensures { IfOk result (λ b. b ≡ stmt_refers name.now (range_of ranged.now)) }
+fn in_range<'a>(alloc: Global, ranged: &'a Range) -> Result<Vec<UsedName<'a>>, AllocError>
+    ensures { IfOk result (λ names. map used names.items ≡ in_stmt (range_of ranged.now)) }
 {
-    if expr_refers(alloc, name, &ranged.operand)? {
-        return Ok(true);
-    }
-    if is_named(name, &ranged.name) {
-        return Ok(false);
-    }
-    block_refers(alloc, name, &ranged.body)
+    let operand = in_expr(alloc, &ranged.operand)?;
+    joined(operand, names_outside(alloc, &ranged.name, &ranged.body)?)
 }
 
-/// Whether one of some statements refers to a name, in front of which none declares it. An `Err`
-/// only where memory ran out.
+/// The names that a block uses, but one that hides others of its text. An `Err` only where memory
+/// ran out.
 #[cycle(uses)]
-pub(crate) fn list_refers(
+pub fn names_outside<'a>(
     alloc: Global,
-    name: &str,
-    statements: &[Stmt],
-) -> Result<bool, AllocError>
-    ensures { IfOk result (λ b. b ≡ list_refers name.now (pack_stmts (map stmt_of statements.now))) }
+    name: &'a Option<Name>,
+    block: &'a Block,
+) -> Result<Vec<UsedName<'a>>, AllocError>
+    ensures { IfOk result (λ names. map used names.items ≡ outside (texts (option_to_list name.now)) (in_block (block_of block.now))) }
 {
-    for statement in statements {
-        if stmt_refers(alloc, name, statement)? {
-            return Ok(true);
-        }
-        if stmt_declares(name, statement) {
-            return Ok(false);
-        }
+    let names = in_block(alloc, block)?;
+    let mut hidden = NameIndex::new(alloc);
+    if let Some(name) = name {
+        hidden.insert(name.text())?;
     }
-    Ok(false)
+    outside(alloc, &hidden, &names)
 }
 
 #[cycle(uses)]
-fn clauses_refer(alloc: Global, name: &str, clauses: &[Clause]) -> Result<bool, AllocError>
-    ensures { IfOk result (λ b. b ≡ clauses_refer name.now (pack_clauses (map clause_of clauses.now))) }
+fn in_switch<'a>(
+    alloc: Global,
+    before: &'a Option<Box<Simple>>,
+    tag: &'a Option<Box<Expr>>,
+    clauses: &'a [Clause],
+) -> Result<Vec<UsedName<'a>>, AllocError>
+    ensures { let o = if_boxed simple_of before.now in let cs = pack_clauses (map clause_of clauses.now) in
+        IfOk result (λ names. map used names.items ≡
+        if_any in_simple o ++ outside (optional_names o) (if_any (in_expr false) (if_boxed expr_of tag.now) ++ in_clauses cs)) }
 {
-    for clause in clauses {
-        if case_refers(alloc, name, &clause.values)? {
-            return Ok(true);
-        }
-        if list_refers(alloc, name, &clause.statements)? {
-            return Ok(true);
-        }
-    }
-    Ok(false)
+    let tag = in_condition(alloc, tag)?;
+    let names = joined(tag, in_clauses(alloc, clauses)?)?;
+    behind(alloc, before, &names)
 }
 
-fn case_refers(alloc: Global, name: &str, values: &Option<Vec<Expr>>) -> Result<bool, AllocError>
-    ensures { IfOk result (λ b. b ≡ case_refers name.now (if_some (λ es. exprs_in es.items) values.now)) }
+/// Those of some statements.
+#[cycle(uses)]
+fn in_list<'a>(alloc: Global, statements: &'a [Stmt]) -> Result<Vec<UsedName<'a>>, AllocError>
+    ensures { IfOk result (λ names. map used names.items ≡ in_list (pack_stmts (map stmt_of statements.now))) }
 {
-    match values {
-        Some(values) => exprs_refer(alloc, name, values),
-        None => Ok(false),
+    let mut hidden = NameIndex::new(alloc);
+    let mut found = Vec::new(alloc);
+    for statement in statements {
+        let names = in_stmt(alloc, statement)?;
+        found = joined(found, outside(alloc, &hidden, &names)?)?;
+        hide_stmt(&mut hidden, statement)?;
     }
+    Ok(found)
+}
+
+#[cycle(uses)]
+fn in_clauses<'a>(alloc: Global, clauses: &'a [Clause]) -> Result<Vec<UsedName<'a>>, AllocError>
+    ensures { IfOk result (λ names. map used names.items ≡ in_clauses (pack_clauses (map clause_of clauses.now))) }
+{
+    let mut found = Vec::new(alloc);
+    for clause in clauses {
+        found = joined(found, in_case(alloc, &clause.values)?)?;
+        found = joined(found, in_list(alloc, &clause.statements)?)?;
+    }
+    Ok(found)
 }

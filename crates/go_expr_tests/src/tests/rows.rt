@@ -39,6 +39,7 @@ pub(crate) static ROWS: &str =
 2:12 11 | type T [-1]y
 2:8 10 | type T struct { a int; a string }
 2:8 10 | type T struct { a, a int }
+2:8 10 | type T struct { a, b, c, d, e, f, g, h, i, j int; k, c string }
 2:17 2 | type T struct { _ int }
 2:20 2 | type T struct { a, _, _ int; a int }
 2:8 5 | type T struct { a, a [65536]int }
@@ -47,7 +48,7 @@ pub(crate) static ROWS: &str =
 2:8 11 | type T x
 2:8 11 | type T x.Y
 3:8 13 | const x = 1␊type T x
-3:8 11 | const x = 1␊type T x.Y
+3:8 13 | const x = 1␊type T x.Y
 2:8 2 | type T float64
 2:8 13 | type T fmt
 2:8 13 | type T fmt.Println
@@ -61,7 +62,11 @@ pub(crate) static ROWS: &str =
 2:8 13 | type T [one(1)]int
 2:9 20 | type T [two(1, "a")]int
 2:9 13 | type T [one]int
-2:8 11 | type T count.a
+2:8 13 | type T count.a
+2:8 13 | type T pair.a
+2:8 13 | type T one.a
+2:8 11 | type T fmt.T
+2:11 13 | type T [2]int.X
 § Literals, untyped constants, iota, `len`, and constants where a type is due.
 untyped int 255 | var v = 0xFF
 untyped int 255 | var v = 0X_fF
@@ -246,13 +251,22 @@ printed int 9223372036854775807 | var v = (fmt.Println)(1 << 63 - 1)
 2:9 13 | var v = fmt + 1
 2:13 13 | var v = 1 + int
 2:9 13 | var v = len + x
-2:9 13 | var v = (int) + 1
+2:10 13 | var v = (int) + 1
 2:13 13 | var v = 1 + fmt.Println(1)
 panics string "x" | var v = panic("x")
 uint8 value | var v = "abc"[1]
 [1]int of 1 | var v = [1]int{1}
 uint8 value | var v = "abc"[1] + 1
 2:20 16 | var v = "abc"[1] + 1/0
+2:11 13 | var v = ((int)) + 1
+2:14 13 | var v = 1 + (int)
+2:14 13 | var v = 1 + (fmt)
+2:14 13 | var v = len((int))
+2:10 13 | var v = (int).x
+2:10 13 | var v = (fmt.Println()).x
+2:11 13 | var v = ((fmt)).Println(1)
+printed int 1 | var v = ((fmt.Println))(1)
+2:9 13 | var v = fmt.Println()(x)
 § Names of variables and functions, and what is due where.
 int value | var v = count
 int local 0 | var v = z
@@ -268,6 +282,16 @@ function | var v = one
 2:13 20 | var v = 1 + two(1, "a")
 2:13 20 | var v = 1 + panic("x")
 2:9 13 | var v = fmt.Println("x") + 1
+2:14 13 | var v = 1 + (one)
+2:14 20 | var v = 1 + (nothing())
+2:15 20 | var v = 1 + ((nothing()))
+2:10 20 | var v = (nothing()) + 1
+2:10 20 | var v = (nothing()).x
+2:10 20 | var v = (two(1, "a"))[0]
+2:14 20 | var v = one((nothing()))
+2:17 20 | var v = [1]int{(nothing())}
+int value | var v = (one(1)) + 1
+int field 0 | var v = ((pair)).a
 § Lengths: of strings, and of arrays in whose operand no call stands.
 int 3 | var v = len(numbers)
 int 3 | var v = len(row)
@@ -418,7 +442,7 @@ bool converted | var v = bool(count < 1)
 2:9 14 | var v = [1]int8{1, 300}
 2:9 13 | var v = int{1}
 2:9 13 | var v = Word{"a"}
-2:13 13 | var v = int{{1}}
+2:9 13 | var v = int{{1}}
 2:9 20 | var v = Pair{1}
 2:9 20 | var v = Pair{1, 2, 3}
 2:9 20 | var v = Pair{"a"}
@@ -443,6 +467,53 @@ bool converted | var v = bool(count < 1)
 2:10 11 | var v = [x]int{y}
 2:16 11 | var v = [1]int{x, 2}
 2:16 20 | var v = [1]int{nothing()}
+4:12 20 | type S struct { a int }␊type T struct { f [2]S }␊var v = T{{{1, 2}}}
+4:11 13 | type S struct { a int }␊type T struct { f [2]S }␊var v = T{{{1}}}
+4:15 20 | type S struct { a int }␊type T struct { f [2]S }␊var v = T{f: {{1, 2}}}
+4:14 13 | type S struct { a int }␊type T struct { f [2]S }␊var v = T{f: {{1}}}
+4:14 19 | type S struct { a int }␊type T struct { f [2]S }␊var v = T{f: [2]S{"a"}}
+(a/p.T struct{a/p.f [2](a/p.S struct{a/p.a int;});}) of 1 | type S struct { a int }␊type T struct { f [2]S }␊var v = T{f: [2]S{{1}, {a: 2}}}
+4:19 20 | type S struct { a int }␊type T struct { f [2]S }␊var v = [1]T{{f: {{1, 2}}}}
+4:20 20 | type S struct { a int }␊type T struct { n int; f [2]S }␊var v = T{1, {{1}, {1, 2}}}
+4:15 20 | type S struct { a int }␊type T struct { n int; f [2]S }␊var v = T{1, {{1, 2}}, 3}
+4:18 20 | type S struct { a int }␊type T struct { n int; f [2]S }␊var v = T{n: 1, {{1, 2}}}
+4:17 13 | type S struct { a int }␊type T struct { n int; f [2]S }␊var v = T{n: 1, {{1}}}
+2:15 13 | var v = Boxed{{1, 2}}
+2:22 13 | var v = Boxed{inner: {1, 2, 3}}
+2:19 13 | var v = [1]Boxed{{{1, 2}}}
+2:17 13 | var v = Pair{a: {}}
+2:17 13 | var v = Pair{a: {{}}}
+2:17 13 | var v = Pair{c: {{1}}}
+2:18 11 | var v = Pair{c: {x}}
+2:20 13 | var v = Pair{1, 2, {}}
+3:15 11 | type S string␊var v = S{{}, x}
+3:9 13 | type S string␊var v = S{{}, 1}
+3:9 13 | type S string␊var v = S{{{1}}, {a: 2}}
+2:16 13 | var v = [2]int{{{}}}
+2:16 13 | var v = [2]int{{}}
+2:17 11 | var v = [2]int{{x}}
+2:21 11 | var v = [2]int{{{}, x}}
+2:17 20 | var v = [1]Pair{{1}, {2}}
+2:9 17 | var v = [1]Pair{{1, 2}, {2, 3}}
+2:25 20 | var v = [1]Pair{{1, 2}, {2}}
+2:10 11 | var v = [x]Pair{{1}}
+3:9 19 | type P struct { a int; b [2]int }␊var v = P{a: "x", [2]int{}}
+3:9 19 | type P struct { a int; b [2]int }␊var v = P{[2]int{}, a: "x"}
+3:9 14 | type P struct { a int; b [2]int }␊var v = P{a: 1 << 63, [2]int{}}
+3:9 20 | type P struct { a int; b [2]int }␊var v = P{a: 1, [2]int{}}
+3:9 20 | type P struct { a int; b [2]int }␊var v = P{a: 1, "x"}
+3:9 10 | type P struct { a int; b [2]int }␊var v = P{a: "x", a: 1, [2]int{}}
+(a/p.P struct{a/p.a int;a/p.b [2]int;}) of 2 | type P struct { a int; b [2]int }␊var v = P{b: [2]int{}, a: 1}
+2:9 14 | var v = lib.Pair{A: 1 << 63, 1}
+(a/p.T struct{a/p.a int8;a/p.b int8;a/p.c int8;a/p.d int8;a/p.e int8;a/p.f int8;a/p.g int8;a/p.h int8;a/p.i int8;a/p.j int8;}) of 10 | type T struct { a, b, c, d, e, f, g, h, i, j int8 }␊var v = T{a: 1, b: 2, c: 3, d: 4, e: 5, f: 6, g: 7, h: 8, i: 9, j: 10}
+(a/p.T struct{a/p.a int8;a/p.b int8;a/p.c int8;a/p.d int8;a/p.e int8;a/p.f int8;a/p.g int8;a/p.h int8;a/p.i int8;a/p.j int8;}) of 10 | type T struct { a, b, c, d, e, f, g, h, i, j int8 }␊var v = T{j: 10, i: 9, h: 8, g: 7, f: 6, e: 5, d: 4, c: 3, b: 2, a: 1}
+3:9 11 | type T struct { a, b, c, d, e, f, g, h, i, j int8 }␊var v = T{a: 1, b: 2, c: 3, d: 4, e: 5, f: 6, g: 7, h: 8, i: 9, k: 10}
+3:9 10 | type T struct { a, b, c, d, e, f, g, h, i, j int8 }␊var v = T{a: 1, b: 2, c: 3, d: 4, e: 5, f: 6, g: 7, h: 8, i: 9, a: 10}
+3:9 10 | type T struct { a, b, c, d, e, f, g, h, i, j int8 }␊var v = T{a: 1, b: 2, c: 3, d: 4, e: 5, f: 6, g: 7, h: 8, i: 9, a: "a"}
+3:9 14 | type T struct { a, b, c, d, e, f, g, h, i, j int8 }␊var v = T{a: 1, b: 2, c: 3, d: 4, e: 5, f: 6, g: 7, h: 8, i: 9, j: 300}
+3:9 19 | type T struct { a, b, c, d, e, f, g, h, i, j int8 }␊var v = T{a: 1, b: 2, c: 3, d: 4, e: 5, f: 6, g: 7, h: 8, i: 9, j: "a"}
+3:9 19 | type T struct { a, b, c, d, e, f, g, h, i, j int8 }␊var v = T{a: 1, b: 2, c: 3, d: 4, e: 5, f: 6, g: 7, h: 8, i: 9, "b", j: "a"}
+3:9 20 | type T struct { a, b, c, d, e, f, g, h, i, j int8 }␊var v = T{a: 1, b: 2, c: 3, d: 4, e: 5, f: 6, g: 7, h: 8, i: 9, "b"}
 § Calls: how many arguments, and which values the parameters take.
 int value | var v = one(1)
 int value | var v = one('a')
@@ -457,7 +528,7 @@ int value | var v = paired(plain)
 int value | var v = flagged(count < 1)
 2:9 13 | var v = count(1)
 2:9 13 | var v = (count)(1)
-2:9 13 | var v = nothing()()
+2:9 20 | var v = nothing()()
 2:17 11 | var v = nothing(x)
 2:9 20 | var v = one()
 2:9 20 | var v = one(1, 2)
@@ -485,4 +556,11 @@ printed bool converted | var v = fmt.Println(count < 1)
 printed (a/p.Word string) value | var v = fmt.Println(word)
 2:9 13 | var v = fmt.Println(pair)
 2:9 13 | var v = fmt.Println(1 << 63, pair)
+2:9 20 | var v = nothing()(x)
+2:9 20 | var v = two(1, "a")(x)
+2:9 20 | var v = panic("x")()
+2:10 20 | var v = (nothing())()
+2:9 13 | var v = one(1)()
+2:16 11 | var v = one(1)(x)
+2:9 13 | var v = (one(1))()
 "#;

@@ -3,7 +3,7 @@ use super::notation::{array, named, read};
 use go_types::relations::identical;
 use go_types::sizes::{cells, nodes};
 use go_types::texts::type_text;
-use go_types::types::{Field, GoType};
+use go_types::types::{Field, Fields, GoType};
 use std::alloc::{AllocError, Global};
 use std::sync::Arc;
 
@@ -53,7 +53,7 @@ fn doubled(alloc: Global, levels: u32) -> Result<GoType, AllocError> {
     for _ in 0..levels {
         let other = field(alloc, "B", of.copy()?)?;
         let fields = vec![in alloc; field(alloc, "A", of)?, other]?;
-        of = GoType::Struct(Arc::new(alloc, fields)?);
+        of = GoType::Struct(Arc::new(alloc, Fields::new(fields))?);
     }
     Ok(of)
 }

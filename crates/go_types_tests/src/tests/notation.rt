@@ -1,6 +1,6 @@
 //! Types, written as words with a space between each two: the name of a basic type, or a type
 //! that is made of the types before it.
-use go_types::types::{Basic, Field, GoType, IntKind, Named, Untyped};
+use go_types::types::{Basic, Element, Field, Fields, GoType, IntKind, Named, Untyped};
 use std::alloc::{AllocError, Global};
 use std::sync::Arc;
 
@@ -42,7 +42,7 @@ fn newest(types: &mut Vec<GoType>) -> Result<GoType, AllocError> {
 
 /// An array of a type.
 pub(crate) fn array(alloc: Global, length: u32, of: GoType) -> Result<GoType, AllocError> {
-    Ok(GoType::Array(length, Arc::new(alloc, of)?))
+    Ok(GoType::Array(length, Arc::new(alloc, Element::new(of))?))
 }
 
 /// A field with a name, behind its package's path and a colon where it isn't exported.
@@ -65,7 +65,7 @@ fn structure(alloc: Global, types: &mut Vec<GoType>, names: &str) -> Result<GoTy
         }
     }
     fields.reverse();
-    Ok(GoType::Struct(Arc::new(alloc, fields)?))
+    Ok(GoType::Struct(Arc::new(alloc, Fields::new(fields))?))
 }
 
 /// A declared type, by its package's path, a colon and its name.
@@ -73,11 +73,7 @@ pub(crate) fn named(alloc: Global, name: &str, of: GoType) -> Result<GoType, All
     let (path, name) = name.split_once(':').unwrap_or(("", name));
     let path = String::from_str(alloc, path)?;
     let name = String::from_str(alloc, name)?;
-    let named = Named {
-        path,
-        name,
-        underlying: of,
-    };
+    let named = Named::new(path, name, of);
     Ok(GoType::Named(Arc::new(alloc, named)?))
 }
 

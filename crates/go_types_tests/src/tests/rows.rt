@@ -1,8 +1,10 @@
 //! Relations, sizes and texts of types, in rows of parts with bars between them.
 use super::notation::read;
+use go_types::names::is_exported;
 use go_types::relations::{assignable, convertible, identical};
 use go_types::sizes::{cells, nodes};
 use go_types::texts::type_text;
+use go_types::writable::is_writable;
 use std::alloc::{AllocError, Global};
 
 /// The parts of a row; without a bar it is an error.
@@ -143,4 +145,41 @@ fn texts_are_written(rt: HostRuntime) -> Result<(), AllocError> {
         assert!(rt; type_text(rt.alloc(), &of.copy()?)?.as_slice() == text.as_bytes());
     }
     Ok(())
+}
+
+/// Types whose texts tell them.
+const WRITABLE: &str = "\
+int
+{
+untyped_rune
+int =lib.v2/a:T [2
+int string [3 {A,p:b =p:S";
+
+/// Types with names that have a dot or a brace, or paths that have a brace.
+const UNWRITABLE: &str = "\
+int =p:T.U
+int =p}:T
+int =p:T} [2
+int {p:a.b =p:S
+int string {A,}:b =p:S";
+
+#[test]
+fn types_are_writable(rt: HostRuntime) -> Result<(), AllocError> {
+    for words in WRITABLE.lines() {
+        assert!(rt; is_writable(&read(rt.alloc(), words)?));
+    }
+    for words in UNWRITABLE.lines() {
+        assert!(rt; !is_writable(&read(rt.alloc(), words)?));
+    }
+    Ok(())
+}
+
+#[test]
+fn upper_case_letters_export(rt: HostRuntime) {
+    for name in ["A", "Tab", "É", "Ω8", "𝐀_"] {
+        assert!(rt; is_exported(name));
+    }
+    for name in ["", "a", "éA", "ǅ", "Ⅷ", "_A", "8A", "日A"] {
+        assert!(rt; !is_exported(name));
+    }
 }

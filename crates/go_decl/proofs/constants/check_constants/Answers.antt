@@ -1,4 +1,5 @@
-use Rattle.std.proofs.Common.{◌≡◌, Option, Some, Ok, Result, List, IfOk, sym, ap, ◌∙◌, subst}
+use Rattle.std.proofs.Common.{◌≡◌, ◌++◌, Option, Some, Ok, Result, List, IfOk, sym, ap, ◌∙◌, subst}
+use Rattle.std.specs.Prelude.{is_some}
 use Rattle.std.specs.Option.{option_map}
 use Rattle.go_text.specs.declared.place.Place.{Place}
 use Rattle.go_ast.specs.Views.{exprs_in}
@@ -7,13 +8,15 @@ use Rattle.go_types.specs.Views.{type_of}
 use Rattle.go_expr.specs.Known.{Names}
 use Rattle.go_typed.specs.Trees.{Expr}
 use Rattle.go_typed.specs.Views.{expr_of}
-use Rattle.go_expr.specs.Verdicts.{asked_both, broken, operands}
+use Rattle.go_scope.specs.Names.{in_exprs}
+use Rattle.go_expr.specs.Verdicts.{both, asked_both, broken, operands}
 use Rattle.go_expr.specs.declared.error.ExprError.{ExprError}
 use Rattle.go_expr.specs.Seen.{scope_of, names_of, all_of}
 use Rattle.go_stmt.specs.Rules.{constants_of}
-use Rattle.go_objects.specs.Table.{Package, scope_at}
+use Rattle.go_objects.specs.Objects as objects
+use Rattle.go_objects.specs.Table.{Package, in_written, scope_at}
 use Rattle.go_objects.specs.Seen.{spec_of}
-use Rattle.go_decl.specs.Faults.{Faults, parts_faults, written_type, spec_broken}
+use Rattle.go_decl.specs.Faults.{Faults, parts_faults, written_type, apart}
 use Rattle.go_decl.specs.Seen.{facts_of, Finds}
 use Rattle.go_decl.specs.declared.constants.Parts.{Parts}
 use Rattle.go_decl.proofs.Parts.{checked_spec}
@@ -39,9 +42,12 @@ returns c =
     subst (λ (r : Result Parts ExprError). IfOk r (λ (x : Parts). option_map (option_map type_of) x.of ≡ written_type s of)) same c.check_parts.ensures.of in
     let values_are : option_map (all_of expr_of) parts.values ≡ operands s es =
     subst (λ (r : Result Parts ExprError). IfOk r (λ (x : Parts). option_map (all_of expr_of) x.values ≡ operands s es)) same c.check_parts.ensures.values in
-    let seen : broken c.place-2.result (asked_both (constants_of ns) (option_map (option_map type_of) parts.of) (option_map (all_of expr_of) parts.values)) ≡ spec_broken p s (spec_of spec) =
-    ap (λ (o : Option (Option Type')). broken c.place-2.result (asked_both (constants_of ns) o (option_map (all_of expr_of) parts.values))) of_is
-    ∙ ap (λ (o : Option (List Expr)). broken c.place-2.result (asked_both (constants_of ns) (written_type s of) o)) values_are
-    ∙ ap (λ (q : Place). broken q (asked_both (constants_of ns) (written_type s of) (operands s es))) (c.place-2.ensures ∙ sym c.place.ensures) in
-    checked_spec c.check_spec.result t c.args.file c.args.iota c.args.repeated ns of es s c.in-Some.first.now p (sym c.in-Some.ensures.value) c.place.ensures stands c.in_ok-check_names.ensures told
-    (subst (λ (l : Faults). Finds c.check_spec.result l) seen c.check_spec.ensures)
+    let us = in_written of ++ in_exprs es in
+    let os = objects.constants_of c.args.file c.args.iota (spec_of spec) in
+    let whole = λ (q : Place) (o : Option (Option Type')) (v : Option (List Expr)). broken q (asked_both (constants_of ns) o v) ++ apart t c.args.file q (is_some (both o v)) us os in
+    let seen : whole c.place-2.result (option_map (option_map type_of) parts.of) (option_map (all_of expr_of) parts.values) ≡ whole p (written_type s of) (operands s es) =
+    ap (λ (o : Option (Option Type')). whole c.place-2.result o (option_map (all_of expr_of) parts.values)) of_is
+    ∙ ap (λ (v : Option (List Expr)). whole c.place-2.result (written_type s of) v) values_are
+    ∙ ap (λ (q : Place). whole q (written_type s of) (operands s es)) (c.place-2.ensures ∙ sym c.place.ensures) in
+    checked_spec c.check_whole.result t c.args.file c.args.iota c.args.repeated ns of es s c.in-Some.first.now p (sym c.in-Some.ensures.value) c.place.ensures stands c.in_ok-check_names.ensures told
+    (subst (λ (l : Faults). Finds c.check_whole.result l) seen c.check_whole.ensures)

@@ -1,4 +1,5 @@
-use Rattle.std.proofs.Common.{◌≡◌, Option, None, List, sym, ap, ◌∙◌, subst}
+use Rattle.std.proofs.Common.{◌≡◌, ◌++◌, Option, None, List, sym, ap, ◌∙◌, subst}
+use Rattle.std.specs.Prelude.{is_some}
 use Rattle.std.specs.List.{slice_get, flat_map}
 use Rattle.std.specs.Option.{option_map}
 use Rattle.go_ast.specs.Trees.{Name}
@@ -6,13 +7,15 @@ use Rattle.go_ast.specs.Views.{var_of}
 use Rattle.go_types.specs.Types.{Type'}
 use Rattle.go_types.specs.Views.{type_of}
 use Rattle.go_expr.specs.Known.{Names}
-use Rattle.go_expr.specs.Verdicts.{asked_both, broken}
+use Rattle.go_scope.specs.Names.{in_exprs}
+use Rattle.go_expr.specs.Verdicts.{both, asked_both, broken}
 use Rattle.go_expr.specs.Seen.{scope_of, names_of}
 use Rattle.go_stmt.specs.Rules.{Values, variables_source}
 use Rattle.go_stmt.specs.Statements.{values_known}
 use Rattle.go_stmt.specs.Seen.{values_seen}
-use Rattle.go_objects.specs.Table.{Package, scope_at}
-use Rattle.go_decl.specs.Faults.{Faults, name_faults, written_type, var_broken}
+use Rattle.go_objects.specs.Objects.{variables_of}
+use Rattle.go_objects.specs.Table.{Package, in_written, scope_at}
+use Rattle.go_decl.specs.Faults.{Faults, name_faults, written_type, apart}
 use Rattle.go_decl.specs.Seen.{facts_of, Finds}
 use Rattle.go_decl.proofs.Parts.{checked_variables}
 use Rattle.go_decl.proofs.variables.check_var_spec.Goals as goal
@@ -31,11 +34,13 @@ returns c =
     let parts = c.in_ok-parts.parts in
     let of_is : option_map (option_map type_of) parts.of ≡ written_type s spec.type = c.in_ok-parts.ensures.of in
     let values_are : option_map values_seen parts.values ≡ values_known s spec.values = c.in_ok-parts.ensures.values in
-    let seen : broken p (asked_both (variables_source c.deref-3.result.now) (option_map (option_map type_of) parts.of) (option_map values_seen parts.values)) ≡ var_broken p s spec =
-    ap (λ (l : List Name). broken p (asked_both (variables_source l) (option_map (option_map type_of) parts.of) (option_map values_seen parts.values))) c.deref-3.ensures.value
-    ∙ ap (λ (o : Option (Option Type')). broken p (asked_both (variables_source ns) o (option_map values_seen parts.values))) of_is
-    ∙ ap (λ (o : Option Values). broken p (asked_both (variables_source ns) (written_type s spec.type) o)) values_are in
-    checked_variables c.check_source.result t c.args.file ns spec.type spec.values s c.in-Some.first.now p
+    let us = in_written spec.type ++ in_exprs spec.values in
+    let os = variables_of c.args.file spec in
+    let whole = λ (o : Option (Option Type')) (v : Option Values). broken p (asked_both (variables_source ns) o v) ++ apart t c.args.file p (is_some (both o v)) us os in
+    let seen : whole (option_map (option_map type_of) parts.of) (option_map values_seen parts.values) ≡ whole (written_type s spec.type) (values_known s spec.values) =
+    ap (λ (o : Option (Option Type')). whole o (option_map values_seen parts.values)) of_is
+    ∙ ap (λ (v : Option Values). whole (written_type s spec.type) v) values_are in
+    checked_variables c.check_whole.result t c.args.file ns spec.type spec.values s c.in-Some.first.now p
     (ap (λ (l : List Name). slice_get l 0) (sym c.deref.ensures.value) ∙ sym c.in-Some.ensures.value) c.place.ensures stands
     (ap (λ (l : List Name). flat_map (name_faults t c.args.file) l) (sym c.deref-2.ensures.value) ∙ c.in_ok-check_names.ensures) c.in_ok-parts.ensures.faults
-    (subst (λ (l : Faults). Finds c.check_source.result l) seen c.check_source.ensures)
+    (subst (λ (l : Faults). Finds c.check_whole.result l) seen c.check_whole.ensures)

@@ -22,7 +22,7 @@ pub returns : goal.returns
 returns c =
     let e = expr_of c.args.element.value in
     let s = c.in-Some.slot in
-    let there : slots_of c.args.slots c.args.number (element_of c.args.element).0 ≡ Some (s.0, type_of s.1.now) =
+    let there : slots_of c.args.slots.now c.args.number (element_of c.args.element).0 ≡ Some (s.0, type_of s.1.now) =
     sym c.slot.ensures ∙ ap (option_map (λ p. (p.0, type_of p.1.now))) c.in-Some.is in
     let given = subst (λ (t : Type'). Gives expr_of c.assigned.result (assigned t e)) c.in_ok-of.ensures c.assigned.ensures in
     let told = subst (λ (v : Verdict (ℕ × Expr)). Gives part_of c.part.result v) (sym (ap (part_in e) there)) (c.part.ensures.answer (assigned (type_of s.1.now) e) given) in

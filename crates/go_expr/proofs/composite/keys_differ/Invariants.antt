@@ -1,10 +1,8 @@
-use Rattle.std.proofs.Common.{◌≡◌, length, map}
-use Rattle.go_expr.specs.Rules.{differ, keys}
+use Rattle.std.proofs.Common.{drop, map}
+use Rattle.go_scope.proofs.Indexes.{Differing}
+use Rattle.go_expr.specs.Rules.{keys}
 use Rattle.go_expr.specs.Seen.{element_of}
 use Rattle.go_expr.proofs.composite.keys_differ.Given as goal
 
-abbrev pub invariant-loop-rest : goal.invariant-loop-rest
-invariant-loop-rest l = differ (keys (map element_of l.rest)) ≡ differ (keys (map element_of l.elements))
-
-abbrev pub decreases-loop-rest : goal.decreases-loop-rest
-decreases-loop-rest l = length l.rest
+abbrev pub invariant-loop-element : goal.invariant-loop-element
+invariant-loop-element l = Differing l.names (keys (map element_of (drop l.element-index l.elements))) (keys (map element_of l.elements))

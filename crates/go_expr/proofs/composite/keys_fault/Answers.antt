@@ -2,7 +2,7 @@ use Rattle.std.proofs.Common.{◌≡◌, ◌+◌, ◌<◌, ◌∷◌, ◌++◌, 
 use Rattle.std.specs.List.{flat_map}
 use Rattle.std.proofs.lemmas.Grind.{flat_map-append}
 use Rattle.go_expr.specs.Rules.{key_fault, keys, least, lesser}
-use Rattle.go_expr.specs.Seen.{element_of, field_of}
+use Rattle.go_expr.specs.Seen.{element_of, fields_seen}
 use Rattle.go_expr.specs.declared.composite.Element.{Element}
 use Rattle.go_expr.proofs.Elements.{keys_begin}
 use Rattle.go_expr.proofs.Gathering.{fault_next}
@@ -15,7 +15,7 @@ loop-element-preserved c =
     let i = c.loop-element.element-index in
     let e = c.element-item.result in
     let within : i < length es = omega arith in
-    let kinds = key_fault c.args.path.now (map field_of c.args.fields.now) in
+    let kinds = key_fault c.args.path.now (fields_seen c.args.fields.now) in
     let own = keys (element_of e ∷ []) in
     let rest = keys (map element_of (drop (i + 1) es)) in
     let begins : flat_map kinds (keys (map element_of (drop i es))) ≡ flat_map kinds own ++ flat_map kinds rest =

@@ -18,7 +18,7 @@ loop-element-init c =
 pub loop-element-preserved : goal.loop-element-preserved
 loop-element-preserved c =
     let all = c.loop-element.all in
-    let slot = slots_of c.args.slots in
+    let slot = slots_of c.args.slots.now in
     let n = c.loop-element.number in
     let e = c.in-Some.element in
     let rest = c.next.new.self.rest.items in

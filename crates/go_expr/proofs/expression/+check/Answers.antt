@@ -1,42 +1,56 @@
-use Rattle.std.proofs.Common.{◌≡◌, ℕ, ◌+◌, ◌<◌, ◌++◌, [], ◌∷◌, Option, List, length, drop, map, refl, ap, sym, ◌∙◌, subst, arith}
+use Rattle.std.proofs.Common.{◌≡◌, ℕ, suc, ◌+◌, ◌<◌, ◌++◌, [], ◌∷◌, Option, List, length, drop, map, refl, ap, sym, ◌∙◌, subst, arith, add-one, Bor}
 use Rattle.std.specs.Option.{option_map}
 use Rattle.std.proofs.lemmas.List.{drop_all}
 use Rattle.std.proofs.lemmas.Result.{err_from_is_err_and}
-use Rattle.go_ast.specs.Trees.{Name, Element as Tree, value_element, Expr, call, TypeExpr, struct, pack_fields, place_of}
+use Rattle.go_ast.specs.Trees.{Name, Element as Tree, value_element, Expr, call, TypeExpr, struct, pack_fields}
 use Rattle.go_ast.specs.declared.expression.Expr.{Expr as Expression}
 use Rattle.go_ast.specs.declared.expression.ExprKind.{ExprKind}
 use Rattle.go_ast.specs.declared.expression.TypeKind.{TypeKind}
 use Rattle.go_ast.specs.declared.expression.Element.{Element as ElementTree}
 use Rattle.go_ast.specs.declared.expression.Field.{Field}
 use Rattle.go_ast.specs.Views.{expr_of as expr_tree, exprs_in, type_of as type_tree, value_of as value_tree, field_of as field_tree}
-use Rattle.go_ast.proofs.Rows.{call_seen, struct_seen, value_seen, placed}
+use Rattle.go_ast.proofs.Rows.{call_seen, struct_seen, value_seen}
+use Rattle.go_types.specs.declared.types.GoType.{GoType}
 use Rattle.go_types.specs.Types.{Type'}
 use Rattle.go_typed.specs.Trees.{Expr as Typed}
 use Rattle.go_typed.specs.Views.{expr_of}
 use Rattle.go_types.specs.Views.{type_of}
-use Rattle.go_expr.specs.Rules.{element_type, fine, declared_field, untyped_literal, value_due, unpackaged}
-use Rattle.go_expr.specs.Verdicts.{asked, broken, elements, element_verdict, elements_faults, element_faults, joined, operand, verdict, operands, type_verdict, fields_known, operand_broken, faults, operands_faults, type_faults, fields_faults}
+use Rattle.go_expr.specs.Rules.{fine, declared_field, Due, element_due, due_type, untyped_literal, value_due, unpackaged, selectable, callable}
+use Rattle.go_expr.specs.Verdicts.{asked, bare_place, key_text, broken, elements, element_verdict, elements_faults, element_faults, joined, operand, verdict, operands, type_verdict, fields_known, operand_broken, faults, operands_faults, type_faults, fields_faults}
 use Rattle.go_expr.specs.Seen.{Fails, literal_verdict, known_of, due_of, element_of, elements_in, field_of, scope_of, all_of, Answers}
-use Rattle.go_expr.specs.Known.{Verdict}
 use Rattle.go_expr.proofs.Lists.{left, copied, fails_front, fault_later, known_later, joined_done}
 use Rattle.go_expr.proofs.Nodes.{of_part, call_asked, literal_answered}
 use Rattle.go_expr.proofs.expression.+check.Goals as goal
 
--- an expression where anything but a package, or a value, is due
+-- parts where something is due
 
-pub check_unpackaged-returns : goal.check_unpackaged-returns
-check_unpackaged-returns t c =
+pub check_inside-returns : goal.check_inside-returns
+check_inside-returns t c =
     let s = scope_of c.args.scope.now in
     let e = expr_tree c.args.e.now in
-    of_part known_of c.not_package.result (place_of e) c.args.e.now.place unpackaged (faults s e) (fine (verdict s e)) (option_map known_of c.in_ok-known.known)
-    c.in_ok-known.ensures.0 c.in_ok-known.ensures.1 (placed c.args.e.now) c.not_package.ensures
+    of_part known_of c.inside_at.result (bare_place e) c.bare_place.result unpackaged (faults s e) (fine (verdict s e)) (option_map known_of c.in_ok-known.known)
+    c.in_ok-known.ensures.0 c.in_ok-known.ensures.1 (sym c.bare_place.ensures) c.inside_at.ensures
+
+pub check_subject-returns : goal.check_subject-returns
+check_subject-returns t c =
+    let s = scope_of c.args.scope.now in
+    let e = expr_tree c.args.e.now in
+    of_part known_of c.subject_at.result (bare_place e) c.bare_place.result selectable (faults s e) (fine (verdict s e)) (option_map known_of c.in_ok-known.known)
+    c.in_ok-known.ensures.0 c.in_ok-known.ensures.1 (sym c.bare_place.ensures) c.subject_at.ensures
+
+pub check_callee-returns : goal.check_callee-returns
+check_callee-returns t c =
+    let s = scope_of c.args.scope.now in
+    let e = expr_tree c.args.e.now in
+    of_part known_of c.callee_at.result (bare_place e) c.bare_place.result callable (faults s e) (fine (verdict s e)) (option_map known_of c.in_ok-known.known)
+    c.in_ok-known.ensures.0 c.in_ok-known.ensures.1 (sym c.bare_place.ensures) c.callee_at.ensures
 
 pub check_operand-returns : goal.check_operand-returns
 check_operand-returns t c =
     let s = scope_of c.args.scope.now in
     let e = expr_tree c.args.e.now in
-    of_part expr_of c.operand_at.result (place_of e) c.args.e.now.place value_due (faults s e) (fine (verdict s e)) (option_map known_of c.in_ok-known.known)
-    c.in_ok-known.ensures.0 c.in_ok-known.ensures.1 (placed c.args.e.now) c.operand_at.ensures
+    of_part expr_of c.operand_at.result (bare_place e) c.bare_place.result value_due (faults s e) (fine (verdict s e)) (option_map known_of c.in_ok-known.known)
+    c.in_ok-known.ensures.0 c.in_ok-known.ensures.1 (sym c.bare_place.ensures) c.operand_at.ensures
 
 -- forms with a row
 
@@ -113,65 +127,74 @@ check_fields-loop-field-preserved t c =
 
 -- literals
 
-pub check_elements-loop-element-preserved : goal.check_elements-loop-element-preserved
-check_elements-loop-element-preserved t c =
+pub check_elements-loop-number-preserved : goal.check_elements-loop-number-preserved
+check_elements-loop-number-preserved t c =
     let s = scope_of c.args.scope.now in
-    let due = due_of c.args.due in
+    let of = option_map (λ (t : Bor GoType). type_of t.now) c.args.of in
     let es = c.args.elements.now in
-    let i = c.loop-element.element-index in
-    let e = c.element-item.result in
+    let i = c.loop-number.number in
+    let e = c.index-elements-number.result in
     let within : i < length es = omega arith in
-    let next = left es i e within c.element-item.is in
-    let done = option_map (all_of element_of) c.loop-element.all in
-    let key = option_map (λ (n : Name). n.text) e.key in
-    let own = option_map (λ (x : Typed). (key, x) ∷ []) (fine (element_verdict s due (value_tree e.value))) in
+    let next = left es i e within c.index-elements-number.is in
+    let done = option_map (all_of element_of) c.loop-number.all in
+    let due = element_due of i (key_text e.key) in
+    let own = option_map (λ (x : Typed). (key_text e.key, x) ∷ []) (fine (element_verdict s due (value_tree e.value))) in
+    let later = ap (λ (n : ℕ). elements_faults s of n (elements_in (drop (i + 1) es))) (add-one i) in
+    let known = ap (λ (n : ℕ). elements s of n (elements_in (drop (i + 1) es))) (add-one i) in
     record {
-      faults = fault_later (elements_faults s due (elements_in (drop i es))) (element_faults s due (value_tree e.value)) (elements_faults s due (elements_in (drop (i + 1) es))) _ c.loop-element.invariant.faults (ap (λ (l : List ElementTree). elements_faults s due (elements_in l)) next) c.in_ok-value.ensures.0;
-      known = known_later _ done (option_map (all_of element_of) c.in_ok-all.all) own (elements s due (elements_in (drop i es))) (elements s due (elements_in (drop (i + 1) es))) c.loop-element.invariant.known (ap (λ (l : List ElementTree). elements s due (elements_in l)) next) (c.in_ok-all.ensures ∙ ap (λ (o : Option Typed). joined done (option_map (λ (x : Typed). (key, x) ∷ []) o)) (sym c.in_ok-value.ensures.1));
+      faults = later ∙ fault_later (elements_faults s of i (elements_in (drop i es))) (element_faults s due (value_tree e.value)) (elements_faults s of (suc i) (elements_in (drop (i + 1) es))) _ c.loop-number.invariant.faults (ap (λ (l : List ElementTree). elements_faults s of i (elements_in l)) next) c.in_ok-value.ensures.0;
+      known = known_later _ done (option_map (all_of element_of) c.in_ok-all.all) own (elements s of i (elements_in (drop i es))) (elements s of (suc i) (elements_in (drop (i + 1) es))) c.loop-number.invariant.known (ap (λ (l : List ElementTree). elements s of i (elements_in l)) next) (c.in_ok-all.ensures ∙ ap (λ (o : Option Typed). joined done (option_map (λ (x : Typed). (key_text e.key, x) ∷ []) o)) (sym c.in_ok-value.ensures.1))
+          ∙ ap (joined (option_map (all_of element_of) c.in_ok-all.all)) (sym known);
     }
 
 pub check_elements-returns : goal.check_elements-returns
 check_elements-returns t c =
     let s = scope_of c.args.scope.now in
-    let due = due_of c.args.due in
+    let of = option_map (λ (t : Bor GoType). type_of t.now) c.args.of in
     let es = c.args.elements.now in
-    let i = c.loop-element.element-index in (
-      sym c.loop-element.invariant.faults ∙ ap (λ (l : List ElementTree). elements_faults s due (elements_in l)) (drop_all i es c.loop-element-test.false),
-      joined_done es i (option_map (all_of element_of) c.loop-element.all) _ (λ (l : List ElementTree). elements s due (elements_in l)) c.loop-element-test.false refl c.loop-element.invariant.known,
+    let i = c.loop-number.number in (
+      sym c.loop-number.invariant.faults ∙ ap (λ (l : List ElementTree). elements_faults s of i (elements_in l)) (drop_all i es c.loop-number-test.false),
+      joined_done es i (option_map (all_of element_of) c.loop-number.all) _ (λ (l : List ElementTree). elements s of i (elements_in l)) c.loop-number-test.false refl c.loop-number.invariant.known,
     )
 
 pub check_element-returns-in_err-elements-in-Value : goal.check_element-returns-in_err-elements-in-Value
 check_element-returns-in_err-elements-in-Value t c =
     let s = scope_of c.args.scope.now in
-    let due = due_of c.args.due in
     let place = c.in-Value.place in
     let es = elements_in c.deref.result.now in
-    let inner : due_of c.element_type.result ≡ element_type (fine due) = c.element_type.ensures ∙ ap element_type c.known.ensures in
-    let seen : value_tree c.args.element.now ≡ value_element place es =
+    let of = option_map (λ (t : Bor GoType). type_of t.now) c.args.of in
+    let due = element_due of c.args.number (key_text c.args.element.now.key) in
+    let same : due_of c.element_due-due.result ≡ due = c.element_due-due.ensures ∙ ap (element_due of c.args.number) c.key_text.ensures in
+    let inner : option_map (λ (t : Bor GoType). type_of t.now) c.of.result ≡ due_type due = c.of.ensures ∙ ap due_type same in
+    let seen : value_tree c.args.element.now.value ≡ value_element place es =
     ap value_tree c.in-Value.is ∙ value_seen place c.in-Value.elements ∙ ap (λ (l : List ElementTree). value_element place (elements_in l)) (sym c.deref.ensures.value) in
     let e = c.in_err-elements-in-Value.field-0.0 in
-    let told : Fails e (elements_faults s (element_type (fine due)) es) =
-    subst (λ (d : Verdict Type'). Fails e (elements_faults s d es)) inner c.in_err-elements-in-Value.ensures in
+    let told : Fails e (elements_faults s (due_type due) 0 es) =
+    subst (λ (o : Option Type'). Fails e (elements_faults s o 0 es)) inner c.in_err-elements-in-Value.ensures in
     let p = err_from_is_err_and c.from_residual.result c.from_residual.ensures.1 in
     subst (λ (v : Tree). Answers expr_of c.from_residual.result (element_faults s due v) (fine (element_verdict s due v))) (sym seen)
-    (rw (p.1, p.2) (fails_front e (elements_faults s (element_type (fine due)) es) (broken place (element_verdict s due (value_element place es))) told))
+    (rw (p.1, p.2) (fails_front e (elements_faults s (due_type due) 0 es) (broken place (element_verdict s due (value_element place es))) told))
 
 pub check_element-returns-in_ok-elements-in-Value : goal.check_element-returns-in_ok-elements-in-Value
 check_element-returns-in_ok-elements-in-Value t c =
     let s = scope_of c.args.scope.now in
-    let due = due_of c.args.due in
     let place = c.in-Value.place in
     let es = elements_in c.deref.result.now in
-    let inner : due_of c.element_type.result ≡ element_type (fine due) = c.element_type.ensures ∙ ap element_type c.known.ensures in
-    let seen : value_tree c.args.element.now ≡ value_element place es =
+    let of = option_map (λ (t : Bor GoType). type_of t.now) c.args.of in
+    let due = element_due of c.args.number (key_text c.args.element.now.key) in
+    let same : due_of c.element_due-due.result ≡ due = c.element_due-due.ensures ∙ ap (element_due of c.args.number) c.key_text.ensures in
+    let inner : option_map (λ (t : Bor GoType). type_of t.now) c.of.result ≡ due_type due = c.of.ensures ∙ ap due_type same in
+    let seen : value_tree c.args.element.now.value ≡ value_element place es =
     ap value_tree c.in-Value.is ∙ value_seen place c.in-Value.elements ∙ ap (λ (l : List ElementTree). value_element place (elements_in l)) (sym c.deref.ensures.value) in
     let found = option_map (all_of element_of) c.in_ok-elements-in-Value.elements in
-    let rule = λ (path : List ℕ). untyped_literal path due in
-    let none : elements_faults s (element_type (fine due)) es ≡ [] = ap (λ (d : Verdict Type'). elements_faults s d es) (sym inner) ∙ c.in_ok-elements-in-Value.ensures.0 in
-    let known : elements s (element_type (fine due)) es ≡ found = ap (λ (d : Verdict Type'). elements s d es) (sym inner) ∙ c.in_ok-elements-in-Value.ensures.1 in
-    let told = subst (λ (path : List ℕ). Answers expr_of c.untyped_literal_at.result (broken place (asked (rule path) found)) (fine (asked (rule path) found))) c.path.ensures c.untyped_literal_at.ensures in
-    subst (λ (v : Tree). Answers expr_of c.untyped_literal_at.result (element_faults s due v) (fine (element_verdict s due v))) (sym seen)
-    (of_part expr_of c.untyped_literal_at.result place place (rule s.path) (elements_faults s (element_type (fine due)) es) (elements s (element_type (fine due)) es) found none known refl told)
+    let none : elements_faults s (due_type due) 0 es ≡ [] = ap (λ (o : Option Type'). elements_faults s o 0 es) (sym inner) ∙ c.in_ok-elements-in-Value.ensures.0 in
+    let known : elements s (due_type due) 0 es ≡ found = ap (λ (o : Option Type'). elements s o 0 es) (sym inner) ∙ c.in_ok-elements-in-Value.ensures.1 in
+    let rule = λ (path : List ℕ) (d : Due). asked (untyped_literal path d) found in
+    let r = c.untyped_literal_at.result in
+    let there = subst (λ (path : List ℕ). Answers expr_of r (broken place (rule path (due_of c.element_due-due.result))) (fine (rule path (due_of c.element_due-due.result)))) c.path.ensures c.untyped_literal_at.ensures in
+    let told = subst (λ (d : Due). Answers expr_of r (broken place (rule s.path d)) (fine (rule s.path d))) same there in
+    subst (λ (v : Tree). Answers expr_of r (element_faults s due v) (fine (element_verdict s due v))) (sym seen)
+    (of_part expr_of r place place (untyped_literal s.path due) (elements_faults s (due_type due) 0 es) (elements s (due_type due) 0 es) found none known refl told)
 
 pub check_expr-returns-in_ok-of-in-CompositeLit : goal.check_expr-returns-in_ok-of-in-CompositeLit
 check_expr-returns-in_ok-of-in-CompositeLit t c =
@@ -188,9 +211,8 @@ check_literal-returns-in_err-elements t c =
     let s = scope_of c.args.scope.now in
     let of = option_map type_of c.args.of in
     let es = elements_in c.args.elements.now in
-    let inner : due_of c.element_type.result ≡ element_type of =
-    c.element_type.ensures ∙ ap element_type (copied type_of c.as_ref.result ∙ ap (option_map type_of) c.as_ref.ensures.value) in
+    let same : option_map (λ (t : Bor GoType). type_of t.now) c.as_ref.result ≡ of = copied type_of c.as_ref.result ∙ ap (option_map type_of) c.as_ref.ensures.value in
     let e = c.in_err-elements.field-0.0 in
-    let told : Fails e (elements_faults s (element_type of) es) = subst (λ (d : Verdict Type'). Fails e (elements_faults s d es)) inner c.in_err-elements.ensures in
+    let told : Fails e (elements_faults s of 0 es) = subst (λ (o : Option Type'). Fails e (elements_faults s o 0 es)) same c.in_err-elements.ensures in
     let p = err_from_is_err_and c.from_residual.result c.from_residual.ensures.1 in
-    rw (p.1, p.2) (fails_front e (elements_faults s (element_type of) es) (broken c.args.place (literal_verdict s of es)) told)
+    rw (p.1, p.2) (fails_front e (elements_faults s of 0 es) (broken c.args.place (literal_verdict s of es)) told)

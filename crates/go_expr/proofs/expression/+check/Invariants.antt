@@ -1,10 +1,13 @@
-use Rattle.std.proofs.Common.{◌≡◌, drop, map}
+use Rattle.std.proofs.Common.{◌≡◌, Option, Bor, drop, map}
 use Rattle.std.specs.Option.{option_map}
 use Rattle.go_ast.specs.Trees.{pack_fields}
 use Rattle.go_ast.specs.Views.{exprs_in, field_of as field_tree}
+use Rattle.go_types.specs.declared.types.GoType.{GoType}
+use Rattle.go_types.specs.Types.{Type'}
+use Rattle.go_types.specs.Views.{type_of}
 use Rattle.go_typed.specs.Views.{expr_of}
 use Rattle.go_expr.specs.Verdicts.{joined, operands, operands_faults, elements, elements_faults, fields_known, fields_faults}
-use Rattle.go_expr.specs.Seen.{all_of, due_of, element_of, elements_in, field_of, scope_of}
+use Rattle.go_expr.specs.Seen.{all_of, element_of, elements_in, field_of, scope_of}
 use Rattle.go_expr.proofs.expression.+check.Given as goal
 
 abbrev pub invariant-check_operands-loop-e : goal.invariant-check_operands-loop-e
@@ -19,9 +22,12 @@ invariant-check_fields-loop-field l = record {
   known : fields_known (scope_of l.scope) (pack_fields (map field_tree l.fields)) ≡ joined (option_map (all_of field_of) l.all) (fields_known (scope_of l.scope) (pack_fields (map field_tree (drop l.field-index l.fields))));
 }
 
-abbrev pub invariant-check_elements-loop-element : goal.invariant-check_elements-loop-element
-invariant-check_elements-loop-element l = record {
-  faults : elements_faults (scope_of l.scope) (due_of l.due) (elements_in (drop l.element-index l.elements)) ≡ elements_faults (scope_of l.scope) (due_of l.due) (elements_in l.elements);
-  known : elements (scope_of l.scope) (due_of l.due) (elements_in l.elements)
-      ≡ joined (option_map (all_of element_of) l.all) (elements (scope_of l.scope) (due_of l.due) (elements_in (drop l.element-index l.elements)));
+abbrev type_seen : Option (Bor GoType) → Option Type'
+type_seen o = option_map (λ t. type_of t.now) o
+
+abbrev pub invariant-check_elements-loop-number : goal.invariant-check_elements-loop-number
+invariant-check_elements-loop-number l = record {
+  faults : elements_faults (scope_of l.scope) (type_seen l.of) l.number (elements_in (drop l.number l.elements)) ≡ elements_faults (scope_of l.scope) (type_seen l.of) 0 (elements_in l.elements);
+  known : elements (scope_of l.scope) (type_seen l.of) 0 (elements_in l.elements)
+      ≡ joined (option_map (all_of element_of) l.all) (elements (scope_of l.scope) (type_seen l.of) l.number (elements_in (drop l.number l.elements)));
 }

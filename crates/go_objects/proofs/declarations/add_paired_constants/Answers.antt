@@ -1,9 +1,10 @@
-use Rattle.std.proofs.Common.{◌≡◌, ◌++◌, ◌∷◌, List, map, drop, length, refl, sym, ap, ◌∙◌, arith}
+use Rattle.std.proofs.Common.{◌≡◌, ◌++◌, ◌∷◌, List, map, drop, length, sym, ap, ◌∙◌, arith}
 use Rattle.std.proofs.lemmas.List.{append-nil, length_push}
 use Rattle.std.proofs.lemmas.Slice.Zip.{zip_turn, zip_end}
+use Rattle.go_text.specs.declared.place.Place.{Place}
 use Rattle.go_ast.specs.Trees.{Name, Expr}
 use Rattle.go_ast.specs.Views.{expr_of}
-use Rattle.go_objects.specs.Objects.{Object, constant}
+use Rattle.go_objects.specs.Objects.{Object, begin_of, constant}
 use Rattle.go_objects.specs.Seen.{object_of, spec_of}
 use Rattle.go_objects.proofs.Pairs.{pairs, pairs_next, pairs_done, pushed, constants_paired}
 use Rattle.go_objects.proofs.declarations.add_paired_constants.Goals as goal
@@ -12,10 +13,12 @@ pub loop-name-preserved : goal.loop-name-preserved
 loop-name-preserved c =
     let names = c.args.spec.names.now in
     let values = c.args.spec.values.now in
-    let form : Name → Expr → Object = λ n e. record { file = c.args.file; name = n; form = constant (spec_of c.args.spec).type e c.args.iota } in
+    let form : Name → Expr → Object = λ n e. record { file = c.args.file; begins = begin_of names n; name = n; form = constant (spec_of c.args.spec).type e c.args.iota } in
     let k = length c.loop-name.yielded in
     let turn = zip_turn names values c.loop-name.yielded c.into_iter-name-iterator.result c.loop-name.name-iterator c.next.new.self c.next.result (cc) (cc) c.loop-name.yielded_by (c.in-Some.name, c.in-Some.value) c.in-Some.is c.next.ensures.steps in
-    pushed c.loop-name.found.items c.push.new.self.items _ (form c.in-Some.name.now (expr_of c.in-Some.value.now)) (pairs form (drop k names) (drop k values)) _ _ c.in_ok-push.ensures.items refl
+    let begins : Place → Object = λ p. record { file = c.args.file; begins = p; name = c.in-Some.name.now; form = constant (spec_of c.args.spec).type (expr_of c.in-Some.value.now) c.args.iota } in
+    let begun = ap begins c.begin_of.ensures in
+    pushed c.loop-name.found.items c.push.new.self.items _ (form c.in-Some.name.now (expr_of c.in-Some.value.now)) (pairs form (drop k names) (drop k values)) _ _ c.in_ok-push.ensures.items begun
     (pairs_next form names values k c.in-Some.name.now c.in-Some.value.now turn.0 turn.1 (turn.2 _) (turn.3 _)
     ∙ ap (λ i. form c.in-Some.name.now (expr_of c.in-Some.value.now) ∷ pairs form (drop i names) (drop i values)) (sym (length_push c.loop-name.yielded (c.in-Some.name, c.in-Some.value))))
     c.loop-name.invariant
@@ -24,7 +27,7 @@ pub returns : goal.returns
 returns c =
     let names = c.args.spec.names.now in
     let values = c.args.spec.values.now in
-    let form : Name → Expr → Object = λ n e. record { file = c.args.file; name = n; form = constant (spec_of c.args.spec).type e c.args.iota } in
+    let form : Name → Expr → Object = λ n e. record { file = c.args.file; begins = begin_of names n; name = n; form = constant (spec_of c.args.spec).type e c.args.iota } in
     let finish = zip_end names values c.loop-name.yielded c.into_iter-name-iterator.result c.loop-name.name-iterator c.next.new.self c.next.result (cc) (cc) c.loop-name.yielded_by c.in-None.is c.next.ensures.steps in
     let all : length names ≡ length c.loop-name.yielded = omega (arith, finish, c.requires) in
     let old = map object_of c.args.found.now.items in

@@ -6,5 +6,5 @@ use Rattle.go_objects.proofs.declarations.add_paired_variables.Given as goal
 
 abbrev pub invariant-loop-name : goal.invariant-loop-name
 invariant-loop-name l =
-    map object_of l.found.items ++ pairs (valued_object l.file) (drop (length l.yielded) l.names) (drop (length l.yielded) l.values)
-    ≡ map object_of l.fn.found.items ++ pairs (valued_object l.file) l.names l.values
+    map object_of l.found.items ++ pairs (valued_object l.file l.names) (drop (length l.yielded) l.names) (drop (length l.yielded) l.values)
+    ≡ map object_of l.fn.found.items ++ pairs (valued_object l.file l.names) l.names l.values

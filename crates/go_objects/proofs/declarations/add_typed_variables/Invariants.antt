@@ -6,5 +6,5 @@ use Rattle.go_objects.proofs.declarations.add_typed_variables.Given as goal
 
 abbrev pub invariant-loop-name : goal.invariant-loop-name
 invariant-loop-name l =
-    map object_of l.found.items ++ map (typed_object l.file (type_of l.type_expr)) (drop l.name-index l.names)
-    ≡ map object_of l.fn.found.items ++ map (typed_object l.file (type_of l.type_expr)) l.names
+    map object_of l.found.items ++ map (typed_object l.file l.names (type_of l.type_expr)) (drop l.name-index l.names)
+    ≡ map object_of l.fn.found.items ++ map (typed_object l.file l.names (type_of l.type_expr)) l.names

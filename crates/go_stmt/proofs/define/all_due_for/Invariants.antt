@@ -1,11 +1,11 @@
 use Rattle.std.proofs.Common.{◌≡◌, ◌++◌, drop, map}
 use Rattle.std.specs.Option.{option_map}
-use Rattle.go_types.specs.Views.{type_of}
-use Rattle.go_expr.specs.Seen.{declared_of}
+use Rattle.go_stmt.specs.Scopes.{own}
 use Rattle.go_stmt.specs.Rules.{all_some, due_for}
+use Rattle.go_stmt.specs.Seen.{env_of, due_seen}
 use Rattle.go_stmt.proofs.define.all_due_for.Given as goal
 
-abbrev pub invariant-loop-one : goal.invariant-loop-one
-invariant-loop-one l =
-    option_map (λ rest. map (option_map type_of) l.all.items ++ rest) (all_some (map due_for (map (option_map declared_of) (drop l.one-index l.own))))
-    ≡ all_some (map due_for (map (option_map declared_of) l.own))
+abbrev pub invariant-loop-name : goal.invariant-loop-name
+invariant-loop-name l =
+    option_map (λ rest. map due_seen l.all.items ++ rest) (all_some (map (λ n. due_for (own (env_of l.env) n)) (drop l.name-index l.names)))
+    ≡ all_some (map (λ n. due_for (own (env_of l.env) n)) l.names)

@@ -1,30 +1,24 @@
-use Rattle.std.proofs.Common.{◌≡◌, List, [], Option, None, map, sym, ap, ◌∙◌}
+use Rattle.std.proofs.Common.{◌≡◌, [], Option, None, map, sym, ap, ◌∙◌}
 use Rattle.std.specs.Option.{option_map}
-use Rattle.go_ast.specs.Trees.{Name, Exprs}
+use Rattle.go_ast.specs.Trees.{Exprs}
 use Rattle.go_ast.specs.Views.{exprs_in}
 use Rattle.go_typed.specs.Trees as typed
 use Rattle.go_typed.specs.Views.{source_of, stmt_of}
-use Rattle.go_expr.specs.Known.{Declared, Scope, Verdict}
-use Rattle.go_expr.specs.Verdicts.{both}
-use Rattle.go_expr.specs.Seen.{all_of, declared_of, scope_of}
-use Rattle.go_stmt.specs.Scopes.{Env, Context, scope_in, number_of, paired, declare_new, still, follow}
-use Rattle.go_stmt.specs.Rules.{Values, all_some, redefined}
+use Rattle.go_expr.specs.Known.{Scope}
+use Rattle.go_expr.specs.Seen.{scope_of}
+use Rattle.go_stmt.specs.Scopes.{Env, Context, scope_in, own, number_of, paired, declare_new}
+use Rattle.go_stmt.specs.Rules.{Values, redefined}
 use Rattle.go_stmt.specs.Seen.{context_of, env_of, values_seen}
-use Rattle.go_stmt.specs.Statements.{own_known, values_at, values_faults, values_known, value_types, short_at}
+use Rattle.go_stmt.specs.Statements.{values_at, values_faults, values_known, value_types, short_at}
 use Rattle.go_stmt.proofs.Defining.{made, made_fails, answers_err}
 use Rattle.go_stmt.proofs.define.check_short.Goals as goal
 
--- the parts, where they have no fault: those that are known
+-- the values, where they have no fault: those that are known
 parts_none : (context : Context) (env : Env) (es : Exprs) (s : Scope) → s ≡ scope_in context None env → values_faults s es ≡ [] → values_faults (scope_in context None env) es ≡ []
 parts_none context env es s is none = ap (λ (s : Scope). values_faults s es) (sym is) ∙ none
 
-parts_known : (context : Context) (env : Env) (names : List Name) (es : Exprs) (s : Scope) (own : Option (List (Option Declared))) (values : Option Values) → s ≡ scope_in context None env →
-    own ≡ all_some (map (own_known env) names) → values ≡ values_known s es → both (all_some (map (own_known env) names)) (values_known (scope_in context None env) es) ≡ both own values
-parts_known context env names es s own values is has gets =
-    ap (λ o. both o (values_known (scope_in context None env) es)) (sym has) ∙ ap (λ (s : Scope). both own (values_known s es)) (sym is) ∙ ap (both own) (sym gets)
-
-abbrev rule : List Name → List (Option Declared) × Values → Verdict typed.Source
-rule names k = redefined names k.0 k.1
+parts_known : (context : Context) (env : Env) (es : Exprs) (s : Scope) (values : Option Values) → s ≡ scope_in context None env → values ≡ values_known s es → values_known (scope_in context None env) es ≡ values
+parts_known context env es s values is gets = ap (λ (s : Scope). values_known s es) (sym is) ∙ sym gets
 
 pub returns-in_err-source-clause-answer : goal.returns-in_err-source-clause-answer
 returns-in_err-source-clause-answer c =
@@ -32,14 +26,12 @@ returns-in_err-source-clause-answer c =
     let env = env_of c.args.env.now in
     let names = c.args.names.now in
     let es = exprs_in c.args.es.now in
-    let own = option_map (all_of (option_map declared_of)) c.in_ok-own.own in
     let values = option_map values_seen c.in_ok-types.field-0.known in
     let none = parts_none context env es (scope_of c.scope.result) c.scope.ensures c.in_ok-types.ensures.faults in
-    let known = parts_known context env names es (scope_of c.scope.result) own values c.scope.ensures c.in_ok-own.ensures c.in_ok-types.ensures.known in
+    let known = parts_known context env es (scope_of c.scope.result) values c.scope.ensures c.in_ok-types.ensures.known in
     let change = declare_new (paired names (value_types (scope_in context None env) es)) in
     answers_err stmt_of c.from_residual-in_err-source.result c.in_err-source.field-0.0 (short_at context c.args.place names es env) c.from_residual-in_err-source.ensures.1
-    (made_fails c.in_err-source.field-0.0 c.args.place (typed.define (map (number_of (change env)) names)) (rule names) (follow (still [] (all_some (map (own_known env) names))) (values_at context es)) env
-    (both own values) none known c.in_err-source.ensures)
+    (made_fails c.in_err-source.field-0.0 c.args.place (typed.define (map (number_of (change env)) names)) (redefined (own env) names) (values_at context es) env values none known c.in_err-source.ensures)
 
 pub returns-clause-answer : goal.returns-clause-answer
 returns-clause-answer c =
@@ -47,14 +39,12 @@ returns-clause-answer c =
     let env = env_of c.args.env.now in
     let names = c.args.names.now in
     let es = exprs_in c.args.es.now in
-    let own = option_map (all_of (option_map declared_of)) c.in_ok-own.own in
     let values = option_map values_seen c.in_ok-types.field-0.known in
     let source = option_map source_of c.in_ok-source.source in
     let none = parts_none context env es (scope_of c.scope.result) c.scope.ensures c.in_ok-types.ensures.faults in
-    let known = parts_known context env names es (scope_of c.scope.result) own values c.scope.ensures c.in_ok-own.ensures c.in_ok-types.ensures.known in
+    let known = parts_known context env es (scope_of c.scope.result) values c.scope.ensures c.in_ok-types.ensures.known in
     let change = declare_new (paired names (value_types (scope_in context None env) es)) in
-    let whole = made c.args.place (typed.define (map (number_of (change env)) names)) (rule names) (follow (still [] (all_some (map (own_known env) names))) (values_at context es)) env (both own values)
-    source none known c.in_ok-source.ensures.0 c.in_ok-source.ensures.1 in
+    let whole = made c.args.place (typed.define (map (number_of (change env)) names)) (redefined (own env) names) (values_at context es) env values source none known c.in_ok-source.ensures.0 c.in_ok-source.ensures.1 in
     let after : env_of c.declare_all.new.env ≡ change env =
     c.in_ok-numbers.ensures.after
     ∙ ap (λ ts. declare_new (paired names ts) env) (c.in_ok-types.ensures.types ∙ ap (λ (s : Scope). value_types s es) c.scope.ensures) in

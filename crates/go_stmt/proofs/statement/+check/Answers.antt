@@ -6,19 +6,22 @@ use Rattle.go_ast.specs.declared.statement.Clause.{Clause}
 use Rattle.go_ast.specs.declared.statement.Stmt.{Stmt}
 use Rattle.go_ast.specs.Views.{expr_of, stmt_of, else_of, simple_of, block_of, if_boxed}
 use Rattle.go_ast.proofs.StatementRows.{if_seen, for_seen, range_seen, switch_seen, block_seen, else_block_seen, else_if_seen}
-use Rattle.go_expr.specs.Known.{Verdict}
+use Rattle.go_types.specs.Types.{Type'}
+use Rattle.go_types.specs.Views.{type_of}
+use Rattle.go_expr.specs.Rules.{default_type}
 use Rattle.go_expr.specs.Verdicts.{asked, both}
 use Rattle.go_expr.specs.Seen.{Fails, all_of, AnswersAt}
 use Rattle.go_typed.specs.Trees as typed
+use Rattle.go_typed.specs.Trees.{expr_type}
 use Rattle.go_typed.specs.Views.{expr_of as typed_expr, clause_of as typed_clause}
-use Rattle.go_stmt.specs.Scopes.{Context, Checked, follow, single}
+use Rattle.go_stmt.specs.Scopes.{Context, Checked, leave, follow, single}
 use Rattle.go_stmt.specs.Rules.{Clause as ClauseValue, clause_of, looped, switched}
-use Rattle.go_stmt.specs.Seen.{context_of, env_of, typed_in, trees_in, switch_of, cases_tree, clauses_trees, clauses_of, clause_in, tag_of}
+use Rattle.go_stmt.specs.Seen.{context_of, env_of, typed_in, trees_in, switch_of, cases_tree, clauses_trees, clauses_of, clause_in}
 use Rattle.go_stmt.specs.Statements.{statement_at, else_at, optional_at, condition_at, block_at, in_loop, in_clause, leads_on, is_last, tag_at, cases_at, list_at, clauses_at}
 use Rattle.go_stmt.proofs.Clauses.{clauses_left, cases_after}
 use Rattle.go_stmt.proofs.Sequences.{left, later_faults, later_after, appended_known}
 use Rattle.go_stmt.proofs.Failing.{fails_front, fails_next, fails_inside, fails_upon, condition_after, tag_after}
-use Rattle.go_stmt.proofs.Shown.{answer_as, after_as, answered_inside}
+use Rattle.go_stmt.proofs.Shown.{answer_as, after_as, answered_inside, answered_upon, after_upon, on_ok}
 use Rattle.go_stmt.proofs.statement.+check.Goals as goal
 
 pub check_else-returns-in-Block-clause-answer : goal.check_else-returns-in-Block-clause-answer
@@ -122,13 +125,47 @@ check_switch-returns-in_err-clauses-clause-answer t c =
     let o = if_boxed expr_of c.args.tag.now in
     let before = optional_at k place (if_boxed simple_of c.args.before.now) in
     let tag = tag_at k o in
-    let clauses = λ (v : Option (Verdict typed.Expr)). clauses_at k v false (clauses_trees c.args.clauses.now) in
+    let of = option_map (λ x. default_type (expr_type x)) in
+    let clauses = λ (v : Option typed.Expr). clauses_at k (of v) false (clauses_trees c.args.clauses.now) in
     let there = env_of c.check_optional.new.env in
     let e = c.in_err-clauses.field-0.0 in
     let p = err_from_is_err_and c.from_residual-in_err-clauses.result c.from_residual-in_err-clauses.ensures.1 in
+    let told = subst (λ (v : Option Type'). Fails e (clauses_at k v false (clauses_trees c.args.clauses.now) there).faults) c.in_ok-of.ensures c.in_err-clauses.ensures.answer in
     rw (p.1, p.2)
-    (fails_upon e place (λ x. switched x.0 (x.1).0 (x.1).1) before tag clauses (env_of c.args.env.now) (env_of c.enter.new.self) there (option_map tag_of c.in_ok-tag.tag) c.in_ok-enter.ensures
-    c.in_ok-before.ensures.answer.0 c.in_ok-before.ensures.after c.in_ok-tag.ensures.0 c.in_ok-tag.ensures.1 (tag_after k o there) c.in_err-clauses.ensures.answer)
+    (fails_upon e place (λ x. switched x.0 (x.1).0 (x.1).1) before tag clauses (env_of c.args.env.now) (env_of c.enter.new.self) there (option_map typed_expr c.in_ok-tag.tag) c.in_ok-enter.ensures
+    c.in_ok-before.ensures.answer.0 c.in_ok-before.ensures.after c.in_ok-tag.ensures.0 c.in_ok-tag.ensures.1 (tag_after k o there) told)
+
+pub check_switch-returns-clause-answer : goal.check_switch-returns-clause-answer
+check_switch-returns-clause-answer t c =
+    let k = context_of c.args.context in
+    let place = c.args.place in
+    let o = if_boxed expr_of c.args.tag.now in
+    let before = optional_at k place (if_boxed simple_of c.args.before.now) in
+    let of = option_map (λ x. default_type (expr_type x)) in
+    let cs = clauses_trees c.args.clauses.now in
+    let clauses = λ (v : Option typed.Expr). clauses_at k (of v) false cs in
+    let there = env_of c.check_optional.new.env in
+    let type : of (option_map typed_expr c.in_ok-tag.tag) ≡ option_map type_of c.in_ok-of.of = sym c.in_ok-of.ensures in
+    answered_upon place (λ x. switched x.0 (x.1).0 (x.1).1) before (tag_at k o) clauses typed_in c.switched.result (env_of c.args.env.now) (env_of c.enter.new.self) there
+    (option_map typed_in c.in_ok-before.before) (option_map typed_expr c.in_ok-tag.tag) (option_map clauses_of c.in_ok-clauses.clauses) c.in_ok-enter.ensures
+    c.in_ok-before.ensures.answer.0 c.in_ok-before.ensures.answer.1 c.in_ok-before.ensures.after c.in_ok-tag.ensures.0 c.in_ok-tag.ensures.1 (tag_after k o there)
+    (ap (λ v. (clauses_at k v false cs there).faults) type ∙ c.in_ok-clauses.ensures.answer.0) (ap (λ v. (clauses_at k v false cs there).known) type ∙ c.in_ok-clauses.ensures.answer.1) c.switched.ensures
+
+pub check_switch-returns-clause-after : goal.check_switch-returns-clause-after
+check_switch-returns-clause-after t c =
+    let k = context_of c.args.context in
+    let place = c.args.place in
+    let o = if_boxed expr_of c.args.tag.now in
+    let before = optional_at k place (if_boxed simple_of c.args.before.now) in
+    let of = option_map (λ x. default_type (expr_type x)) in
+    let cs = clauses_trees c.args.clauses.now in
+    let clauses = λ (v : Option typed.Expr). clauses_at k (of v) false cs in
+    let there = env_of c.check_optional.new.env in
+    let type : of (option_map typed_expr c.in_ok-tag.tag) ≡ option_map type_of c.in_ok-of.of = sym c.in_ok-of.ensures in
+    on_ok c.switched.result _
+    (after_upon place (λ x. switched x.0 (x.1).0 (x.1).1) before (tag_at k o) clauses (env_of c.args.env.now) (env_of c.enter.new.self) there _ (option_map typed_expr c.in_ok-tag.tag) c.in_ok-enter.ensures
+    c.in_ok-before.ensures.after c.in_ok-tag.ensures.1 (tag_after k o there)
+    (c.leave.ensures ∙ ap leave (c.in_ok-clauses.ensures.after ∙ ap (λ v. (clauses_at k v false cs there).after) (sym type))))
 
 -- clauses
 
@@ -138,7 +175,7 @@ check_clause-returns-clause-answer t c =
     let s = c.args.s.now in
     let ss = trees_in s.statements.items in
     let last = c.args.last in
-    let v = option_map tag_of c.args.tag.now in
+    let v = option_map type_of c.args.tag.now in
     let there = env_of c.enter.new.self in
     let values = cases_at k (cases_tree s.values) in
     let body = list_at (in_clause k (not last)) ss in
@@ -157,7 +194,7 @@ check_clause-returns-clause-answer t c =
 pub check_clauses-loop-i-preserved : goal.check_clauses-loop-i-preserved
 check_clauses-loop-i-preserved t c =
     let k = context_of c.args.context in
-    let v = option_map tag_of c.args.tag.now in
+    let v = option_map type_of c.args.tag.now in
     let cs = c.args.clauses.now in
     let i = c.loop-i.i in
     let s = c.index-clauses-i.result in

@@ -1,7 +1,8 @@
 use Rattle.std.proofs.Common.{◌≡◌, ◌++◌, false, drop}
 use Rattle.std.specs.Option.{option_map}
+use Rattle.go_types.specs.Views.{type_of}
 use Rattle.go_expr.specs.Verdicts.{both}
-use Rattle.go_stmt.specs.Seen.{context_of, env_of, typed_in, trees_in, clauses_trees, clauses_of, tag_of}
+use Rattle.go_stmt.specs.Seen.{context_of, env_of, typed_in, trees_in, clauses_trees, clauses_of}
 use Rattle.go_stmt.specs.Statements.{list_at, clauses_at}
 use Rattle.go_stmt.proofs.statement.+check.Given as goal
 
@@ -17,11 +18,11 @@ invariant-check_list-loop-i l = record {
 -- the same of clauses, which stand behind a default or not
 abbrev pub invariant-check_clauses-loop-i : goal.invariant-check_clauses-loop-i
 invariant-check_clauses-loop-i l = record {
-  faults : (clauses_at (context_of l.context) (option_map tag_of l.tag) l.again (clauses_trees (drop l.i l.clauses)) (env_of l.env)).faults
-      ≡ (clauses_at (context_of l.context) (option_map tag_of l.tag) false (clauses_trees l.clauses) (env_of l.fn.env)).faults;
-  known : (clauses_at (context_of l.context) (option_map tag_of l.tag) false (clauses_trees l.clauses) (env_of l.fn.env)).known
+  faults : (clauses_at (context_of l.context) (option_map type_of l.tag) l.again (clauses_trees (drop l.i l.clauses)) (env_of l.env)).faults
+      ≡ (clauses_at (context_of l.context) (option_map type_of l.tag) false (clauses_trees l.clauses) (env_of l.fn.env)).faults;
+  known : (clauses_at (context_of l.context) (option_map type_of l.tag) false (clauses_trees l.clauses) (env_of l.fn.env)).known
       ≡ option_map (λ k. k.0 ++ k.1) (both (option_map clauses_of l.known)
-      (clauses_at (context_of l.context) (option_map tag_of l.tag) l.again (clauses_trees (drop l.i l.clauses)) (env_of l.env)).known);
-  after : (clauses_at (context_of l.context) (option_map tag_of l.tag) l.again (clauses_trees (drop l.i l.clauses)) (env_of l.env)).after
-      ≡ (clauses_at (context_of l.context) (option_map tag_of l.tag) false (clauses_trees l.clauses) (env_of l.fn.env)).after;
+      (clauses_at (context_of l.context) (option_map type_of l.tag) l.again (clauses_trees (drop l.i l.clauses)) (env_of l.env)).known);
+  after : (clauses_at (context_of l.context) (option_map type_of l.tag) l.again (clauses_trees (drop l.i l.clauses)) (env_of l.env)).after
+      ≡ (clauses_at (context_of l.context) (option_map type_of l.tag) false (clauses_trees l.clauses) (env_of l.fn.env)).after;
 }

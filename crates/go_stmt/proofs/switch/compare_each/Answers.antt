@@ -1,20 +1,18 @@
-use Rattle.std.proofs.Common.{◌≡◌, ◌∷◌, List, [], length, map, arith, refl, subst}
+use Rattle.std.proofs.Common.{◌≡◌, List, [], length, map, arith, subst}
+use Rattle.go_types.specs.Views.{type_of}
 use Rattle.go_typed.specs.Views.{expr_of}
 use Rattle.go_typed.specs.declared.expression.TypedExpr.{TypedExpr}
 use Rattle.go_expr.proofs.Gathering.{Leads, adds, ends}
 use Rattle.go_stmt.specs.Rules.{case_value}
+use Rattle.go_stmt.proofs.Sequences.{none_there}
 use Rattle.go_stmt.proofs.switch.compare_each.Goals as goal
-
-none_there : {A : Type 0} (xs : List A) → length xs ≡ 0 → xs ≡ []
-none_there [] h = refl
-none_there (x ∷ xs) h = absurd (let n : ⊥ = omega arith in n)
 
 pub loop-value-preserved : goal.loop-value-preserved
 loop-value-preserved c =
     let all = c.loop-value.all in
     let value = c.in-Some.value in
     let rest = c.next.new.self.rest.items in
-    let rule = case_value (expr_of c.args.tag.now) in
+    let rule = case_value (type_of c.args.of.now) in
     let whole = map rule (map expr_of c.args.values.items) in
     let begun = subst (λ (l : List TypedExpr). Leads expr_of all.values.items all.fault (map rule (map expr_of l)) [] whole) c.in-Some.ensures.steps.0 c.loop-value.invariant in
     adds expr_of all.values.items _ all.fault _ (map rule (map expr_of rest)) [] whole (rule (expr_of value)) c.case_value.result
@@ -24,7 +22,7 @@ pub returns : goal.returns
 returns c =
     let all = c.loop-value.all in
     let rest = c.loop-value.value-iterator.rest in
-    let rule = case_value (expr_of c.args.tag.now) in
+    let rule = case_value (type_of c.args.of.now) in
     let whole = map rule (map expr_of c.args.values.items) in
     let size : length rest.items ≡ 0 = omega (arith, rest.ok.0, c.in-None.ensures.steps.0) in
     ends expr_of all.values.items all.fault [] whole _

@@ -1,4 +1,4 @@
-use Rattle.std.proofs.Common.{◌≡◌, ◌+◌, ◌<◌, ◌∷◌, List, [], Option, length, map, drop, arith, ap, refl, subst}
+use Rattle.std.proofs.Common.{◌≡◌, ◌+◌, ◌<◌, ◌∷◌, List, [], Option, length, map, drop, arith, ap, subst}
 use Rattle.std.specs.List.{zip}
 use Rattle.std.specs.Option.{option_map}
 use Rattle.go_types.specs.Types.{Type'}
@@ -9,17 +9,8 @@ use Rattle.go_typed.specs.Views.{expr_of}
 use Rattle.go_typed.specs.declared.expression.TypedExpr.{TypedExpr}
 use Rattle.go_expr.proofs.Gathering.{Leads, adds, ends}
 use Rattle.go_stmt.specs.Rules.{suited_one}
-use Rattle.go_stmt.proofs.Sequences.{left}
+use Rattle.go_stmt.proofs.Sequences.{left, none_there, none_left}
 use Rattle.go_stmt.proofs.values.suit_each.Goals as goal
-
-none_left : (due : List (Option Type')) (es : List typed.Expr) → es ≡ [] → zip due es ≡ []
-none_left [] es h = refl
-none_left (t ∷ ts) [] h = refl
-none_left (t ∷ ts) (e ∷ es) h = cc
-
-none_there : {A : Type 0} (xs : List A) → length xs ≡ 0 → xs ≡ []
-none_there [] h = refl
-none_there (x ∷ xs) h = absurd (let n : ⊥ = omega arith in n)
 
 pub loop-value-preserved : goal.loop-value-preserved
 loop-value-preserved c =

@@ -1,0 +1,255 @@
+//! Constants and variables that are asked by themselves.
+ghost use Rattle.std.specs.Prelude.{◌≡◌, ◌++◌, map, false, IfOk};
+ghost use Rattle.std.specs.List.{flat_map, list_any, slice_get};
+ghost use Rattle.std.specs.Option.{option_map};
+ghost use Rattle.go_ast.specs.Views.{expr_of as expr_tree, type_of as type_tree};
+ghost use Rattle.go_types.specs.Views.{type_of};
+ghost use Rattle.go_typed.specs.Views.{expr_of};
+ghost use Rattle.go_scope.specs.Names.{used, in_exprs};
+ghost use Rattle.go_expr.specs.Rules.{least, defaulted};
+ghost use Rattle.go_expr.specs.Seen.{scope_of, names_of, Gives};
+ghost use Rattle.go_expr.specs.Verdicts.{asked, asked_both, broken};
+ghost use Rattle.go_objects.specs.Packages.{package_of};
+ghost use Rattle.go_objects.specs.Seen.{object_of, spec_of};
+ghost use Rattle.go_objects.specs.Table.{in_written};
+ghost use Rattle.go_decl.specs.Faults.{is_known, written_type, own_constant, constant_faults, variable_faults, object_faults, is_of_spec, hides, least_at, apart};
+ghost use Rattle.go_decl.specs.Seen.{facts_of, Finds};
+
+use crate::facts::Facts;
+use go_ast::expression::{Expr, TypeExpr};
+use go_expr::error::{ExprError, RuleError};
+use go_expr::gather::lesser;
+use go_expr::known::Names;
+use go_expr::node::constant_in;
+use go_expr::scope::Scope;
+use go_expr::value::{assigned, defaulted};
+use go_objects::declarations::Spec;
+use go_objects::evaluation::{operand_in, scope_in, type_in};
+use go_objects::object::{Form, Object};
+use go_objects::package::{Package, spec_names};
+use go_scope::names::UsedName;
+use go_text::fault::FaultKind;
+use go_text::place::Place;
+use go_typed::expression::TypedExpr;
+use go_types::types::GoType;
+use std::alloc::{AllocError, Global};
+
+/// The least fault of the objects of a specification, each by itself, told where it begins, unless a
+/// name in it hides that: a faulty one of another specification.
+pub(crate) fn check_apart(
+    alloc: Global,
+    facts: &Facts<'_>,
+    file: usize,
+    place: Place,
+    spec: Spec<'_>,
+    objects: &[Object<'_>],
+) -> Result<(), ExprError>
+    ensures { Finds result (apart (facts_of facts.now) file place false (in_written (spec_of spec.entry).type ++ in_exprs (spec_of spec.entry).values) (map object_of objects.now)) }
+{
+    let names = spec_names(alloc, spec)?;
+    if is_hidden(facts, file, place, &names) {
+        return Ok(());
+    }
+    check_least(alloc, facts, place, objects)
+}
+
+// Whether one of some names hides the faults of the specification that begins at a place.
+fn is_hidden(facts: &Facts<'_>, file: usize, place: Place, names: &[UsedName<'_>]) -> bool
+    ensures { result ≡ list_any (hides (facts_of facts.now) file place) (map used names.now) }
+{
+    for name in names {
+        if hides(facts, file, place, *name) {
+            return true;
+        }
+    }
+    false
+}
+
+// Whether a name is a faulty one of another specification than that which begins at a place.
+fn hides(facts: &Facts<'_>, file: usize, place: Place, name: UsedName<'_>) -> bool
+    ensures { result ≡ hides (facts_of facts.now) file place (used name.entry) }
+{
+    let package = facts.package();
+    let Some(number) = package.objects.number_of(name.text) else {
+        return false;
+    };
+    !is_known(facts.known(), number) && !is_of_spec(package, number, file, place)
+}
+
+// Whether something is known of the object of a number.
+fn is_known(known: &Names, number: usize) -> bool
+    ensures { result ≡ is_known (names_of known.now) number }
+{
+    match known.get_index(number) {
+        Some((_, declared)) => declared.is_some(),
+        None => false,
+    }
+}
+
+// Whether an object of a package is of the specification that begins at a place of a file.
+fn is_of_spec(package: &Package<'_>, number: usize, file: usize, place: Place) -> bool
+    ensures { result ≡ is_of_spec file place (slice_get (package_of «package».now).objects number) }
+{
+    let Some(object) = package.objects.list().get(number) else {
+        return false;
+    };
+    let other = object.begins;
+    file == object.file && place.line == other.line && place.column == other.column
+}
+
+// Of the faults of some objects, each by itself, the one of the least number, at a place.
+fn check_least(
+    alloc: Global,
+    facts: &Facts<'_>,
+    place: Place,
+    objects: &[Object<'_>],
+) -> Result<(), ExprError>
+    ensures { Finds result (least_at place (flat_map (object_faults (facts_of facts.now)) (map object_of objects.now))) }
+{
+    match least_of(alloc, facts, objects)? {
+        Some(kind) => Err(ExprError::Faulty(place, kind)),
+        None => Ok(()),
+    }
+}
+
+fn least_of(
+    alloc: Global,
+    facts: &Facts<'_>,
+    objects: &[Object<'_>],
+) -> Result<Option<FaultKind>, AllocError>
+    ensures { IfOk result (λ kind. kind ≡ least (map (λ f. f.1) (flat_map (object_faults (facts_of facts.now)) (map object_of objects.now)))) }
+{
+    let mut least = None;
+    for object in objects {
+        least = lesser(least, own_fault(alloc, facts, object)?);
+    }
+    Ok(least)
+}
+
+// The kind of an object's fault by itself.
+fn own_fault(
+    alloc: Global,
+    facts: &Facts<'_>,
+    object: &Object<'_>,
+) -> Result<Option<FaultKind>, AllocError>
+    ensures { IfOk result (λ kind. kind ≡ least (map (λ f. f.1) (object_faults (facts_of facts.now) (object_of object.now)))) }
+{
+    match check_object(alloc, facts, object) {
+        Ok(()) => Ok(None),
+        Err(ExprError::Faulty(_, kind)) => Ok(Some(kind)),
+        Err(ExprError::Memory) => Err(AllocError),
+    }
+}
+
+/// The fault of a constant, or of a variable without a type, by its own value, where its
+/// specification begins.
+pub fn check_object(alloc: Global, facts: &Facts<'_>, object: &Object<'_>) -> Result<(), ExprError>
+    ensures { Finds result (object_faults (facts_of facts.now) (object_of object.now)) }
+{
+    match object.form {
+        Form::Constant {
+            type_expr,
+            value,
+            iota,
+        } => {
+            let scope = scope_in(facts.package(), facts.known(), object.file, Some(iota));
+            check_constant(alloc, &scope, object.begins, type_expr, value)
+        }
+        Form::ValuedVariable(value) => {
+            let scope = scope_in(facts.package(), facts.known(), object.file, None);
+            check_variable(alloc, &scope, object.begins, value)
+        }
+        _ => Ok(()),
+    }
+}
+
+// The fault of a constant by its type and its value, where both are known.
+fn check_constant(
+    alloc: Global,
+    scope: &Scope<'_>,
+    place: Place,
+    type_expr: Option<&TypeExpr>,
+    value: &Expr,
+) -> Result<(), ExprError>
+    ensures { Finds result (constant_faults (scope_of scope.now) place (option_map (λ t. type_tree t.now) type_expr.entry) (expr_tree value.now)) }
+{
+    let of = written_in(alloc, scope, type_expr)?;
+    let value = operand_in(alloc, scope, value)?;
+    check_parts(alloc, place, of, value)
+}
+
+#[tactic(auto, using(crate::proofs::Parts::located, crate::proofs::Parts::unbroken))]
+fn check_parts(
+    alloc: Global,
+    place: Place,
+    of: Option<Option<GoType>>,
+    value: Option<TypedExpr>,
+) -> Result<(), ExprError>
+    ensures { Finds result (broken place (asked_both own_constant (option_map (option_map type_of) of) (option_map expr_of value))) }
+{
+    let (Some(of), Some(value)) = (of, value) else {
+        return Ok(());
+    };
+    match own_constant(alloc, of, value) {
+        Ok(_) => Ok(()),
+        Err(error) => Err(error.at(place)),
+    }
+}
+
+// A constant as one of the type that is written. `Mismatch` where it isn't constant, then `Assign`
+// where it isn't assignable, and `Range`.
+fn own_constant(alloc: Global, of: Option<GoType>, value: TypedExpr) -> Result<TypedExpr, RuleError>
+    ensures { Gives expr_of result (own_constant (option_map type_of of) (expr_of value)) }
+{
+    if constant_in(&value).is_none() {
+        return Err(RuleError::Broken(FaultKind::Mismatch));
+    }
+    match of {
+        None => Ok(value),
+        Some(of) => assigned(alloc, of, value),
+    }
+}
+
+// The fault of a variable by its value, where that is known.
+fn check_variable(
+    alloc: Global,
+    scope: &Scope<'_>,
+    place: Place,
+    value: &Expr,
+) -> Result<(), ExprError>
+    ensures { Finds result (variable_faults (scope_of scope.now) place (expr_tree value.now)) }
+{
+    let value = operand_in(alloc, scope, value)?;
+    check_default(alloc, place, value)
+}
+
+// `Range` where a value lies outside of the type that it takes where none is due.
+#[tactic(auto, using(crate::proofs::Parts::located, crate::proofs::Parts::unbroken))]
+fn check_default(alloc: Global, place: Place, value: Option<TypedExpr>) -> Result<(), ExprError>
+    ensures { Finds result (broken place (asked defaulted (option_map expr_of value))) }
+{
+    let Some(value) = value else {
+        return Ok(());
+    };
+    match defaulted(alloc, value) {
+        Ok(_) => Ok(()),
+        Err(error) => Err(error.at(place)),
+    }
+}
+
+/// The type that is written, where it is known, if one is written.
+pub fn written_in(
+    alloc: Global,
+    scope: &Scope<'_>,
+    type_expr: Option<&TypeExpr>,
+) -> Result<Option<Option<GoType>>, AllocError>
+    ensures { IfOk result (λ of. option_map (option_map type_of) of ≡ written_type (scope_of scope.now) (option_map (λ t. type_tree t.now) type_expr.entry)) }
+{
+    let Some(type_expr) = type_expr else {
+        return Ok(Some(None));
+    };
+    match type_in(alloc, scope, type_expr)? {
+        Some(of) => Ok(Some(Some(of))),
+        None => Ok(None),
+    }
+}

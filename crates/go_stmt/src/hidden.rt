@@ -1,0 +1,67 @@
+//! What a loop over no integer breaks, which names that stand for faulty declarations hide.
+//! [For range](https://go.dev/ref/spec#For_range)
+ghost use Rattle.std.specs.Prelude.{◌≡◌, IfOk, map, option_map};
+ghost use Rattle.std.specs.List.{list_any};
+ghost use Rattle.go_ast.specs.Views.{block_of};
+ghost use Rattle.go_types.specs.Views.{type_of};
+ghost use Rattle.go_scope.specs.Names.{used};
+ghost use Rattle.go_expr.specs.Seen.{scope_of};
+ghost use Rattle.go_stmt.specs.Scopes.{scope_in};
+ghost use Rattle.go_stmt.specs.Statements.{is_unknown, is_hidden};
+ghost use Rattle.go_stmt.specs.Seen.{context_of, env_of};
+
+use crate::context::Context;
+use crate::env::Env;
+use go_ast::name::Name;
+use go_ast::statement::Block;
+use go_expr::error::ExprError;
+use go_expr::scope::Scope;
+use go_scope::names::UsedName;
+use go_text::place::Place;
+use go_types::types::GoType;
+use go_uses::statements::names_outside;
+use std::alloc::{AllocError, Global};
+
+/// Whether a name that is used stands for a declaration of which nothing is known. An `Err` only where
+/// memory ran out.
+fn is_unknown(scope: &Scope<'_>, place: Place, name: UsedName<'_>) -> Result<bool, AllocError>
+    ensures { IfOk result (λ b. b ≡ is_unknown (scope_of scope.now) (used name.entry)) }
+{
+    match scope.look_up(place, name.text) {
+        Ok(known) => Ok(known.is_none()),
+        Err(ExprError::Faulty(_, _)) => Ok(false),
+        Err(ExprError::Memory) => Err(AllocError),
+    }
+}
+
+/// Whether one of some names does.
+fn any_unknown(scope: &Scope<'_>, place: Place, names: &[UsedName<'_>]) -> Result<bool, AllocError>
+    ensures { IfOk result (λ b. b ≡ list_any (is_unknown (scope_of scope.now)) (map used names.now)) }
+{
+    for name in names {
+        if is_unknown(scope, place, *name)? {
+            return Ok(true);
+        }
+    }
+    Ok(false)
+}
+
+/// Whether it isn't told what a loop over a range breaks: a name in its body stands for a faulty
+/// declaration, and is not its own variable. A range that breaks no rule gives that a type.
+pub(crate) fn is_hidden(
+    alloc: Global,
+    context: Context<'_>,
+    env: &Env,
+    name: &Option<Name>,
+    of: &Option<GoType>,
+    body: &Block,
+) -> Result<bool, AllocError>
+    ensures { let s = scope_in (context_of context.entry) None (env_of env.now) in
+        IfOk result (λ b. b ≡ is_hidden s name.now (option_map type_of of.now) (block_of body.now)) }
+{
+    if of.is_some() {
+        return Ok(false);
+    }
+    let names = names_outside(alloc, name, body)?;
+    any_unknown(&env.scope(context, None), body.closing, &names)
+}

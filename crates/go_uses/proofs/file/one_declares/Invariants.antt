@@ -1,9 +1,0 @@
-use Rattle.std.proofs.Common.{◌≡◌, drop, map}
-use Rattle.std.specs.List.{list_any}
-use Rattle.go_ast.specs.Trees.{Parameter}
-use Rattle.go_ast.specs.Views.{parameter_of}
-use Rattle.go_uses.specs.Uses.{is_one}
-use Rattle.go_uses.proofs.file.one_declares.Given as goal
-
-abbrev pub invariant-loop-parameter : goal.invariant-loop-parameter
-invariant-loop-parameter l = list_any (λ (p : Parameter). is_one l.name p.names) (map parameter_of (drop l.parameter-index l.parameters)) ≡ list_any (λ (p : Parameter). is_one l.name p.names) (map parameter_of l.parameters)
