@@ -1,7 +1,8 @@
 -- Statements without fault are well typed, and what is in scope behind them stands for variables that have a value.
-use Rattle.std.proofs.Common.{◌≡◌, ℕ, Bool, true, false, not, ◌&&◌, ◌||◌, Option, Some, None, List, [], ◌∷◌, ◌++◌, length, refl, sym, ap, subst, ◌∙◌, inr}
-use Rattle.std.specs.Prelude.{option_map, is_some}
+use Rattle.std.proofs.Common.{◌≡◌, ℕ, Bool, true, false, not, ◌&&◌, ◌||◌, Option, Some, None, List, [], ◌∷◌, ◌++◌, map, length, refl, sym, ap, subst, ◌∙◌, inl, inr}
+use Rattle.std.specs.Prelude.{option_map, is_some, if◌then◌else◌}
 use Rattle.std.specs.List.{slice_get}
+use Rattle.std.proofs.lemmas.Bool.{cases_Bool}
 use Rattle.go_text.specs.declared.place.Place.{Place}
 use Rattle.go_ast.specs.Trees as source
 use Rattle.go_ast.specs.Trees.{Name, Simple, Stmt, empty, declaration, simple, return, break, continue, fallthrough, block_statement, if_statement, for_statement, range_statement, switch_statement, Block, block, If, conditional as conditional_if, Else, no_else, else_block, else_if, Stmts, no_stmts, some_stmts, Clauses, no_clauses, clause}
@@ -15,12 +16,12 @@ use Rattle.go_sound.specs.WellTyped as sound
 use Rattle.go_sound.specs.WellTyped.{Signature, Setting, numbers, IsStmt, AreClauses, IsCounter}
 use Rattle.go_expr.specs.Known.{value, Verdict, Fine}
 use Rattle.go_expr.specs.Rules as rules
-use Rattle.go_expr.specs.Rules.{fine, defaulted, default_type}
+use Rattle.go_expr.specs.Rules.{fine, defaulted, default_type, each_unless}
 use Rattle.go_expr.specs.Verdicts.{asked, both, operand, operands, verdict, broken}
-use Rattle.go_stmt.specs.Scopes.{Env, Context, scope_in, enter, own, number_of, declare_new, Checked, still, given, follow, single, node, inside, perhaps}
-use Rattle.go_stmt.specs.Rules.{Values, returned, conditional, looped, is_blank_name, ranged, Clause, case_values, clause_of, switched, branch}
-use Rattle.go_stmt.specs.Statements.{value_at, values_at, declaration_at, simple_at, optional_at, condition_at, in_block, in_loop, in_clause, before_others, leads_on, is_last, tag_at, cases_at, clause_at, range_type, range_names, range_number, statement_at, if_at, else_at, block_at, list_at, clauses_at}
-use Rattle.go_checked.specs.Soundness.{Table, IsSoundType, AreSoundTypes, IsTypedValue, IsSoundValue}
+use Rattle.go_stmt.specs.Scopes.{Env, Context, scope_in, enter, is_blank, own, number_of, declare_new, Checked, still, given, follow, single, node, inside, perhaps}
+use Rattle.go_stmt.specs.Rules.{Values, returned, conditional, looped, ranged, Clause, case_value, clause_of, switched, branch}
+use Rattle.go_stmt.specs.Statements.{value_at, values_at, declaration_at, simple_at, optional_at, condition_at, in_block, in_loop, in_clause, before_others, leads_on, is_last, tag_at, cases_at, clause_at, range_type, range_names, range_number, is_hidden, statement_at, if_at, else_at, block_at, list_at, clauses_at}
+use Rattle.go_checked.specs.Soundness.{Table, IsSoundType, AreSoundTypes, IsSoundValue}
 use Rattle.go_checked.proofs.Texts.{HasTexts, HaveTexts}
 use Rattle.go_checked.proofs.BodyTexts.{MayHaveTexts, CasesHaveTexts, FirstHasTexts, IsPost, StmtHasTexts, StmtsHaveTexts, BlockHasTexts, IfHasTexts, ElseHasTexts, ClausesHaveTexts}
 use Rattle.go_checked.proofs.Expected.{Expected}
@@ -33,19 +34,20 @@ use Rattle.go_checked.proofs.Lefts.{integer_under}
 use Rattle.go_checked.proofs.Simples.{simple_sure, optional_sure, post_sure}
 use Rattle.go_checked.proofs.Groups.{declaration_sure, block_of_list}
 use Rattle.go_checked.proofs.Cases.{sound_operands}
+use Rattle.go_checked.proofs.Settled.{settled_of}
 use Rattle.go_checked.proofs.Compound.{counts, sound_return, sound_branch, sound_if, sound_loop, sound_switch, SoundClause, SoundValues, sound_clause, front_clause, of_cases, ranged_parts}
 
 abbrev after_clause : List ℕ → Clause → List ℕ
 after_clause d k = sound.after_all d (k.1).0
 
-default_behind : (d : List ℕ) (compared : Option (Verdict Expr)) (again falls : Bool) (ss : List typed.Stmt) (y : Clause) → clause_of compared again falls None ss ≡ Fine y → behind d ss ≡ after_clause d y
+default_behind : (d : List ℕ) (compared : Option Type') (again falls : Bool) (ss : List typed.Stmt) (y : Clause) → clause_of compared again falls None ss ≡ Fine y → behind d ss ≡ after_clause d y
 default_behind d compared true falls ss y is = absurd cc
 default_behind d compared false falls ss y is = (let same : (None, (pack_stmts ss, falls)) ≡ y = cc in ap (after_clause d) same)
 
-clause_behind : (d : List ℕ) (compared : Option (Verdict Expr)) (again falls : Bool) (o : Option (List Expr)) (ss : List typed.Stmt) (y : Clause) → clause_of compared again falls o ss ≡ Fine y → behind d ss ≡ after_clause d y
+clause_behind : (d : List ℕ) (compared : Option Type') (again falls : Bool) (o : Option (List Expr)) (ss : List typed.Stmt) (y : Clause) → clause_of compared again falls o ss ≡ Fine y → behind d ss ≡ after_clause d y
 clause_behind d compared again falls None ss y is = default_behind d compared again falls ss y is
 clause_behind d compared again falls (Some es) ss y is =
-    let part = checked_part (λ es. Fine (Some (typed.pack_exprs es), (pack_stmts ss, falls))) (asked (λ v. case_values v es) compared) y is in
+    let part = checked_part (λ es. Fine (Some (typed.pack_exprs es), (pack_stmts ss, falls))) (asked (λ t. each_unless [] (map (case_value t) es)) compared) y is in
     let same : (Some (typed.pack_exprs part.0), (pack_stmts ss, falls)) ≡ y = (let q : Fine (Some (typed.pack_exprs part.0), (pack_stmts ss, falls)) ≡ Fine y = part.2 in cc) in
     ap (after_clause d) same
 
@@ -124,14 +126,27 @@ module _ (x : Expected) (w : Table) (functions : Symbol → Option Signature) (v
 
   abbrev inner_range : Context → Place → Option Name → source.Expr → Block → Env → Checked (List typed.Stmt)
   inner_range c p o e b env =
-      let change = declare_new (range_names o (range_type (operand (verdict (scope_in c None env) e)))) in
-      node p (λ k. ranged o (range_number o (change env)) k.0 k.1) (follow (value_at c e) (perhaps (λ env. block_at (in_loop c) b (change env)))) env
+      let s = scope_in c None env in
+      let t = range_type (operand (verdict s e)) in
+      let change = declare_new (range_names o t) in
+      node p (λ k. ranged (range_number o (change env)) k.0 k.1) (follow (value_at c e) (perhaps (is_hidden s o t b) (λ env. block_at (in_loop c) b (change env)))) env
 
-  -- the variable that counts, in a block of its own
-  counted : (env : Env) (d : List ℕ) (o : Option Name) (t : Type') (u : Option Type') → u ≡ Some t → is_blank_name o ≡ false → IsSoundType w t → ((n : Name) → own env n ≡ None) → Related w locals env d → Lies w locals (declare_new (range_names o u) env)
-      → ((g : Setting) → g.locals ≡ locals → IsCounter g (range_number o (declare_new (range_names o u) env)) t) × Related w locals (declare_new (range_names o u) env) (numbers (range_number o (declare_new (range_names o u) env) ∷ []) ++ d)
-  counted env d None t u is named sound fresh r lies = (λ g same. tt, r)
-  counted env d (Some n) t u is named sound fresh r lies =
+  -- the blank name counts nothing
+  blank_counted : (env : Env) (d : List ℕ) (n : Name) (t : Type') (u : Option Type') → is_blank n.text ≡ true → own env n ≡ None → Related w locals env d
+      → ((g : Setting) → g.locals ≡ locals → IsCounter g (range_number (Some n) (declare_new (range_names (Some n) u) env)) t)
+      × Related w locals (declare_new (range_names (Some n) u) env) (numbers (range_number (Some n) (declare_new (range_names (Some n) u) env) ∷ []) ++ d)
+  blank_counted env d n t u blank fresh r =
+      let final = declare_new (range_names (Some n) u) env in
+      let stays_so : final ≡ env = rw blank refl in
+      let number : number_of final n ≡ None = ap (λ (e : Env). number_of e n) stays_so ∙ numbered env n None fresh in (
+        λ g same. subst (λ (o : Option ℕ). IsCounter g o t) (sym number) tt,
+        subst (λ (o : Option ℕ). Related w locals final (numbers (o ∷ []) ++ d)) (sym number) (subst (λ (e : Env). Related w locals e d) (sym stays_so) r),
+      )
+
+  named_counted : (env : Env) (d : List ℕ) (n : Name) (t : Type') (u : Option Type') → u ≡ Some t → is_blank n.text ≡ false → IsSoundType w t → ((n : Name) → own env n ≡ None) → Related w locals env d
+      → Lies w locals (declare_new (range_names (Some n) u) env) → ((g : Setting) → g.locals ≡ locals → IsCounter g (range_number (Some n) (declare_new (range_names (Some n) u) env)) t)
+      × Related w locals (declare_new (range_names (Some n) u) env) (numbers (range_number (Some n) (declare_new (range_names (Some n) u) env) ∷ []) ++ d)
+  named_counted env d n t u is named sound fresh r lies =
       subst (λ (u : Option Type'). Lies w locals (declare_new (range_names (Some n) u) env) → ((g : Setting) → g.locals ≡ locals → IsCounter g (range_number (Some n) (declare_new (range_names (Some n) u) env)) t)
       × Related w locals (declare_new (range_names (Some n) u) env) (numbers (range_number (Some n) (declare_new (range_names (Some n) u) env) ∷ []) ++ d)) (sym is)
       (λ there. (
@@ -143,12 +158,23 @@ module _ (x : Expected) (w : Table) (functions : Symbol → Option Signature) (v
       (λ g same. subst (λ (o : Option ℕ). IsCounter g o t) (sym number) (ap (λ l. slice_get l (length env.types)) same ∙ place), new.1)
       )) lies
 
-  range_typed : (z : Expr) → rules.is_integer (expr_type z) ≡ true → range_type (Some z) ≡ Some (default_type (expr_type z))
-  range_typed z h = rw h refl
+  -- the variable that counts, in a block of its own
+  counted : (env : Env) (d : List ℕ) (o : Option Name) (t : Type') (u : Option Type') → u ≡ Some t → IsSoundType w t → ((n : Name) → own env n ≡ None) → Related w locals env d → Lies w locals (declare_new (range_names o u) env)
+      → ((g : Setting) → g.locals ≡ locals → IsCounter g (range_number o (declare_new (range_names o u) env)) t) × Related w locals (declare_new (range_names o u) env) (numbers (range_number o (declare_new (range_names o u) env) ∷ []) ++ d)
+  counted env d None t u is sound fresh r lies = (λ g same. tt, r)
+  counted env d (Some n) t u is sound fresh r lies = elim (cases_Bool (is_blank n.text)) [
+    | inl blank ↦ blank_counted env d n t u blank (fresh n) r
+    | inr named ↦ named_counted env d n t u is named sound fresh r lies
+  ]
 
-  range_parts : (a : Option Expr) (b : Option (List typed.Stmt)) (rule : Expr × Option (List typed.Stmt) → Verdict (List typed.Stmt)) (y : List typed.Stmt) → fine (asked rule (both a (Some b))) ≡ Some y → (e : Expr) × (a ≡ Some e) × (rule (e, b) ≡ Fine y)
-  range_parts None b rule y h = absurd cc
-  range_parts (Some e) b rule y h = (e, refl, fine_is (rule (e, b)) y h)
+  range_typed : (z t : Expr) → rules.is_integer (expr_type z) ≡ true → defaulted z ≡ Fine t → range_type (Some z) ≡ Some (default_type (expr_type z))
+  range_typed z t h is = rw h (settled_of z t is)
+
+  range_parts : (a : Option Expr) (hidden : Bool) (b : Option (List typed.Stmt)) (rule : Expr × Option (List typed.Stmt) → Verdict (List typed.Stmt)) (y : List typed.Stmt) → fine (asked rule (both a (if hidden then None else Some b))) ≡ Some y
+      → (e : Expr) × (a ≡ Some e) × (rule (e, b) ≡ Fine y)
+  range_parts None hidden b rule y h = absurd cc
+  range_parts (Some e) true b rule y h = absurd cc
+  range_parts (Some e) false b rule y h = (e, refl, fine_is (rule (e, b)) y h)
 
   range_at : (c : Context) → Good c → (p : Place) (o : Option Name) (e : source.Expr) (b : Block) → HasTexts e → Sure w locals stays (AreList w (at (in_loop c))) (block_at (in_loop c) b) → (env : Env) → ((n : Name) → own env n ≡ None)
       → SureAt w locals (λ d y. numbers (range_number o (declare_new (range_names o (range_type (operand (verdict (scope_in c None env) e)))) env) ∷ []) ++ d) (λ d y. AreList w (at c) d y × (d ≡ behind d y)) (inner_range c p o e b) env
@@ -157,28 +183,29 @@ module _ (x : Expected) (w : Table) (functions : Symbol → Option Signature) (v
       let v = operand (verdict s e) in
       let final = declare_new (range_names o (range_type v)) env in
       let number = range_number o final in
-      let rule = λ (k : Expr × Option (List typed.Stmt)). ranged o number k.0 k.1 in
+      let rule = λ (k : Expr × Option (List typed.Stmt)). ranged number k.0 k.1 in
+      let hidden = is_hidden s o (range_type v) b in
       let inner = body final in
       let there = (block_at (in_loop c) b final).after in (
         grows_on env final there (new_grows (range_names o (range_type v)) env) inner.0,
         λ d r lies none y is. (
             let scope = scope_sound w (at c) c (g.0 c.breaks c.continues) env d r None in
-            let k = range_parts v (block_at (in_loop c) b final).known rule y is in
+            let k = range_parts v hidden (block_at (in_loop c) b final).known rule y is in
             let z = k.0 in
-            let parts = ranged_parts x w (at c) o number z (block_at (in_loop c) b final).known y (is_blank_name o) (rules.is_integer (expr_type z)) refl refl k.2 in
+            let parts = ranged_parts x w (at c) number z (block_at (in_loop c) b final).known y (rules.is_integer (expr_type z)) refl k.2 in
             let t = parts.0 in
-            let made = x.sound_defaulted w (at c) d z (x.sound_operand w (at c) d s e scope texts z k.1) t parts.4 in
-            let usual : range_type v ≡ Some (default_type (expr_type z)) = ap range_type k.1 ∙ range_typed z parts.3 in
+            let made = x.sound_defaulted w (at c) d z (x.sound_operand w (at c) d s e scope texts z k.1) t parts.3 in
+            let usual : range_type v ≡ Some (default_type (expr_type z)) = ap range_type k.1 ∙ range_typed z t parts.2 parts.3 in
             let type : range_type v ≡ Some (expr_type t) = subst (λ u. range_type v ≡ Some u) (sym made.1) usual in
             let start = lies_before w locals final there inner.0 lies in
-            let count = counted env d o (expr_type t) (range_type v) type parts.2 (made.0).1 fresh r start in
-            let faultless = two_none ((value_at c e env).faults ++ (block_at (in_loop c) b final).faults) (broken p (asked rule (both v (Some (block_at (in_loop c) b final).known)))) none in
+            let count = counted env d o (expr_type t) (range_type v) type (made.0).1 fresh r start in
+            let faultless = two_none ((value_at c e env).faults ++ (block_at (in_loop c) b final).faults) (broken p (asked rule (both v (if hidden then None else Some (block_at (in_loop c) b final).known)))) none in
             let bodies = two_none (value_at c e env).faults (block_at (in_loop c) b final).faults faultless.0 in
-            let one = inner.1 (numbers (number ∷ []) ++ d) count.1 lies bodies.1 parts.1 parts.5 in
+            let one = inner.1 (numbers (number ∷ []) ++ d) count.1 lies bodies.1 parts.1 parts.4 in
             let int : sound.is_integer (underlying (expr_type t)) ≡ true =
-            integer_under w (expr_type t) (made.0).1 (ap rules.is_integer made.1 ∙ counts (expr_type z) parts.3) in
+            integer_under w (expr_type t) (made.0).1 (ap rules.is_integer made.1 ∙ counts (expr_type z) parts.2) in
             let whole : IsStmt (at c) d (typed.range_statement number (expr_type t) t (pack_stmts parts.1)) = ((made.0).0, refl, int, count.0 (at c) refl, one.0) in
-            (subst (λ (ss : List typed.Stmt). AreList w (at c) d ss × (d ≡ behind d ss)) parts.6 ((whole, tt), refl), one.1)
+            (subst (λ (ss : List typed.Stmt). AreList w (at c) d ss × (d ≡ behind d ss)) parts.5 ((whole, tt), refl), one.1)
             ),
       )
 
@@ -190,16 +217,9 @@ module _ (x : Expected) (w : Table) (functions : Symbol → Option Signature) (v
 
   -- ---- switches
 
-  abbrev SoundTag : Setting → List ℕ → Verdict Expr → Type 0
-  SoundTag s d v = (t : Expr) → v ≡ Fine t → IsTypedValue w s d t
-
-  tag_sure : (c : Context) → Good c → (tag : Option source.Expr) → MayHaveTexts tag → Sure w locals stays (SoundTag (at c)) (tag_at c tag)
-  tag_sure c g None texts = sure_given w locals (SoundTag (at c)) (Fine (constant (basic basics.Bool) (Truth true))) (λ d l t is. (
-      let same : constant (basic basics.Bool) (Truth true) ≡ t = cc in
-      subst (IsTypedValue w (at c) d) same ((refl, refl), refl)
-      ))
-  tag_sure c g (Some e) texts =
-      sure_seen w locals stays (IsSoundValue w (at c)) stays (SoundTag (at c)) defaulted (value_at c e) (λ d z h. (λ t is. (x.sound_defaulted w (at c) d z h t is).0, refl)) (value_sure x w (at c) c (g.0 c.breaks c.continues) e texts)
+  tag_sure : (c : Context) → Good c → (tag : Option source.Expr) → MayHaveTexts tag → Sure w locals stays (IsSoundValue w (at c)) (tag_at c tag)
+  tag_sure c g None texts = sure_given w locals (IsSoundValue w (at c)) (constant (basic basics.Bool) (Truth true)) (λ d l. inr (inl ((refl, refl), refl)))
+  tag_sure c g (Some e) texts = value_sure x w (at c) c (g.0 c.breaks c.continues) e texts
 
   cases_sure : (c : Context) → Good c → (values : Option source.Exprs) → CasesHaveTexts values → Sure w locals stays (SoundValues x w (at c)) (cases_at c values)
   cases_sure c g None texts = sure_given w locals (SoundValues x w (at c)) None (λ d l. tt)
@@ -212,11 +232,11 @@ module _ (x : Expected) (w : Table) (functions : Symbol → Option Signature) (v
         ),
   )
 
-  abbrev SoundClauses : Setting → Option (Verdict Expr) → Clauses → List ℕ → List Clause → Type 0
+  abbrev SoundClauses : Setting → Option Type' → Clauses → List ℕ → List Clause → Type 0
   SoundClauses s compared cs d ks = (is_last cs ≡ false → sound.is_last (pack_clauses ks) ≡ false)
-      × ((t : Expr) → compared ≡ Some (Fine t) → IsTypedValue w s d t → AreClauses s d (expr_type t) (pack_clauses ks))
+      × ((t : Type') → compared ≡ Some t → IsSoundType w t → AreClauses s d t (pack_clauses ks))
 
-  clause_sure : (c : Context) → Good c → (compared : Option (Verdict Expr)) (again falls : Bool) (p : Place) (values : Option source.Exprs) (body : Env → Checked (List typed.Stmt)) → CasesHaveTexts values → Sure w locals behind (AreList w (setting true c.continues)) body
+  clause_sure : (c : Context) → Good c → (compared : Option Type') (again falls : Bool) (p : Place) (values : Option source.Exprs) (body : Env → Checked (List typed.Stmt)) → CasesHaveTexts values → Sure w locals behind (AreList w (setting true c.continues)) body
       → Sure w locals stays (SoundClause x w (at c) compared falls) (clause_at c compared again falls p values body)
   clause_sure c g compared again falls p values body texts h =
       let parts = follow (cases_at c values) body in
@@ -227,40 +247,41 @@ module _ (x : Expected) (w : Table) (functions : Symbol → Option Signature) (v
       (λ d k y q is l. (sound_clause x w (at c) compared again falls d k.0 k.1 y q.0 q.1 is, clause_behind d compared again falls k.0 k.1 y is)) one in
       sure_apart w locals after_clause (SoundClause x w (at c) compared falls) (node p (λ k. clause_of compared again falls k.0 k.1) parts) whole
 
-  more_clauses : (s : Setting) (compared : Option (Verdict Expr)) (p : Place) (values : Option source.Exprs) (ss : Stmts) (rest : Clauses) (d : List ℕ) (ks : List Clause) (ls : List Clause)
+  more_clauses : (s : Setting) (compared : Option Type') (p : Place) (values : Option source.Exprs) (ss : Stmts) (rest : Clauses) (d : List ℕ) (ks : List Clause) (ls : List Clause)
       → ((k : Clause) × (ks ≡ k ∷ []) × SoundClause x w s compared (leads_on ss && not (is_last rest)) d k) → SoundClauses s compared rest d ls → SoundClauses s compared (clause p values ss rest) d (ks ++ ls)
   more_clauses s compared p values ss rest d ks ls one two =
       let k = one.0 in
       subst (λ (l : List Clause). SoundClauses s compared (clause p values ss rest) d (l ++ ls)) (sym one.1) (
         λ h. refl,
-        λ t is typed. front_clause x w s d (expr_type t) k (pack_clauses ls) (leads_on ss) (is_last rest) (one.2).0 two.0 (one.2).1 (λ es at. of_cases x w s d t k.0 es ((one.2).2 t is typed) at) (two.1 t is typed),
+        λ t is sound. front_clause x w s d t k (pack_clauses ls) (leads_on ss) (is_last rest) (one.2).0 two.0 (one.2).1 (λ es at. of_cases x w s d t k.0 es ((one.2).2 t is sound) at) (two.1 t is sound),
       )
 
   -- ---- all statements
 
   abbrev inner_switch : Context → Place → Option Simple → Option source.Expr → Clauses → Env → Checked (List typed.Stmt)
   inner_switch c p before tag cs env =
-      let compared = (tag_at c tag (optional_at c p before env).after).known in
+      let compared = option_map (λ e. default_type (expr_type e)) (tag_at c tag (optional_at c p before env).after).known in
       node p (λ k. switched k.0 (k.1).0 (k.1).1) (follow (optional_at c p before) (follow (tag_at c tag) (clauses_at c compared false cs))) env
 
   switch_sure : (c : Context) → Good c → (p : Place) (before : Option Simple) (tag : Option source.Expr) (cs : Clauses) → FirstHasTexts before → MayHaveTexts tag
-      → ((compared : Option (Verdict Expr)) → Sure w locals stays (SoundClauses (at c) compared cs) (clauses_at c compared false cs)) → Sure w locals behind (AreList w (at c)) (statement_at c (switch_statement p before tag cs))
+      → ((compared : Option Type') → Sure w locals stays (SoundClauses (at c) compared cs) (clauses_at c compared false cs)) → Sure w locals behind (AreList w (at c)) (statement_at c (switch_statement p before tag cs))
   switch_sure c g p before tag cs texts more clauses env0 =
       let env = enter env0 in
       let s = at c in
       let first = optional_at c p before env in
-      let compared = (tag_at c tag first.after).known in
-      let Tagged = λ (d : List ℕ) (v : Verdict Expr). SoundTag s d v × (compared ≡ Some v) in
-      let Later = λ (d : List ℕ) (k : Verdict Expr × List Clause). Tagged d k.0 × SoundClauses s compared cs d k.1 in
+      let known = (tag_at c tag first.after).known in
+      let compared = option_map (λ e. default_type (expr_type e)) known in
+      let Tagged = λ (d : List ℕ) (v : Expr). IsSoundValue w s d v × (known ≡ Some v) in
+      let Later = λ (d : List ℕ) (k : Expr × List Clause). Tagged d k.0 × SoundClauses s compared cs d k.1 in
       let later = follow_at w locals stays Tagged stays (SoundClauses s compared cs) (tag_at c tag) (clauses_at c compared false cs) first.after
-      (known_at w locals stays (SoundTag s) (tag_at c tag) first.after (tag_sure c g tag more first.after)) (clauses compared (tag_at c tag first.after).after) in
+      (known_at w locals stays (IsSoundValue w s) (tag_at c tag) first.after (tag_sure c g tag more first.after)) (clauses compared (tag_at c tag first.after).after) in
       let all = follow_at w locals behind (AreList w s) stays Later (optional_at c p before) (follow (tag_at c tag) (clauses_at c compared false cs)) env (optional_sure x w s c (g.0 c.breaks c.continues) g.2 p before texts env) later in
-      let whole = node_at w locals (λ d (k : List typed.Stmt × (Verdict Expr × List Clause)). behind d k.0) (λ d (k : List typed.Stmt × (Verdict Expr × List Clause)). AreList w s d k.0 × Later (behind d k.0) k.1) behind (AreList w s) p
+      let whole = node_at w locals (λ d (k : List typed.Stmt × (Expr × List Clause)). behind d k.0) (λ d (k : List typed.Stmt × (Expr × List Clause)). AreList w s d k.0 × Later (behind d k.0) k.1) behind (AreList w s) p
       (λ k. switched k.0 (k.1).0 (k.1).1) (follow (optional_at c p before) (follow (tag_at c tag) (clauses_at c compared false cs))) env
       (λ d k y h is l. (
       let v = (k.1).0 in
       let tagged = (h.1).0 in
-      sound_switch x w s d k.0 v (k.1).1 y h.0 tagged.0 (λ t at typed. ((h.1).1).1 t (tagged.1 ∙ ap Some at) typed) is
+      sound_switch x w s d k.0 v (k.1).1 y h.0 tagged.0 (λ t at sound. ((h.1).1).1 t (ap (option_map (λ e. default_type (expr_type e))) tagged.1 ∙ ap Some at) sound) is
       )) all in
       inside_at w locals behind (AreList w s) (inner_switch c p before tag cs) env0 (λ d y. covers d y) whole
 
@@ -306,8 +327,8 @@ module _ (x : Expected) (w : Table) (functions : Symbol → Option Signature) (v
     list_sure c g no_stmts texts = sure_none w (at c)
     list_sure c g (some_stmts s ss) texts = sure_appended w (at c) (statement_at (before_others c ss) s) (list_at c ss) (statement_sure (before_others c ss) g s texts.0) (list_sure c g ss texts.1)
 
-    clauses_sure : (c : Context) → Good c → (compared : Option (Verdict Expr)) (again : Bool) (cs : Clauses) → ClausesHaveTexts cs → Sure w locals stays (SoundClauses (at c) compared cs) (clauses_at c compared again cs)
-    clauses_sure c g compared again no_clauses texts = sure_given w locals (SoundClauses (at c) compared no_clauses) [] (λ d l. ((λ h. h), λ t is typed. tt))
+    clauses_sure : (c : Context) → Good c → (compared : Option Type') (again : Bool) (cs : Clauses) → ClausesHaveTexts cs → Sure w locals stays (SoundClauses (at c) compared cs) (clauses_at c compared again cs)
+    clauses_sure c g compared again no_clauses texts = sure_given w locals (SoundClauses (at c) compared no_clauses) [] (λ d l. ((λ h. h), λ t is sound. tt))
     clauses_sure c g compared again (clause p values ss rest) texts =
         let s = at c in
         let falls = leads_on ss && not (is_last rest) in

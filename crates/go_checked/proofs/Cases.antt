@@ -16,13 +16,13 @@ use Rattle.go_types.specs.declared.types.Untyped.TheVariants as kinds
 use Rattle.go_types.specs.Types.{Type', basic, array, struct, named, Fields, no_fields, field}
 use Rattle.go_types.specs.Texts.{basic_text}
 use Rattle.go_types.specs.Relations.{underlying, identical, all_identical, is_literal, fits, assignable}
-use Rattle.go_typed.specs.Trees.{Expr, expr_type, pack_exprs}
+use Rattle.go_typed.specs.Trees.{Expr, local, expr_type, pack_exprs}
 use Rattle.go_sound.specs.WellTyped.{Setting, Suits, IsExpr, AreExprs, exprs_types, AreCases}
 use Rattle.go_expr.specs.Known.{Scope, Verdict, Fine, Breaks, Passed}
 use Rattle.go_expr.specs.Rules.{fine, checked, wrong, each_unless, as_type, assigned, lies_in, takes, common, is_defined, operand_type}
 use Rattle.go_expr.specs.Verdicts.{operand, operands, verdict, joined}
 use Rattle.go_stmt.specs.Rules.{case_value}
-use Rattle.go_checked.specs.Soundness.{Table, IsSoundType, IsTypedValue, IsSoundValue}
+use Rattle.go_checked.specs.Soundness.{Table, IsSoundType, IsSoundValue}
 use Rattle.go_checked.proofs.SoundNames.{IsSoundScope}
 use Rattle.go_checked.proofs.Texts.{HaveTexts}
 use Rattle.go_checked.proofs.Expected.{Expected}
@@ -102,8 +102,8 @@ checked_asked f (Fine x) h = tt
 checked_asked f (Breaks k) h = tt
 checked_asked f Passed h = absurd h
 
-case_asked : (t e : Expr) → Asked (case_value t e)
-case_asked t e = checked_asked (λ u. as_type u e) (operand_type (Comparison Equal) t e) (operand_asked t e (common (expr_type t) (expr_type e)) refl)
+case_asked : (t : Type') (e : Expr) → Asked (case_value t e)
+case_asked t e = checked_asked (λ u. as_type u e) (operand_type (Comparison Equal) (local t 0) e) (operand_asked (local t 0) e (common t (expr_type e)) refl)
 
 module _ (x : Expected) (w : Table) (g : Setting) where
   -- a typed value is assignable to typed ones alone
@@ -112,45 +112,45 @@ module _ (x : Expected) (w : Table) (g : Setting) where
   typed_value d e t h (inr (inl k)) fit = k.1
   typed_value d e t h (inr (inr k)) fit = absurd (not_assignable x w t kinds.Bool h (subst (λ (u : Type'). assignable t u ≡ true) k.1 fit))
 
-  case_by : (d : List ℕ) (t e : Expr) (u : Type') (a b : Bool) → IsTypedValue w g d t → IsSoundValue w g d e → takes (expr_type e) (expr_type t) ≡ a → takes (expr_type t) (expr_type e) ≡ b → common (expr_type t) (expr_type e) ≡ Some u → lies_in u e ≡ true
-      → IsExpr g d (as_type u e) × Suits (expr_type (as_type u e)) (expr_type t)
+  case_by : (d : List ℕ) (t : Type') (e : Expr) (u : Type') (a b : Bool) → IsSoundType w t → IsSoundValue w g d e → takes (expr_type e) t ≡ a → takes t (expr_type e) ≡ b → common t (expr_type e) ≡ Some u → lies_in u e ≡ true
+      → IsExpr g d (as_type u e) × Suits (expr_type (as_type u e)) t
   case_by d t e u true b h k at is c lies =
-      let r : common (expr_type t) (expr_type e) ≡ Some (expr_type t) = rw at refl in
-      let same : expr_type t ≡ u = cc in
-      let fit : assignable (expr_type e) u ≡ true = ap (assignable (expr_type e)) (sym same) ∙ sym (takes_typed w (expr_type e) (expr_type t) h.1) ∙ at in
-      let made = x.sound_assigned w g d u e (subst (IsSoundType w) same h.1) k (as_type u e) (assigned_as u e fit lies) in
+      let r : common t (expr_type e) ≡ Some t = rw at refl in
+      let same : t ≡ u = cc in
+      let fit : assignable (expr_type e) u ≡ true = ap (assignable (expr_type e)) (sym same) ∙ sym (takes_typed w (expr_type e) t h) ∙ at in
+      let made = x.sound_assigned w g d u e (subst (IsSoundType w) same h) k (as_type u e) (assigned_as u e fit lies) in
       (made.0, ap underlying (made.1 ∙ sym same))
-  case_by d t e u false false h k at is c lies = absurd (let r : common (expr_type t) (expr_type e) ≡ None = rw (at, is) refl in cc)
+  case_by d t e u false false h k at is c lies = absurd (let r : common t (expr_type e) ≡ None = rw (at, is) refl in cc)
   case_by d t e u false true h k at is c lies =
-      let r : common (expr_type t) (expr_type e) ≡ Some (expr_type e) = rw (at, is) refl in
+      let r : common t (expr_type e) ≡ Some (expr_type e) = rw (at, is) refl in
       let same : expr_type e ≡ u = cc in
-      let fit : assignable (expr_type t) (expr_type e) ≡ true = sym (typed_takes w (expr_type t) (expr_type e) h.1) ∙ is in
-      let sound = typed_value d e (expr_type t) h.1 k fit in
+      let fit : assignable t (expr_type e) ≡ true = sym (typed_takes w t (expr_type e) h) ∙ is in
+      let sound = typed_value d e t h k fit in
       let itself : assignable (expr_type e) u ≡ true = ap (assignable (expr_type e)) (sym same) ∙ assignable_self (expr_type e) in
       let made = x.sound_assigned w g d u e (subst (IsSoundType w) same sound) k (as_type u e) (assigned_as u e itself lies) in
-      (made.0, ap underlying (made.1 ∙ sym same) ∙ sym (suits x w (expr_type t) (expr_type e) h.1 sound fit))
+      (made.0, ap underlying (made.1 ∙ sym same) ∙ sym (suits x w t (expr_type e) h sound fit))
 
-  pub sound_case : (d : List ℕ) (t e y : Expr) → IsTypedValue w g d t → IsSoundValue w g d e → case_value t e ≡ Fine y → IsExpr g d y × Suits (expr_type y) (expr_type t)
+  pub sound_case : (d : List ℕ) (t : Type') (e y : Expr) → IsSoundType w t → IsSoundValue w g d e → case_value t e ≡ Fine y → IsExpr g d y × Suits (expr_type y) t
   sound_case d t e y h k is =
-      let part = checked_part (λ u. Fine (as_type u e)) (operand_type (Comparison Equal) t e) y is in
-      let taken = compared_as t e (common (expr_type t) (expr_type e)) part.0 refl part.1 in
-      let made = case_by d t e part.0 (takes (expr_type e) (expr_type t)) (takes (expr_type t) (expr_type e)) h k refl refl taken.0 taken.1 in
+      let part = checked_part (λ u. Fine (as_type u e)) (operand_type (Comparison Equal) (local t 0) e) y is in
+      let taken = compared_as (local t 0) e (common t (expr_type e)) part.0 refl part.1 in
+      let made = case_by d t e part.0 (takes (expr_type e) t) (takes t (expr_type e)) h k refl refl taken.0 taken.1 in
       let same : as_type part.0 e ≡ y = (let q : Fine (as_type part.0 e) ≡ Fine y = part.2 in cc) in
-      subst (λ (z : Expr). IsExpr g d z × Suits (expr_type z) (expr_type t)) same made
+      subst (λ (z : Expr). IsExpr g d z × Suits (expr_type z) t) same made
 
-  all_cases : (d : List ℕ) (t : Expr) (es : List Expr) → IsTypedValue w g d t → AllSoundValues x w g d es → flat_map wrong (map (case_value t) es) ≡ []
-      → AreExprs g d (pack_exprs (filter_map fine (map (case_value t) es))) × AreCases (expr_type t) (exprs_types (pack_exprs (filter_map fine (map (case_value t) es))))
+  all_cases : (d : List ℕ) (t : Type') (es : List Expr) → IsSoundType w t → AllSoundValues x w g d es → flat_map wrong (map (case_value t) es) ≡ []
+      → AreExprs g d (pack_exprs (filter_map fine (map (case_value t) es))) × AreCases t (exprs_types (pack_exprs (filter_map fine (map (case_value t) es))))
   all_cases d t [] h k none = (tt, tt)
   all_cases d t (e ∷ es) h k none =
       let front = front_fine (case_value t e) (map (case_value t) es) (case_asked t e) none in
       let rest = all_cases d t es h k.1 front.2 in
       let one = sound_case d t e front.0 h k.0 front.1 in
-      subst (λ (l : List Expr). AreExprs g d (pack_exprs l) × AreCases (expr_type t) (exprs_types (pack_exprs l))) (sym front.3) ((one.0, rest.0), (one.1, rest.1))
+      subst (λ (l : List Expr). AreExprs g d (pack_exprs l) × AreCases t (exprs_types (pack_exprs l))) (sym front.3) ((one.0, rest.0), (one.1, rest.1))
 
-  pub sound_cases : (d : List ℕ) (t : Expr) (es ys : List Expr) → IsTypedValue w g d t → AllSoundValues x w g d es → each_unless [] (map (case_value t) es) ≡ Fine ys → AreExprs g d (pack_exprs ys) × AreCases (expr_type t) (exprs_types (pack_exprs ys))
+  pub sound_cases : (d : List ℕ) (t : Type') (es ys : List Expr) → IsSoundType w t → AllSoundValues x w g d es → each_unless [] (map (case_value t) es) ≡ Fine ys → AreExprs g d (pack_exprs ys) × AreCases t (exprs_types (pack_exprs ys))
   sound_cases d t es ys h k is =
       let made = each_fine (map (case_value t) es) ys is in
-      subst (λ (l : List Expr). AreExprs g d (pack_exprs l) × AreCases (expr_type t) (exprs_types (pack_exprs l))) made.1 (all_cases d t es h k made.0)
+      subst (λ (l : List Expr). AreExprs g d (pack_exprs l) × AreCases t (exprs_types (pack_exprs l))) made.1 (all_cases d t es h k made.0)
 
   -- ---- the values of a case
 

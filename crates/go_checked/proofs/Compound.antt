@@ -1,19 +1,18 @@
 -- What the rules make of statements whose parts are well typed.
 use Rattle.std.proofs.Common.{◌≡◌, ℕ, Bool, true, false, not, ◌&&◌, Option, Some, None, List, [], ◌∷◌, ◌++◌, map, refl, sym, ap, subst, ◌∙◌, true≢false}
-use Rattle.go_text.specs.declared.fault.FaultKind.TheVariants.{Mismatch, Redeclared}
-use Rattle.go_ast.specs.Trees.{Name}
+use Rattle.go_text.specs.declared.fault.FaultKind.TheVariants.{Mismatch}
 use Rattle.go_types.specs.declared.types.Basic.TheVariants as basics
 use Rattle.go_types.specs.declared.types.Untyped.TheVariants as kinds
 use Rattle.go_types.specs.Types.{Type', basic, array, struct, named}
 use Rattle.go_typed.specs.Trees as typed
 use Rattle.go_typed.specs.Trees.{Expr, expr_type, Exprs, Stmt, if_statement, for_statement, switch_statement, range_statement, return, Source, pack_exprs, pack_stmts, pack_clauses, Clauses}
 use Rattle.go_sound.specs.WellTyped.{Setting, AllSuit, after, source_types, AreExprs, exprs_types, AreCases, IsStmt, AreStmts, AreClauses, IsConditionOrNone, in_loop, in_post, in_clause, is_last}
-use Rattle.go_expr.specs.Known.{Verdict, Fine, Breaks}
+use Rattle.go_expr.specs.Known.{Fine, Breaks}
 use Rattle.go_expr.specs.Rules as rules
 use Rattle.go_expr.specs.Rules.{checked, condition, default_type, defaulted, each_unless}
 use Rattle.go_expr.specs.Verdicts.{asked}
-use Rattle.go_stmt.specs.Rules.{Values, suited, returned, conditional, loop_condition, looped, is_blank_name, ranged, Clause, case_value, case_values, clause_of, switched, branch}
-use Rattle.go_checked.specs.Soundness.{Table, AreSoundTypes, IsTypedValue, IsSoundValue}
+use Rattle.go_stmt.specs.Rules.{Values, suited, returned, conditional, loop_condition, looped, ranged, Clause, case_value, clause_of, switched, branch}
+use Rattle.go_checked.specs.Soundness.{Table, IsSoundType, AreSoundTypes, IsSoundValue}
 use Rattle.go_checked.proofs.Expected.{Expected}
 use Rattle.go_checked.proofs.Values.{checked_part, own_types, AreDue, SoundDue, AreSoundValues, AllSoundValues, sound_suited}
 use Rattle.go_checked.proofs.Lists.{behind, AreList, behind_more, more_stmts}
@@ -91,42 +90,42 @@ module _ (x : Expected) (w : Table) (g : Setting) where
 
   -- ---- switches
 
-  pub sound_switch : (d : List ℕ) (before : List Stmt) (v : Verdict Expr) (cs : List Clause) (y : List Stmt) → AreList w g d before → ((t : Expr) → v ≡ Fine t → IsTypedValue w g (behind d before) t)
-      → ((t : Expr) → v ≡ Fine t → IsTypedValue w g (behind d before) t → AreClauses g (behind d before) (expr_type t) (pack_clauses cs)) → switched before v cs ≡ Fine y → AreList w g d y × (behind d before ≡ behind d y)
-  sound_switch d before v cs y h k m is =
-      let part = checked_part (λ tag. Fine (before ++ switch_statement tag (pack_clauses cs) ∷ [])) v y is in
-      let t = k part.0 part.1 in
-      list_end d before (switch_statement part.0 (pack_clauses cs)) y h (t.0, m part.0 part.1 t) refl
+  pub sound_switch : (d : List ℕ) (before : List Stmt) (e : Expr) (cs : List Clause) (y : List Stmt) → AreList w g d before → IsSoundValue w g (behind d before) e
+      → ((t : Type') → default_type (expr_type e) ≡ t → IsSoundType w t → AreClauses g (behind d before) t (pack_clauses cs)) → switched before e cs ≡ Fine y → AreList w g d y × (behind d before ≡ behind d y)
+  sound_switch d before e cs y h k m is =
+      let part = checked_part (λ tag. Fine (before ++ switch_statement tag (pack_clauses cs) ∷ [])) (defaulted e) y is in
+      let made = x.sound_defaulted w g (behind d before) e k part.0 part.1 in
+      list_end d before (switch_statement part.0 (pack_clauses cs)) y h ((made.0).0, m (expr_type part.0) (sym made.1) (made.0).1) refl
       (let q : Fine (before ++ switch_statement part.0 (pack_clauses cs) ∷ []) ≡ Fine y = part.2 in cc)
 
-  abbrev OfCases : List ℕ → Expr → Option Exprs → Type 0
+  abbrev OfCases : List ℕ → Type' → Option Exprs → Type 0
   OfCases d t None = Unit {0}
-  OfCases d t (Some es) = AreExprs g d es × AreCases (expr_type t) (exprs_types es)
+  OfCases d t (Some es) = AreExprs g d es × AreCases t (exprs_types es)
 
-  abbrev pub SoundClause : Option (Verdict Expr) → Bool → List ℕ → Clause → Type 0
-  SoundClause compared falls d k = ((k.1).1 ≡ falls) × AreStmts (in_clause g) d (k.1).0 × ((t : Expr) → compared ≡ Some (Fine t) → IsTypedValue w g d t → OfCases d t k.0)
+  abbrev pub SoundClause : Option Type' → Bool → List ℕ → Clause → Type 0
+  SoundClause compared falls d k = ((k.1).1 ≡ falls) × AreStmts (in_clause g) d (k.1).0 × ((t : Type') → compared ≡ Some t → IsSoundType w t → OfCases d t k.0)
 
   abbrev pub SoundValues : List ℕ → Option (List Expr) → Type 0
   SoundValues d None = Unit {0}
   SoundValues d (Some es) = AllSoundValues x w g d es
 
-  default_clause : (compared : Option (Verdict Expr)) (again falls : Bool) (d : List ℕ) (ss : List Stmt) (y : Clause) → AreStmts (in_clause g) d (pack_stmts ss) → clause_of compared again falls None ss ≡ Fine y → SoundClause compared falls d y
+  default_clause : (compared : Option Type') (again falls : Bool) (d : List ℕ) (ss : List Stmt) (y : Clause) → AreStmts (in_clause g) d (pack_stmts ss) → clause_of compared again falls None ss ≡ Fine y → SoundClause compared falls d y
   default_clause compared true falls d ss y h is = absurd cc
   default_clause compared false falls d ss y h is = (let same : (None, (pack_stmts ss, falls)) ≡ y = cc in subst (SoundClause compared falls d) same (refl, h, λ t at k. tt))
 
-  pub sound_clause : (compared : Option (Verdict Expr)) (again falls : Bool) (d : List ℕ) (o : Option (List Expr)) (ss : List Stmt) (y : Clause) → SoundValues d o → AreStmts (in_clause g) d (pack_stmts ss) → clause_of compared again falls o ss ≡ Fine y
+  pub sound_clause : (compared : Option Type') (again falls : Bool) (d : List ℕ) (o : Option (List Expr)) (ss : List Stmt) (y : Clause) → SoundValues d o → AreStmts (in_clause g) d (pack_stmts ss) → clause_of compared again falls o ss ≡ Fine y
       → SoundClause compared falls d y
   sound_clause compared again falls d None ss y h k is = default_clause compared again falls d ss y k is
   sound_clause compared again falls d (Some es) ss y h k is =
-      let rule = λ (v : Verdict Expr). case_values v es in
+      let rule = λ (t : Type'). each_unless [] (map (case_value t) es) in
       let part = checked_part (λ es. Fine (Some (pack_exprs es), (pack_stmts ss, falls))) (asked rule compared) y is in
       let same : (Some (pack_exprs part.0), (pack_stmts ss, falls)) ≡ y = (let q : Fine (Some (pack_exprs part.0), (pack_stmts ss, falls)) ≡ Fine y = part.2 in cc) in
       subst (SoundClause compared falls d) same (
         refl,
         k,
-        λ t at typed. (
+        λ t at sound. (
             let there : each_unless [] (map (case_value t) es) ≡ Fine part.0 = sym (ap (asked rule) at) ∙ part.1 in
-            sound_cases x w g d t es part.0 typed h there
+            sound_cases x w g d t es part.0 sound h there
             ),
       )
 
@@ -140,18 +139,17 @@ module _ (x : Expected) (w : Table) (g : Setting) where
   front_clause d t (None, (ss, falls)) cs leads last is none h k m = (h, (subst (λ (b : Bool). (b && is_last cs) ≡ false) (sym is) (falls_off leads last cs none)), m)
   front_clause d t (Some es, (ss, falls)) cs leads last is none h k m = (let of = k es refl in (of.0, of.1, h, (subst (λ (b : Bool). (b && is_last cs) ≡ false) (sym is) (falls_off leads last cs none)), m))
 
-  pub of_cases : (d : List ℕ) (t : Expr) (o : Option Exprs) (es : Exprs) → OfCases d t o → o ≡ Some es → AreExprs g d es × AreCases (expr_type t) (exprs_types es)
+  pub of_cases : (d : List ℕ) (t : Type') (o : Option Exprs) (es : Exprs) → OfCases d t o → o ≡ Some es → AreExprs g d es × AreCases t (exprs_types es)
   of_cases d t o es h is = subst (OfCases d t) is h
 
   -- ---- ranges
 
-  pub ranged_parts : (o : Option Name) (number : Option ℕ) (e : Expr) (body : Option (List Stmt)) (y : List Stmt) (blank int : Bool) → is_blank_name o ≡ blank → rules.is_integer (expr_type e) ≡ int → ranged o number e body ≡ Fine y
-      → (t : Expr) × (ss : List Stmt) × (blank ≡ false) × (int ≡ true) × (defaulted e ≡ Fine t) × (body ≡ Some ss) × (range_statement number (expr_type t) t (pack_stmts ss) ∷ [] ≡ y)
-  ranged_parts o number e body y true int at is h = absurd (let r : ranged o number e body ≡ Breaks Redeclared = rw at refl in cc)
-  ranged_parts o number e body y false false at is h = absurd (let r : ranged o number e body ≡ Breaks Mismatch = rw (at, is) refl in cc)
-  ranged_parts o number e body y false true at is h =
+  pub ranged_parts : (number : Option ℕ) (e : Expr) (body : Option (List Stmt)) (y : List Stmt) (int : Bool) → rules.is_integer (expr_type e) ≡ int → ranged number e body ≡ Fine y
+      → (t : Expr) × (ss : List Stmt) × (int ≡ true) × (defaulted e ≡ Fine t) × (body ≡ Some ss) × (range_statement number (expr_type t) t (pack_stmts ss) ∷ [] ≡ y)
+  ranged_parts number e body y false is h = absurd (let r : ranged number e body ≡ Breaks Mismatch = rw is refl in cc)
+  ranged_parts number e body y true is h =
       let rule = λ (t : Expr). asked (λ ss. Fine (range_statement number (expr_type t) t (pack_stmts ss) ∷ [])) body in
-      let r : ranged o number e body ≡ checked rule (defaulted e) = rw (at, is) refl in
+      let r : ranged number e body ≡ checked rule (defaulted e) = rw is refl in
       let part = checked_part rule (defaulted e) y (sym r ∙ h) in
       let made = body_part body (λ ss. range_statement number (expr_type part.0) part.0 (pack_stmts ss) ∷ []) y part.2 in
-      (part.0, made.0, refl, refl, part.1, made.1, made.2)
+      (part.0, made.0, refl, part.1, made.1, made.2)

@@ -10,22 +10,24 @@ use Rattle.go_ast.specs.Trees as source
 use Rattle.go_ast.specs.Trees.{Name, TypeExpr, VarSpec}
 use Rattle.go_types.specs.Types.{Type'}
 use Rattle.go_types.specs.Relations.{underlying}
-use Rattle.go_typed.specs.Trees.{Expr, expr_type, Source, zeros, Stmt, define}
+use Rattle.go_typed.specs.Trees.{Source, zeros, Stmt, define}
 use Rattle.go_sound.specs.WellTyped.{Setting, Suits, IsWhole, AllWhole, numbers, IsSource, source_types, AreNew}
 use Rattle.go_expr.specs.Known.{Scope, Fine}
-use Rattle.go_expr.specs.Rules.{fine, checked, default_type}
-use Rattle.go_expr.specs.Verdicts.{asked, both, operand, verdict, type_verdict, broken}
+use Rattle.go_expr.specs.Rules.{fine, checked}
+use Rattle.go_expr.specs.Verdicts.{asked, both, type_verdict, broken}
 use Rattle.go_stmt.specs.Scopes.{Env, Context, scope_in, is_blank, own, number_of, paired, declare_new, follow}
-use Rattle.go_stmt.specs.Rules.{all_some, Values, separate, together, no_values, are_none, variables_source, suited}
-use Rattle.go_stmt.specs.Statements.{each_of, values_known, values_at, alone_types, value_types, names_faults, names_at, written_at, place_at, variable_types, variables_at, specs_at}
+use Rattle.go_stmt.specs.Rules.{Values, are_none, variables_source, suited}
+use Rattle.go_stmt.specs.Statements.{values_known, values_at, value_types, names_faults, names_at, written_at, place_at, variable_types, variables_at, specs_at}
+use Rattle.go_faultless.proofs.Counts.{types_alone, values_fit}
 use Rattle.go_checked.specs.Soundness.{Table, IsSoundType}
 use Rattle.go_checked.proofs.SoundNames.{IsSoundScope}
 use Rattle.go_checked.proofs.Texts.{HaveTexts}
 use Rattle.go_checked.proofs.BodyTexts.{WrittenHasTexts, VariablesHaveTexts}
 use Rattle.go_checked.proofs.Expected.{Expected}
 use Rattle.go_checked.proofs.Related.{two_none, Related, Lies, Sure}
-use Rattle.go_checked.proofs.Values.{checked_part, some_part, own_types, AreDue, SoundDue, AreSoundValues, sound_values, sound_suited}
+use Rattle.go_checked.proofs.Values.{checked_part, own_types, AreDue, SoundDue, AreSoundValues, sound_values, sound_suited}
 use Rattle.go_checked.proofs.Numbered.{Outside, scope_sound, own_other, next, Ready, new_grows, new_related}
+use Rattle.go_checked.proofs.Settled.{Settle, alone_settle, all_own}
 use Rattle.go_checked.proofs.Lists.{behind, AreList, sure_none, sure_appended}
 use Rattle.go_checked.proofs.Leaves.{fine_is, SoundWritten, sound_written}
 
@@ -106,37 +108,12 @@ module _ (w : Table) (locals : List Type') where
 
 -- ---- the types that values have
 
-some_types : (es : List Expr) → map (λ e. Some (default_type (expr_type e))) es ≡ map Some (map (λ e. default_type (expr_type e)) es)
-some_types [] = refl
-some_types (e ∷ es) = ap (λ l. Some (default_type (expr_type e)) ∷ l) (some_types es)
+pub types_settle : (s : Scope) (es : source.Exprs) (v : Values) → values_known s es ≡ Some v → Settle (value_types s es) (own_types v)
+types_settle s es v is = subst (λ (os : List (Option Type')). Settle os (own_types v)) (sym (types_alone s es v is)) (alone_settle v)
 
-alone_own : (v : Values) → alone_types (Some v) ≡ map Some (own_types v)
-alone_own (separate es) = some_types es
-alone_own (together ts f es) = refl
-alone_own no_values = refl
-
-operand_types : (s : Scope) (es : source.Exprs) (xs : List Expr) → all_some (each_of (λ e. operand (verdict s e)) es) ≡ Some xs
-    → each_of (λ e. option_map (λ e. default_type (expr_type e)) (operand (verdict s e))) es ≡ map Some (map (λ e. default_type (expr_type e)) xs)
-operand_types s source.no_exprs xs is = (let same : [] ≡ xs = cc in ap (λ l. map Some (map (λ e. default_type (expr_type e)) l)) same)
-operand_types s (source.some_exprs e es) xs is =
-    let part = some_part (operand (verdict s e)) (each_of (λ e. operand (verdict s e)) es) xs is in
-    let rest = operand_types s es part.1 part.3 in
-    let head : option_map (λ e. default_type (expr_type e)) (operand (verdict s e)) ≡ Some (default_type (expr_type part.0)) = ap (option_map (λ e. default_type (expr_type e))) part.2 in
-    ap (λ h. h ∷ each_of (λ e. option_map (λ e. default_type (expr_type e)) (operand (verdict s e))) es) head
-    ∙ ap (λ l. Some (default_type (expr_type part.0)) ∷ l) rest
-    ∙ ap (λ l. map Some (map (λ e. default_type (expr_type e)) l)) (sym part.4)
-
-mapped_back : (o : Option (List Expr)) (v : Values) → option_map separate o ≡ Some v → (xs : List Expr) × (o ≡ Some xs) × (separate xs ≡ v)
-mapped_back None v h = absurd cc
-mapped_back (Some xs) v h = (xs, refl, cc)
-
-pub types_of_values : (s : Scope) (es : source.Exprs) (v : Values) → values_known s es ≡ Some v → value_types s es ≡ map Some (own_types v)
-types_of_values s source.no_exprs v is = (let same : separate [] ≡ v = cc in ap (λ k. map Some (own_types k)) same)
-types_of_values s (source.some_exprs e source.no_exprs) v is = ap alone_types is ∙ alone_own v
-types_of_values s (source.some_exprs e (source.some_exprs f es)) v is =
-    let all = source.some_exprs e (source.some_exprs f es) in
-    let part = mapped_back (all_some (each_of (λ e. operand (verdict s e)) all)) v is in
-    operand_types s all part.0 part.1 ∙ ap (λ k. map Some (own_types k)) part.2
+-- of values for which nothing is due
+types_of_values : (s : Scope) (ns : List Name) (es : source.Exprs) (v : Values) (made : Source) → values_known s es ≡ Some v → suited (map (λ n. None) ns) v ≡ Fine made → value_types s es ≡ map Some (own_types v)
+types_of_values s ns es v made is suit = all_own ns (value_types s es) (own_types v) (values_fit s es v (map (λ n. None) ns) is (made, ap fine suit)) (types_settle s es v is)
 
 -- ---- variables
 
@@ -192,7 +169,9 @@ module _ (x : Expected) (w : Table) (g : Setting) where
         let none : None ≡ t = cc in
         let v = sound_values x w g d sc scope spec.values more values known in
         let suit = sound_suited x w g d (map (λ n. None) spec.names) values s (none_due w spec.names) v (subst (λ o. variables_source spec.names o values ≡ Fine s) (sym none) made) in
-        let types : variable_types sc spec ≡ map Some (own_types values) = ap (λ o. variable_types sc (record { names = spec.names; type = o; values = spec.values })) at ∙ types_of_values sc spec.values values known in
+        let suits : suited (map (λ n. None) spec.names) values ≡ Fine s = subst (λ o. variables_source spec.names o values ≡ Fine s) (sym none) made in
+        let types : variable_types sc spec ≡ map Some (own_types values) =
+        ap (λ o. variable_types sc (record { names = spec.names; type = o; values = spec.values })) at ∙ types_of_values sc spec.names spec.values values s known suits in
         (own_types values, types, suit.0, due_none w g.locals spec.names (own_types values) (source_types s) suit.1)
         )
     | Some ty ↦ λ at tx wr. (
@@ -211,10 +190,10 @@ module _ (x : Expected) (w : Table) (g : Setting) where
   ] refl texts written
 
   -- variables with their numbers
-  pub defined : (ns : List Name) (types : List (Option Type')) (vs ts : List Type') (env : Env) (d : List ℕ) → types ≡ map Some vs → Related w g.locals env d → Lies w g.locals (declare_new (paired ns types) env) → Ready w g.locals env ns vs ts
+  pub defined : (ns : List Name) (types : List (Option Type')) (vs ts : List Type') (env : Env) (d : List ℕ) → declare_new (paired ns types) env ≡ declare_new (paired ns (map Some vs)) env → Related w g.locals env d → Lies w g.locals (declare_new (paired ns types) env) → Ready w g.locals env ns vs ts
       → AreNew g.locals (map (number_of (declare_new (paired ns types) env)) ns) ts × Related w g.locals (declare_new (paired ns types) env) (numbers (map (number_of (declare_new (paired ns types) env)) ns) ++ d)
   defined ns types vs ts env d is r lies ready =
-      subst (λ (k : List (Option Type')). let final = declare_new (paired ns k) env in Lies w g.locals final → AreNew g.locals (map (number_of final) ns) ts × Related w g.locals final (numbers (map (number_of final) ns) ++ d)) (sym is)
+      subst (λ (final : Env). Lies w g.locals final → AreNew g.locals (map (number_of final) ns) ts × Related w g.locals final (numbers (map (number_of final) ns) ++ d)) (sym is)
       (λ l. new_related w g.locals ns vs ts env d r l ready) lies
 
   pub variables_sure : (c : Context) → Outside w g c → (p : Place) (spec : VarSpec) → WrittenHasTexts spec.type → HaveTexts spec.values → Sure w g.locals behind (AreList w g) (variables_at c p spec)
@@ -234,7 +213,7 @@ module _ (x : Expected) (w : Table) (g : Setting) where
             let here = subst (λ (e : Env). fine (asked rule (both (Some spec.names) (both written (values_at c spec.values e).known))) ≡ Some y) (written_stays s spec.type env) is in
             let k = sourced spec.names f written (values_known s spec.values) y here in
             let made = made_by d s spec env k.0 k.1 k.2 (scope_sound w g c out env d r None) texts more k.3 k.4 k.5 in
-            let new = defined spec.names types made.0 (source_types k.2) env d made.1 r lies (ready_declared w g.locals spec.names made.0 (source_types k.2) env names made.3) in
+            let new = defined spec.names types made.0 (source_types k.2) env d (ap (λ ts. declare_new (paired spec.names ts) env) made.1) r lies (ready_declared w g.locals spec.names made.0 (source_types k.2) env names made.3) in
             subst (λ (ss : List Stmt). AreList w g d ss × Related w g.locals final (behind d ss)) k.6 (((made.2, new.0), tt), new.1)
             ),
       )

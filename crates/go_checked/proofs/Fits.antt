@@ -1,10 +1,10 @@
 -- What holds of each object that files declare: its string literals are texts, and a declaration but that of a function declares none.
-use Rattle.std.proofs.Common.{◌≡◌, ℕ, zero, suc, true, false, ◌||◌, Bool, List, [], ◌∷◌, ◌++◌, Option, Some, None, map, length, codes, refl, subst, inl, inr}
+use Rattle.std.proofs.Common.{◌≡◌, ℕ, zero, suc, true, false, ◌||◌, Bool, List, [], ◌∷◌, ◌++◌, Option, Some, None, map, codes, refl, subst, inl, inr}
 use Rattle.std.specs.Prelude.{bytes_eq, option_map, unwrap_or}
 use Rattle.std.specs.List.{slice_get, list_any, flat_map}
 use Rattle.std.proofs.lemmas.Bool.{cases_Bool}
 use Rattle.go_ast.specs.Trees.{Name, TypeExpr, Expr, Exprs, no_exprs, some_exprs, ConstSpec, VarSpec, TypeSpec, Decl, constants, variables, types, TopLevel, declared, function, File}
-use Rattle.go_objects.specs.Objects.{Form, constant, function', Object, paired, unpaired, constants_of, in_group, typed_object, valued_object, result_objects, uncounted, variables_of, type_object, objects_in, objects_from, firsts}
+use Rattle.go_objects.specs.Objects.{Form, constant, function', Object, paired, begin_of, other_object, unpaired, constants_of, in_group, typed_object, valued_object, result_objects, uncounted, variables_of, type_object, objects_in, objects_from, firsts}
 use Rattle.go_checked.proofs.Texts.{HasTexts, HaveTexts, TypeHasTexts}
 use Rattle.go_checked.proofs.BodyTexts.{WrittenHasTexts, ConstantsHaveTexts, VariablesHaveTexts}
 use Rattle.go_checked.proofs.DeclaredTexts.{TypesHaveTexts, TopHasTexts, TopsHaveTexts, FilesHaveTexts}
@@ -57,9 +57,12 @@ module _ (Q : Name → Type 0) where
   paired_fit f each (n ∷ ns) no_exprs h k = tt
   paired_fit f each (n ∷ ns) (some_exprs e es) h k = one_more (f n e) (paired f ns es) (each n e h.0 k.0) (paired_fit f each ns es h.1 k.1)
 
+  others_fit : (file : ℕ) (all : List Name) (t : Option TypeExpr) (es : Exprs) (ns : List Name) → AllNames ns → AllIn Fits (map (other_object file all t es) ns)
+  others_fit file all t es [] h = tt
+  others_fit file all t es (n ∷ ns) h = ((tt, refl, h.0), others_fit file all t es ns h.1)
+
   unpaired_fit : (file : ℕ) (t : Option TypeExpr) (es : Exprs) (ns : List Name) → AllNames ns → AllIn Fits (unpaired file t es ns)
-  unpaired_fit file t es [] h = tt
-  unpaired_fit file t es (n ∷ ns) h = ((tt, refl, h.0), unpaired_fit file t es ns h.1)
+  unpaired_fit file t es ns h = others_fit file ns t es ns h
 
   either_fits : (a : Option (List Object)) (b : List Object) → ManyFit a → AllIn Fits b → AllIn Fits (unwrap_or a b)
   either_fits None b h k = k
@@ -67,8 +70,8 @@ module _ (Q : Name → Type 0) where
 
   constants_fit : (file iota : ℕ) (ns : List Name) (t : Option TypeExpr) (es : Exprs) → AllNames ns → WrittenHasTexts t → HaveTexts es → AllIn Fits (constants_of file iota (record { names = ns; type = t; values = es }))
   constants_fit file iota ns t es h a b =
-      either_fits (paired (λ n e. record { file = file; name = n; form = constant t e iota }) ns es) (unpaired file t es ns)
-      (paired_fit (λ n e. record { file = file; name = n; form = constant t e iota }) (λ n e q k. ((a, k), refl, q)) ns es h b) (unpaired_fit file t es ns h)
+      either_fits (paired (λ n e. record { file = file; begins = begin_of ns n; name = n; form = constant t e iota }) ns es) (unpaired file t es ns)
+      (paired_fit (λ n e. record { file = file; begins = begin_of ns n; name = n; form = constant t e iota }) (λ n e q k. ((a, k), refl, q)) ns es h b) (unpaired_fit file t es ns h)
 
   abbrev pub ConstantNames : List ConstSpec → Type 0
   ConstantNames [] = Unit {0}
@@ -88,23 +91,23 @@ module _ (Q : Name → Type 0) where
   group_fits file iota before (s ∷ ss) a b h k =
       one_group file iota before s.names s.type s.values ss a b h.0 k.0 k.1 (λ m c d. group_fits file (suc iota) m ss c d h.1 k.2)
 
-  typed_fit : (file : ℕ) (t : TypeExpr) (ns : List Name) → AllNames ns → TypeHasTexts t → AllIn Fits (map (typed_object file t) ns)
-  typed_fit file t [] h k = tt
-  typed_fit file t (n ∷ ns) h k = ((k, refl, h.0), typed_fit file t ns h.1 k)
+  typed_fit : (file : ℕ) (all : List Name) (t : TypeExpr) (ns : List Name) → AllNames ns → TypeHasTexts t → AllIn Fits (map (typed_object file all t) ns)
+  typed_fit file all t [] h k = tt
+  typed_fit file all t (n ∷ ns) h k = ((k, refl, h.0), typed_fit file all t ns h.1 k)
 
-  results_fit : (file count number : ℕ) (e : Expr) (ns : List Name) → AllNames ns → HasTexts e → AllIn Fits (result_objects file count number e ns)
-  results_fit file count number e [] h k = tt
-  results_fit file count number e (n ∷ ns) h k = ((k, refl, h.0), results_fit file count (suc number) e ns h.1 k)
+  results_fit : (file : ℕ) (all : List Name) (number : ℕ) (e : Expr) (ns : List Name) → AllNames ns → HasTexts e → AllIn Fits (result_objects file all number e ns)
+  results_fit file all number e [] h k = tt
+  results_fit file all number e (n ∷ ns) h k = ((k, refl, h.0), results_fit file all (suc number) e ns h.1 k)
 
   uncounted_fit : (file : ℕ) (ns : List Name) (es : Exprs) → AllNames ns → HaveTexts es → AllIn Fits (uncounted file ns es)
   uncounted_fit file ns no_exprs h k = unpaired_fit file None no_exprs ns h
-  uncounted_fit file ns (some_exprs e no_exprs) h k = results_fit file (length ns) 0 e ns h k.0
+  uncounted_fit file ns (some_exprs e no_exprs) h k = results_fit file ns 0 e ns h k.0
   uncounted_fit file ns (some_exprs e (some_exprs f es)) h k = unpaired_fit file None (some_exprs e (some_exprs f es)) ns h
 
   variables_fit : (file : ℕ) (ns : List Name) (t : Option TypeExpr) (es : Exprs) → AllNames ns → WrittenHasTexts t → HaveTexts es → AllIn Fits (variables_of file (record { names = ns; type = t; values = es }))
-  variables_fit file ns (Some t) es h a b = typed_fit file t ns h a
+  variables_fit file ns (Some t) es h a b = typed_fit file ns t ns h a
   variables_fit file ns None es h a b =
-      either_fits (paired (valued_object file) ns es) (uncounted file ns es) (paired_fit (valued_object file) (λ n e q k. (k, refl, q)) ns es h b) (uncounted_fit file ns es h b)
+      either_fits (paired (valued_object file ns) ns es) (uncounted file ns es) (paired_fit (valued_object file ns) (λ n e q k. (k, refl, q)) ns es h b) (uncounted_fit file ns es h b)
 
   abbrev pub VariableNames : List VarSpec → Type 0
   VariableNames [] = Unit {0}

@@ -1,6 +1,6 @@
 -- What a form declares is sound, where it stands in a sound scope.
-use Rattle.std.proofs.Common.{◌≡◌, ℕ, zero, suc, Bool, List, [], ◌∷◌, ◌++◌, Option, Some, None, map, length, refl, sym, ap, ◌∙◌, subst, inl, inr}
-use Rattle.std.specs.Prelude.{option_map, nat_eq}
+use Rattle.std.proofs.Common.{◌≡◌, ℕ, zero, suc, List, [], ◌∷◌, ◌++◌, Option, Some, None, map, length, refl, sym, ap, ◌∙◌, subst, inl, inr}
+use Rattle.std.specs.Prelude.{option_map, option_and_then, nat_eq}
 use Rattle.std.specs.List.{slice_get}
 use Rattle.std.proofs.lemmas.Bool.{cases_Bool}
 use Rattle.go_ast.specs.Trees as source
@@ -13,7 +13,7 @@ use Rattle.go_types.specs.Types.{Type', basic, array, struct, named}
 use Rattle.go_types.specs.Relations.{underlying}
 use Rattle.go_typed.specs.Trees.{Symbol, Expr, Exprs, constant, global, expr_type}
 use Rattle.go_expr.specs.Known.{Declared, value, type', function, Known, declared, package', results, printed, panicked, Verdict, Fine, Breaks, Passed, Scope}
-use Rattle.go_expr.specs.Rules.{fine, valued, constant_due, assigned, default_type, is_small, differ}
+use Rattle.go_expr.specs.Rules.{fine, valued, constant_due, assigned, default_type, settled_type, is_small, differ}
 use Rattle.go_expr.specs.Verdicts.{asked, asked_both, joined, operand, verdict, type_verdict}
 use Rattle.go_objects.specs.Objects as forms
 use Rattle.go_objects.specs.Objects.{Form}
@@ -25,6 +25,7 @@ use Rattle.go_checked.proofs.Texts.{HasTexts, TypeHasTexts}
 use Rattle.go_checked.proofs.BodyTexts.{WrittenHasTexts, ParametersHaveTexts, ResultsHaveTexts}
 use Rattle.go_checked.proofs.Types.{sound_underlying}
 use Rattle.go_checked.proofs.Expected.{Expected}
+use Rattle.go_checked.proofs.Settled.{settled_parts}
 
 -- ---- parts of rules that are fine
 
@@ -111,7 +112,7 @@ pub shaped : (s : Scope) (x : Symbol) (f : Form) (e : Declared) → form_verdict
 shaped s x (forms.constant t v iota) e h = (let parts = constant_parts s t v iota x e h in (parts.0, parts.1, parts.3))
 shaped s x (forms.type' t) e h = (let parts = type_parts x.path x.name (fine (type_verdict s t)) e h in (underlying parts.0, parts.2))
 shaped s x (forms.typed_variable t) e h = (let parts = variable_parts x (fine (type_verdict s t)) e h in (parts.0, parts.2))
-shaped s x (forms.valued_variable v) e h = (let parts = variable_parts x (option_map (λ e. default_type (expr_type e)) (operand (verdict s v))) e h in (parts.0, parts.2))
+shaped s x (forms.valued_variable v) e h = (let parts = variable_parts x (option_and_then settled_type (operand (verdict s v))) e h in (parts.0, parts.2))
 shaped s x (forms.result_variable number count v) e h = (let parts = variable_parts x (result_type number count (fine (verdict s v))) e h in (parts.0, parts.2))
 shaped s x (forms.function' ps ts) e h = (let parts = function_parts s x ps ts e h in (parts.0, parts.1, parts.4))
 shaped s x (forms.other t es) e h = absurd cc
@@ -242,8 +243,8 @@ module _ (known : Expected) (w : Table) (g : Setting) (d : List ℕ) where
       let parts = variable_parts x (fine (type_verdict s t)) e is in
       variable_sound x parts.0 e parts.2 (known.sound_type w g d s t h a parts.0 (fine_is (type_verdict s t) parts.0 parts.1)) l
   form_sound s x (forms.valued_variable v) h a e is l =
-      let parts = variable_parts x (option_map (λ e. default_type (expr_type e)) (operand (verdict s v))) e is in
-      let one = mapped_is (λ e. default_type (expr_type e)) (operand (verdict s v)) parts.0 parts.1 in
+      let parts = variable_parts x (option_and_then settled_type (operand (verdict s v))) e is in
+      let one = settled_parts (operand (verdict s v)) parts.0 parts.1 in
       let of = default_value w g d one.0 (known.sound_operand w g d s v h a one.0 one.1) in
       variable_sound x parts.0 e parts.2 (subst (IsSoundType w) (sym one.2) of) l
   form_sound s x (forms.result_variable number count v) h a e is l =

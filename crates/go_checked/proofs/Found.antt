@@ -156,7 +156,7 @@ module _ (t : Facts) (known : (file : ℕ) (f : Function) → IsLocalBlock f.bod
   abbrev passed : (x : List ℕ) (o : Object) (fs gs : List typed.Function) → find (by_name x) gs ≡ find (by_name x) fs → FunctionOf x o fs → FunctionOf x o gs
   passed x o fs gs e h = (h.0, h.1, h.2, h.3, e ∙ h.4)
 
-  here_found : (x : List ℕ) → bytes_eq x (codes "_") ≡ false → (file : ℕ) (f : Function) (more : List typed.Function) (o : Object) → x ≡ f.name.text → record { file = file; name = f.name; form = function' f.parameters f.results } ≡ o
+  here_found : (x : List ℕ) → bytes_eq x (codes "_") ≡ false → (file : ℕ) (f : Function) (more : List typed.Function) (o : Object) → x ≡ f.name.text → record { file = file; begins = f.name.place; name = f.name; form = function' f.parameters f.results } ≡ o
       → IsKnown (function_at (context_at t file) f).known → FunctionOf x o (listed f (function_at (context_at t file) f).known ++ more)
   here_found x not_blank file f more o name same k =
       let g = k.0 in
@@ -186,8 +186,8 @@ module _ (t : Facts) (known : (file : ℕ) (f : Function) → IsLocalBlock f.bod
         passed x o more (top_functions t file (function f) ++ more) (skip_function x file f more other (function_at (context_at t file) f).known refl) (k (rw init at at)))
     | inr not_so ↦ elim (cases_Bool (bytes_eq x f.name.text)) [
       | inl found ↦ (
-          let one : Some (record { file = file; name = f.name; form = function' f.parameters f.results }) ≡ Some o = rw (not_so, found) at at in
-          let same : record { file = file; name = f.name; form = function' f.parameters f.results } ≡ o = cc (one) in
+          let one : Some (record { file = file; begins = f.name.place; name = f.name; form = function' f.parameters f.results }) ≡ Some o = rw (not_so, found) at at in
+          let same : record { file = file; begins = f.name.place; name = f.name; form = function' f.parameters f.results } ≡ o = cc (one) in
           here_found x not_blank file f more o ((bytes_eq-Decides x f.name.text).0 found) same (known file f local none))
       | inr other ↦ passed x o more (top_functions t file (function f) ++ more) (skip_function x file f more other (function_at (context_at t file) f).known refl) (k (rw (not_so, other) at at))
     ]

@@ -19,6 +19,7 @@ pub mod Found
 pub mod Functions
 pub mod Grammar
 pub mod Groups
+pub mod Instances
 pub mod Known
 pub mod Leaves
 pub mod Lefts
@@ -34,8 +35,10 @@ pub mod Once
 pub mod Operators
 pub mod Packages
 pub mod Parsed
+pub mod Plain
 pub mod Related
 pub mod Selections
+pub mod Settled
 pub mod Shifts
 pub mod Shorts
 pub mod Signed

@@ -16,7 +16,7 @@ use Rattle.go_typed.specs.Trees.{Expr, expr_type, pack_parts}
 use Rattle.go_meaning.specs.Meaning.{most_cells}
 use Rattle.go_sound.specs.WellTyped.{Setting, part_type, IsExpr, AreParts}
 use Rattle.go_expr.specs.Known.{type', Known, declared, Verdict, Fine, Breaks, Passed}
-use Rattle.go_expr.specs.Rules.{fine, constant_in, lesser, least, when, wrong, each_unless, numbered, type_due, is_small, array_of, FieldList, declared_field, field_names, packed, differ, listed, struct_of, assigned, ElementList, field_named, any_keyed, field_slot, element_part, parts_by, array_parts, is_counted, struct_faults, struct_slot, struct_parts, parts_of, literal_of, untyped_literal, element_type}
+use Rattle.go_expr.specs.Rules.{fine, constant_in, lesser, least, when, wrong, each_unless, numbered, type_due, is_small, array_of, FieldList, declared_field, field_names, packed, differ, listed, struct_of, assigned, ElementList, field_named, any_keyed, field_slot, keyed_slot, element_part, parts_by, array_parts, is_counted, struct_faults, struct_slot, struct_parts, parts_of, literal_of, Due, taken, written, nothing, element_due, due_type, untyped_literal}
 use Rattle.go_checked.specs.Soundness.{Table, IsSoundType, AreSoundFields, IsSoundValue}
 use Rattle.go_checked.proofs.SoundNames.{IsSoundKnown}
 use Rattle.go_checked.proofs.Types.{whole_type, sound_underlying}
@@ -141,9 +141,10 @@ module _ (w : Table) (g : Setting) (d : List ℕ) where
   struct_fits t fs i at h (Some x) p is = named_slot t fs i x p at h is
   struct_fits t fs i at h None p is = next_slot t fs i p at h is
 
-  counted_fits : (t : Type') (fs : Fields) (i : ℕ) (b : Bool) → underlying t ≡ struct fs → AreSoundFields w fs → Fits t (if b then field_slot (listed fs) else (λ n key. None)) i
+  counted_fits : (t : Type') (fs : Fields) (i : ℕ) (b : Bool) → underlying t ≡ struct fs → AreSoundFields w fs → Fits t (if b then field_slot (listed fs) else keyed_slot (listed fs)) i
   counted_fits t fs i true at h key p is = struct_fits t fs i at h key p is
-  counted_fits t fs i false at h key p is = absurd (none_some p is)
+  counted_fits t fs i false at h (Some x) p is = named_slot t fs i x p at h is
+  counted_fits t fs i false at h None p is = absurd (none_some p is)
 
   struct_gives : (path : List ℕ) (t : Type') (fs : Fields) (es : ElementList) → underlying t ≡ struct fs → AreSoundFields w fs → Every IsSoundElement es
       → Gives (Every (IsPartOf t)) (struct_parts path (listed fs) es)
@@ -169,30 +170,50 @@ module _ (w : Table) (g : Setting) (d : List ℕ) where
   literal_gives path t es h k =
       checked_gives (Every (IsPartOf t)) (IsSoundValue w g d) _ (parts_of path t es) (parts_give path t es h k) (λ ps good. inr (inl ((whole_type w t h, packed_parts t ps good), h)))
 
-  pub untyped_gives : (path : List ℕ) (due : Verdict Type') (es : ElementList) → Gives (IsSoundType w) due → Every IsSoundElement es → Gives (IsSoundValue w g d) (untyped_literal path due es)
-  untyped_gives path (Fine t) es h k = literal_gives path t es h k
-  untyped_gives path (Breaks kind) es h k = tt
-  untyped_gives path Passed es h k = constant_value w g d (basic basics.Bool) (Truth true) (inl refl) (basics.Bool, refl, refl)
-
--- ---- types
-
 -- what is known, if anything is
 abbrev pub Has : {A : Type 0} → (A → Type 0) → Option A → Type 0
 Has P None = Unit {0}
 Has P (Some x) = P x
+
+-- ---- elements that leave out their type
+
+module _ (w : Table) (g : Setting) (d : List ℕ) where
+  abbrev pub IsSoundDue : Due → Type 0
+  IsSoundDue (taken t) = IsSoundType w t
+  IsSoundDue (written o) = Has (IsSoundType w) o
+  IsSoundDue nothing = Unit {0}
+
+  slot_has : (t : Type') (fs : Fields) (n : ℕ) (key : Option (List ℕ)) → underlying t ≡ struct fs → AreSoundFields w fs → Has (IsSoundType w) (option_map (λ p. p.1) (field_slot (listed fs) n key))
+  slot_has t fs n key at h = elim (field_slot (listed fs) n key) as (λ o. field_slot (listed fs) n key ≡ o → Has (IsSoundType w) (option_map (λ p. p.1) o)) [
+    | None ↦ λ is. tt
+    | Some p ↦ λ is. (struct_fits w g d t fs n at h key p is).1
+  ] refl
+
+  pub element_due_sound : (o : Option Type') (n : ℕ) (key : Option (List ℕ)) → Has (IsSoundType w) o → IsSoundDue (element_due o n key)
+  element_due_sound None n key h = tt
+  element_due_sound (Some t) n key h = elim (underlying t) as (λ u. underlying t ≡ u → IsSoundType w u → IsSoundDue (element_due (Some t) n key)) [
+    | array m of ↦ λ at whole. rw (at, IsSoundDue) whole.2
+    | struct fs ↦ λ at whole. rw (at, IsSoundDue) (slot_has t fs n key at whole.1)
+    | _ ↦ λ at whole. rw (at, IsSoundDue) tt
+  ] refl (sound_underlying w t h)
+
+  pub due_type_has : (due : Due) → IsSoundDue due → Has (IsSoundType w) (due_type due)
+  due_type_has (taken t) h = h
+  due_type_has (written o) h = h
+  due_type_has nothing h = tt
+
+  pub untyped_gives : (path : List ℕ) (due : Due) (es : ElementList) → IsSoundDue due → Every (IsSoundElement w g d) es → Gives (IsSoundValue w g d) (untyped_literal path due es)
+  untyped_gives path (taken t) es h k = literal_gives w g d path t es h k
+  untyped_gives path (written o) es h k = tt
+  untyped_gives path nothing es h k = constant_value w g d (basic basics.Bool) (Truth true) (inl refl) (basics.Bool, refl, refl)
+
+-- ---- types
 
 most : (n : ℕ) → nat_le n 65536 ≡ true → nat_le n most_cells ≡ true
 unfolding most_cells
 most n h = h
 
 module _ (w : Table) (g : Setting) (d : List ℕ) where
-  pub element_type_gives : (o : Option Type') → Has (IsSoundType w) o → Gives (IsSoundType w) (element_type o)
-  element_type_gives None h = tt
-  element_type_gives (Some t) h = elim (underlying t) as (λ u. underlying t ≡ u → IsSoundType w u → Gives (IsSoundType w) (element_type (Some t))) [
-    | array n of ↦ λ at whole. rw (at, Gives) whole.2
-    | _ ↦ λ at whole. rw (at, Gives) tt
-  ] refl (sound_underlying w t h)
-
   pub type_due_gives : (k : Known) → IsSoundKnown w g d k → Gives (IsSoundType w) (type_due k)
   type_due_gives (declared (type' t)) h = h
   type_due_gives (declared k) h = tt

@@ -21,10 +21,10 @@ module _ (path : List ℕ) (files : List File) (ps : List Importable) (names : L
   program_typed = library_program path files ps names p libraries (local_files files (files_parsed files it.sources)) (files_have files it.sources) it.typed it.plain it.named
 
   pub checked_linked : link_refusal (object_of p ∷ []) ≡ None
-  checked_linked = program_linked p program_typed.0 program_typed.1
+  checked_linked = program_linked (p ∷ []) program_typed.0 program_typed.1
 
-  pub checked_same : (image : Image) → IsLinked p image → MeansTheSame p image
-  checked_same image linked = means_the_same p image program_typed.0 linked
+  pub checked_same : (image : Image) → IsLinked (p ∷ []) image → MeansTheSame (p ∷ []) image
+  checked_same image linked = means_the_same (p ∷ []) image program_typed.0 linked
 
-  pub checked_sense : (image : Image) (ticks : ℕ) → IsLinked p image → MakesSense image ticks
-  checked_sense image ticks linked = always_sense p image program_typed.0 linked ticks
+  pub checked_sense : (image : Image) (ticks : ℕ) → IsLinked (p ∷ []) image → MakesSense image ticks
+  checked_sense image ticks linked = always_sense (p ∷ []) image program_typed.0 linked ticks

@@ -1,7 +1,7 @@
 -- The typed package of files without fault is well typed.
 use Rattle.std.proofs.Common.{◌≡◌, ℕ, zero, suc, true, false, Bool, List, [], ◌∷◌, ◌++◌, Option, Some, None, map, codes, refl, sym, ap, ◌∙◌, subst, inl, inr}
 use Rattle.std.specs.Prelude.{bytes_eq, option_map, unwrap_or, IsSome, if◌then◌else◌}
-use Rattle.std.specs.List.{All, find, slice_get, flat_map, cons_option}
+use Rattle.std.specs.List.{All, filter, find, slice_get, flat_map, cons_option}
 use Rattle.std.proofs.lemmas.Bool.{cases_Bool}
 use Rattle.std.proofs.lemmas.Slice.Eq.{bytes_eq-Decides}
 use Rattle.std.proofs.lemmas.List.Elements.{All-head, All-tail, All-nil, All-cons, All-append, All-map}
@@ -26,7 +26,7 @@ use Rattle.go_checked.specs.Soundness.{Table, IsSoundType, AreSoundNames}
 use Rattle.go_checked.proofs.SoundNames.{IsSoundKnown}
 use Rattle.go_checked.proofs.BodyTexts.{FunctionHasTexts}
 use Rattle.go_checked.proofs.DeclaredTexts.{TopsHaveTexts, FilesHaveTexts}
-use Rattle.go_checked.specs.Packages.{table_of, IsIn, AreSoundImports, HasNoInit}
+use Rattle.go_checked.specs.Packages.{table_of, IsIn, AreSoundImports}
 use Rattle.go_checked.proofs.Types.{whole_type}
 use Rattle.go_checked.proofs.Whole.{expected, function_sound}
 use Rattle.go_checked.proofs.Related.{setting_in}
@@ -245,13 +245,17 @@ module _ (others : Table) (t : Facts) (names : List (List ℕ)) (files : List Fi
     main_start [] are named none = absurd (let no : [] ≡ codes "main" = ap package_name (sym are) ∙ named in cc (no))
     main_start (f ∷ fs) are named none = main_signature f fs are ((bytes_eq-Decides f.package.text (codes "main")).1 (ap package_name (sym are) ∙ named)) none
 
-    start_sound : HasNoInit p → p.name ≡ codes "main" → main_faults t files ≡ [] → All (IsStart (p ∷ [])) (start_steps (p ∷ []))
+    -- it starts with no function but main: none has a name that begins with `init.`
+    abbrev NoInits : Type 0
+    NoInits = filter meaning.is_init p.functions ≡ []
+
+    start_sound : NoInits → p.name ≡ codes "main" → main_faults t files ≡ [] → All (IsStart (p ∷ [])) (start_steps (p ∷ []))
     start_sound no_init named none =
         let Q = IsStart (p ∷ []) in
         let begun = All-cons Q (meaning.calls (symbol_of p main)) [] (main_start files refl named none) (All-nil Q) in
         subst (λ (fs : List typed.Function). All Q ((map (λ (f : typed.Function). meaning.calls (symbol_of p f.name)) fs ++ []) ++ main_steps (Some p))) (sym no_init) begun
 
-    pub package_sound : HasNoInit p → p.name ≡ codes "main" → main_faults t files ≡ [] → IsWellTyped (p ∷ [])
+    pub package_sound : NoInits → p.name ≡ codes "main" → main_faults t files ≡ [] → IsWellTyped (p ∷ [])
     package_sound no_init named none = record { functions = functions_sound; variables = variables_sound; start = start_sound no_init named none }
 
     some_of : {A B : Type 0} (f : A → B) (o : Option A) (y : B) → option_map f o ≡ Some y → IsSome o

@@ -1,24 +1,26 @@
 -- Short declarations define new variables, and give values to those that the block has.
-use Rattle.std.proofs.Common.{◌≡◌, ℕ, Bool, true, false, not, ◌&&◌, ◌||◌, Option, Some, None, List, [], ◌∷◌, map, refl, sym, ap, subst, ◌∙◌, ◌⊎◌, inl, inr}
-use Rattle.std.specs.Prelude.{bytes_eq}
+use Rattle.std.proofs.Common.{◌≡◌, ℕ, Bool, true, false, not, ◌&&◌, ◌||◌, Option, Some, None, List, [], ◌∷◌, map, length, refl, sym, ap, subst, ◌∙◌, ◌⊎◌, inl, inr}
+use Rattle.std.specs.Prelude.{bytes_eq, is_some, nat_eq, unwrap_or}
 use Rattle.std.specs.List.{list_any, zip, slice_get}
 use Rattle.std.specs.Map.{lookup}
 use Rattle.std.proofs.lemmas.Bool.{cases_Bool, and_parts}
 use Rattle.std.proofs.lemmas.Slice.Eq.{bytes_eq-Decides}
 use Rattle.go_text.specs.declared.place.Place.{Place}
-use Rattle.go_text.specs.declared.fault.FaultKind.TheVariants.{Redeclared, Mismatch}
+use Rattle.go_text.specs.declared.fault.FaultKind.TheVariants.{Redeclared, Mismatch, Count}
 use Rattle.go_ast.specs.Trees as source
 use Rattle.go_ast.specs.Trees.{Name}
 use Rattle.go_types.specs.Types.{Type'}
 use Rattle.go_types.specs.Relations.{underlying}
 use Rattle.go_typed.specs.Trees.{constant, local, Source, Stmt, define}
 use Rattle.go_sound.specs.WellTyped.{Setting, after, source_types, IsStmt}
-use Rattle.go_expr.specs.Known.{Declared, value, Fine, Breaks}
-use Rattle.go_expr.specs.Rules.{fine, checked}
-use Rattle.go_expr.specs.Verdicts.{asked, both}
+use Rattle.go_expr.specs.Known.{Declared, value, Fine, Breaks, Passed}
+use Rattle.go_expr.specs.Rules.{fine, checked, each_unless}
+use Rattle.go_expr.specs.Verdicts.{asked}
 use Rattle.go_stmt.specs.Scopes.{Env, Context, scope_in, is_blank, own, number_of, paired, declare_new}
-use Rattle.go_stmt.specs.Rules.{all_some, Values, suited, differ, is_new, due_for, redefined}
-use Rattle.go_stmt.specs.Statements.{values_known, value_types, own_known, short_at}
+use Rattle.go_stmt.specs.Rules.{all_some, Values, separate, together, no_values, suited, differ, is_new, due_for, suited_if, suited_partly, redefined}
+use Rattle.go_stmt.specs.Statements.{values_known, value_types, short_at}
+use Rattle.go_faultless.proofs.Counts.{values_fit}
+use Rattle.go_faultless.proofs.Declares.{Dues, fit_due}
 use Rattle.go_checked.specs.Soundness.{Table, IsSoundType}
 use Rattle.go_checked.proofs.Texts.{HaveTexts}
 use Rattle.go_checked.proofs.Expected.{Expected}
@@ -26,7 +28,8 @@ use Rattle.go_checked.proofs.Related.{SoundLocals, AllSound, IsSoundName, Relate
 use Rattle.go_checked.proofs.Values.{checked_part, some_part, own_types, AreDue, SoundDue, sound_values, sound_suited}
 use Rattle.go_checked.proofs.Numbered.{Outside, scope_sound, own_other, next, FitsName, Ready, new_grows}
 use Rattle.go_checked.proofs.Leaves.{fine_is}
-use Rattle.go_checked.proofs.Declares.{types_of_values, defined}
+use Rattle.go_checked.proofs.Settled.{settled_new}
+use Rattle.go_checked.proofs.Declares.{types_settle, defined}
 
 -- ---- names that differ
 
@@ -84,46 +87,62 @@ module _ (x : Expected) (w : Table) (g : Setting) where
   abbrev Owned : Env → Name → Option (Option Type') → Type 0
   Owned env n due = ((own env n ≡ None) × (due ≡ Some None)) ⊎ ((u : Type') × (k : ℕ) × (own env n ≡ Some (Some (value (local u k)))) × (due ≡ Some (Some u)) × (slice_get g.locals k ≡ Some u) × IsSoundType w u)
 
-  owned_by : (d : List ℕ) (env : Env) (n : Name) → AllSound w g.locals d env.names.inner → SoundLocals w g.locals d → (o : Option (Option Declared)) → own env n ≡ o → (k : Option Declared) → own_known env n ≡ Some k → (t : Option Type') → due_for k ≡ Some t → Owned env n (Some t)
-  owned_by d env n h l None at k is t due = (
-      let r : own_known env n ≡ Some None = rw (at, own_known) refl in
-      let same : None ≡ k = cc in
-      let none : Some None ≡ Some t = ap due_for same ∙ due in
+  owned_by : (d : List ℕ) (env : Env) (n : Name) → AllSound w g.locals d env.names.inner → SoundLocals w g.locals d → (o : Option (Option Declared)) → own env n ≡ o → (t : Option (Option Type')) → due_for o ≡ Some t → (k : Option Type') → t ≡ Some k
+      → Owned env n (Some k)
+  owned_by d env n h l None at t due k is = (
+      let new : Some None ≡ t = cc in
+      let none : Some None ≡ Some k = new ∙ is in
       inl (at, sym none)
       )
-  owned_by d env n h l (Some None) at k is t due = absurd (let r : own_known env n ≡ None = rw (at, own_known) refl in cc)
-  owned_by d env n h l (Some (Some (value (local u m)))) at k is t due = (
-      let r : own_known env n ≡ Some (Some (value (local u m))) = rw (at, own_known) refl in
-      let same : Some (value (local u m)) ≡ k = cc in
-      let type : Some (Some u) ≡ Some t = ap due_for same ∙ due in
+  owned_by d env n h l (Some None) at t due k is = absurd (let unknown : None ≡ t = cc in let no : None ≡ Some k = unknown ∙ is in cc (no))
+  owned_by d env n h l (Some (Some (value (local u m)))) at t due k is = (
+      let old : Some (Some u) ≡ t = cc in
+      let type : Some (Some u) ≡ Some k = old ∙ is in
       let sound = found_sound d env.names.inner n.text (Some (value (local u m))) h at in
       inr (u, m, at, sym type, sound.0, l m u sound.0 sound.1)
       )
-  owned_by d env n h l (Some (Some (value (constant u m)))) at k is t due = absurd (
-      let r : own_known env n ≡ Some (Some (value (constant u m))) = rw (at, own_known) refl in
-      let same : Some (value (constant u m)) ≡ k = cc in
-      let type : None ≡ Some t = ap due_for same ∙ due in
-      cc
-      )
-  owned_by d env n h l (Some (Some p)) at k is t due = absurd (found_sound d env.names.inner n.text (Some p) h at)
+  owned_by d env n h l (Some (Some (value (constant u m)))) at t due k is = absurd cc
+  owned_by d env n h l (Some (Some p)) at t due k is = absurd (found_sound d env.names.inner n.text (Some p) h at)
 
-  short_due : (d : List ℕ) (env : Env) → AllSound w g.locals d env.names.inner → SoundLocals w g.locals d → (ns : List Name) (mine : List (Option Declared)) (due : List (Option Type')) → all_some (map (own_known env) ns) ≡ Some mine
-      → all_some (map due_for mine) ≡ Some due → SoundDue w due
-  short_due d env h l [] mine due is made = (
-      let same : [] ≡ mine = cc in
-      let none : Some [] ≡ Some due = ap (λ m. all_some (map due_for m)) same ∙ made in
-      let empty : [] ≡ due = cc in
-      subst (SoundDue w) empty tt
+  -- what the block has under some names, and what is due for them
+  abbrev Owns : Env → List Name → List (Option Type') → Type 0
+  Owns env [] [] = Unit {0}
+  Owns env [] (k ∷ ks) = ⊥
+  Owns env (n ∷ ns) [] = ⊥
+  Owns env (n ∷ ns) (k ∷ ks) = Owned env n (Some k) × Owns env ns ks
+
+  owns_of : (d : List ℕ) (env : Env) → AllSound w g.locals d env.names.inner → SoundLocals w g.locals d → (ns : List Name) (due : List (Option (Option Type'))) (ks : List (Option Type')) → all_some (map (λ n. due_for (own env n)) ns) ≡ Some due
+      → all_some due ≡ Some ks → Owns env ns ks
+  owns_of d env h l [] due ks is made = (
+      let same : [] ≡ due = cc in
+      let none : Some [] ≡ Some ks = ap all_some same ∙ made in
+      let empty : [] ≡ ks = cc in
+      subst (Owns env []) empty tt
       )
-  short_due d env h l (n ∷ ns) mine due is made =
-      let one = some_part (own_known env n) (map (own_known env) ns) mine is in
-      let two = some_part (due_for one.0) (map due_for one.1) due (ap (λ m. all_some (map due_for m)) (sym one.4) ∙ made) in
-      let rest = short_due d env h l ns one.1 two.1 one.3 two.3 in
-      let owned = owned_by d env n h l (own env n) refl one.0 one.2 two.0 two.2 in
-      subst (SoundDue w) (sym two.4) (elim owned [
-        | inl k ↦ (let none : two.0 ≡ None = cc in subst (λ (o : Option Type'). SoundDue w (o ∷ two.1)) (sym none) rest)
-        | inr k ↦ (let some : two.0 ≡ Some k.0 = cc in subst (λ (o : Option Type'). SoundDue w (o ∷ two.1)) (sym some) (k.5, rest))
-      ])
+  owns_of d env h l (n ∷ ns) due ks is made =
+      let one = some_part (due_for (own env n)) (map (λ n. due_for (own env n)) ns) due is in
+      let two = some_part one.0 one.1 ks (ap all_some (sym one.4) ∙ made) in
+      subst (Owns env (n ∷ ns)) (sym two.4) (owned_by d env n h l (own env n) refl one.0 one.2 two.0 two.2, owns_of d env h l ns one.1 two.1 one.3 two.3)
+
+  short_due : (env : Env) (ns : List Name) (ks : List (Option Type')) → Owns env ns ks → SoundDue w ks
+  short_due env [] [] h = tt
+  short_due env [] (k ∷ ks) h = absurd h
+  short_due env (n ∷ ns) [] h = absurd h
+  short_due env (n ∷ ns) (None ∷ ks) h = short_due env ns ks h.1
+  short_due env (n ∷ ns) (Some u ∷ ks) (inl k, rest) = absurd (let r : Some (Some u) ≡ Some None = k.1 in cc)
+  short_due env (n ∷ ns) (Some u ∷ ks) (inr k, rest) = (
+      let r : Some (Some u) ≡ Some (Some k.0) = k.3 in
+      let type : k.0 ≡ u = cc in
+      (subst (IsSoundType w) type k.5, short_due env ns ks rest)
+      )
+
+  dues : (env : Env) (ns : List Name) (ks : List (Option Type')) → Owns env ns ks → Dues env ns ks
+  dues env [] [] h = tt
+  dues env [] (k ∷ ks) h = absurd h
+  dues env (n ∷ ns) [] h = absurd h
+  dues env (n ∷ ns) (None ∷ ks) h = dues env ns ks h.1
+  dues env (n ∷ ns) (Some u ∷ ks) (inl k, rest) = absurd (let r : Some (Some u) ≡ Some None = k.1 in cc)
+  dues env (n ∷ ns) (Some u ∷ ks) (inr k, rest) = (ap is_some k.2, dues env ns ks rest)
 
   fits_one : (first env : Env) (n : Name) (o : Option Type') (os : List (Option Type')) (v t : Type') (vs ts : List Type') → Owned first n (Some o) → own env n ≡ own first n → AreDue w (o ∷ os) (v ∷ vs) (t ∷ ts)
       → FitsName w g.locals env n v t × AreDue w os vs ts
@@ -147,37 +166,46 @@ module _ (x : Expected) (w : Table) (g : Setting) where
   more_ready first env n ns None os (v ∷ vs) [] owned same h rest = absurd h
   more_ready first env n ns (Some u) os (v ∷ vs) [] owned same h rest = absurd h
 
-  ready_short : (d : List ℕ) (first : Env) → AllSound w g.locals d first.names.inner → SoundLocals w g.locals d → (ns : List Name) (mine : List (Option Declared)) (due : List (Option Type')) (vs ts : List Type') (env : Env)
-      → all_some (map (own_known first) ns) ≡ Some mine → all_some (map due_for mine) ≡ Some due → differ ns ≡ true → Same first env ns → AreDue w due vs ts → Ready w g.locals env ns vs ts
-  ready_short d first h l [] mine due vs ts env is made different same suit = (
-      let empty : [] ≡ mine = cc in
-      let none : Some [] ≡ Some due = ap (λ m. all_some (map due_for m)) empty ∙ made in
-      let nothing : [] ≡ due = cc in
-      nothing_ready env vs ts (subst (λ (o : List (Option Type')). AreDue w o vs ts) (sym nothing) suit)
-      )
-  ready_short d first h l (n ∷ ns) mine due vs ts env is made different same suit =
-      let one = some_part (own_known first n) (map (own_known first) ns) mine is in
-      let two = some_part (due_for one.0) (map due_for one.1) due (ap (λ m. all_some (map due_for m)) (sym one.4) ∙ made) in
-      let owned = owned_by d first n h l (own first n) refl one.0 one.2 two.0 two.2 in
+  ready_short : (first : Env) (ns : List Name) (ks : List (Option Type')) (vs ts : List Type') (env : Env) → Owns first ns ks → differ ns ≡ true → Same first env ns → AreDue w ks vs ts → Ready w g.locals env ns vs ts
+  ready_short first [] [] vs ts env owns different same suit = nothing_ready env vs ts suit
+  ready_short first [] (k ∷ ks) vs ts env owns different same suit = absurd owns
+  ready_short first (n ∷ ns) [] vs ts env owns different same suit = absurd owns
+  ready_short first (n ∷ ns) (k ∷ ks) vs ts env owns different same suit =
       let apart = and_parts (is_blank n.text || not (list_any (λ (m : Name). bytes_eq n.text m.text) ns)) (differ ns) different in
-      let all : AreDue w (two.0 ∷ two.1) vs ts = subst (λ (o : List (Option Type')). AreDue w o vs ts) two.4 suit in
-      more_ready first env n ns two.0 two.1 vs ts owned same.0 all (λ v vs ts rest. ready_short d first h l ns one.1 two.1 vs ts (next n (Some v) env) one.3 two.3 apart.1 (same_next first env n v ns apart.0 same.1) rest)
+      more_ready first env n ns k ks vs ts owns.0 same.0 suit (λ v vs ts rest. ready_short first ns ks vs ts (next n (Some v) env) owns.1 apart.1 (same_next first env n v ns apart.0 same.1) rest)
 
-  redefined_parts : (ns : List Name) (mine : List (Option Declared)) (values : Values) (s : Source) (o : Option (List (Option Type'))) (b : Bool) → (differ ns && list_any is_new (zip ns mine)) ≡ b → all_some (map due_for mine) ≡ o → redefined ns mine values ≡ Fine s
-      → (due : List (Option Type')) × (all_some (map due_for mine) ≡ Some due) × (differ ns ≡ true) × (suited due values ≡ Fine s)
-  redefined_parts ns mine values s o false at is h = absurd (let r : redefined ns mine values ≡ Breaks Redeclared = rw at refl in cc)
-  redefined_parts ns mine values s None true at is h = absurd (let r : redefined ns mine values ≡ Breaks Mismatch = rw (at, is, redefined) refl in cc)
-  redefined_parts ns mine values s (Some due) true at is h =
-      let r : redefined ns mine values ≡ suited due values = rw (at, is, redefined) refl in
-      (due, is, (and_parts (differ ns) (list_any is_new (zip ns mine)) at).0, sym r ∙ h)
+-- where something isn't known of what is due, no source is
+never_partly : (due : List (Option (Option Type'))) (v : Values) (s : Source) → suited_partly due v ≡ Fine s → ⊥
+never_partly due (separate es) s h = elim (cases_Bool (nat_eq (length due) (length es))) [
+  | inl is ↦ (
+      let vs = each_unless [] (map suited_if (zip due es)) in
+      let r : checked {B = Source} (λ es. Passed) vs ≡ Fine s = rw is at h in
+      let part = checked_part (λ es. Passed) vs s r in
+      cc (part.2))
+  | inr not_so ↦ (let r : Breaks Count ≡ Fine s = rw not_so at h in cc (r))
+]
+never_partly due (together ts f es) s h = (let part = checked_part (λ source. Passed) (suited (map (λ t. unwrap_or t None) due) (together ts f es)) s h in cc (part.2))
+never_partly due no_values s h = cc
 
-  short_parts : (ns : List Name) (f : Source → Stmt) (o : Option (List (Option Declared))) (v : Option Values) (y : Stmt) → fine (asked (λ (k : List (Option Declared) × Values). checked (λ source. Fine (f source)) (redefined ns k.0 k.1)) (both o v)) ≡ Some y
-      → (mine : List (Option Declared)) × (values : Values) × (s : Source) × (o ≡ Some mine) × (v ≡ Some values) × (redefined ns mine values ≡ Fine s) × (f s ≡ y)
-  short_parts ns f None v y h = absurd cc
-  short_parts ns f (Some mine) None y h = absurd cc
-  short_parts ns f (Some mine) (Some values) y h =
-      let part = checked_part (λ source. Fine (f source)) (redefined ns mine values) y (fine_is (checked (λ source. Fine (f source)) (redefined ns mine values)) y h) in
-      (mine, values, part.0, refl, refl, part.1, cc)
+module _ (x : Expected) (w : Table) (g : Setting) where
+  redefined_parts : (own : Name → Option (Option Declared)) (ns : List Name) (v : Values) (s : Source) (o : Option (List (Option (Option Type')))) (b : Bool)
+      → (differ ns && list_any (λ n. is_new n (own n)) ns) ≡ b → all_some (map (λ n. due_for (own n)) ns) ≡ o → redefined own ns v ≡ Fine s
+      → (due : List (Option (Option Type'))) × (ks : List (Option Type')) × (all_some (map (λ n. due_for (own n)) ns) ≡ Some due) × (all_some due ≡ Some ks) × (differ ns ≡ true) × (suited ks v ≡ Fine s)
+  redefined_parts own ns v s o false at is h = absurd (let r : redefined own ns v ≡ Breaks Redeclared = rw at refl in cc)
+  redefined_parts own ns v s None true at is h = absurd (let r : redefined own ns v ≡ Breaks Mismatch = rw (at, is, redefined) refl in cc)
+  redefined_parts own ns v s (Some due) true at is h = elim (all_some due) as (λ k. all_some due ≡ k → (due : List (Option (Option Type'))) × (ks : List (Option Type')) × (all_some (map (λ n. due_for (own n)) ns) ≡ Some due) × (all_some due ≡ Some ks) × (differ ns ≡ true) × (suited ks v ≡ Fine s)) [
+    | None ↦ λ k. absurd (let r : redefined own ns v ≡ suited_partly due v = rw (at, is, k, redefined) refl in never_partly due v s (sym r ∙ h))
+    | Some ks ↦ λ k. (
+        let r : redefined own ns v ≡ suited ks v = rw (at, is, k, redefined) refl in
+        (due, ks, is, k, (and_parts (differ ns) (list_any (λ n. is_new n (own n)) ns) at).0, sym r ∙ h))
+  ] refl
+
+  short_parts : (own : Name → Option (Option Declared)) (ns : List Name) (f : Source → Stmt) (v : Option Values) (y : Stmt) → fine (asked (λ (k : Values). checked (λ source. Fine (f source)) (redefined own ns k)) v) ≡ Some y
+      → (values : Values) × (s : Source) × (v ≡ Some values) × (redefined own ns values ≡ Fine s) × (f s ≡ y)
+  short_parts own ns f None y h = absurd cc
+  short_parts own ns f (Some v) y h =
+      let part = checked_part (λ source. Fine (f source)) (redefined own ns v) y (fine_is (checked (λ source. Fine (f source)) (redefined own ns v)) y h) in
+      (v, part.0, refl, part.1, cc)
 
   pub short_sure : (c : Context) → Outside w g c → (p : Place) (ns : List Name) (es : source.Exprs) → HaveTexts es → Sure w g.locals after (IsStmt g) (short_at c p ns es)
   short_sure c out p ns es texts env =
@@ -187,12 +215,15 @@ module _ (x : Expected) (w : Table) (g : Setting) where
       let f = λ (source : Source). define (map (number_of final) ns) source in (
         new_grows (paired ns types) env,
         λ d r lies none y is. (
-            let k = short_parts ns f (all_some (map (own_known env) ns)) (values_known s es) y is in
-            let parts = redefined_parts ns k.0 k.1 k.2 (all_some (map due_for k.0)) (differ ns && list_any is_new (zip ns k.0)) refl refl k.5 in
-            let sound = sound_values x w g d s (scope_sound w g c out env d r None) es texts k.1 k.4 in
-            let suit = sound_suited x w g d parts.0 k.1 k.2 (short_due d env r.0 r.2 ns k.0 parts.0 k.3 parts.1) sound parts.3 in
-            let ready = ready_short d env r.0 r.2 ns k.0 parts.0 (own_types k.1) (source_types k.2) env k.3 parts.1 parts.2 (same_all env ns) suit.1 in
-            let new = defined x w g ns types (own_types k.1) (source_types k.2) env d (types_of_values s es k.1 k.4) r lies ready in
-            subst (λ (t : Stmt). IsStmt g d t × Related w g.locals final (after d t)) k.6 ((suit.0, new.0), new.1)
+            let k = short_parts (own env) ns f (values_known s es) y is in
+            let parts = redefined_parts (own env) ns k.0 k.1 (all_some (map (λ n. due_for (own env n)) ns)) (differ ns && list_any (λ n. is_new n (own env n)) ns) refl refl k.3 in
+            let owns = owns_of x w g d env r.0 r.2 ns parts.0 parts.1 parts.2 parts.3 in
+            let sound = sound_values x w g d s (scope_sound w g c out env d r None) es texts k.0 k.2 in
+            let suit = sound_suited x w g d parts.1 k.0 k.1 (short_due x w g env ns parts.1 owns) sound parts.5 in
+            let ready = ready_short x w g env ns parts.1 (own_types k.0) (source_types k.1) env owns parts.4 (same_all env ns) suit.1 in
+            let fit = values_fit s es k.0 parts.1 k.2 (k.1, ap fine parts.5) in
+            let due = fit_due env ns parts.1 types (dues x w g env ns parts.1 owns) fit in
+            let new = defined x w g ns types (own_types k.0) (source_types k.1) env d (settled_new ns types (own_types k.0) env due (types_settle s es k.0 k.2)) r lies ready in
+            subst (λ (t : Stmt). IsStmt g d t × Related w g.locals final (after d t)) k.4 ((suit.0, new.0), new.1)
             ),
       )

@@ -1,5 +1,5 @@
 -- What the checker knows of expressions and types is sound, where it is so of the names that they use.
-use Rattle.std.proofs.Common.{◌≡◌, ℕ, ℤ, pos, Bool, true, false, List, [], ◌∷◌, map, Option, Some, None, refl, subst, inl, inr}
+use Rattle.std.proofs.Common.{◌≡◌, ℕ, suc, ℤ, pos, Bool, true, false, List, [], ◌∷◌, map, Option, Some, None, refl, subst, inl, inr}
 use Rattle.std.specs.Prelude.{bytes_eq, unwrap_or, option_map, if◌then◌else◌}
 use Rattle.std.specs.Map.{lookup}
 use Rattle.std.proofs.lemmas.Bool.{cases_Bool}
@@ -12,8 +12,8 @@ use Rattle.go_types.specs.declared.types.Untyped.TheVariants as kinds
 use Rattle.go_types.specs.Types.{Type', basic}
 use Rattle.go_sound.specs.WellTyped.{Setting}
 use Rattle.go_expr.specs.Known.{Names, Known, declared, package', results, printed, panicked, Verdict, Fine, Breaks, Passed, Scope, look_up, named}
-use Rattle.go_expr.specs.Rules.{fine, checked, valued, type_due, array_of, is_exported, declared_field, struct_of, value_due, unpackaged, numeral, number_of, literal, literal_of, untyped_literal, element_type, field_of, selected, index_of, binary_of, unary_of, converted, called}
-use Rattle.go_expr.specs.Verdicts.{asked, both, asked_both, joined, qualified_known, operand, callee, verdict, operands, elements, element_verdict, type_verdict, fields_known}
+use Rattle.go_expr.specs.Rules.{fine, checked, valued, type_due, array_of, is_exported, declared_field, struct_of, value_due, unpackaged, selectable, callable, numeral, number_of, literal, literal_of, Due, element_due, due_type, untyped_literal, field_of, selected, exported_by, index_of, binary_of, unary_of, converted, called}
+use Rattle.go_expr.specs.Verdicts.{asked, both, asked_both, joined, qualified_known, operand, inside, subject, callee, key_text, verdict, operands, elements, element_verdict, type_verdict, fields_known}
 use Rattle.go_checked.specs.Soundness.{Table, IsSoundType, IsSoundValue, AreSoundNames}
 use Rattle.go_checked.proofs.SoundNames.{IsSoundKnown, IsSoundScope}
 use Rattle.go_checked.proofs.Texts.{HasTexts, HaveTexts, ElementsHaveTexts, ElementHasTexts, TypeHasTexts, FieldsHaveTexts}
@@ -23,7 +23,7 @@ use Rattle.go_checked.proofs.Operators.{converted_gives, given_sound, unary_give
 use Rattle.go_checked.proofs.Binary.{checked_gives}
 use Rattle.go_checked.proofs.Shifts.{binary_gives}
 use Rattle.go_checked.proofs.Selections.{field_gives, index_gives}
-use Rattle.go_checked.proofs.Literals.{Every, every_append, Has, IsSoundElement, literal_gives, untyped_gives, element_type_gives, type_due_gives, array_of_gives, IsSoundField, struct_of_gives, declared_fields}
+use Rattle.go_checked.proofs.Literals.{Every, every_append, Has, IsSoundElement, IsSoundDue, literal_gives, untyped_gives, element_due_sound, due_type_has, type_due_gives, array_of_gives, IsSoundField, struct_of_gives, declared_fields}
 use Rattle.go_checked.proofs.Calls.{valued_gives, value_due_gives, called_gives}
 
 -- ---- rules over what is known
@@ -84,6 +84,23 @@ module _ (w : Table) (g : Setting) (d : List ℕ) where
   unpackaged_gives (printed es) h = h
   unpackaged_gives (panicked e) h = h
 
+  of_due : (k : Known) → IsSoundKnown w g d k → Gives (IsSoundKnown w g d) (valued (value_due k))
+  of_due k h = valued_gives w g d (value_due k) (value_due_gives w g d k h)
+
+  selectable_gives : (k : Known) → IsSoundKnown w g d k → Gives (IsSoundKnown w g d) (selectable k)
+  selectable_gives (package' names) h = h
+  selectable_gives (declared k) h = of_due (declared k) h
+  selectable_gives (results ts s es) h = of_due (results ts s es) h
+  selectable_gives (printed es) h = of_due (printed es) h
+  selectable_gives (panicked e) h = of_due (panicked e) h
+
+  callable_gives : (k : Known) → IsSoundKnown w g d k → Gives (IsSoundKnown w g d) (callable k)
+  callable_gives (declared k) h = h
+  callable_gives (package' names) h = of_due (package' names) h
+  callable_gives (results ts s es) h = of_due (results ts s es) h
+  callable_gives (printed es) h = of_due (printed es) h
+  callable_gives (panicked e) h = of_due (panicked e) h
+
   export_gives : (names : Names) (x : List ℕ) → AreSoundNames w g d names → (b : Bool) → is_exported x ≡ b
       → Gives (IsSoundKnown w g d) (if b then unwrap_or (option_map named (lookup (bytes_eq x) names)) (Breaks Undeclared) else Breaks Unexported)
   export_gives names x h false is = tt
@@ -106,6 +123,13 @@ module _ (w : Table) (g : Setting) (d : List ℕ) where
   selected_gives path x (printed es) h = of_value path x (printed es) h
   selected_gives path x (panicked e) h = of_value path x (panicked e) h
 
+  exported_gives : (x : List ℕ) (k : Known) → IsSoundKnown w g d k → Gives (IsSoundKnown w g d) (exported_by x k)
+  exported_gives x (package' names) h = export_gives names x h (is_exported x) refl
+  exported_gives x (declared k) h = tt
+  exported_gives x (results ts s es) h = tt
+  exported_gives x (printed es) h = tt
+  exported_gives x (panicked e) h = tt
+
   pub due_gives : (v : Verdict Known) → Gives (IsSoundKnown w g d) v → Gives (IsSoundValue w g d) (asked value_due (fine v))
   due_gives v h = asked_gives (IsSoundKnown w g d) (IsSoundValue w g d) value_due (fine v) (fine_has (IsSoundKnown w g d) v h) (value_due_gives w g d)
 
@@ -113,7 +137,13 @@ module _ (w : Table) (g : Setting) (d : List ℕ) where
   operand_has v h = fine_has (IsSoundValue w g d) (asked value_due (fine v)) (due_gives v h)
 
   callee_gives : (v : Verdict Known) → Gives (IsSoundKnown w g d) v → Gives (IsSoundKnown w g d) (callee v)
-  callee_gives v h = asked_gives (IsSoundKnown w g d) (IsSoundKnown w g d) unpackaged (fine v) (fine_has (IsSoundKnown w g d) v h) unpackaged_gives
+  callee_gives v h = asked_gives (IsSoundKnown w g d) (IsSoundKnown w g d) callable (fine v) (fine_has (IsSoundKnown w g d) v h) callable_gives
+
+  inside_gives : (v : Verdict Known) → Gives (IsSoundKnown w g d) v → Gives (IsSoundKnown w g d) (inside v)
+  inside_gives v h = asked_gives (IsSoundKnown w g d) (IsSoundKnown w g d) unpackaged (fine v) (fine_has (IsSoundKnown w g d) v h) unpackaged_gives
+
+  subject_gives : (v : Verdict Known) → Gives (IsSoundKnown w g d) v → Gives (IsSoundKnown w g d) (subject v)
+  subject_gives v h = asked_gives (IsSoundKnown w g d) (IsSoundKnown w g d) selectable (fine v) (fine_has (IsSoundKnown w g d) v h) selectable_gives
 
   found : (s : Scope) (x : List ℕ) → IsSoundScope w g d s → Gives (IsSoundKnown w g d) (look_up x s.names)
   found s x h = gives_by (IsSoundKnown w g d) (look_up x s.names) (h x)
@@ -129,21 +159,22 @@ module _ (w : Table) (g : Setting) (d : List ℕ) where
     known_gives s (integer p text) h t = valued_gives w g d (literal text) (literal_sound text)
     known_gives s (rune p z) h t = inl (kinds.Rune, Integer (pos z), refl, refl)
     known_gives s (string p bytes) h t = inl (kinds.String, Text bytes, refl, t)
-    known_gives s (parenthesized p e) h t = callee_gives (verdict s e) (known_gives s e h t)
+    known_gives s (parenthesized p e) h t = inside_gives (verdict s e) (known_gives s e h t)
     known_gives s (composite_lit p u q es) h t =
         let of = type_gives s u h t.0 in
-        let due = element_type (fine (type_verdict s u)) in
+        let around = fine (type_verdict s u) in
         let whole = fine_has (IsSoundType w) (type_verdict s u) of in
-        let rule = asked_both (literal_of s.path) (fine (type_verdict s u)) (elements s due es) in
-        valued_gives w g d rule (asked_both_gives (IsSoundType w) (Every (IsSoundElement w g d)) (IsSoundValue w g d) (literal_of s.path) (fine (type_verdict s u)) (elements s due es) whole
-        (elements_have s due es h (element_type_gives w g d (fine (type_verdict s u)) whole) t.1) (λ x y good each. literal_gives w g d s.path x y good each))
+        let rule = asked_both (literal_of s.path) around (elements s around 0 es) in
+        valued_gives w g d rule (asked_both_gives (IsSoundType w) (Every (IsSoundElement w g d)) (IsSoundValue w g d) (literal_of s.path) around (elements s around 0 es) whole
+        (elements_have s around 0 es h whole t.1) (λ x y good each. literal_gives w g d s.path x y good each))
     known_gives s (conversion p u e) h t =
         let of = fine_has (IsSoundType w) (type_verdict s u) (type_gives s u h t.0) in
         let from = operand_has (verdict s e) (known_gives s e h t.1) in
         valued_gives w g d (asked_both converted (fine (type_verdict s u)) (operand (verdict s e)))
         (asked_both_gives (IsSoundType w) (IsSoundValue w g d) (IsSoundValue w g d) converted (fine (type_verdict s u)) (operand (verdict s e)) of from (λ x y good also. converted_gives w g d x y good also))
     known_gives s (selector p e x) h t =
-        asked_gives (IsSoundKnown w g d) (IsSoundKnown w g d) (selected s.path x.text) (fine (verdict s e)) (fine_has (IsSoundKnown w g d) (verdict s e) (known_gives s e h t)) (selected_gives s.path x.text)
+        let of = fine_has (IsSoundKnown w g d) (subject (verdict s e)) (subject_gives (verdict s e) (known_gives s e h t)) in
+        asked_gives (IsSoundKnown w g d) (IsSoundKnown w g d) (selected s.path x.text) (fine (subject (verdict s e))) of (selected_gives s.path x.text)
     known_gives s (index p e i) h t =
         let of = operand_has (verdict s e) (known_gives s e h t.0) in
         let at = operand_has (verdict s i) (known_gives s i h t.1) in
@@ -169,25 +200,27 @@ module _ (w : Table) (g : Setting) (d : List ℕ) where
         (mapped_has (IsSoundValue w g d) (Every (IsSoundValue w g d)) (λ v. v ∷ []) (operand (verdict s e)) (operand_has (verdict s e) (known_gives s e h t.0)) (λ x good. (good, tt)))
         (operands_have s es h t.1)
 
-    elements_have : (s : Scope) (of : Verdict Type') (es : Elements) → IsSoundScope w g d s → Gives (IsSoundType w) of → ElementsHaveTexts es → Has (Every (IsSoundElement w g d)) (elements s of es)
-    elements_have s of no_elements h k t = tt
-    elements_have s of (element key v es) h k t =
-        joined_has (IsSoundElement w g d) _ (elements s of es)
-        (mapped_has (IsSoundValue w g d) (Every (IsSoundElement w g d)) _ (fine (element_verdict s of v)) (fine_has (IsSoundValue w g d) (element_verdict s of v) (element_gives s of v h k t.0)) (λ x good. (good, tt)))
-        (elements_have s of es h k t.1)
+    elements_have : (s : Scope) (of : Option Type') (n : ℕ) (es : Elements) → IsSoundScope w g d s → Has (IsSoundType w) of → ElementsHaveTexts es → Has (Every (IsSoundElement w g d)) (elements s of n es)
+    elements_have s of n no_elements h k t = tt
+    elements_have s of n (element key v es) h k t =
+        let due = element_due of n (key_text key) in
+        let own = element_gives s due v h (element_due_sound w g d of n (key_text key) k) t.0 in
+        joined_has (IsSoundElement w g d) _ (elements s of (suc n) es)
+        (mapped_has (IsSoundValue w g d) (Every (IsSoundElement w g d)) _ (fine (element_verdict s due v)) (fine_has (IsSoundValue w g d) (element_verdict s due v) own) (λ x good. (good, tt)))
+        (elements_have s of (suc n) es h k t.1)
 
-    element_gives : (s : Scope) (of : Verdict Type') (v : Element) → IsSoundScope w g d s → Gives (IsSoundType w) of → ElementHasTexts v → Gives (IsSoundValue w g d) (element_verdict s of v)
-    element_gives s of (expression_element e) h k t = due_gives (verdict s e) (known_gives s e h t)
-    element_gives s of (value_element p es) h k t =
-        let due = element_type (fine of) in
-        asked_gives (Every (IsSoundElement w g d)) (IsSoundValue w g d) (untyped_literal s.path of) (elements s due es)
-        (elements_have s due es h (element_type_gives w g d (fine of) (fine_has (IsSoundType w) of k)) t) (λ x each. untyped_gives w g d s.path of x k each)
+    element_gives : (s : Scope) (due : Due) (v : Element) → IsSoundScope w g d s → IsSoundDue w g d due → ElementHasTexts v → Gives (IsSoundValue w g d) (element_verdict s due v)
+    element_gives s due (expression_element e) h k t = due_gives (verdict s e) (known_gives s e h t)
+    element_gives s due (value_element p es) h k t =
+        let around = due_type due in
+        asked_gives (Every (IsSoundElement w g d)) (IsSoundValue w g d) (untyped_literal s.path due) (elements s around 0 es)
+        (elements_have s around 0 es h (due_type_has w g d due k) t) (λ x each. untyped_gives w g d s.path due x k each)
 
     pub type_gives : (s : Scope) (u : TypeExpr) → IsSoundScope w g d s → TypeHasTexts u → Gives (IsSoundType w) (type_verdict s u)
     type_gives s (by_name p x) h t = type_found (look_up x.text s.names) (found s x.text h)
     type_gives s (qualified p m n) h t =
         type_found (qualified_known s m n)
-        (asked_gives (IsSoundKnown w g d) (IsSoundKnown w g d) (selected s.path n.text) (fine (look_up m.text s.names)) (fine_has (IsSoundKnown w g d) (look_up m.text s.names) (found s m.text h)) (selected_gives s.path n.text))
+        (asked_gives (IsSoundKnown w g d) (IsSoundKnown w g d) (exported_by n.text) (fine (look_up m.text s.names)) (fine_has (IsSoundKnown w g d) (look_up m.text s.names) (found s m.text h)) (exported_gives n.text))
     type_gives s (array p e u) h t =
         let size = operand_has (verdict s e) (known_gives s e h t.0) in
         let of = fine_has (IsSoundType w) (type_verdict s u) (type_gives s u h t.1) in

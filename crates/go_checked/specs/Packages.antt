@@ -1,13 +1,13 @@
 -- What is asked of the files of a package and of what they import, so that its typed tree is well typed.
-use Rattle.std.specs.Prelude.{◌≡◌, ℕ, true, List, [], ◌∷◌, map, codes, Option, Some, None, bytes_eq, if◌then◌else◌}
-use Rattle.std.specs.List.{filter}
+use Rattle.std.specs.Prelude.{◌≡◌, ℕ, nat_eq, Bool, true, false, ◌||◌, List, [], ◌∷◌, map, codes, Option, Some, None, bytes_eq, if◌then◌else◌}
+use Rattle.std.specs.List.{list_any, starts_with}
 use Rattle.std.specs.Map.{lookup}
 use Rattle.go_ast.specs.Parse.{Derived, IsParse}
 use Rattle.go_ast.specs.Trees.{File}
 use Rattle.go_types.specs.Types.{Type', named}
-use Rattle.go_typed.specs.Trees.{Package}
+use Rattle.go_typed.specs.Trees.{Function, Initialization, Package}
 use Rattle.go_code.specs.declared.ending.Ending.{Ending}
-use Rattle.go_meaning.specs.Programs.{is_init, SourceMeaning}
+use Rattle.go_meaning.specs.Programs.{SourceMeaning}
 use Rattle.go_expr.specs.Known.{library}
 use Rattle.go_sound.specs.WellTyped.{Setting, is_text, signature_at, variable_at}
 use Rattle.go_package.specs.Imports.{Importable}
@@ -35,10 +35,21 @@ abbrev pub AreSoundImports : Table → Package → List Importable → Type 0
 AreSoundImports w p [] = Unit {0}
 AreSoundImports w p (i ∷ is) = ((g : Setting) (d : List ℕ) → IsIn p g → AreSoundNames (table_of w p) g d i.exports) × AreSoundImports w p is
 
--- https://go.dev/ref/spec#Package_initialization
--- a program starts with no function but main: none has a name that begins with `init.`
-abbrev pub HasNoInit : Package → Type 0
-HasNoInit p = filter is_init p.functions ≡ []
+-- ---- what isn't compiled yet: https://go.dev/ref/spec#Package_initialization
+
+abbrev pub has_values : List Initialization → Bool
+has_values is = elim is [ [] ↦ false | i ∷ others ↦ true ]
+
+-- by its name in the source, or in a typed package of a later stage
+abbrev pub is_init : Function → Bool
+is_init f = bytes_eq f.name (codes "init") || starts_with nat_eq f.name (codes "init.")
+
+-- Something comes before main: a variable has an initial value, or there is a function init. What sources mean leaves both out, and so do
+-- images: of such a package nothing is said.
+abbrev pub is_initialized : Package → Bool
+is_initialized p = has_values p.initializations || list_any is_init p.functions
+
+-- ---- what may be imported
 
 -- all that may be imported are libraries, as fmt is
 abbrev pub AreLibraries : List Importable → Type 0
@@ -57,12 +68,12 @@ abbrev pub AreOfTexts : List File → Type 0
 AreOfTexts [] = Unit {0}
 AreOfTexts (f ∷ fs) = ((text : List ℕ) × IsParse text (Derived f) × (is_text text ≡ true)) × AreOfTexts fs
 
--- The program is the typed package of files without fault, to which some texts are parsed. It is named main, and none of its functions
--- begins with `init.`.
+-- The program is the typed package of files without fault, to which some texts are parsed. It is named main, and nothing comes before its
+-- function main.
 pub record AreProgram (path : List ℕ) (files : List File) (ps : List Importable) (names : List (List ℕ)) (p : Package) : Type 0 where
   pub sources : AreOfTexts files
   pub typed : IsTypedIn (package_in path files ps) files ps names p
-  pub plain : HasNoInit p
+  pub plain : is_initialized p ≡ false
   pub named : p.name ≡ codes "main"
 
 -- a program that is given so many ticks has a meaning

@@ -8,7 +8,7 @@ use Rattle.go_text.specs.Places.{place_at, mark_size}
 use Rattle.go_ast.specs.Trees.{Name, TypeExpr, Expr, Exprs, no_exprs, some_exprs, ConstSpec, VarSpec, TypeSpec, constants, variables, types, TopLevel, declared, function, File}
 use Rattle.go_ast.specs.Parse.{IsParse, Derived}
 use Rattle.go_ast.specs.Tokens.{lexemes}
-use Rattle.go_objects.specs.Objects.{Form, constant, valued_variable, Object, paired, unpaired, meant, constants_of, in_group, typed_object, result_objects, uncounted, variables_of, type_object, objects_in, objects_from}
+use Rattle.go_objects.specs.Objects.{Form, constant, valued_variable, Object, paired, begin_of, other_object, unpaired, meant, constants_of, in_group, typed_object, result_objects, uncounted, variables_of, type_object, objects_in, objects_from}
 use Rattle.go_decl.specs.Faults.{is_declared_by}
 use Rattle.go_faultless.specs.Whole.{AreParsed}
 use Rattle.go_faultless.proofs.Places.{places_differ, lexes_rise}
@@ -41,23 +41,26 @@ sub_both file [] ms (o ∷ os) ps h k = absurd h
 sub_both file (n ∷ ns) ms (o ∷ os) ps (inl h) k = inl (h.0, h.1, sub_both file ns ms os ps h.2 k)
 sub_both file (n ∷ ns) ms (o ∷ os) ps (inr h) k = inr (sub_both file ns ms (o ∷ os) ps h k)
 
+sub_others : (file : ℕ) (all : List Name) (of : Option TypeExpr) (es : Exprs) (ns : List Name) → Sub file ns (map (other_object file all of es) ns)
+sub_others file all of es [] = tt
+sub_others file all of es (n ∷ ns) = inl (refl, refl, sub_others file all of es ns)
+
 sub_unpaired : (file : ℕ) (of : Option TypeExpr) (es : Exprs) (ns : List Name) → Sub file ns (unpaired file of es ns)
-sub_unpaired file of es [] = tt
-sub_unpaired file of es (n ∷ ns) = inl (refl, refl, sub_unpaired file of es ns)
+sub_unpaired file of es ns = sub_others file ns of es ns
 
-abbrev made : ℕ → (Expr → Form) → Name → Expr → Object
-made file form n e = record { file = file; name = n; form = form e }
+abbrev made : ℕ → List Name → (Expr → Form) → Name → Expr → Object
+made file all form n e = record { file = file; begins = begin_of all n; name = n; form = form e }
 
-sub_paired : (file : ℕ) (form : Expr → Form) (ns : List Name) (es : Exprs) (os : List Object) → paired (made file form) ns es ≡ Some os → Sub file ns os
-sub_paired file form [] no_exprs os is = (let same : [] ≡ os = cc in subst (Sub file []) same tt)
-sub_paired file form [] (some_exprs e es) os is = absurd cc
-sub_paired file form (n ∷ ns) no_exprs os is = absurd cc
-sub_paired file form (n ∷ ns) (some_exprs e es) os is =
-    elim (paired (made file form) ns es) as (λ r. paired (made file form) ns es ≡ r → option_map (λ xs. made file form n e ∷ xs) r ≡ Some os → Sub file (n ∷ ns) os) [
+sub_paired : (file : ℕ) (all : List Name) (form : Expr → Form) (ns : List Name) (es : Exprs) (os : List Object) → paired (made file all form) ns es ≡ Some os → Sub file ns os
+sub_paired file all form [] no_exprs os is = (let same : [] ≡ os = cc in subst (Sub file []) same tt)
+sub_paired file all form [] (some_exprs e es) os is = absurd cc
+sub_paired file all form (n ∷ ns) no_exprs os is = absurd cc
+sub_paired file all form (n ∷ ns) (some_exprs e es) os is =
+    elim (paired (made file all form) ns es) as (λ r. paired (made file all form) ns es ≡ r → option_map (λ xs. made file all form n e ∷ xs) r ≡ Some os → Sub file (n ∷ ns) os) [
       | None ↦ λ at k. absurd cc
       | Some rest ↦ λ at k. (
-          let same : made file form n e ∷ rest ≡ os = cc in
-          subst (Sub file (n ∷ ns)) same (inl (refl, refl, sub_paired file form ns es rest at)))
+          let same : made file all form n e ∷ rest ≡ os = cc in
+          subst (Sub file (n ∷ ns)) same (inl (refl, refl, sub_paired file all form ns es rest at)))
     ] refl is
 
 either : (file : ℕ) (ns : List Name) (o : Option (List Object)) (os : List Object) → ((xs : List Object) → o ≡ Some xs → Sub file ns xs) → Sub file ns os → Sub file ns (unwrap_or o os)
@@ -66,8 +69,8 @@ either file ns (Some xs) os f g = f xs refl
 
 sub_constants : (file iota : ℕ) (s : ConstSpec) → Sub file s.names (constants_of file iota s)
 sub_constants file iota s =
-    either file s.names (paired (made file (λ e. constant s.type e iota)) s.names s.values) (unpaired file s.type s.values s.names)
-    (λ xs is. sub_paired file (λ e. constant s.type e iota) s.names s.values xs is) (sub_unpaired file s.type s.values s.names)
+    either file s.names (paired (made file s.names (λ e. constant s.type e iota)) s.names s.values) (unpaired file s.type s.values s.names)
+    (λ xs is. sub_paired file s.names (λ e. constant s.type e iota) s.names s.values xs is) (sub_unpaired file s.type s.values s.names)
 
 meant_names : (before : ConstSpec) (ns : List Name) (of : Option TypeExpr) (es : Exprs) → (meant before (record { names = ns; type = of; values = es })).names ≡ ns
 meant_names before ns of no_exprs = refl
@@ -80,23 +83,23 @@ sub_group file iota before (s ∷ ss) =
     sub_both file s.names (flat_map (λ (s : ConstSpec). s.names) ss) (constants_of file iota m) (in_group file (suc iota) m ss)
     (subst (λ ns. Sub file ns (constants_of file iota m)) (meant_names before s.names s.type s.values) (sub_constants file iota m)) (sub_group file (suc iota) m ss)
 
-sub_typed : (file : ℕ) (of : TypeExpr) (ns : List Name) → Sub file ns (map (typed_object file of) ns)
-sub_typed file of [] = tt
-sub_typed file of (n ∷ ns) = inl (refl, refl, sub_typed file of ns)
+sub_typed : (file : ℕ) (all : List Name) (of : TypeExpr) (ns : List Name) → Sub file ns (map (typed_object file all of) ns)
+sub_typed file all of [] = tt
+sub_typed file all of (n ∷ ns) = inl (refl, refl, sub_typed file all of ns)
 
-sub_results : (file count number : ℕ) (e : Expr) (ns : List Name) → Sub file ns (result_objects file count number e ns)
-sub_results file count number e [] = tt
-sub_results file count number e (n ∷ ns) = inl (refl, refl, sub_results file count (suc number) e ns)
+sub_results : (file : ℕ) (all : List Name) (number : ℕ) (e : Expr) (ns : List Name) → Sub file ns (result_objects file all number e ns)
+sub_results file all number e [] = tt
+sub_results file all number e (n ∷ ns) = inl (refl, refl, sub_results file all (suc number) e ns)
 
 sub_uncounted : (file : ℕ) (ns : List Name) (es : Exprs) → Sub file ns (uncounted file ns es)
 sub_uncounted file ns no_exprs = sub_unpaired file None no_exprs ns
-sub_uncounted file ns (some_exprs e no_exprs) = sub_results file (length ns) 0 e ns
+sub_uncounted file ns (some_exprs e no_exprs) = sub_results file ns 0 e ns
 sub_uncounted file ns (some_exprs e (some_exprs f es)) = sub_unpaired file None (some_exprs e (some_exprs f es)) ns
 
 sub_variables : (file : ℕ) (ns : List Name) (of : Option TypeExpr) (es : Exprs) → Sub file ns (variables_of file (record { names = ns; type = of; values = es }))
 sub_variables file ns None es =
-    either file ns (paired (made file valued_variable) ns es) (uncounted file ns es) (λ xs is. sub_paired file valued_variable ns es xs is) (sub_uncounted file ns es)
-sub_variables file ns (Some of) es = sub_typed file of ns
+    either file ns (paired (made file ns valued_variable) ns es) (uncounted file ns es) (λ xs is. sub_paired file ns valued_variable ns es xs is) (sub_uncounted file ns es)
+sub_variables file ns (Some of) es = sub_typed file ns of ns
 
 sub_specs : (file : ℕ) (ss : List VarSpec) → Sub file (flat_map (λ (s : VarSpec). s.names) ss) (flat_map (variables_of file) ss)
 sub_specs file [] = tt

@@ -3,13 +3,13 @@ use Rattle.std.proofs.Common.{◌≡◌, suc, false, List, [], ◌∷◌, ◌++�
 use Rattle.std.specs.Prelude.{option_map}
 use Rattle.std.proofs.lemmas.List.{length-map}
 use Rattle.go_text.specs.declared.place.Place.{Place}
-use Rattle.go_ast.specs.Trees.{Name, Expr, Exprs, no_exprs, some_exprs, place_of}
+use Rattle.go_ast.specs.Trees.{Name, Expr, Exprs, no_exprs, some_exprs}
 use Rattle.go_types.specs.Types.{Type'}
 use Rattle.go_typed.specs.Trees as typed
 use Rattle.go_scope.specs.Names.{in_expr, in_exprs}
 use Rattle.go_expr.specs.Known.{value, Known, declared, package', results, printed, panicked, Fine, Scope}
 use Rattle.go_expr.specs.Rules.{fine}
-use Rattle.go_expr.specs.Verdicts.{asked, asked_both, operand, verdict, broken, operand_broken, faults}
+use Rattle.go_expr.specs.Verdicts.{asked, asked_both, operand, verdict, broken, bare_place, operand_broken, faults}
 use Rattle.go_stmt.specs.Rules.{all_some, Values, separate, together, no_values, values_of, suited, variables_source}
 use Rattle.go_stmt.specs.Statements.{each_of, operands_faults, values_known, values_faults}
 use Rattle.go_objects.specs.Objects.{paired}
@@ -34,8 +34,8 @@ pub told_values : (s : Scope) (es : Exprs) → Tells s (in_exprs es) → values_
 told_values s no_exprs tells none = (separate [], refl)
 told_values s (some_exprs e no_exprs) tells none =
     let rule = asked values_of (fine (verdict s e)) in
-    let ns = two_none (faults s e) (broken (place_of e) rule) none in
-    known (place_of e) rule (by_one values_of (fine (verdict s e)) (known_of (verdict s e) (settle s false e (first s (in_expr false e) [] tells) ns.0)) several) ns.1
+    let ns = two_none (faults s e) (broken (bare_place e) rule) none in
+    known (bare_place e) rule (by_one values_of (fine (verdict s e)) (known_of (verdict s e) (settle s false e (first s (in_expr false e) [] tells) ns.0)) several) ns.1
 told_values s (some_exprs e (some_exprs f es)) tells none =
     mapped separate (all_some (each_of (λ e. operand (verdict s e)) (some_exprs e (some_exprs f es)))) (told_operands s (some_exprs e (some_exprs f es)) tells none)
 

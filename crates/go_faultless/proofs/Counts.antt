@@ -1,19 +1,23 @@
 -- Variables that get values: as many as there are, each of a known type.
-use Rattle.std.proofs.Common.{◌≡◌, ℕ, suc, Bool, true, false, Option, Some, None, List, [], ◌∷◌, map, length, refl, ap, ◌∙◌, inl, inr, arith}
-use Rattle.std.specs.Prelude.{nat_eq, option_map}
+use Rattle.std.proofs.Common.{◌≡◌, ℕ, suc, Bool, true, false, not, Option, Some, None, List, [], ◌∷◌, ◌++◌, map, length, refl, sym, ap, subst, ◌∙◌, inl, inr, arith}
+use Rattle.std.specs.Prelude.{nat_eq, nat_le, option_map, option_and_then}
+use Rattle.std.specs.List.{flat_map, zip}
 use Rattle.std.proofs.lemmas.Bool.{cases_Bool, eqb-true}
-use Rattle.std.proofs.lemmas.List.{length-map}
-use Rattle.go_ast.specs.Trees.{Name, Expr, Exprs, no_exprs, some_exprs}
+use Rattle.go_text.specs.declared.fault.FaultKind.{FaultKind}
+use Rattle.go_text.specs.Faults.{fault_number}
+use Rattle.go_ast.specs.Trees.{Name, Exprs, no_exprs, some_exprs}
 use Rattle.go_types.specs.Types.{Type'}
+use Rattle.go_types.specs.Relations.{assignable}
 use Rattle.go_typed.specs.Trees as typed
-use Rattle.go_typed.specs.Trees.{Source, expr_type}
+use Rattle.go_typed.specs.Trees.{Source, each, expr_type}
 use Rattle.go_expr.specs.Known.{Verdict, Fine, Breaks, Passed, Scope}
-use Rattle.go_expr.specs.Rules.{fine, checked, default_type}
+use Rattle.go_expr.specs.Rules.{fine, checked, wrong, least, lesser, each_unless, lies_in, assigned, default_type, defaulted, settled_type}
 use Rattle.go_expr.specs.Verdicts.{operand, verdict}
 use Rattle.go_stmt.specs.Scopes.{paired}
-use Rattle.go_stmt.specs.Rules.{all_some, Values, separate, together, no_values, suited}
+use Rattle.go_stmt.specs.Rules.{all_some, Values, separate, together, no_values, suited_one, suited}
 use Rattle.go_stmt.specs.Statements.{each_of, values_known, alone_types, value_types}
 use Rattle.go_faultless.specs.Finds.{IsKnown}
+use Rattle.go_faultless.proofs.Rules.{IsAsked, assignments, defaults}
 use Rattle.go_faultless.proofs.Forms.{AllTyped}
 
 abbrev pub count : Values → ℕ
@@ -55,10 +59,6 @@ one_typed [] o k = tt
 one_typed (n ∷ ns) None k = absurd cc
 one_typed (n ∷ ns) (Some t) k = one_typed ns (Some t) k
 
-some_mapped : {A B : Type 0} (f : A → B) (xs : List A) → AllSome (map (λ x. Some (f x)) xs)
-some_mapped f [] = tt
-some_mapped f (x ∷ xs) = some_mapped f xs
-
 pub some_counted : {A : Type 0} (os : List (Option A)) (xs : List A) → all_some os ≡ Some xs → length os ≡ length xs
 some_counted [] [] is = refl
 some_counted [] (x ∷ xs) is = absurd cc
@@ -68,43 +68,118 @@ some_counted {A} (Some y ∷ os) xs is = elim (all_some os) as (λ o. all_some o
   | Some ys ↦ λ at h. (let same : y ∷ ys ≡ xs = cc in ap suc (some_counted os ys at) ∙ ap length same)
 ] refl is
 
-each_counted : {A B : Type 0} (f : Expr → A) (g : Expr → B) (es : Exprs) → length (each_of f es) ≡ length (each_of g es)
-each_counted f g no_exprs = refl
-each_counted f g (some_exprs e es) = ap suc (each_counted f g es)
-
 pub parts_some : {A : Type 0} (o : Option A) (os : List (Option A)) → IsKnown (all_some (o ∷ os)) → IsKnown o × IsKnown (all_some os)
 parts_some None os k = absurd cc
 parts_some (Some x) os k = ((x, refl), (elim (all_some os) as (λ r. IsKnown (option_map (λ xs. x ∷ xs) r) → IsKnown r) [ None ↦ λ h. absurd cc | Some xs ↦ λ h. (xs, refl) ]) k)
 
-mapped_some : {A B : Type 0} (f : A → B) (o : Option A) (os : List (Option B)) → IsKnown o → AllSome os → AllSome (option_map f o ∷ os)
-mapped_some f None os k h = absurd cc
-mapped_some f (Some x) os k h = h
+pub all_front : {A : Type 0} (o : Option A) (os : List (Option A)) (x : A) (xs : List A) → o ≡ Some x → all_some os ≡ Some xs → all_some (o ∷ os) ≡ Some (x ∷ xs)
+all_front o os x xs at is = rw (at, is) refl
 
-each_typed : (s : Scope) (es : Exprs) → IsKnown (all_some (each_of (λ e. operand (verdict s e)) es)) → AllSome (each_of (λ e. option_map (λ x. default_type (expr_type x)) (operand (verdict s e))) es)
-each_typed s no_exprs k = tt
-each_typed s (some_exprs e es) k =
-    let ks = parts_some (operand (verdict s e)) (each_of (λ e. operand (verdict s e)) es) k in
-    mapped_some (λ x. default_type (expr_type x)) (operand (verdict s e)) (each_of (λ e. option_map (λ x. default_type (expr_type x)) (operand (verdict s e))) es) ks.0 (each_typed s es ks.1)
+-- ---- values that suit
 
--- types of variables by values that are known
-abbrev pub Typed : Values → List (Option Type') → Type 0
-Typed values ts = (length ts ≡ count values) × AllSome ts
+some_least : (k : FaultKind) (o : Option FaultKind) → lesser (Some k) o ≡ None → ⊥
+some_least k None h = cc
+some_least k (Some l) h = elim (cases_Bool (nat_le (fault_number k) (fault_number l))) [
+  | inl is ↦ (let r : lesser (Some k) (Some l) ≡ Some k = rw is refl in cc)
+  | inr not_so ↦ (let r : lesser (Some k) (Some l) ≡ Some l = rw not_so refl in cc)
+]
 
-alone : (values : Values) → Typed values (alone_types (Some values))
-alone (separate es) = (length-map es (λ e. Some (default_type (expr_type e))), some_mapped (λ e. default_type (expr_type e)) es)
-alone (together ts f es) = (length-map ts Some, some_mapped (λ t. t) ts)
-alone no_values = (refl, tt)
+none_least : (ks : List FaultKind) → least ks ≡ None → ks ≡ []
+none_least [] h = refl
+none_least (k ∷ ks) h = absurd (some_least k (least ks) h)
 
-many : (s : Scope) (es : Exprs) (values : Values) (o : Option (List typed.Expr)) → all_some (each_of (λ e. operand (verdict s e)) es) ≡ o → option_map separate o ≡ Some values
-    → Typed values (each_of (λ e. option_map (λ x. default_type (expr_type x)) (operand (verdict s e))) es)
-many s es values None at is = absurd cc
-many s es values (Some xs) at is =
-    let same : separate xs ≡ values = cc in
-    let types = each_of (λ e. option_map (λ x. default_type (expr_type x)) (operand (verdict s e))) es in
-    let counted : length types ≡ length xs = each_counted _ (λ e. operand (verdict s e)) es ∙ some_counted (each_of (λ e. operand (verdict s e)) es) xs at in
-    (counted ∙ ap count same, each_typed s es (xs, at))
+pub none_wrong : {A : Type 0} (vs : List (Verdict A)) (o : Option FaultKind) → least (flat_map wrong vs) ≡ o → IsKnown (fine (each_unless [] vs)) → flat_map wrong vs ≡ []
+none_wrong vs None at k = none_least (flat_map wrong vs) at
+none_wrong vs (Some kind) at k = absurd (let r : fine (each_unless [] vs) ≡ None = rw (at, each_unless) refl in cc)
 
-pub values_typed : (s : Scope) (es : Exprs) (values : Values) → values_known s es ≡ Some values → Typed values (value_types s es)
-values_typed s no_exprs values is = many s no_exprs values (Some []) refl is
-values_typed s (some_exprs e no_exprs) values is = rw is (alone values)
-values_typed s (some_exprs e (some_exprs f es)) values is = many s (some_exprs e (some_exprs f es)) values (all_some (each_of (λ e. operand (verdict s e)) (some_exprs e (some_exprs f es)))) refl is
+pub suited_parts : (due : List (Option Type')) (es : List typed.Expr) (b : Bool) → nat_eq (length due) (length es) ≡ b → IsKnown (fine (suited due (separate es))) → flat_map wrong (map suited_one (zip due es)) ≡ []
+suited_parts due es false is k = absurd (let r : fine (suited due (separate es)) ≡ None = rw is refl in cc)
+suited_parts due es true is k =
+    let r : suited due (separate es) ≡ checked (λ es. Fine (each (typed.pack_exprs es))) (each_unless [] (map suited_one (zip due es))) = rw is refl in
+    none_wrong (map suited_one (zip due es)) (least (flat_map wrong (map suited_one (zip due es)))) refl
+    (through_known (λ es. each (typed.pack_exprs es)) (each_unless [] (map suited_one (zip due es))) (subst (λ v. IsKnown (fine v)) r k))
+
+pub right : {A : Type 0} (v : Verdict A) → IsAsked v → (rest : List FaultKind) → wrong v ++ rest ≡ [] → IsKnown (fine v) × (rest ≡ [])
+right (Fine x) h rest none = ((x, refl), none)
+right (Breaks kind) h rest none = absurd cc
+right Passed h rest none = absurd h
+
+-- ---- types that variables take of their values
+
+-- a type for each for which none is due
+abbrev pub Fit : List (Option Type') → List (Option Type') → Type 0
+Fit [] [] = Unit {0}
+Fit [] (t ∷ ts) = ⊥
+Fit (d ∷ ds) [] = ⊥
+Fit (None ∷ ds) (t ∷ ts) = IsKnown t × Fit ds ts
+Fit (Some u ∷ ds) (t ∷ ts) = Fit ds ts
+
+pub settled_known : (e : typed.Expr) → IsKnown (fine (defaulted e)) → IsKnown (settled_type e)
+settled_known e k = elim (cases_Bool (lies_in (default_type (expr_type e)) e)) [
+  | inl is ↦ rw is (default_type (expr_type e), refl)
+  | inr not_so ↦ absurd (
+      let r : fine (defaulted e) ≡ None = elim (cases_Bool (not (assignable (expr_type e) (default_type (expr_type e))))) [
+        | inl unfit ↦ rw unfit refl
+        | inr fit ↦ rw (fit, not_so) refl
+      ] in
+      cc)
+]
+
+separate_fits : (due : List (Option Type')) (es : List typed.Expr) → length due ≡ length es → flat_map wrong (map suited_one (zip due es)) ≡ [] → Fit due (map settled_type es)
+separate_fits [] [] same none = tt
+separate_fits [] (e ∷ es) same none = absurd (omega (arith, same))
+separate_fits (d ∷ ds) [] same none = absurd (omega (arith, same))
+separate_fits (None ∷ ds) (e ∷ es) same none =
+    let r = right (defaulted e) (defaults e) (flat_map wrong (map suited_one (zip ds es))) none in
+    (settled_known e r.0, separate_fits ds es (omega (arith, same)) r.1)
+separate_fits (Some t ∷ ds) (e ∷ es) same none =
+    let r = right (assigned t e) (assignments t e) (flat_map wrong (map suited_one (zip ds es))) none in
+    separate_fits ds es (omega (arith, same)) r.1
+
+together_fits : (due : List (Option Type')) (ts : List Type') → length due ≡ length ts → Fit due (map Some ts)
+together_fits [] [] same = tt
+together_fits [] (t ∷ ts) same = absurd (omega (arith, same))
+together_fits (d ∷ ds) [] same = absurd (omega (arith, same))
+together_fits (None ∷ ds) (t ∷ ts) same = ((t, refl), together_fits ds ts (omega (arith, same)))
+together_fits (Some u ∷ ds) (t ∷ ts) same = together_fits ds ts (omega (arith, same))
+
+suited_fits : (due : List (Option Type')) (values : Values) → IsKnown (fine (suited due values)) → Fit due (alone_types (Some values))
+suited_fits due (separate es) k = separate_fits due es (suited_counted due (separate es) k) (suited_parts due es (nat_eq (length due) (length es)) refl k)
+suited_fits due (together ts f es) k = together_fits due ts (suited_counted due (together ts f es) k)
+suited_fits due no_values k = absurd cc
+
+all_types : (s : Scope) (es : Exprs) (xs : List typed.Expr) → all_some (each_of (λ e. operand (verdict s e)) es) ≡ Some xs
+    → each_of (λ e. option_and_then settled_type (operand (verdict s e))) es ≡ map settled_type xs
+all_types s no_exprs xs is = (let same : [] ≡ xs = cc in ap (map settled_type) same)
+all_types s (some_exprs e es) xs is =
+    let rest = each_of (λ e. operand (verdict s e)) es in
+    let ks = parts_some (operand (verdict s e)) rest (xs, is) in
+    let x = (ks.0).0 in
+    let ys = (ks.1).0 in
+    let r : all_some (operand (verdict s e) ∷ rest) ≡ Some (x ∷ ys) = all_front (operand (verdict s e)) rest x ys (ks.0).1 (ks.1).1 in
+    let same : x ∷ ys ≡ xs = cc in
+    let front : option_and_then settled_type (operand (verdict s e)) ≡ settled_type x = ap (option_and_then settled_type) (ks.0).1 in
+    ap (λ t. t ∷ each_of (λ e. option_and_then settled_type (operand (verdict s e))) es) front
+    ∙ ap (λ ts. settled_type x ∷ ts) (all_types s es ys (ks.1).1)
+    ∙ ap (map settled_type) same
+
+several_types : (s : Scope) (es : Exprs) (v : Values) (o : Option (List typed.Expr)) → all_some (each_of (λ e. operand (verdict s e)) es) ≡ o → option_map separate o ≡ Some v
+    → each_of (λ e. option_and_then settled_type (operand (verdict s e))) es ≡ alone_types (Some v)
+several_types s es v None at is = absurd cc
+several_types s es v (Some xs) at is = (let same : separate xs ≡ v = cc in all_types s es xs at ∙ ap (λ w. alone_types (Some w)) same)
+
+pub types_alone : (s : Scope) (es : Exprs) (v : Values) → values_known s es ≡ Some v → value_types s es ≡ alone_types (Some v)
+types_alone s no_exprs v is = several_types s no_exprs v (Some []) refl is
+types_alone s (some_exprs e no_exprs) v is = ap alone_types is
+types_alone s (some_exprs e (some_exprs f es)) v is = several_types s (some_exprs e (some_exprs f es)) v (all_some (each_of (λ e. operand (verdict s e)) (some_exprs e (some_exprs f es)))) refl is
+
+-- types by values that are known and suit
+pub values_fit : (s : Scope) (es : Exprs) (v : Values) (due : List (Option Type')) → values_known s es ≡ Some v → IsKnown (fine (suited due v)) → Fit due (value_types s es)
+values_fit s es v due is k = subst (Fit due) (sym (types_alone s es v is)) (suited_fits due v k)
+
+pub fit_typed : (ns : List Name) (ts : List (Option Type')) → Fit (map (λ n. None) ns) ts → AllTyped (paired ns ts)
+fit_typed [] [] h = tt
+fit_typed [] (t ∷ ts) h = absurd h
+fit_typed (n ∷ ns) [] h = absurd h
+fit_typed (n ∷ ns) (None ∷ ts) h = absurd (let no = h.0 in cc (no.1))
+fit_typed (n ∷ ns) (Some t ∷ ts) h = fit_typed ns ts h.1

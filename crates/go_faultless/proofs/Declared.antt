@@ -1,25 +1,27 @@
 -- What is known of the objects of specifications that have no fault.
 use Rattle.std.proofs.Common.{◌≡◌, ℕ, zero, suc, ◌+◌, ◌<◌, true, false, List, [], ◌∷◌, ◌++◌, Option, Some, None, map, length, refl, sym, ap, ◌∙◌, subst, arith, eq-eqb}
-use Rattle.std.specs.Prelude.{option_map, unwrap_or, nat_eq}
+use Rattle.std.specs.Prelude.{option_map, option_and_then, unwrap_or, nat_eq}
 use Rattle.std.specs.List.{slice_get}
 use Rattle.go_text.specs.declared.place.Place.{Place}
-use Rattle.go_ast.specs.Trees.{Name, TypeExpr, Expr, Exprs, no_exprs, some_exprs, place_of}
+use Rattle.go_ast.specs.Trees.{Name, TypeExpr, Expr, Exprs, no_exprs, some_exprs}
 use Rattle.go_types.specs.Types.{Type'}
 use Rattle.go_typed.specs.Trees as typed
-use Rattle.go_typed.specs.Trees.{Symbol, expr_type}
+use Rattle.go_typed.specs.Trees.{Symbol}
 use Rattle.go_scope.specs.Names.{Used, in_expr, in_exprs}
 use Rattle.go_expr.specs.Known.{Known, results, Verdict, Scope}
-use Rattle.go_expr.specs.Rules.{fine, default_type}
+use Rattle.go_expr.specs.Rules.{fine, defaulted, settled_type}
 use Rattle.go_expr.specs.Verdicts as verdicts
-use Rattle.go_expr.specs.Verdicts.{asked_both, joined, operand, operands, verdict, type_verdict, broken, operand_broken, faults, type_faults}
+use Rattle.go_expr.specs.Verdicts.{asked, asked_both, joined, operand, operands, verdict, type_verdict, broken, bare_place, operand_broken, faults, type_faults}
 use Rattle.go_stmt.specs.Rules.{values_of, constants_of as constants_rule}
 use Rattle.go_stmt.specs.Statements.{each_of, operands_faults, values_faults}
-use Rattle.go_objects.specs.Objects.{Form, constant, valued_variable, Object, paired, unpaired, constants_of, typed_object, result_objects, variables_of}
+use Rattle.go_objects.specs.Objects.{Form, constant, valued_variable, Object, paired, begin_of, other_object, unpaired, constants_of, typed_object, result_objects, variables_of}
 use Rattle.go_objects.specs.Table.{in_written, result_type, variable, declared_in}
 use Rattle.go_decl.specs.Faults.{Facts, written_type, written_faults, spec_broken, var_broken}
 use Rattle.go_faultless.specs.Finds.{IsKnown}
 use Rattle.go_faultless.proofs.Faultless.{Tells, first, second, two_none, known, mapped, type_known, value_known, operands_known, settle}
+use Rattle.go_faultless.proofs.Rules.{defaults}
 use Rattle.go_faultless.proofs.Steps.{constants}
+use Rattle.go_faultless.proofs.Counts.{settled_known}
 use Rattle.go_faultless.proofs.Groups.{constant_parts}
 use Rattle.go_faultless.proofs.Proper.{proper, scope_proper, IsProper}
 use Rattle.go_faultless.proofs.Counted.{Counted, counted, paired_counted, never, one_value, one_call}
@@ -29,29 +31,33 @@ either : (t : Facts) (o : Option (List Object)) (os : List Object) → ((xs : Li
 either t None os f g = g refl
 either t (Some xs) os f g = f xs refl
 
-abbrev made : ℕ → (Expr → Form) → Name → Expr → Object
-made file form n e = record { file = file; name = n; form = form e }
+abbrev made : ℕ → List Name → (Expr → Form) → Name → Expr → Object
+made file all form n e = record { file = file; begins = begin_of all n; name = n; form = form e }
 
 abbrev EachOf : (Expr → Type 0) → Exprs → Type 0
 EachOf P no_exprs = Unit {0}
 EachOf P (some_exprs e es) = P e × EachOf P es
 
-pairs_follow : (t : Facts) (file : ℕ) (form : Expr → Form) (P : Expr → Type 0) → ((n : Name) (e : Expr) → P e → Follows t (made file form n e)) → (ns : List Name) (es : Exprs) → EachOf P es → (os : List Object)
-    → paired (made file form) ns es ≡ Some os → AllFollow t os
-pairs_follow t file form P h [] no_exprs all os is = (let same : [] ≡ os = cc in subst (AllFollow t) same tt)
-pairs_follow t file form P h [] (some_exprs e es) all os is = absurd cc
-pairs_follow t file form P h (n ∷ ns) no_exprs all os is = absurd cc
-pairs_follow t file form P h (n ∷ ns) (some_exprs e es) all os is =
-    elim (paired (made file form) ns es) as (λ r. paired (made file form) ns es ≡ r → option_map (λ xs. made file form n e ∷ xs) r ≡ Some os → AllFollow t os) [
+pairs_follow : (t : Facts) (file : ℕ) (all_names : List Name) (form : Expr → Form) (P : Expr → Type 0) → ((n : Name) (e : Expr) → P e → Follows t (made file all_names form n e)) → (ns : List Name) (es : Exprs) → EachOf P es → (os : List Object)
+    → paired (made file all_names form) ns es ≡ Some os → AllFollow t os
+pairs_follow t file all_names form P h [] no_exprs all os is = (let same : [] ≡ os = cc in subst (AllFollow t) same tt)
+pairs_follow t file all_names form P h [] (some_exprs e es) all os is = absurd cc
+pairs_follow t file all_names form P h (n ∷ ns) no_exprs all os is = absurd cc
+pairs_follow t file all_names form P h (n ∷ ns) (some_exprs e es) all os is =
+    elim (paired (made file all_names form) ns es) as (λ r. paired (made file all_names form) ns es ≡ r → option_map (λ xs. made file all_names form n e ∷ xs) r ≡ Some os → AllFollow t os) [
       | None ↦ λ at k. absurd cc
       | Some rest ↦ λ at k. (
-          let same : made file form n e ∷ rest ≡ os = cc in
-          subst (AllFollow t) same (h n e all.0, pairs_follow t file form P h ns es all.1 rest at))
+          let same : made file all_names form n e ∷ rest ≡ os = cc in
+          subst (AllFollow t) same (h n e all.0, pairs_follow t file all_names form P h ns es all.1 rest at))
     ] refl is
 
+each_other : (t : Facts) (file : ℕ) (all : List Name) (of : Option TypeExpr) (es : Exprs) (ns : List Name) → (((iota : Option ℕ) → Tells (scope_of t file iota) (in_written of ++ in_exprs es)) → ⊥)
+    → AllFollow t (map (other_object file all of es) ns)
+each_other t file all of es [] h = tt
+each_other t file all of es (n ∷ ns) h = (λ tells own. h tells, each_other t file all of es ns h)
+
 others_follow : (t : Facts) (file : ℕ) (of : Option TypeExpr) (es : Exprs) (ns : List Name) → (((iota : Option ℕ) → Tells (scope_of t file iota) (in_written of ++ in_exprs es)) → ⊥) → AllFollow t (unpaired file of es ns)
-others_follow t file of es [] h = tt
-others_follow t file of es (n ∷ ns) h = (λ tells own. h tells, others_follow t file of es ns h)
+others_follow t file of es ns h = each_other t file ns of es ns h
 
 -- ---- constants
 
@@ -90,24 +96,33 @@ pub constants_follow : (t : Facts) (file iota : ℕ) (p : Place) (ns : List Name
 constants_follow t file iota p ns of es w v whole =
     let s = scope_of t file (Some iota) in
     let form : Expr → Form = λ e. constant of e iota in
-    either t (paired (made file form) ns es) (unpaired file of es ns)
-    (λ os is. pairs_follow t file form (IsFaultless s) (λ n e h. constant_follows t file n of e iota w h) ns es (each_fine s es v) os is)
-    (λ none. others_follow t file of es ns (λ tells. unmatched (made file form) s p ns of es (tells (Some iota)) w v whole none))
+    either t (paired (made file ns form) ns es) (unpaired file of es ns)
+    (λ os is. pairs_follow t file ns form (IsFaultless s) (λ n e h. constant_follows t file (begin_of ns n) n of e iota w h) ns es (each_fine s es v) os is)
+    (λ none. others_follow t file of es ns (λ tells. unmatched (made file ns form) s p ns of es (tells (Some iota)) w v whole none))
 
 -- ---- variables
 
-pub typeds_follow : (t : Facts) (file : ℕ) (of : TypeExpr) (ns : List Name) → type_faults (scope_of t file None) of ≡ [] → AllFollow t (map (typed_object file of) ns)
-typeds_follow t file of [] written = tt
-typeds_follow t file of (n ∷ ns) written = (typed_follows t file n of written, typeds_follow t file of ns written)
+pub typeds_follow : (t : Facts) (file : ℕ) (all : List Name) (of : TypeExpr) (ns : List Name) → type_faults (scope_of t file None) of ≡ [] → AllFollow t (map (typed_object file all of) ns)
+typeds_follow t file all of [] written = tt
+typeds_follow t file all of (n ∷ ns) written = (typed_follows t file (begin_of all n) n of written, typeds_follow t file all of ns written)
 
 abbrev Gives : Scope → Expr → Type 0
 Gives s e = Tells s (in_expr false e) → IsKnown (operand (verdict s e))
 
-valued_follows : (t : Facts) (file : ℕ) (n : Name) (e : Expr) → Gives (scope_of t file None) e → Follows t (made file valued_variable n e)
-valued_follows t file n e h tells own =
+-- its value lies in the type that the variable takes of it
+valued_follows : (t : Facts) (file : ℕ) (all : List Name) (n : Name) (e : Expr) → Gives (scope_of t file None) e → Follows t (made file all valued_variable n e)
+valued_follows t file all n e h tells own =
+    let s = scope_of t file None in
+    let p = begin_of all n in
     let k = h (tells None) in
     let x : Symbol = record { path = t.package.path; name = n.text } in
-    (default_type (expr_type k.0), x, ap (λ (o : Option typed.Expr). declared_in (fine (variable x (option_map (λ e. default_type (expr_type e)) o)))) k.1)
+    let own_value : broken p (defaulted k.0) ≡ [] = subst (λ (o : Option typed.Expr). broken p (asked defaulted o) ≡ []) k.1 own in
+    let u = settled_known k.0 (known p (defaulted k.0) (defaults k.0) own_value) in (
+      u.0,
+      x,
+      ap (λ (o : Option typed.Expr). declared_in (fine (variable x (option_and_then settled_type o)))) k.1
+          ∙ ap (λ (o : Option Type'). declared_in (fine (variable x o))) u.1,
+    )
 
 each_gives : (s : Scope) (es : Exprs) → operands_faults s es ≡ [] → EachOf (Gives s) es
 each_gives s no_exprs none = tt
@@ -127,19 +142,19 @@ one_result ts f es number count u same at = rw (same, at) refl
 abbrev Calls : Scope → Expr → ℕ → Type 0
 Calls s e n = Tells s (in_expr false e) → (ts : List Type') × (f : Symbol) × (es : typed.Exprs) × (fine (verdict s e) ≡ Some (results ts f es)) × (n ≡ length ts)
 
-results_follow : (t : Facts) (file count number : ℕ) (e : Expr) (ns : List Name) → number + length ns ≡ count → Calls (scope_of t file None) e count → AllFollow t (result_objects file count number e ns)
-results_follow t file count number e [] same h = tt
-results_follow t file count number e (n ∷ ns) same h = (
+results_follow : (t : Facts) (file : ℕ) (all : List Name) (number : ℕ) (e : Expr) (ns : List Name) → number + length ns ≡ length all → Calls (scope_of t file None) e (length all) → AllFollow t (result_objects file all number e ns)
+results_follow t file all number e [] same h = tt
+results_follow t file all number e (n ∷ ns) same h = (
   λ tells own. (
       let c = h (tells None) in
       let x : Symbol = record { path = t.package.path; name = n.text } in
       let u = some_there c.0 number (omega (arith, same, c.4)) in (
         u.0,
         x,
-        ap (λ (o : Option Known). declared_in (fine (variable x (result_type number count o)))) c.3
-            ∙ ap (λ (o : Option Type'). declared_in (fine (variable x o))) (one_result c.0 c.1 c.2 number count u.0 (eq-eqb (length c.0) count (sym c.4)) u.1),
+        ap (λ (o : Option Known). declared_in (fine (variable x (result_type number (length all) o)))) c.3
+            ∙ ap (λ (o : Option Type'). declared_in (fine (variable x o))) (one_result c.0 c.1 c.2 number (length all) u.0 (eq-eqb (length c.0) (length all) (sym c.4)) u.1),
       )),
-  results_follow t file count (suc number) e ns (omega (arith, same)) h,
+  results_follow t file all (suc number) e ns (omega (arith, same)) h,
 )
 
 joined_tells : (s : Scope) (us vs : List Used) → Tells s us → Tells s vs → Tells s (us ++ vs)
@@ -167,24 +182,24 @@ some_calls s ns e several none h tells =
 
 pub variables_follow : (t : Facts) (file : ℕ) (p : Place) (n : Name) (ns : List Name) (of : Option TypeExpr) (es : Exprs) → written_faults (scope_of t file None) of ≡ [] → values_faults (scope_of t file None) es ≡ []
     → var_broken p (scope_of t file None) (record { names = n ∷ ns; type = of; values = es }) ≡ [] → AllFollow t (variables_of file (record { names = n ∷ ns; type = of; values = es }))
-variables_follow t file p n ns (Some of) es w v whole = typeds_follow t file of (n ∷ ns) w
+variables_follow t file p n ns (Some of) es w v whole = typeds_follow t file (n ∷ ns) of (n ∷ ns) w
 variables_follow t file p n ns None no_exprs w v whole =
     let s = scope_of t file None in
-    others_follow t file None no_exprs (n ∷ ns) (λ tells. (let c = counted s (n ∷ ns) no_exprs p (tells None) v whole in never (made file valued_variable) s (n ∷ ns) no_exprs _ refl c.values c.are c.as_many refl))
+    others_follow t file None no_exprs (n ∷ ns) (λ tells. (let c = counted s (n ∷ ns) no_exprs p (tells None) v whole in never (made file (n ∷ ns) valued_variable) s (n ∷ ns) no_exprs _ refl c.values c.are c.as_many refl))
 variables_follow t file p n [] None (some_exprs e no_exprs) w v whole =
     let s = scope_of t file None in
-    let ns = two_none (faults s e) (broken (place_of e) (verdicts.asked values_of (fine (verdict s e)))) v in
-    (valued_follows t file n e (one_gives s n e (proper s (scope_proper t.package t.known file None)) ns.0 (λ tells. counted s (n ∷ []) (some_exprs e no_exprs) p tells v whole)), tt)
+    let ns = two_none (faults s e) (broken (bare_place e) (verdicts.asked values_of (fine (verdict s e)))) v in
+    (valued_follows t file (n ∷ []) n e (one_gives s n e (proper s (scope_proper t.package t.known file None)) ns.0 (λ tells. counted s (n ∷ []) (some_exprs e no_exprs) p tells v whole)), tt)
 variables_follow t file p n (m ∷ ms) None (some_exprs e no_exprs) w v whole =
     let s = scope_of t file None in
-    let ns = two_none (faults s e) (broken (place_of e) (verdicts.asked values_of (fine (verdict s e)))) v in
-    results_follow t file (length (n ∷ m ∷ ms)) 0 e (n ∷ m ∷ ms) (omega arith)
+    let ns = two_none (faults s e) (broken (bare_place e) (verdicts.asked values_of (fine (verdict s e)))) v in
+    results_follow t file (n ∷ m ∷ ms) 0 e (n ∷ m ∷ ms) (omega arith)
     (some_calls s (n ∷ m ∷ ms) e (λ h. absurd (omega (arith, h))) ns.0 (λ tells. counted s (n ∷ m ∷ ms) (some_exprs e no_exprs) p tells v whole))
 variables_follow t file p n ns None (some_exprs e (some_exprs f es)) w v whole =
     let s = scope_of t file None in
     let all = some_exprs e (some_exprs f es) in
-    either t (paired (made file valued_variable) (n ∷ ns) all) (unpaired file None all (n ∷ ns))
-    (λ os is. pairs_follow t file valued_variable (Gives s) (valued_follows t file) (n ∷ ns) all (each_gives s all v) os is)
+    either t (paired (made file (n ∷ ns) valued_variable) (n ∷ ns) all) (unpaired file None all (n ∷ ns))
+    (λ os is. pairs_follow t file (n ∷ ns) valued_variable (Gives s) (valued_follows t file (n ∷ ns)) (n ∷ ns) all (each_gives s all v) os is)
     (λ none. others_follow t file None all (n ∷ ns) (λ tells. (
     let c = counted s (n ∷ ns) all p (tells None) v whole in
-    never (made file valued_variable) s (n ∷ ns) all _ refl c.values c.are c.as_many none)))
+    never (made file (n ∷ ns) valued_variable) s (n ∷ ns) all _ refl c.values c.are c.as_many none)))

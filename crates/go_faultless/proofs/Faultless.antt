@@ -5,15 +5,15 @@ use Rattle.std.specs.List.{Contains}
 use Rattle.ws_reach.proofs.Reached.{contains_get, get_contains}
 use Rattle.go_text.specs.declared.place.Place.{Place}
 use Rattle.go_text.specs.declared.fault.FaultKind.{FaultKind}
-use Rattle.go_ast.specs.Trees.{TypeExpr, named, qualified, array, struct, Fields, no_fields, field, Expr, name, integer, rune, string, parenthesized, composite_lit, conversion, selector, index, call, unary, binary, Exprs, no_exprs, some_exprs, Elements, no_elements, element, Element, expression_element, value_element, place_of}
+use Rattle.go_ast.specs.Trees.{TypeExpr, named, qualified, array, struct, Fields, no_fields, field, Expr, name, integer, rune, string, parenthesized, composite_lit, conversion, selector, index, call, unary, binary, Exprs, no_exprs, some_exprs, Elements, no_elements, element, Element, expression_element, value_element}
 use Rattle.go_types.specs.Types.{Type'}
 use Rattle.go_typed.specs.Trees.{Expr as Typed}
 use Rattle.go_scope.specs.Names.{Used, in_type, in_fields, in_expr, in_exprs, in_elements, in_element}
 use Rattle.go_expr.specs.Known.{Known, Verdict, Fine, Breaks, Passed, Scope, look_up}
-use Rattle.go_expr.specs.Rules.{fine, valued, type_due, array_of, declared_field, struct_of, value_due, literal, literal_of, untyped_literal, element_type, selected, index_of, binary_of, unary_of, converted, called}
-use Rattle.go_expr.specs.Verdicts.{asked, both, asked_both, joined, qualified_known, operand, callee, verdict, operands, elements, element_verdict, type_verdict, fields_known, broken, operand_broken, callee_broken, struct_place, faults, operands_faults, elements_faults, element_faults, type_faults, fields_faults}
+use Rattle.go_expr.specs.Rules.{fine, valued, type_due, array_of, declared_field, struct_of, value_due, literal, literal_of, Due, element_due, due_type, untyped_literal, selected, exported_by, index_of, binary_of, unary_of, converted, called}
+use Rattle.go_expr.specs.Verdicts.{asked, both, asked_both, joined, qualified_known, operand, inside, subject, callee, key_text, verdict, operands, elements, element_verdict, type_verdict, fields_known, broken, bare_place, part_broken, operand_broken, struct_place, faults, operands_faults, elements_faults, element_faults, type_faults, fields_faults}
 use Rattle.go_faultless.specs.Finds.{IsKnown, IsTold, Finds}
-use Rattle.go_faultless.proofs.Rules.{IsAsked, as_value, literals, types_due, arrays, structs, values_due, unpackaged_told, literals_of, untyped, selections, indexes, conversions, calls, binaries, unaries}
+use Rattle.go_faultless.proofs.Rules.{IsAsked, as_value, literals, types_due, arrays, structs, values_due, unpackaged_told, selectable_told, callable_told, literals_of, untyped, selections, qualifications, indexes, conversions, calls, binaries, unaries}
 
 -- ---- names that a tree uses
 
@@ -117,16 +117,28 @@ selected_told path x (Fine k) h = selections path x k (subst IsTold (sym h.1) h.
 selected_told path x (Breaks kind) h = absurd cc
 selected_told path x Passed h = absurd cc
 
+qualified_told : (x : List ℕ) (v : Verdict Known) → IsSettled v → IsTold (asked (exported_by x) (fine v))
+qualified_told x (Fine k) h = qualifications x k (subst IsTold (sym h.1) h.2)
+qualified_told x (Breaks kind) h = absurd cc
+qualified_told x Passed h = absurd cc
+
+inside_told : (v : Verdict Known) → IsSettled v → IsTold (inside v)
+inside_told (Fine k) h = unpackaged_told k
+inside_told (Breaks kind) h = absurd cc
+inside_told Passed h = absurd cc
+
+subject_told : (v : Verdict Known) → IsSettled v → IsTold (subject v)
+subject_told (Fine k) h = selectable_told k (subst IsTold (sym h.1) h.2)
+subject_told (Breaks kind) h = absurd cc
+subject_told Passed h = absurd cc
+
 callee_told : (v : Verdict Known) → IsSettled v → IsTold (callee v)
-callee_told (Fine k) h = unpackaged_told k
+callee_told (Fine k) h = callable_told k
 callee_told (Breaks kind) h = absurd cc
 callee_told Passed h = absurd cc
 
-pub callee_settled : (e : Expr) (v : Verdict Known) → IsSettled v → callee_broken e v ≡ [] → IsSettled (callee v)
-callee_settled e v h none = settled (place_of e) (callee v) (callee_told v h) none
-
 pub operand_known : (e : Expr) (v : Verdict Known) → IsSettled v → operand_broken e v ≡ [] → IsKnown (operand v)
-operand_known e v h none = known (place_of e) (asked value_due (fine v)) (by_one value_due (fine v) (known_of v h) values_due) none
+operand_known e v h none = known (bare_place e) (asked value_due (fine v)) (by_one value_due (fine v) (known_of v h) values_due) none
 
 type_of : (p : Place) (v : Verdict Known) → IsSettled v → broken p (asked type_due (fine v)) ≡ [] → IsKnown (fine (asked type_due (fine v)))
 type_of p v h none = known p (asked type_due (fine v)) (by_one type_due (fine v) (known_of v h) types_due) none
@@ -138,15 +150,15 @@ mutual
   settle s dotted (rune p z) h none = settled p (verdict s (rune p z)) tt none
   settle s dotted (string p bytes) h none = settled p (verdict s (string p bytes)) tt none
   settle s dotted (parenthesized p e) h none =
-      let ns = two_none (faults s e) (callee_broken e (verdict s e)) none in
-      callee_settled e (verdict s e) (settle s false e h ns.0) ns.1
+      let ns = two_none (faults s e) (part_broken e (inside (verdict s e))) none in
+      settled (bare_place e) (inside (verdict s e)) (inside_told (verdict s e) (settle s false e h ns.0)) ns.1
   settle s dotted (composite_lit p t q es) h none =
-      let due = element_type (fine (type_verdict s t)) in
-      let ns = three_none (type_faults s t) (elements_faults s due es) (broken p (verdict s (composite_lit p t q es))) none in
+      let around = fine (type_verdict s t) in
+      let ns = three_none (type_faults s t) (elements_faults s around 0 es) (broken p (verdict s (composite_lit p t q es))) none in
       let of = type_known s t (first s (in_type t) (in_elements es) h) ns.0 in
-      let parts = elements_known s due es (second s (in_type t) (in_elements es) h) ns.1 in
-      let rule = asked_both (literal_of s.path) (fine (type_verdict s t)) (elements s due es) in
-      settled p (valued rule) (as_value rule (by_two (literal_of s.path) (fine (type_verdict s t)) (elements s due es) of parts (literals_of s.path))) ns.2
+      let parts = elements_known s around 0 es (second s (in_type t) (in_elements es) h) ns.1 in
+      let rule = asked_both (literal_of s.path) around (elements s around 0 es) in
+      settled p (valued rule) (as_value rule (by_two (literal_of s.path) around (elements s around 0 es) of parts (literals_of s.path))) ns.2
   settle s dotted (conversion p t e) h none =
       let ns = four_none (type_faults s t) (faults s e) (operand_broken e (verdict s e)) (broken p (verdict s (conversion p t e))) none in
       let of = type_known s t (first s (in_type t) (in_expr false e) h) ns.0 in
@@ -154,8 +166,9 @@ mutual
       let rule = asked_both converted (fine (type_verdict s t)) (operand (verdict s e)) in
       settled p (valued rule) (as_value rule (by_two converted (fine (type_verdict s t)) (operand (verdict s e)) of from conversions)) ns.3
   settle s dotted (selector p e x) h none =
-      let ns = two_none (faults s e) (broken p (verdict s (selector p e x))) none in
-      settled p (verdict s (selector p e x)) (selected_told s.path x.text (verdict s e) (settle s true e h ns.0)) ns.1
+      let ns = three_none (faults s e) (part_broken e (subject (verdict s e))) (broken p (verdict s (selector p e x))) none in
+      let of = settled (bare_place e) (subject (verdict s e)) (subject_told (verdict s e) (settle s true e h ns.0)) ns.1 in
+      settled p (verdict s (selector p e x)) (selected_told s.path x.text (subject (verdict s e)) of) ns.2
   settle s dotted (index p e i) h none =
       let ns = five_none (faults s e) (operand_broken e (verdict s e)) (faults s i) (operand_broken i (verdict s i)) (broken p (verdict s (index p e i))) none in
       let of = operand_known e (verdict s e) (settle s false e (first s (in_expr false e) (in_expr false i) h) ns.0) ns.1 in
@@ -163,8 +176,8 @@ mutual
       let rule = asked_both index_of (operand (verdict s e)) (operand (verdict s i)) in
       settled p (valued rule) (as_value rule (by_two index_of (operand (verdict s e)) (operand (verdict s i)) of at indexes)) ns.4
   settle s dotted (call p f es) h none =
-      let ns = four_none (faults s f) (callee_broken f (verdict s f)) (operands_faults s es) (broken p (verdict s (call p f es))) none in
-      let of = callee_settled f (verdict s f) (settle s false f (first s (in_expr false f) (in_exprs es) h) ns.0) ns.1 in
+      let ns = four_none (faults s f) (part_broken f (callee (verdict s f))) (operands_faults s es) (broken p (verdict s (call p f es))) none in
+      let of = settled (bare_place f) (callee (verdict s f)) (callee_told (verdict s f) (settle s false f (first s (in_expr false f) (in_exprs es) h) ns.0)) ns.1 in
       let on = operands_known s es (second s (in_expr false f) (in_exprs es) h) ns.2 in
       settled p (verdict s (call p f es)) (call_told (fine (callee (verdict s f))) (operands s es) (known_of (callee (verdict s f)) of) on) ns.3
   settle s dotted (unary p op e) h none =
@@ -186,21 +199,22 @@ mutual
       joined_known (option_map (λ v. v ∷ []) (operand (verdict s e))) (operands s es) (mapped (λ v. v ∷ []) (operand (verdict s e)) front)
       (operands_known s es (second s (in_expr false e) (in_exprs es) h) ns.2)
 
-  elements_known : (s : Scope) (of : Verdict Type') (es : Elements) → Tells s (in_elements es) → elements_faults s of es ≡ [] → IsKnown (elements s of es)
-  elements_known s of no_elements h none = ([], refl)
-  elements_known s of (element key e es) h none =
-      let ns = two_none (element_faults s of e) (elements_faults s of es) none in
-      let front = element_known s of e (first s (in_element e) (in_elements es) h) ns.0 in
-      joined_known _ (elements s of es) (mapped _ (fine (element_verdict s of e)) front) (elements_known s of es (second s (in_element e) (in_elements es) h) ns.1)
+  elements_known : (s : Scope) (of : Option Type') (n : ℕ) (es : Elements) → Tells s (in_elements es) → elements_faults s of n es ≡ [] → IsKnown (elements s of n es)
+  elements_known s of n no_elements h none = ([], refl)
+  elements_known s of n (element key e es) h none =
+      let due = element_due of n (key_text key) in
+      let ns = two_none (element_faults s due e) (elements_faults s of (suc n) es) none in
+      let front = element_known s due e (first s (in_element e) (in_elements es) h) ns.0 in
+      joined_known _ (elements s of (suc n) es) (mapped _ (fine (element_verdict s due e)) front) (elements_known s of (suc n) es (second s (in_element e) (in_elements es) h) ns.1)
 
-  element_known : (s : Scope) (of : Verdict Type') (e : Element) → Tells s (in_element e) → element_faults s of e ≡ [] → IsKnown (fine (element_verdict s of e))
-  element_known s of (expression_element e) h none =
+  element_known : (s : Scope) (due : Due) (e : Element) → Tells s (in_element e) → element_faults s due e ≡ [] → IsKnown (fine (element_verdict s due e))
+  element_known s due (expression_element e) h none =
       let ns = two_none (faults s e) (operand_broken e (verdict s e)) none in
       operand_known e (verdict s e) (settle s false e h ns.0) ns.1
-  element_known s of (value_element p es) h none =
-      let due = element_type (fine of) in
-      let ns = two_none (elements_faults s due es) (broken p (element_verdict s of (value_element p es))) none in
-      known p (element_verdict s of (value_element p es)) (by_one (untyped_literal s.path of) (elements s due es) (elements_known s due es h ns.0) (untyped s.path of)) ns.1
+  element_known s due (value_element p es) h none =
+      let around = due_type due in
+      let ns = two_none (elements_faults s around 0 es) (broken p (element_verdict s due (value_element p es))) none in
+      known p (element_verdict s due (value_element p es)) (by_one (untyped_literal s.path due) (elements s around 0 es) (elements_known s around 0 es h ns.0) (untyped s.path due)) ns.1
 
   pub type_known : (s : Scope) (t : TypeExpr) → Tells s (in_type t) → type_faults s t ≡ [] → IsKnown (fine (type_verdict s t))
   type_known s (named p x) h none =
@@ -209,7 +223,7 @@ mutual
   type_known s (qualified p m n) h none =
       let ns = three_none (broken p (look_up m.text s.names)) (broken p (qualified_known s m n)) (broken p (type_verdict s (qualified p m n))) none in
       let of = settled p (look_up m.text s.names) h.0 ns.0 in
-      type_of p (qualified_known s m n) (settled p (qualified_known s m n) (selected_told s.path n.text (look_up m.text s.names) of) ns.1) ns.2
+      type_of p (qualified_known s m n) (settled p (qualified_known s m n) (qualified_told n.text (look_up m.text s.names) of) ns.1) ns.2
   type_known s (array p e t) h none =
       let ns = four_none (faults s e) (operand_broken e (verdict s e)) (type_faults s t) (broken p (type_verdict s (array p e t))) none in
       let size = operand_known e (verdict s e) (settle s false e (first s (in_expr false e) (in_type t) h) ns.0) ns.1 in

@@ -17,8 +17,7 @@ use Rattle.go_expr.specs.Rules.{fine, valued, assigned, lies_in, constant_due, i
 use Rattle.go_expr.specs.Verdicts.{asked, asked_both, broken, operand, operand_broken, verdict, faults, type_faults}
 use Rattle.go_objects.specs.Objects.{Form, constant, type', typed_variable, valued_variable, result_variable, function', other, Object, firsts, type_object}
 use Rattle.go_objects.specs.Table.{in_written, used_by, scope_at, constant_verdict, named_type, variable, object_verdict, declared_in}
-use Rattle.go_decl.specs.Faults.{Facts, written_faults}
-use Rattle.go_package.specs.Packages.{own_constant, constant_faults, object_faults}
+use Rattle.go_decl.specs.Faults.{Facts, own_constant, constant_faults, object_faults, written_faults}
 use Rattle.go_faultless.proofs.Faultless.{Tells, first, second, two_none, type_known, value_known}
 
 abbrev pub IsConstant : Option Declared → Type 0
@@ -46,7 +45,7 @@ IsOf (other t es) o = ⊥
 abbrev pub scope_of : Facts → ℕ → Option ℕ → Scope
 scope_of t file iota = scope_at t.package t.known file iota
 
--- of an object whose names are told something is known, unless it is a constant that has a fault by itself
+-- of an object whose names are told something is known, unless it has a fault by itself
 abbrev pub Follows : Facts → Object → Type 0
 Follows t o = ((iota : Option ℕ) → Tells (scope_of t o.file iota) (used_by o.form)) → object_faults t o ≡ [] → IsOf o.form (declared_in (fine (object_verdict t.package t.known o)))
 
@@ -106,9 +105,9 @@ constant_known s (Some t) e p tells w v own =
           ∙ ap (λ (x : Verdict typed.Expr). declared_in (fine (valued (asked constant_due (fine x))))) fit.2,
     )
 
-pub constant_follows : (t : Facts) (file : ℕ) (n : Name) (of : Option TypeExpr) (e : Expr) (iota : ℕ) → written_faults (scope_of t file (Some iota)) of ≡ []
-    → faults (scope_of t file (Some iota)) e ++ operand_broken e (verdict (scope_of t file (Some iota)) e) ≡ [] → Follows t (record { file = file; name = n; form = constant of e iota })
-constant_follows t file n of e iota w v tells own = constant_known (scope_of t file (Some iota)) of e n.place (tells (Some iota)) w v own
+pub constant_follows : (t : Facts) (file : ℕ) (p : Place) (n : Name) (of : Option TypeExpr) (e : Expr) (iota : ℕ) → written_faults (scope_of t file (Some iota)) of ≡ []
+    → faults (scope_of t file (Some iota)) e ++ operand_broken e (verdict (scope_of t file (Some iota)) e) ≡ [] → Follows t (record { file = file; begins = p; name = n; form = constant of e iota })
+constant_follows t file p n of e iota w v tells own = constant_known (scope_of t file (Some iota)) of e p (tells (Some iota)) w v own
 
 -- ---- types
 
@@ -128,8 +127,8 @@ type_follows t file spec written none tells own =
 
 -- ---- variables
 
-pub typed_follows : (t : Facts) (file : ℕ) (n : Name) (of : TypeExpr) → type_faults (scope_of t file None) of ≡ [] → Follows t (record { file = file; name = n; form = typed_variable of })
-typed_follows t file n of written tells own =
+pub typed_follows : (t : Facts) (file : ℕ) (p : Place) (n : Name) (of : TypeExpr) → type_faults (scope_of t file None) of ≡ [] → Follows t (record { file = file; begins = p; name = n; form = typed_variable of })
+typed_follows t file p n of written tells own =
     let u = type_known (scope_of t file None) of (tells None) written in
     let x : Symbol = record { path = t.package.path; name = n.text } in
     (u.0, x, ap (λ (o : Option Type'). declared_in (fine (variable x o))) u.1)

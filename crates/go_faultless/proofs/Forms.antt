@@ -1,7 +1,8 @@
 -- Forms of statements, one behind another: one without fault is known, and leaves an environment all names of which are known.
-use Rattle.std.proofs.Common.{◌≡◌, ℕ, Bool, true, false, Option, Some, None, List, [], ◌∷◌, ◌++◌, map, length, codes, refl, inl, inr}
-use Rattle.std.specs.Prelude.{bytes_eq, option_map, if◌then◌else◌}
+use Rattle.std.proofs.Common.{◌≡◌, ℕ, Bool, true, false, Option, Some, None, List, [], ◌∷◌, ◌++◌, map, length, codes, refl, sym, subst, inl, inr}
+use Rattle.std.specs.Prelude.{bytes_eq, is_some, option_map, if◌then◌else◌}
 use Rattle.std.specs.List.{flat_map}
+use Rattle.std.specs.Map.{lookup}
 use Rattle.std.proofs.lemmas.Bool.{cases_Bool}
 use Rattle.go_text.specs.declared.place.Place.{Place}
 use Rattle.go_ast.specs.Trees.{Name}
@@ -81,6 +82,38 @@ pub new_whole : (ns : List (Name × Option Type')) (env : Env) → AllTyped ns �
 new_whole [] env typed h = h
 new_whole ((n, None) ∷ ns) env typed h = absurd typed
 new_whole ((n, Some t) ∷ ns) env typed h = new_whole ns (declare_new ((n, Some t) ∷ []) env) typed (next_whole n t env h)
+
+-- each has a type, or stands for a name that the block has
+abbrev pub AllDue : Env → List (Name × Option Type') → Type 0
+AllDue env [] = Unit {0}
+AllDue env ((n, None) ∷ ns) = (scopes.is_own env.names n.text ≡ true) × AllDue env ns
+AllDue env ((n, Some t) ∷ ns) = AllDue env ns
+
+found_more : (x : List ℕ) (ns ms : Names) → is_some (lookup (bytes_eq x) ns) ≡ true → is_some (lookup (bytes_eq x) (ns ++ ms)) ≡ true
+found_more x [] ms h = absurd cc
+found_more x ((y, d) ∷ ns) ms h = elim (cases_Bool (bytes_eq x y)) [ inl is ↦ rw is refl | inr not_so ↦ rw not_so (found_more x ns ms (rw not_so at h)) ]
+
+own_more : (x : List ℕ) (n : Name) (t : Type') (env : Env) → scopes.is_own env.names x ≡ true → scopes.is_own (declare_new ((n, Some t) ∷ []) env).names x ≡ true
+own_more x n t env h = elim (cases_Bool (is_blank n.text)) [
+  | inl is ↦ rw is h
+  | inr sure ↦ elim (cases_Bool (scopes.is_own env.names n.text)) [
+    | inl is ↦ rw (sure, is) h
+    | inr not_so ↦ rw (sure, not_so) (found_more x env.names.inner ((n.text, Some (value (local t (length env.types)))) ∷ []) h)
+  ]
+]
+
+pub due_more : (ns : List (Name × Option Type')) (n : Name) (t : Type') (env : Env) → AllDue env ns → AllDue (declare_new ((n, Some t) ∷ []) env) ns
+due_more [] n t env h = tt
+due_more ((m, None) ∷ ns) n t env h = (own_more m.text n t env h.0, due_more ns n t env h.1)
+due_more ((m, Some u) ∷ ns) n t env h = due_more ns n t env h
+
+pub old_stays : (n : Name) (o : Option Type') (ns : List (Name × Option Type')) (env : Env) → scopes.is_own env.names n.text ≡ true → declare_new ((n, o) ∷ ns) env ≡ declare_new ns env
+old_stays n o ns env own = elim (cases_Bool (is_blank n.text)) [ inl is ↦ rw is refl | inr not_so ↦ rw (not_so, own) refl ]
+
+pub due_whole : (ns : List (Name × Option Type')) (env : Env) → AllDue env ns → Whole env → Whole (declare_new ns env)
+due_whole [] env due h = h
+due_whole ((n, None) ∷ ns) env due h = subst Whole (sym (old_stays n None ns env due.0)) (due_whole ns env due.1 h)
+due_whole ((n, Some t) ∷ ns) env due h = due_whole ns (declare_new ((n, Some t) ∷ []) env) (due_more ns n t env due) (next_whole n t env h)
 
 left_whole : (env : Env) → Whole env → Whole (leave env)
 left_whole env h = elim env.names.outer as (λ o. env.names.outer ≡ o → Blocks o → Whole (leave env)) [

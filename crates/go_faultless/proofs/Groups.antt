@@ -1,28 +1,26 @@
 -- Declarations in functions: constants too are known.
-use Rattle.std.proofs.Common.{◌≡◌, ℕ, suc, Bool, true, false, not, ◌&&◌, List, [], ◌∷◌, ◌++◌, Option, Some, None, map, length, refl, sym, ap, subst, ◌∙◌, inl, inr, arith}
-use Rattle.std.specs.Prelude.{nat_eq, nat_le, option_map}
+use Rattle.std.proofs.Common.{◌≡◌, ℕ, suc, Bool, true, false, not, ◌&&◌, List, [], ◌∷◌, Option, Some, None, map, length, refl, sym, ap, subst, ◌∙◌, inl, inr, arith}
+use Rattle.std.specs.Prelude.{nat_eq, option_map}
 use Rattle.std.specs.List.{list_all, zip, flat_map}
 use Rattle.std.proofs.lemmas.Bool.{cases_Bool, eqb-true}
 use Rattle.go_text.specs.declared.place.Place.{Place}
-use Rattle.go_text.specs.declared.fault.FaultKind.{FaultKind}
-use Rattle.go_text.specs.Faults.{fault_number}
 use Rattle.go_ast.specs.Trees.{Name, TypeExpr, Expr, Exprs, no_exprs, some_exprs, ConstSpec, Decl, constants, variables, types}
 use Rattle.go_ast.specs.Grammar.{declares_types}
 use Rattle.go_types.specs.Types.{Type'}
 use Rattle.go_types.specs.Relations.{assignable}
 use Rattle.go_typed.specs.Trees as typed
 use Rattle.go_typed.specs.Trees.{Source, each, expr_type, constant, define}
-use Rattle.go_expr.specs.Known.{Declared, Scope, Verdict, Fine, Breaks, Passed}
-use Rattle.go_expr.specs.Rules.{fine, checked, assigned, lies_in, wrong, least, lesser, each_unless}
+use Rattle.go_expr.specs.Known.{Declared, Scope, Fine}
+use Rattle.go_expr.specs.Rules.{fine, checked, assigned, lies_in, wrong}
 use Rattle.go_expr.specs.Verdicts.{asked, both, operand, verdict, type_verdict}
 use Rattle.go_stmt.specs.Scopes.{Env, Context, scope_in, paired, declare, Checked, still, follow}
-use Rattle.go_stmt.specs.Rules.{all_some, separate, suited_one, suited, is_constant, constants_source, constants_of}
+use Rattle.go_stmt.specs.Rules.{all_some, suited_one, is_constant, constants_source, constants_of}
 use Rattle.go_stmt.specs.Statements.{each_of, operands_faults, names_at, written_at, place_at, meant, is_repeated, declared_as, constant_in, declare_constants, told_at, constants_at, group_at, declaration_at}
 use Rattle.go_faultless.specs.Finds.{IsKnown}
-use Rattle.go_faultless.proofs.Rules.{IsAsked, through, assignments}
+use Rattle.go_faultless.proofs.Rules.{through, assignments}
 use Rattle.go_faultless.proofs.Steps as steps
 use Rattle.go_faultless.proofs.Forms.{Whole, Outside, all_told, declared_whole, AllTyped, Any, Sure, any, sure_given, both_sure, sure_appended, sure_node}
-use Rattle.go_faultless.proofs.Counts.{AllSome, through_known, pair_typed, some_counted, parts_some}
+use Rattle.go_faultless.proofs.Counts.{AllSome, through_known, suited_parts, right, pair_typed, some_counted, parts_some, all_front}
 use Rattle.go_faultless.proofs.Leaves.{all_operands, names_sure, written_sure}
 use Rattle.go_faultless.proofs.Declares.{specs_sure}
 
@@ -44,33 +42,6 @@ constant_parts ns t es true false x y k = absurd (let r : fine (constants_of ns 
 constant_parts ns t es true true x y k =
     let r : constants_of ns t es ≡ checked (λ (source : Source). Fine (define [] (each typed.no_exprs))) (constants_source ns t es) = rw (x, y) refl in
     (x, eqb-true (length ns) (length es) y, through_known (λ (source : Source). define [] (each typed.no_exprs)) (constants_source ns t es) (subst (λ v. IsKnown (fine v)) r k))
-
-some_least : (k : FaultKind) (o : Option FaultKind) → lesser (Some k) o ≡ None → ⊥
-some_least k None h = cc
-some_least k (Some l) h = elim (cases_Bool (nat_le (fault_number k) (fault_number l))) [
-  | inl is ↦ (let r : lesser (Some k) (Some l) ≡ Some k = rw is refl in cc)
-  | inr not_so ↦ (let r : lesser (Some k) (Some l) ≡ Some l = rw not_so refl in cc)
-]
-
-none_least : (ks : List FaultKind) → least ks ≡ None → ks ≡ []
-none_least [] h = refl
-none_least (k ∷ ks) h = absurd (some_least k (least ks) h)
-
-pub none_wrong : {A : Type 0} (vs : List (Verdict A)) (o : Option FaultKind) → least (flat_map wrong vs) ≡ o → IsKnown (fine (each_unless [] vs)) → flat_map wrong vs ≡ []
-none_wrong vs None at k = none_least (flat_map wrong vs) at
-none_wrong vs (Some kind) at k = absurd (let r : fine (each_unless [] vs) ≡ None = rw (at, each_unless) refl in cc)
-
-suited_parts : (due : List (Option Type')) (es : List typed.Expr) (b : Bool) → nat_eq (length due) (length es) ≡ b → IsKnown (fine (suited due (separate es))) → flat_map wrong (map suited_one (zip due es)) ≡ []
-suited_parts due es false is k = absurd (let r : fine (suited due (separate es)) ≡ None = rw is refl in cc)
-suited_parts due es true is k =
-    let r : suited due (separate es) ≡ checked (λ es. Fine (each (typed.pack_exprs es))) (each_unless [] (map suited_one (zip due es))) = rw is refl in
-    none_wrong (map suited_one (zip due es)) (least (flat_map wrong (map suited_one (zip due es)))) refl
-    (through_known (λ es. each (typed.pack_exprs es)) (each_unless [] (map suited_one (zip due es))) (subst (λ v. IsKnown (fine v)) r k))
-
-pub right : {A : Type 0} (v : Verdict A) → IsAsked v → (rest : List FaultKind) → wrong v ++ rest ≡ [] → IsKnown (fine v) × (rest ≡ [])
-right (Fine x) h rest none = ((x, refl), none)
-right (Breaks kind) h rest none = absurd cc
-right Passed h rest none = absurd h
 
 abbrev Fits : Type' → typed.Expr → Type 0
 Fits u x = (is_constant x ≡ true) × IsKnown (fine (assigned u x))
@@ -108,9 +79,6 @@ fitting u x h k = absurd cc
 some_front : {A : Type 0} (o : Option A) (os : List (Option A)) → IsKnown o → AllSome os → AllSome (o ∷ os)
 some_front None os k h = absurd cc
 some_front (Some x) os k h = h
-
-all_front : {A : Type 0} (o : Option A) (os : List (Option A)) (x : A) (xs : List A) → o ≡ Some x → all_some os ≡ Some xs → all_some (o ∷ os) ≡ Some (x ∷ xs)
-all_front o os x xs at is = rw (at, is) refl
 
 some_each : (s : Scope) (f : Expr → Option Declared) (P : typed.Expr → Type 0) → ((e : Expr) (x : typed.Expr) → operand (verdict s e) ≡ Some x → P x → IsKnown (f e)) → (es : Exprs) (xs : List typed.Expr)
     → all_some (each_of (λ e. operand (verdict s e)) es) ≡ Some xs → AllOf P xs → AllSome (each_of f es)

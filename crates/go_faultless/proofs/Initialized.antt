@@ -15,7 +15,7 @@ use Rattle.go_expr.specs.Rules.{fine, checked, wrong, least, each_unless}
 use Rattle.go_expr.specs.Verdicts.{asked, asked_both, operand, verdict, type_verdict, broken}
 use Rattle.go_stmt.specs.Rules.{all_some, Values, separate, together, no_values, values_of, are_none, suited_one, takes, suited, variables_source}
 use Rattle.go_stmt.specs.Statements.{each_of, values_known, values_faults}
-use Rattle.go_decl.specs.Faults.{Facts, written_type, written_faults, var_parts_faults, var_broken, name_faults, var_spec_faults}
+use Rattle.go_decl.specs.Faults.{Facts, written_type, written_faults, var_parts_faults, var_broken, variables_apart, name_faults, var_spec_faults}
 use Rattle.go_objects.specs.Table.{scope_at}
 use Rattle.go_package.specs.Typed.{own_name, each_alone, initializations_by, spec_initializations}
 use Rattle.go_faultless.specs.Finds.{IsKnown}
@@ -24,8 +24,7 @@ use Rattle.go_faultless.proofs.Rules.{IsAsked, assignments, defaults}
 use Rattle.go_faultless.proofs.Steps.{variables}
 use Rattle.go_faultless.proofs.Faultless.{two_none, known, mapped, told_type}
 use Rattle.go_faultless.proofs.Leaves.{Tells, all_values}
-use Rattle.go_faultless.proofs.Counts.{count, suited_counted, through_known, some_counted}
-use Rattle.go_faultless.proofs.Groups.{none_wrong, right}
+use Rattle.go_faultless.proofs.Counts.{count, suited_counted, through_known, none_wrong, right, some_counted}
 
 abbrev pub named_in : List typed.Initialization → List (Option (List ℕ))
 named_in is = flat_map (λ (i : typed.Initialization). i.variables) is
@@ -197,14 +196,16 @@ spec_initialized t file tells [] of es none = nameless t file of es _ ∙ sym (v
 spec_initialized t file tells (n ∷ ns) of no_exprs none =
     let s = scope_at t.package t.known file None in
     let spec : VarSpec = record { names = n ∷ ns; type = of; values = no_exprs } in
-    let own = two_none (flat_map (name_faults t file) (n ∷ ns)) (var_parts_faults s spec ++ var_broken n.place s spec) none in
-    let rest = two_none (var_parts_faults s spec) (var_broken n.place s spec) own.1 in
+    let own = two_none (flat_map (name_faults t file) (n ∷ ns)) (var_parts_faults s spec ++ (var_broken n.place s spec ++ variables_apart t file n.place s spec)) none in
+    let rest = two_none (var_parts_faults s spec) (var_broken n.place s spec ++ variables_apart t file n.place s spec) own.1 in
+    let whole = two_none (var_broken n.place s spec) (variables_apart t file n.place s spec) rest.1 in
     let parts = two_none (written_faults s of) (values_faults s no_exprs) rest.0 in
-    zero_spec t file s tells n.place n ns of parts.0 rest.1
+    zero_spec t file s tells n.place n ns of parts.0 whole.0
 spec_initialized t file tells (n ∷ ns) of (some_exprs e es) none =
     let s = scope_at t.package t.known file None in
     let spec : VarSpec = record { names = n ∷ ns; type = of; values = some_exprs e es } in
-    let own = two_none (flat_map (name_faults t file) (n ∷ ns)) (var_parts_faults s spec ++ var_broken n.place s spec) none in
-    let rest = two_none (var_parts_faults s spec) (var_broken n.place s spec) own.1 in
+    let own = two_none (flat_map (name_faults t file) (n ∷ ns)) (var_parts_faults s spec ++ (var_broken n.place s spec ++ variables_apart t file n.place s spec)) none in
+    let rest = two_none (var_parts_faults s spec) (var_broken n.place s spec ++ variables_apart t file n.place s spec) own.1 in
+    let whole = two_none (var_broken n.place s spec) (variables_apart t file n.place s spec) rest.1 in
     let parts = two_none (written_faults s of) (values_faults s (some_exprs e es)) rest.0 in
-    valued_spec t file s tells n.place (n ∷ ns) of e es parts.0 parts.1 rest.1
+    valued_spec t file s tells n.place (n ∷ ns) of e es parts.0 parts.1 whole.0

@@ -17,10 +17,10 @@ use Rattle.go_objects.specs.Objects.{Object, constants_of, in_group, meant, vari
 use Rattle.go_objects.specs.Objects as forms
 use Rattle.go_objects.specs.Table.{Package, imports_at, needs, rows, used_by, object_verdict, declared_in, IsTable}
 use Rattle.go_objects.proofs.Lookups.{Named, need_edge, rows_stay, length_rows}
-use Rattle.go_decl.specs.Faults.{Facts, Faults, AreRecursive, context_at, name_faults, written_faults, spec_broken, parts_faults, told_at, constants_faults, is_repeated, group_faults, type_spec_faults, var_parts_faults, var_broken, var_spec_faults, own_faults, top_faults, files_faults}
+use Rattle.go_decl.specs.Faults.{Facts, Faults, AreRecursive, context_at, name_faults, object_faults, written_faults, spec_broken, parts_faults, told_at, constants_apart, constants_faults, is_repeated, group_faults, type_spec_faults, var_parts_faults, var_broken, variables_apart, var_spec_faults, own_faults, top_faults, files_faults}
 use Rattle.go_decl.proofs.Faultless.{faultless_grounded}
 use Rattle.go_package.specs.Imports.{Importable, package_at, import_name, named_import, imports_in, imports_of}
-use Rattle.go_package.specs.Packages.{object_faults, numbered_faults, file_faults, each_file, main_faults, package_faults, package_in, AreFacts}
+use Rattle.go_package.specs.Packages.{numbered_faults, file_faults, each_file, main_faults, package_faults, package_in, AreFacts}
 use Rattle.go_package.specs.Packages as packages
 use Rattle.go_package.proofs.Whole.{no_faults}
 use Rattle.go_faultless.specs.Finds.{IsKnown, IsTold, AreWhole, AreKnown}
@@ -50,10 +50,11 @@ constant_spec t file iota repeated [] of es none = subst (AllFollow t) (sym (nam
 constant_spec t file iota repeated (n ∷ ns) of es none =
     let s = scope_of t file (Some iota) in
     let spec : ConstSpec = record { names = n ∷ ns; type = of; values = es } in
-    let own = two_none (flat_map (name_faults t file) (n ∷ ns)) (told_at repeated n.place (parts_faults s spec) ++ spec_broken n.place s spec) none in
-    let rest = two_none (told_at repeated n.place (parts_faults s spec)) (spec_broken n.place s spec) own.1 in
+    let own = two_none (flat_map (name_faults t file) (n ∷ ns)) (told_at repeated n.place (parts_faults s spec) ++ (spec_broken n.place s spec ++ constants_apart t file iota n.place s spec)) none in
+    let rest = two_none (told_at repeated n.place (parts_faults s spec)) (spec_broken n.place s spec ++ constants_apart t file iota n.place s spec) own.1 in
+    let whole = two_none (spec_broken n.place s spec) (constants_apart t file iota n.place s spec) rest.1 in
     let parts = two_none (written_faults s of) (verdicts.operands_faults s es) (untold repeated n.place (parts_faults s spec) rest.0) in
-    constants_follow t file iota n.place (n ∷ ns) of es parts.0 parts.1 rest.1
+    constants_follow t file iota n.place (n ∷ ns) of es parts.0 parts.1 whole.0
 
 group_follows : (t : Facts) (file iota : ℕ) (before : ConstSpec) (ss : List ConstSpec) → group_faults t file iota before ss ≡ [] → AllFollow t (in_group file iota before ss)
 group_follows t file iota before [] none = tt
@@ -74,10 +75,11 @@ variable_spec t file [] of es none = subst (AllFollow t) (sym (no_variables file
 variable_spec t file (n ∷ ns) of es none =
     let s = scope_of t file None in
     let spec : VarSpec = record { names = n ∷ ns; type = of; values = es } in
-    let own = two_none (flat_map (name_faults t file) (n ∷ ns)) (var_parts_faults s spec ++ var_broken n.place s spec) none in
-    let rest = two_none (var_parts_faults s spec) (var_broken n.place s spec) own.1 in
+    let own = two_none (flat_map (name_faults t file) (n ∷ ns)) (var_parts_faults s spec ++ (var_broken n.place s spec ++ variables_apart t file n.place s spec)) none in
+    let rest = two_none (var_parts_faults s spec) (var_broken n.place s spec ++ variables_apart t file n.place s spec) own.1 in
+    let whole = two_none (var_broken n.place s spec) (variables_apart t file n.place s spec) rest.1 in
     let parts = two_none (written_faults s of) (values_faults s es) rest.0 in
-    variables_follow t file n.place n ns of es parts.0 parts.1 rest.1
+    variables_follow t file n.place n ns of es parts.0 parts.1 whole.0
 
 variables_follow_all : (t : Facts) (file : ℕ) (ss : List VarSpec) → flat_map (var_spec_faults t file) ss ≡ [] → AllFollow t (flat_map (variables_of file) ss)
 variables_follow_all t file [] none = tt
@@ -123,7 +125,7 @@ files_follow t number (f ∷ fs) none =
     follow_both t (flat_map (objects_in number) f.declarations) (objects_from (suc number) fs)
     (tops_follow t number f.declarations (unmapped (λ x. (number, x)) own ns.0)) (files_follow t (suc number) fs ns.1)
 
--- ---- constants by themselves
+-- ---- objects by themselves
 
 object_none : (t : Facts) (os : List Object) (k : ℕ) (o : Object) → flat_map (numbered_faults t) os ≡ [] → slice_get os k ≡ Some o → object_faults t o ≡ []
 object_none t [] k o none at = absurd cc

@@ -2,16 +2,15 @@
 use Rattle.std.proofs.Common.{◌≡◌, ℕ, Option, Some, None, List, [], ◌∷◌, ◌++◌, refl}
 use Rattle.std.specs.Prelude.{option_map}
 use Rattle.go_text.specs.declared.place.Place.{Place}
-use Rattle.go_ast.specs.Trees.{Name, TypeExpr, Expr, Exprs, no_exprs, some_exprs, place_of}
+use Rattle.go_ast.specs.Trees.{Name, TypeExpr, Expr, Exprs, no_exprs, some_exprs}
 use Rattle.go_expr.specs.Known.{Known, Scope, look_up}
-use Rattle.go_expr.specs.Rules.{fine, defaulted}
+use Rattle.go_expr.specs.Rules.{fine}
 use Rattle.go_expr.specs.Verdicts as verdicts
-use Rattle.go_expr.specs.Verdicts.{asked, operand, operands, verdict, type_verdict, broken, operand_broken, faults, type_faults, joined}
+use Rattle.go_expr.specs.Verdicts.{asked, operand, operands, verdict, type_verdict, broken, bare_place, operand_broken, faults, type_faults, joined}
 use Rattle.go_stmt.specs.Scopes.{Env, Context, scope_in, Checked, still, given, follow, seen, node}
 use Rattle.go_stmt.specs.Rules.{all_some, separate, values_of, performed, assigned_to}
 use Rattle.go_stmt.specs.Statements.{value_at, each_of, operands_faults, values_known, values_faults, values_at, names_at, written_at, blank_left, left_at, lefts_at, condition_at, tag_at, cases_at}
 use Rattle.go_faultless.specs.Finds.{IsKnown, IsTold}
-use Rattle.go_faultless.proofs.Rules.{IsAsked, defaults}
 use Rattle.go_faultless.proofs.Steps.{several, performances, assignments_to}
 use Rattle.go_faultless.proofs.Faultless.{two_none, known, known_of, by_one, mapped, joined_known, told_settled, told_value, told_type}
 use Rattle.go_faultless.proofs.Forms.{Outside, all_told, Any, Sure, any, sure_given, both_sure, sure_if, sure_seen, sure_appended, sure_node}
@@ -44,8 +43,8 @@ pub all_values : (s : Scope) → Tells s → (es : Exprs) → values_faults s es
 all_values s t no_exprs none = (separate [], refl)
 all_values s t (some_exprs e no_exprs) none =
     let rule = asked values_of (fine (verdict s e)) in
-    let ns = two_none (faults s e) (broken (place_of e) rule) none in
-    known (place_of e) rule (by_one values_of (fine (verdict s e)) (known_of (verdict s e) (told_settled s e t ns.0)) several) ns.1
+    let ns = two_none (faults s e) (broken (bare_place e) rule) none in
+    known (bare_place e) rule (by_one values_of (fine (verdict s e)) (known_of (verdict s e) (told_settled s e t ns.0)) several) ns.1
 all_values s t (some_exprs e (some_exprs f es)) none =
     mapped separate (all_some (each_of (λ e. operand (verdict s e)) (some_exprs e (some_exprs f es)))) (all_operands s t (some_exprs e (some_exprs f es)) none)
 
@@ -89,9 +88,9 @@ pub condition_sure : (c : Context) → Outside c → (e : Option Expr) → Sure 
 condition_sure c out None = sure_given None
 condition_sure c out (Some e) = sure_seen Any Any Some (value_at c e) (λ x p. tt) (value_sure c out e)
 
-pub tag_sure : (c : Context) → Outside c → (e : Option Expr) → Sure IsAsked (tag_at c e)
-tag_sure c out None env whole none = ((_, refl, tt), whole)
-tag_sure c out (Some e) env whole none = sure_seen Any IsAsked defaulted (value_at c e) (λ x p. defaults x) (value_sure c out e) env whole none
+pub tag_sure : (c : Context) → Outside c → (e : Option Expr) → Sure Any (tag_at c e)
+tag_sure c out None = sure_given _
+tag_sure c out (Some e) = value_sure c out e
 
 pub cases_sure : (c : Context) → Outside c → (es : Option Exprs) → Sure Any (cases_at c es)
 cases_sure c out None = sure_given None

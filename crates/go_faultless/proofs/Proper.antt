@@ -11,8 +11,8 @@ use Rattle.go_types.specs.Types.{Type', basic}
 use Rattle.go_typed.specs.Trees as typed
 use Rattle.go_expr.specs.Known.{Declared, value, type', function, println, length', panic', Names, Known, declared, package', results, printed, panicked, Verdict, Fine, Breaks, Passed, Scope, look_up, named, basic_types, left_out, others, universe}
 use Rattle.go_expr.specs.Seen.{iota_of}
-use Rattle.go_expr.specs.Rules.{fine, checked, valued, literal, literal_of, element_type, selected, field_of, value_due, index_of, converted, called, one, function_call, each_unless, assigned, printable, length_of, unary_of, binary_of, string as string_type, is_exported}
-use Rattle.go_expr.specs.Verdicts.{asked, asked_both, callee, operand, operands, elements, verdict, type_verdict}
+use Rattle.go_expr.specs.Rules.{fine, checked, valued, literal, literal_of, exported, selected, field_of, value_due, index_of, converted, called, one, function_call, each_unless, assigned, printable, length_of, unary_of, binary_of, string as string_type, is_exported}
+use Rattle.go_expr.specs.Verdicts.{asked, asked_both, inside, subject, callee, operand, operands, elements, verdict, type_verdict}
 use Rattle.go_objects.specs.Table.{Package, imports_at, scope_at}
 use Rattle.go_faultless.proofs.Packages.{Entries}
 
@@ -31,19 +31,19 @@ by_name : (o : Option Declared) → IsProper (named o)
 by_name None = tt
 by_name (Some d) = tt
 
-callees : (v : Verdict Known) → IsProper v → IsProper (callee v)
-callees (Fine (declared d)) h = tt
-callees (Fine (package' names)) h = tt
-callees (Fine (results ts f es)) h = h
-callees (Fine (printed es)) h = tt
-callees (Fine (panicked e)) h = tt
-callees (Breaks kind) h = tt
-callees Passed h = tt
+insides : (v : Verdict Known) → IsProper v → IsProper (inside v)
+insides (Fine (declared d)) h = tt
+insides (Fine (package' names)) h = tt
+insides (Fine (results ts f es)) h = h
+insides (Fine (printed es)) h = tt
+insides (Fine (panicked e)) h = tt
+insides (Breaks kind) h = tt
+insides Passed h = tt
 
-exported : (names : Names) (path x : List ℕ) → IsProper (selected path x (package' names))
-exported names path x = elim (cases_Bool (is_exported x)) [
+exports : (names : Names) (x : List ℕ) → IsProper (exported x names)
+exports names x = elim (cases_Bool (is_exported x)) [
   | inr not_so ↦ rw not_so tt
-  | inl is ↦ elim (lookup (bytes_eq x) names) as (λ o. lookup (bytes_eq x) names ≡ o → IsProper (selected path x (package' names))) [
+  | inl is ↦ elim (lookup (bytes_eq x) names) as (λ o. lookup (bytes_eq x) names ≡ o → IsProper (exported x names)) [
     | None ↦ λ at. rw (is, at) tt
     | Some o ↦ λ at. rw (is, at) (by_name o)
   ] refl
@@ -51,7 +51,7 @@ exported names path x = elim (cases_Bool (is_exported x)) [
 
 selections : (path x : List ℕ) (o : Option Known) → IsProper (asked (selected path x) o)
 selections path x None = tt
-selections path x (Some (package' names)) = exported names path x
+selections path x (Some (package' names)) = exports names x
 selections path x (Some k) = as_value (checked (field_of path x) (value_due k))
 
 of_function : (s : typed.Symbol) (ts : List Type') (v : Verdict (List typed.Expr)) → IsProper (checked (λ ys. Fine (function_call s ts ys)) v)
@@ -98,9 +98,9 @@ proper s h (name p x) = h x
 proper s h (integer p text) = as_value (literal text)
 proper s h (rune p z) = tt
 proper s h (string p bytes) = tt
-proper s h (parenthesized p e) = callees (verdict s e) (proper s h e)
-proper s h (composite_lit p t q es) = as_value (asked_both (literal_of s.path) (fine (type_verdict s t)) (elements s (element_type (fine (type_verdict s t))) es))
-proper s h (selector p e x) = selections s.path x.text (fine (verdict s e))
+proper s h (parenthesized p e) = insides (verdict s e) (proper s h e)
+proper s h (composite_lit p t q es) = as_value (asked_both (literal_of s.path) (fine (type_verdict s t)) (elements s (fine (type_verdict s t)) 0 es))
+proper s h (selector p e x) = selections s.path x.text (fine (subject (verdict s e)))
 proper s h (index p e i) = as_value (asked_both index_of (operand (verdict s e)) (operand (verdict s i)))
 proper s h (conversion p t e) = as_value (asked_both converted (fine (type_verdict s t)) (operand (verdict s e)))
 proper s h (call p f es) = called_known (fine (callee (verdict s f))) (operands s es)

@@ -25,7 +25,7 @@ use Rattle.go_types.specs.Types.{Type', basic, array, struct}
 use Rattle.go_types.specs.Relations.{underlying, assignable, convertible}
 use Rattle.go_typed.specs.Trees.{Symbol, Expr, expr_type}
 use Rattle.go_expr.specs.Known.{value, type', function, println, length', panic', Names, Known, declared, package', results, printed, panicked, Verdict, Fine, Breaks, Passed, named}
-use Rattle.go_expr.specs.Rules.{checked, valued, wrong, least, each_unless, constant_in, given, int_kind, is_integer, is_untyped, is_bool, is_string, lies_in, uint, type_due, is_small, array_of, is_exported, FieldList, field_names, packed, differ, listed, struct_of, assigned, default_type, defaulted, condition, constant_due, value_due, unpackaged, literal, numeral, number_of, ElementList, when, any_keyed, parts_by, struct_faults, struct_slot, array_parts, struct_parts, parts_of, literal_of, untyped_literal, field_named, fields_of, is_visible, field_of, selected, indexed_type, is_within, known_length, index_of, converted, holds_call, length_in, length_of, one, function_call, printable, called, common, is_defined, result_type, divides_by_zero, operated, operand_type, combined, shift_of, shifted, binary_of, operator_of, is_operand, unary_of}
+use Rattle.go_expr.specs.Rules.{checked, valued, wrong, least, each_unless, constant_in, given, int_kind, is_integer, is_untyped, is_bool, is_string, lies_in, uint, type_due, is_small, array_of, is_exported, FieldList, field_names, packed, differ, listed, struct_of, assigned, default_type, defaulted, condition, constant_due, value_due, unpackaged, selectable, callable, literal, numeral, number_of, ElementList, when, any_keyed, parts_by, struct_faults, struct_slot, array_parts, struct_parts, parts_of, literal_of, Due, taken as due_taken, written as due_written, nothing as due_nothing, untyped_literal, field_named, fields_of, is_visible, field_of, exported, selected, exported_by, indexed_type, is_within, known_length, index_of, converted, holds_call, length_in, length_of, one, function_call, printable, called, common, is_defined, result_type, divides_by_zero, operated, operand_type, combined, shift_of, shifted, binary_of, operator_of, is_operand, unary_of}
 use Rattle.go_faultless.specs.Finds.{IsTold}
 use Rattle.go_faultless.proofs.Plain.{IsPlain, represented, one_operand, two_operands, shift_operands}
 
@@ -115,6 +115,14 @@ unpackaged_told (results ts s es) = tt
 unpackaged_told (printed es) = tt
 unpackaged_told (panicked e) = tt
 
+pub selectable_told : (k : Known) → IsTold (Fine k) → IsTold (selectable k)
+selectable_told (package' names) whole = whole
+selectable_told k whole = as_value (value_due k) (values_due k)
+
+pub callable_told : (k : Known) → IsTold (callable k)
+callable_told (declared d) = tt
+callable_told k = as_value (value_due k) (values_due k)
+
 -- ---- composite literals
 
 array_elements : (n : ℕ) (of : Type') (es : ElementList) → IsAsked (array_parts n of es)
@@ -133,10 +141,10 @@ parts path t es = elim (underlying t) as (λ u. underlying t ≡ u → IsAsked (
 pub literals_of : (path : List ℕ) (t : Type') (es : ElementList) → IsAsked (literal_of path t es)
 literals_of path t es = through _ (parts_of path t es) (λ x. tt) (parts path t es)
 
-pub untyped : (path : List ℕ) (of : Verdict Type') (es : ElementList) → IsAsked (untyped_literal path of es)
-untyped path (Fine t) es = literals_of path t es
-untyped path (Breaks kind) es = tt
-untyped path Passed es = tt
+pub untyped : (path : List ℕ) (due : Due) (es : ElementList) → IsAsked (untyped_literal path due es)
+untyped path (due_taken t) es = literals_of path t es
+untyped path (due_written o) es = tt
+untyped path due_nothing es = tt
 
 -- ---- selectors, index expressions and calls
 
@@ -146,10 +154,10 @@ fields path x e = elim (field_named x (fields_of (expr_type e))) as (λ o. field
   | Some f ↦ λ at. elim (cases_Bool (is_visible path (f.1).0)) [ inl is ↦ rw (at, IsAsked, is) tt | inr not_so ↦ rw (at, IsAsked, not_so) tt ]
 ] refl
 
-exports : (names : Names) (path x : List ℕ) → IsTold (Fine (package' names)) → IsTold (selected path x (package' names))
-exports names path x whole = elim (cases_Bool (is_exported x)) [
+exports : (names : Names) (x : List ℕ) → IsTold (Fine (package' names)) → IsTold (exported x names)
+exports names x whole = elim (cases_Bool (is_exported x)) [
   | inr not_so ↦ rw not_so tt
-  | inl is ↦ elim (lookup (bytes_eq x) names) as (λ o. lookup (bytes_eq x) names ≡ o → IsTold (selected path x (package' names))) [
+  | inl is ↦ elim (lookup (bytes_eq x) names) as (λ o. lookup (bytes_eq x) names ≡ o → IsTold (exported x names)) [
     | None ↦ λ at. rw (is, at) tt
     | Some None ↦ λ at. absurd (whole x at)
     | Some (Some d) ↦ λ at. rw (is, at) tt
@@ -157,8 +165,12 @@ exports names path x whole = elim (cases_Bool (is_exported x)) [
 ]
 
 pub selections : (path x : List ℕ) (k : Known) → IsTold (Fine k) → IsTold (selected path x k)
-selections path x (package' names) whole = exports names path x whole
+selections path x (package' names) whole = exports names x whole
 selections path x k whole = as_value (checked (field_of path x) (value_due k)) (through (field_of path x) (value_due k) (fields path x) (values_due k))
+
+pub qualifications : (x : List ℕ) (k : Known) → IsTold (Fine k) → IsTold (exported_by x k)
+qualifications x (package' names) whole = exports names x whole
+qualifications x k whole = tt
 
 indexed : (t : Type') (e i : Expr) → indexed_type (expr_type e) ≡ Some t → IsAsked (index_of e i)
 indexed t e i at = elim (cases_Bool (not (is_integer (expr_type i)))) [

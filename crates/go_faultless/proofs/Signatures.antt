@@ -196,7 +196,7 @@ signature_known s x ps ts apart us rs = (
       ∙ ap (λ (o : Option (List Type')). declared_in (fine (asked_both (λ ts rs. Fine (declared (function x ts rs))) (Some us.0) o))) rs.1,
 )
 
-pub function_follows : (t : Facts) (file : ℕ) (f : Function) → (function_at (context_at t file) f).faults ≡ [] → Follows t (record { file = file; name = f.name; form = function' f.parameters f.results })
+pub function_follows : (t : Facts) (file : ℕ) (f : Function) → (function_at (context_at t file) f).faults ≡ [] → Follows t (record { file = file; begins = f.name.place; name = f.name; form = function' f.parameters f.results })
 unfolding function_at
 function_follows t file f none tells own =
     let c = context_at t file in

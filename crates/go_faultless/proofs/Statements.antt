@@ -1,12 +1,13 @@
 -- A statement without fault is known, where all names outside of the function are.
 use Rattle.std.proofs.Common.{Bool, false, not, ◌&&◌, ◌||◌, Option, Some, None, List, [], ◌∷◌, ◌++◌}
-use Rattle.std.specs.Prelude.{is_some}
+use Rattle.std.specs.Prelude.{is_some, option_map}
 use Rattle.go_text.specs.declared.place.Place.{Place}
 use Rattle.go_ast.specs.Trees.{Expr, Exprs, Simple, call_statement, increment, decrement, assignment, operator_assignment, short_var_decl, Stmt, empty, declaration, simple, return, break, continue, fallthrough, block_statement, if_statement, for_statement, range_statement, switch_statement, Block, block, If, conditional as conditional_if, Else, no_else, else_block, else_if, Stmts, no_stmts, some_stmts, Clauses, no_clauses, clause}
 use Rattle.go_const.specs.declared.operator.ArithmeticOperator.TheVariants.{Add, Subtract}
 use Rattle.go_typed.specs.Trees as typed
 use Rattle.go_typed.specs.Trees.{expr_type}
-use Rattle.go_expr.specs.Known.{Verdict}
+use Rattle.go_types.specs.Types.{Type'}
+use Rattle.go_expr.specs.Rules.{default_type}
 use Rattle.go_expr.specs.Verdicts.{asked, broken}
 use Rattle.go_stmt.specs.Scopes.{Env, Context, Checked, still, given, follow, single, node}
 use Rattle.go_stmt.specs.Rules.{updated, stepped, conditional, looped, Clause, clause_of, switched, branch, returned}
@@ -15,8 +16,8 @@ use Rattle.go_faultless.specs.Finds.{IsKnown}
 use Rattle.go_faultless.specs.Locals.{AreLocal, IsLocalIn, IsLocalBlock, IsLocalIf, IsLocalElse, AreLocalClauses}
 use Rattle.go_faultless.proofs.Rules.{IsAsked}
 use Rattle.go_faultless.proofs.Steps.{updates, steps, conditionals, loops, clauses, branches, returns, switches}
-use Rattle.go_faultless.proofs.Faultless.{two_none}
-use Rattle.go_faultless.proofs.Forms.{Outside, Any, Sure, any, sure_given, sure_follow, both_sure, sure_seen, sure_single, sure_appended, sure_node, sure_inside}
+use Rattle.go_faultless.proofs.Faultless.{two_none, mapped}
+use Rattle.go_faultless.proofs.Forms.{Outside, Any, Sure, any, sure_given, both_sure, sure_seen, sure_single, sure_appended, sure_node, sure_inside}
 use Rattle.go_faultless.proofs.Leaves.{value_sure, values_sure, performed_sure, assigned_sure, condition_sure, tag_sure, cases_sure}
 use Rattle.go_faultless.proofs.Declares.{short_sure}
 use Rattle.go_faultless.proofs.Groups.{declaration_sure}
@@ -45,11 +46,11 @@ results_sure c k env whole none = (any c.results k, whole)
 branch_sure : (p : Place) (may_stand : Bool) (ss : List typed.Stmt) → Sure Any (node p (branch may_stand) (given ss))
 branch_sure p may_stand ss = sure_node Any p (branch may_stand) (given ss) (λ x q. branches may_stand x) (sure_given ss)
 
-ruled_by : (o : Option (Verdict typed.Expr)) → IsKnown o → (again falls : Bool) (k : Option (List typed.Expr) × List typed.Stmt) → IsAsked (clause_of o again falls k.0 k.1)
+ruled_by : (o : Option Type') → IsKnown o → (again falls : Bool) (k : Option (List typed.Expr) × List typed.Stmt) → IsAsked (clause_of o again falls k.0 k.1)
 ruled_by None h again falls k = absurd cc
 ruled_by (Some tag) h again falls k = clauses tag again falls k.0 k.1
 
-clause_sure : (c : Context) → Outside c → (tag : Option (Verdict typed.Expr)) → IsKnown tag → (again falls : Bool) (p : Place) (values : Option Exprs) (body : Env → Checked (List typed.Stmt)) → Sure Any body → Sure Any (clause_at c tag again falls p values body)
+clause_sure : (c : Context) → Outside c → (tag : Option Type') → IsKnown tag → (again falls : Bool) (p : Place) (values : Option Exprs) (body : Env → Checked (List typed.Stmt)) → Sure Any body → Sure Any (clause_at c tag again falls p values body)
 clause_sure c out tag known again falls p values body h =
     sure_inside Any (node p (λ k. clause_of tag again falls k.0 k.1) (follow (cases_at c values) body))
     (sure_node Any p (λ k. clause_of tag again falls k.0 k.1) (follow (cases_at c values) body) (λ x q. ruled_by tag known again falls x) (both_sure (cases_at c values) body (cases_sure c out values) h))
@@ -57,24 +58,27 @@ clause_sure c out tag known again falls p values body h =
 -- what a switch is inside of its block
 abbrev inner_switch : Context → Place → Option Simple → Option Expr → Clauses → Env → Checked (List typed.Stmt)
 inner_switch c p before tag cs env =
-    let compared = (tag_at c tag (optional_at c p before env).after).known in
+    let compared = option_map (λ e. default_type (expr_type e)) (tag_at c tag (optional_at c p before env).after).known in
     node p (λ k. switched k.0 (k.1).0 (k.1).1) (follow (optional_at c p before) (follow (tag_at c tag) (clauses_at c compared false cs))) env
 
 switch_sure : (c : Context) → Outside c → (p : Place) (before : Option Simple) (tag : Option Expr) (cs : Clauses)
-    → ((compared : Option (Verdict typed.Expr)) → IsKnown compared → Sure Any (clauses_at c compared false cs)) → Sure Any (statement_at c (switch_statement p before tag cs))
+    → ((compared : Option Type') → IsKnown compared → Sure Any (clauses_at c compared false cs)) → Sure Any (statement_at c (switch_statement p before tag cs))
 switch_sure c out p before tag cs h =
     sure_inside Any (inner_switch c p before tag cs) (λ env whole none.
     let o = optional_at c p before env in
     let t = tag_at c tag o.after in
-    let parts = follow (optional_at c p before) (follow (tag_at c tag) (clauses_at c t.known false cs)) in
-    let rule = λ (k : List typed.Stmt × (Verdict typed.Expr × List Clause)). switched k.0 (k.1).0 (k.1).1 in
+    let compared = option_map (λ e. default_type (expr_type e)) t.known in
+    let clauses = clauses_at c compared false cs in
+    let parts = follow (optional_at c p before) (follow (tag_at c tag) clauses) in
+    let rule = λ (k : List typed.Stmt × (typed.Expr × List Clause)). switched k.0 (k.1).0 (k.1).1 in
     let ns = two_none (parts env).faults (broken p (asked rule (parts env).known)) none in
-    let front = two_none o.faults (t.faults ++ (clauses_at c t.known false cs t.after).faults) ns.0 in
+    let front = two_none o.faults (t.faults ++ (clauses t.after).faults) ns.0 in
     let one = optional_sure c out p before env whole front.0 in
-    let two = tag_sure c out tag o.after one.1 (two_none t.faults (clauses_at c t.known false cs t.after).faults front.1).0 in
-    let later = sure_follow IsAsked Any (tag_at c tag) (clauses_at c t.known false cs) (tag_sure c out tag) (h t.known ((two.0).0, (two.0).1)) in
-    let all = sure_follow Any (λ (k : Verdict typed.Expr × List Clause). IsAsked k.0 × Any k.1) (optional_at c p before) (follow (tag_at c tag) (clauses_at c t.known false cs)) (optional_sure c out p before) later in
-    sure_node (λ (k : List typed.Stmt × (Verdict typed.Expr × List Clause)). Any k.0 × (IsAsked (k.1).0 × Any (k.1).1)) p rule parts (λ k q. switches k.0 (k.1).0 (k.1).1 ((q.1).0)) all env whole none)
+    let two = tag_sure c out tag o.after one.1 (two_none t.faults (clauses t.after).faults front.1).0 in
+    let compares : IsKnown compared = mapped (λ e. default_type (expr_type e)) t.known ((two.0).0, (two.0).1) in
+    let later = both_sure (tag_at c tag) clauses (tag_sure c out tag) (h compared compares) in
+    let all = both_sure (optional_at c p before) (follow (tag_at c tag) clauses) (optional_sure c out p before) later in
+    sure_node Any p rule parts (λ k q. switches k.0 (k.1).0 (k.1).1) all env whole none)
 
 mutual
   statement_sure : (c : Context) → Good c → (s : Stmt) → IsLocalIn s → Sure Any (statement_at c s)
@@ -119,7 +123,7 @@ mutual
   list_sure c g no_stmts l = sure_given []
   list_sure c g (some_stmts s ss) l = sure_appended (statement_at (before_others c ss) s) (list_at c ss) (statement_sure (before_others c ss) g s l.0) (list_sure c g ss l.1)
 
-  clauses_sure : (c : Context) → Good c → (tag : Option (Verdict typed.Expr)) → IsKnown tag → (again : Bool) (cs : Clauses) → AreLocalClauses cs → Sure Any (clauses_at c tag again cs)
+  clauses_sure : (c : Context) → Good c → (tag : Option Type') → IsKnown tag → (again : Bool) (cs : Clauses) → AreLocalClauses cs → Sure Any (clauses_at c tag again cs)
   clauses_sure c g tag known again no_clauses l = sure_given []
   clauses_sure c g tag known again (clause p values ss rest) l =
       let body = list_at (in_clause c (not (is_last rest))) ss in

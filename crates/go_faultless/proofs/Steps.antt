@@ -13,9 +13,9 @@ use Rattle.go_types.specs.Types.{Type'}
 use Rattle.go_typed.specs.declared.expression.Operator.TheVariants.{Arithmetic, Shift}
 use Rattle.go_typed.specs.Trees.{Expr, call, binary, expr_type, here, Stmt, pack_stmts}
 use Rattle.go_expr.specs.Known.{Declared, value, Known, declared, results as call_results, printed, panicked, Verdict, Fine, Breaks, Passed}
-use Rattle.go_expr.specs.Rules.{lesser, least, wrong, each_unless, value_due, is_integer, condition, binary_of}
+use Rattle.go_expr.specs.Rules.{lesser, least, wrong, each_unless, value_due, is_integer, defaulted, condition, binary_of}
 use Rattle.go_typed.specs.Terminating.{list_terminates}
-use Rattle.go_stmt.specs.Rules.{all_some, Values, separate, together as results_of, no_values, values_of, suited_one, takes, suited, is_constant, constants_source, constants_of, are_none, variables_source, differ, is_new, due_for, redefined, performed, left_to, left_side, assigned_to, is_left, updating, updated, stepped, conditional, loop_condition, looped, counted, is_blank_name, ranged, Clause, case_value, case_values, clause_of, switched, branch, returned, ended}
+use Rattle.go_stmt.specs.Rules.{all_some, Values, separate, together as results_of, no_values, values_of, suited_one, takes, suited, is_constant, constants_source, constants_of, are_none, variables_source, differ, is_new, due_for, redefined, performed, left_to, left_side, assigned_to, is_left, updating, updated, stepped, conditional, loop_condition, looped, counted, ranged, Clause, case_value, clause_of, switched, branch, returned, ended}
 use Rattle.go_faultless.proofs.Rules.{IsAsked, through, together, values_due, defaults, conditions, binaries}
 
 abbrev alone : Expr → Verdict Values
@@ -54,12 +54,16 @@ pub variables : (ns : List Name) (t : Option Type') (values : Values) → IsAske
 variables ns None values = suits (map (λ n. None) ns) values
 variables ns (Some t) values = elim (cases_Bool (are_none values)) [ inl is ↦ rw is tt | inr not_so ↦ rw not_so (suits (map (λ n. Some t) ns) values) ]
 
-pub redefinitions : (ns : List Name) (own : List (Option Declared)) (values : Values) → IsAsked (redefined ns own values)
-redefinitions ns own values = elim (cases_Bool (not (differ ns && list_any is_new (zip ns own)))) [
+-- what is due for names is known, where they have a due at all
+abbrev pub AreDue : (Name → Option (Option Declared)) → List Name → Type 0
+AreDue own ns = (due : List (Option (Option Type'))) → all_some (map (λ n. due_for (own n)) ns) ≡ Some due → (k : List (Option Type')) × (all_some due ≡ Some k)
+
+pub redefinitions : (own : Name → Option (Option Declared)) (ns : List Name) (values : Values) → AreDue own ns → IsAsked (redefined own ns values)
+redefinitions own ns values known = elim (cases_Bool (not (differ ns && list_any (λ n. is_new n (own n)) ns))) [
   | inl is ↦ rw is tt
-  | inr new ↦ elim (all_some (map due_for own)) as (λ o. all_some (map due_for own) ≡ o → IsAsked (redefined ns own values)) [
+  | inr new ↦ elim (all_some (map (λ n. due_for (own n)) ns)) as (λ o. all_some (map (λ n. due_for (own n)) ns) ≡ o → IsAsked (redefined own ns values)) [
     | None ↦ λ at. rw (new, at, IsAsked) tt
-    | Some due ↦ λ at. rw (new, at, IsAsked) (suits due values)
+    | Some due ↦ λ at. (let k = known due at in rw (new, at, k.1, IsAsked) (suits k.0 values))
   ] refl
 ]
 
@@ -121,20 +125,12 @@ loops before e post ss = through _ (loop_condition e) (λ x. tt) (loop_condition
 counts : (e : Expr) → IsAsked (counted e)
 counts e = elim (cases_Bool (is_integer (expr_type e))) [ inl is ↦ rw is (defaults e) | inr not_so ↦ rw not_so tt ]
 
-pub ranges : (name : Option Name) (number : Option ℕ) (e : Expr) (ss : List Stmt) → IsAsked (ranged name number e (Some ss))
-ranges name number e ss = elim (cases_Bool (is_blank_name name)) [
-  | inl is ↦ rw is tt
-  | inr not_so ↦ rw not_so (through _ (counted e) (λ x. tt) (counts e))
-]
+pub ranges : (number : Option ℕ) (e : Expr) (ss : List Stmt) → IsAsked (ranged number e (Some ss))
+ranges number e ss = through _ (counted e) (λ x. tt) (counts e)
 
-cases_of : (tag : Verdict Expr) (es : List Expr) → IsAsked (case_values tag es)
-cases_of (Fine tag) es = together [] (map (case_value tag) es)
-cases_of (Breaks kind) es = tt
-cases_of Passed es = tt
-
-pub clauses : (tag : Verdict Expr) (again falls : Bool) (es : Option (List Expr)) (ss : List Stmt) → IsAsked (clause_of (Some tag) again falls es ss)
+pub clauses : (tag : Type') (again falls : Bool) (es : Option (List Expr)) (ss : List Stmt) → IsAsked (clause_of (Some tag) again falls es ss)
 clauses tag again falls None ss = elim (cases_Bool again) [ inl is ↦ rw is tt | inr not_so ↦ rw not_so tt ]
-clauses tag again falls (Some es) ss = through _ (case_values tag es) (λ x. tt) (cases_of tag es)
+clauses tag again falls (Some es) ss = through _ (each_unless [] (map (case_value tag) es)) (λ x. tt) (together [] (map (case_value tag) es))
 
 pub branches : (may_stand : Bool) (ss : List Stmt) → IsAsked (branch may_stand ss)
 branches true ss = tt
@@ -146,5 +142,5 @@ returns ts values = through _ (suited (map Some ts) values) (λ x. tt) (suits (m
 pub ends : (ts : List Type') (ss : List Stmt) → IsAsked (ended ts ss)
 ends ts ss = elim (cases_Bool (nat_eq (length ts) 0 || list_terminates (pack_stmts ss))) [ inl is ↦ rw is tt | inr not_so ↦ rw not_so tt ]
 
-pub switches : (before : List Stmt) (tag : Verdict Expr) (cs : List Clause) → IsAsked tag → IsAsked (switched before tag cs)
-switches before tag cs h = through _ tag (λ x. tt) h
+pub switches : (before : List Stmt) (tag : Expr) (cs : List Clause) → IsAsked (switched before tag cs)
+switches before tag cs = through _ (defaulted tag) (λ x. tt) (defaults tag)

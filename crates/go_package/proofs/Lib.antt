@@ -1,5 +1,11 @@
+pub mod Dotted
 pub mod OneFault
+pub mod OneTyped
 pub mod Several
+pub mod SomeFacts
+pub mod SomeMarks
+pub mod SomeTable
 pub mod Values
 pub mod Walks
 pub mod Whole
+pub mod Within

@@ -13,15 +13,15 @@ use Rattle.go_objects.specs.Objects.{meant, type_object}
 use Rattle.go_objects.specs.Table.{Package, number_of, scope_at, object_verdict}
 use Rattle.go_objects.proofs.Filling.{one_table}
 use Rattle.go_stmt.specs.Functions.{function_at}
-use Rattle.go_decl.specs.Faults.{Facts, Faults, is_declared_by, name_faults, spec_broken, parts_faults, told_at, is_repeated, group_faults, type_spec_faults, var_parts_faults, var_broken, var_spec_faults, context_at, own_faults, top_faults}
+use Rattle.go_decl.specs.Faults.{Facts, Faults, is_declared_by, name_faults, spec_broken, constants_apart, parts_faults, told_at, is_repeated, group_faults, type_spec_faults, var_parts_faults, var_broken, variables_apart, var_spec_faults, context_at, own_faults, top_faults}
 use Rattle.go_decl.specs.Faults as decl
 use Rattle.go_package.specs.Imports.{Importable, imports_in}
 use Rattle.go_package.specs.Packages.{import_faults, imports_faults, file_faults, each_file, numbered_faults, constants_faults, main_faults, package_faults, IsFaultIn}
 
-two : {A : Type 0} (a b c d : List A) → a ≡ b → c ≡ d → a ++ c ≡ b ++ d
+pub two : {A : Type 0} (a b c d : List A) → a ≡ b → c ≡ d → a ++ c ≡ b ++ d
 two a b c d e f = ap (λ x. x ++ c) e ∙ ap (λ x. b ++ x) f
 
-flat_same : {A B : Type 0} (f g : A → List B) → ((x : A) → f x ≡ g x) → (xs : List A) → flat_map f xs ≡ flat_map g xs
+pub flat_same : {A B : Type 0} (f g : A → List B) → ((x : A) → f x ≡ g x) → (xs : List A) → flat_map f xs ≡ flat_map g xs
 flat_same f g h [] = refl
 flat_same f g h (x ∷ xs) = two (f x) (g x) (flat_map f xs) (flat_map g xs) (h x) (flat_same f g h xs)
 
@@ -29,7 +29,7 @@ flat_same f g h (x ∷ xs) = two (f x) (g x) (flat_map f xs) (flat_map g xs) (h 
 abbrev Alike : List Bool → List Bool → Type 0
 Alike r q = (k : ℕ) → is_marked r k ≡ is_marked q k
 
-abbrev by : Package → Names → List Bool → Facts
+abbrev pub by : Package → Names → List Bool → Facts
 by p n r = record { «package» = p; known = n; recursive = r }
 
 abbrev told : Package → ℕ → Name → (ℕ → Bool) → Option ℕ → Faults
@@ -62,7 +62,7 @@ same_constants : (p : Package) (n : Names) (r q : List Bool) → Alike r q → (
     → decl.constants_faults (by p n r) file iota repeated spec ≡ decl.constants_faults (by p n q) file iota repeated spec
 same_constants p n r q h file iota repeated spec =
     let s = scope_at p n file (Some iota) in
-    by_first spec.names (λ first. told_at repeated first.place (parts_faults s spec) ++ spec_broken first.place s spec)
+    by_first spec.names (λ first. told_at repeated first.place (parts_faults s spec) ++ (spec_broken first.place s spec ++ constants_apart (by p n q) file iota first.place s spec))
     (flat_map (name_faults (by p n r) file) spec.names) (flat_map (name_faults (by p n q) file) spec.names) (same_names p n r q h file spec.names)
 
 same_group : (p : Package) (n : Names) (r q : List Bool) → Alike r q → (file iota : ℕ) (before : ConstSpec) (ss : List ConstSpec)
@@ -80,7 +80,7 @@ same_type p n r q h file s =
 same_variables : (p : Package) (n : Names) (r q : List Bool) → Alike r q → (file : ℕ) (spec : VarSpec) → var_spec_faults (by p n r) file spec ≡ var_spec_faults (by p n q) file spec
 same_variables p n r q h file spec =
     let s = scope_at p n file None in
-    by_first spec.names (λ first. var_parts_faults s spec ++ var_broken first.place s spec)
+    by_first spec.names (λ first. var_parts_faults s spec ++ (var_broken first.place s spec ++ variables_apart (by p n q) file first.place s spec))
     (flat_map (name_faults (by p n r) file) spec.names) (flat_map (name_faults (by p n q) file) spec.names) (same_names p n r q h file spec.names)
 
 same_function : (p : Package) (n : Names) (r q : List Bool) → Alike r q → (file : ℕ) (f : Function) → decl.function_faults (by p n r) file f ≡ decl.function_faults (by p n q) file f

@@ -34,6 +34,17 @@ imports_here t file before ps specs i d x e all lt is found same h =
     ∙ same)
     (sooner e (import_faults t file before x.0 (x.1).0) (imports_faults t file (before ++ (x.1).0 ∷ []) rest) h)
 
+pub imports_later : (t : Facts) (file : trees.File) (before : List (List ℕ)) (ps : List Importable) (specs : List ImportSpec) (i : ℕ) (d : ImportSpec) (x : Place × (List ℕ × Names)) (all : Faults) →
+    i < length specs → d ≡ get_or specs i d → declared_by ps (import_of d) ≡ Some x → imports_faults t file before (imports_in ps (map import_of (drop i specs))) ≡ all →
+    import_faults t file before x.0 (x.1).0 ≡ [] → imports_faults t file (before ++ (x.1).0 ∷ []) (imports_in ps (map import_of (drop (i + 1) specs))) ≡ all
+imports_later t file before ps specs i d x all lt is found same none =
+    let rest = imports_in ps (map import_of (drop (i + 1) specs)) in
+    sym (
+    ap (λ (l : List ImportSpec). imports_faults t file before (imports_in ps (map import_of l))) (next_of specs i d d lt is)
+    ∙ ap (λ (o : Option (Place × (List ℕ × Names))). imports_faults t file before (cons_option o rest)) found
+    ∙ ap (λ l. l ++ imports_faults t file (before ++ (x.1).0 ∷ []) rest) none)
+    ∙ same
+
 pub sooner_in : (e : DeclError) (fs gs : Numbered) → FailsIn e fs → FailsIn e (fs ++ gs)
 sooner_in errors.Memory fs gs h = tt
 sooner_in (errors.Faulty file p kind) fs gs h = (h.0 ++ gs, ap (λ l. l ++ gs) h.1)

@@ -3,11 +3,11 @@ use Rattle.std.proofs.Common.{◌≡◌, Option, Some, None, List, [], ◌∷◌
 use Rattle.std.specs.Prelude.{option_map}
 use Rattle.go_text.specs.declared.place.Place.{Place}
 use Rattle.go_text.specs.declared.fault.FaultKind.{FaultKind}
-use Rattle.go_ast.specs.Trees.{Expr, Exprs, no_exprs, some_exprs, place_of}
+use Rattle.go_ast.specs.Trees.{Expr, Exprs, no_exprs, some_exprs}
 use Rattle.go_typed.specs.Trees.{Expr as Typed}
 use Rattle.go_expr.specs.Known.{Known, Scope}
 use Rattle.go_expr.specs.Rules.{fine}
-use Rattle.go_expr.specs.Verdicts.{asked, operand, verdict, broken, operand_broken, faults}
+use Rattle.go_expr.specs.Verdicts.{asked, bare_place, part_broken, operand, verdict, operand_broken, faults}
 use Rattle.go_expr.proofs.Fineness.{faulty_unknown}
 use Rattle.go_objects.proofs.Silence.{not_none, broken_unknown, operand_unknown}
 use Rattle.go_stmt.specs.Rules.{separate, all_some, values_of}
@@ -33,8 +33,8 @@ several_unknown : (s : Scope) (es : Exprs) (f : Fault) (others : List Fault) →
 several_unknown s no_exprs f others h = cc
 several_unknown s (some_exprs e es) f others h = first_or_later s e es (faults s e ++ operand_broken e (verdict s e)) others f refl h (λ rest g. several_unknown s es f rest g)
 
-single_unknown : (s : Scope) (e : Expr) (fs others : List Fault) (f : Fault) → faults s e ≡ fs → fs ++ broken (place_of e) (asked values_of (fine (verdict s e))) ≡ f ∷ others → fine (asked values_of (fine (verdict s e))) ≡ None
-single_unknown s e [] others f is h = broken_unknown (place_of e) (asked values_of (fine (verdict s e))) f others h
+single_unknown : (s : Scope) (e : Expr) (fs others : List Fault) (f : Fault) → faults s e ≡ fs → fs ++ part_broken e (asked values_of (fine (verdict s e))) ≡ f ∷ others → fine (asked values_of (fine (verdict s e))) ≡ None
+single_unknown s e [] others f is h = broken_unknown (bare_place e) (asked values_of (fine (verdict s e))) f others h
 single_unknown s e (g ∷ gs) others f is h = ap (λ (o : Option Known). fine (asked values_of o)) (faulty_unknown s e (not_none (faults s e) gs g is))
 
 pub values_unknown : (s : Scope) (es : Exprs) (f : Fault) (others : List Fault) → values_faults s es ≡ f ∷ others → values_known s es ≡ None

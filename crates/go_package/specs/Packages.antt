@@ -1,19 +1,15 @@
 -- The first fault of a package.
-use Rattle.std.specs.Prelude.{◌≡◌, ℕ, suc, ◌&&◌, ◌||◌, not, Bool, bytes_eq, codes, is_some, if◌then◌else◌, List, [], ◌∷◌, ◌++◌, map, Option, Some, None}
+use Rattle.std.specs.Prelude.{◌≡◌, ℕ, suc, ◌&&◌, ◌||◌, not, Bool, bytes_eq, codes, is_some, if◌then◌else◌, List, [], ◌∷◌, ◌++◌, map, Option}
 use Rattle.std.specs.List.{slice_get, flat_map, list_any}
 use Rattle.go_text.specs.declared.place.Place.{Place}
 use Rattle.go_text.specs.declared.fault.FaultKind.{FaultKind}
 use Rattle.go_text.specs.declared.fault.FaultKind.TheVariants.{Redeclared, UnusedImport, Main}
-use Rattle.go_ast.specs.Trees.{Name, TypeExpr, Expr, ConstSpec, VarSpec, TypeSpec, constants, variables, types, Function, TopLevel, declared, function, File}
-use Rattle.go_types.specs.Types.{Type'}
-use Rattle.go_typed.specs.Trees.{Expr as Typed}
-use Rattle.go_expr.specs.Known.{Names, Verdict, Fine, Scope}
-use Rattle.go_expr.specs.Rules.{checked, constant_due, assigned}
-use Rattle.go_expr.specs.Verdicts.{asked_both, operand, verdict, broken}
+use Rattle.go_ast.specs.Trees.{Name, ConstSpec, VarSpec, TypeSpec, constants, variables, types, Function, TopLevel, declared, function, File}
+use Rattle.go_expr.specs.Known.{Names}
 use Rattle.go_uses.specs.Uses.{file_refers}
-use Rattle.go_objects.specs.Objects.{Object, constant, objects_of}
-use Rattle.go_objects.specs.Table.{Package, number_of, rows, scope_at, IsTable}
-use Rattle.go_decl.specs.Faults.{Facts, Faults, AreRecursive, written_type, top_faults}
+use Rattle.go_objects.specs.Objects.{Object, objects_of}
+use Rattle.go_objects.specs.Table.{Package, number_of, rows, IsTable}
+use Rattle.go_decl.specs.Faults.{Facts, Faults, AreRecursive, object_faults, top_faults}
 use Rattle.go_package.specs.Imports.{Importable, imports_in, imports_of}
 
 -- the package at a path: what its files import and declare
@@ -51,19 +47,9 @@ abbrev pub each_file : (ℕ → File → Faults) → ℕ → List File → Numbe
 each_file faults number [] = []
 each_file faults number (f ∷ fs) = map (λ x. (number, x)) (faults number f) ++ each_file faults (suc number) fs
 
--- ---- constants by themselves: https://go.dev/ref/spec#Constant_declarations
+-- ---- specifications that hide one another
 
--- A specification is asked where all of its values are known, so one that names a constant of its own that isn't fine is silent. So each
--- constant is asked for itself behind the others: its value is constant, and assignable to the type that is written, if one is.
-abbrev pub own_constant : Option Type' → Typed → Verdict Typed
-own_constant t e = checked (λ e. elim t [ None ↦ Fine e | Some t ↦ assigned t e ]) (constant_due e)
-
-abbrev pub constant_faults : Scope → Place → Option TypeExpr → Expr → Faults
-constant_faults s p t e = broken p (asked_both own_constant (written_type s t) (operand (verdict s e)))
-
-abbrev pub object_faults : Facts → Object → Faults
-object_faults t o = elim o.form [ constant of e iota ↦ constant_faults (scope_at t.package t.known o.file (Some iota)) o.name.place of e | _ ↦ [] ]
-
+-- Each names a faulty one of another, so none is asked. The first constant, or variable without a type, that is faulty by itself is told behind the others.
 abbrev pub numbered_faults : Facts → Object → Numbered
 numbered_faults t o = map (λ x. (o.file, x)) (object_faults t o)
 

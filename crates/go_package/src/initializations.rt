@@ -17,12 +17,12 @@ ghost use Rattle.go_decl.specs.Seen.{facts_of};
 ghost use Rattle.go_package.specs.Typed.{own_name, references, alone, each_alone, together, initializations_by, spec_initializations, top_initializations, of_files};
 ghost use Rattle.go_package.specs.Seen.{files_of};
 
-use crate::constants::written_in;
 use crate::references::references;
 use go_ast::declaration::{Decl, VarSpec};
 use go_ast::expression::Expr;
 use go_ast::file::{File, TopLevel};
 use go_ast::name::Name;
+use go_decl::apart::written_in;
 use go_decl::facts::Facts;
 use go_expr::error::{ExprError, RuleError};
 use go_expr::scope::Scope;

@@ -1,9 +1,11 @@
 //! Packages and their first fault, worked out by hand. Whether each is good was compared with go/types of Go 1.19, but for
 //! what this edition leaves out or bounds and for ranges over integers.
+mod declarations;
 mod packages;
 mod rows;
 mod shapes;
 
+use crate::tests::declarations::DECLARATIONS;
 use crate::tests::packages::{Sources, files_of, names_of, trees_of};
 use crate::tests::rows::{LIBRARY, ROWS};
 use crate::tests::shapes::{NUMBERS, TEXT};
@@ -12,6 +14,10 @@ use go_decl::error::DeclError;
 use go_expr::known::library;
 use go_package::check::check;
 use go_package::import::Importable;
+use go_package::law::{
+    law_fault_or_typed, law_fault_within, law_one_fault, law_one_typed, law_some_facts,
+    law_some_fault,
+};
 use go_package::typed::typed;
 use std::alloc::{AllocError, Global};
 
@@ -85,20 +91,32 @@ fn sources_of(alloc: Global, texts: &str) -> Result<Sources, AllocError> {
     })
 }
 
-#[test]
-fn faults(rt: HostRuntime) -> Result<(), AllocError> {
-    let alloc = rt.alloc();
+// How many rows are as they say before the first that isn't, and that one, with what it is.
+fn agreeing(alloc: Global, rows: &str) -> Result<(u64, String), AllocError> {
     let mut sources = sources_of(alloc, "")?;
     let mut count = 0u64;
-    for row in ROWS.lines() {
+    for row in rows.lines() {
         if let Some((texts, wanted)) = row.split_once('⇒') {
             sources.files = files_of(alloc, texts)?;
             let told = answer(alloc, &sources)?;
-            assert!(rt; told.as_str() == wanted, "{row} is {told}");
+            if told.as_str() != wanted {
+                return Ok((count, format!(in alloc; "{row} is {told}")?));
+            }
             count = count.saturating_add(1);
         }
     }
-    assert!(rt; count == 688);
+    Ok((count, String::new(alloc)))
+}
+
+#[test]
+fn faults(rt: HostRuntime) -> Result<(), AllocError> {
+    let alloc = rt.alloc();
+    let (count, wrong) = agreeing(alloc, ROWS)?;
+    assert!(rt; wrong.as_str() == "", "{wrong}");
+    assert!(rt; count == 437);
+    let (count, wrong) = agreeing(alloc, DECLARATIONS)?;
+    assert!(rt; wrong.as_str() == "", "{wrong}");
+    assert!(rt; count == 386);
     Ok(())
 }
 
@@ -111,5 +129,17 @@ fn package_of_real_shape(rt: HostRuntime) -> Result<(), AllocError> {
     assert!(rt; told.as_str() == "good", "it is {told}");
     let counted = counts(alloc, &sources)?;
     assert!(rt; counted.as_str() == "13 10 6 5 57", "it has {counted}");
+    Ok(())
+}
+
+// Other crates can call the laws.
+#[test]
+fn laws(_rt: HostRuntime) -> Result<(), AllocError> {
+    law_one_fault();
+    law_fault_within();
+    law_some_facts();
+    law_some_fault();
+    law_fault_or_typed();
+    law_one_typed();
     Ok(())
 }
