@@ -16,8 +16,9 @@ use Rattle.std.proofs.lemmas.Slice.Eq.{bytes_eq-Decides}
 use Rattle.std.proofs.lemmas.List.Elements.{All-cons, All-head, All-tail}
 use Rattle.std.proofs.lemmas.Map.Views.{All-values-insert_entry}
 use Rattle.go_typed.specs.Trees.{Package}
+use Rattle.go_types.specs.Names.{is_exported}
 use Rattle.go_summary.specs.Writable.{IsShown}
-use Rattle.go_summary.specs.Exports.{Export, Exports, is_exported, declared_by, exported, in_order, exports_of}
+use Rattle.go_summary.specs.Exports.{Export, Exports, declared_by, exported, in_order, exports_of}
 
 abbrev name_cmp : List ℕ → List ℕ → Ordering
 name_cmp = slice_cmp nat_cmp

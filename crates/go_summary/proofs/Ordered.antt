@@ -12,8 +12,9 @@ use Rattle.std.proofs.lemmas.Map.Text.{is_eq-slice_cmp}
 use Rattle.std.specs.Global.{Global}
 use Rattle.std.specs.declared.cmp.Ordering.{Ordering}
 use Rattle.std.specs.declared.cmp.Ordering.TheVariants.{Less, Equal, Greater}
+use Rattle.go_types.specs.Names.{is_exported}
 use Rattle.go_summary.specs.declared.export.Export as rust
-use Rattle.go_summary.specs.Exports.{Export, Exports, is_exported, exported, in_order}
+use Rattle.go_summary.specs.Exports.{Export, Exports, exported, in_order}
 use Rattle.go_summary.specs.Views.{named_of, export_of, all_of}
 
 -- some names in order over others that are there

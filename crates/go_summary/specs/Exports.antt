@@ -1,14 +1,12 @@
 -- What packages export.
-use Rattle.std.specs.Prelude.{ℕ, Bool, false, List, [], ◌∷◌, ◌++◌, map, Option, bytes_eq}
+use Rattle.std.specs.Prelude.{ℕ, List, [], ◌∷◌, ◌++◌, map, Option, bytes_eq}
 use Rattle.std.specs.BTreeMap.{insert_entry}
 use Rattle.std.specs.Cmp.Lexicographic.{slice_cmp}
 use Rattle.std.specs.List.{filter}
 use Rattle.std.specs.Map.{lookup}
 use Rattle.std.specs.Ordering.{nat_cmp}
-use Rattle.std.specs.Str.{chars}
-use Rattle.ucd_category.specs.GeneralCategory.{general_category, general_category_eq}
-use Rattle.ucd_category.specs.declared.GeneralCategory.TheVariants.{UppercaseLetter}
 use Rattle.go_const.specs.declared.constant.Const.{Const}
+use Rattle.go_types.specs.Names.{is_exported}
 use Rattle.go_types.specs.Types.{Type'}
 use Rattle.go_typed.specs.Trees.{Variable, Function, Package}
 
@@ -22,11 +20,6 @@ pub data Export : Type 0 where
 -- names, each with what it exports
 abbrev pub Exports : Type 0
 Exports = List (List ℕ × Export)
-
--- https://go.dev/ref/spec#Exported_identifiers
--- the first character is an upper-case letter
-abbrev pub is_exported : List ℕ → Bool
-is_exported name = elim (chars name) [ [] ↦ false | c ∷ cs ↦ general_category_eq (general_category c) UppercaseLetter ]
 
 -- https://go.dev/ref/spec#Declarations_and_scope
 -- declared names, each with what it is declared as
@@ -46,7 +39,7 @@ named_function f = (f.name, function f.parameters f.results)
 abbrev pub declared_by : Package → Exports
 declared_by p = map named_constant p.constants ++ map named_type p.types ++ map named_variable p.variables ++ map named_function p.functions
 
--- the exported ones of some names
+-- the exported ones of some names: https://go.dev/ref/spec#Exported_identifiers
 abbrev pub exported : Exports → Exports
 exported es = filter (λ e. is_exported e.0) es
 

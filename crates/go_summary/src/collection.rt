@@ -5,8 +5,9 @@ ghost use Rattle.go_typed.specs.Views.{constant_of, name_of, variable_of, functi
 ghost use Rattle.go_summary.specs.Exports.{exported, named_constant, named_type, named_variable, named_function, in_order, exports_of};
 ghost use Rattle.go_summary.specs.Views.{all_of};
 
-use crate::export::{Export, is_exported};
+use crate::export::Export;
 use go_typed::package::{Typed, TypedConstant, TypedFunction, TypedName, TypedVariable};
+use go_types::names::is_exported;
 use std::alloc::{AllocError, Global};
 use std::collections::BTreeMap;
 

@@ -2,14 +2,13 @@
 ghost use Rattle.std.specs.Prelude.{◌≡◌, IfOk, map};
 ghost use Rattle.go_types.specs.Views.{type_of};
 ghost use Rattle.go_typed.specs.Views.{constant_of, name_of, variable_of, function_of};
-ghost use Rattle.go_summary.specs.Exports.{is_exported, named_constant, named_type, named_variable, named_function};
+ghost use Rattle.go_summary.specs.Exports.{named_constant, named_type, named_variable, named_function};
 ghost use Rattle.go_summary.specs.Views.{export_of};
 
 use go_const::constant::Const;
 use go_typed::package::{TypedConstant, TypedFunction, TypedName, TypedVariable};
 use go_types::types::GoType;
 use std::alloc::{AllocError, Global};
-use ucd_category::GeneralCategory;
 
 /// What a name exports.
 #[derive(Drop)]
@@ -27,19 +26,8 @@ pub enum Export {
     Type(GoType),
 }
 
-/// Whether a name is exported: its first character is an upper-case letter.
-/// [Exported identifiers](https://go.dev/ref/spec#Exported_identifiers)
-pub fn is_exported(name: &str) -> bool
-    ensures { result ≡ is_exported name.now }
-{
-    match name.chars().next() {
-        Some(first) => GeneralCategory::for_char(first) == GeneralCategory::UppercaseLetter,
-        None => false,
-    }
-}
-
-/// Copies of types, in their order.
-fn copy_types(alloc: Global, types: &[GoType]) -> Result<Vec<GoType>, AllocError>
+/// Copies of types, in their order. An `Err` only where memory ran out.
+pub fn copy_types(alloc: Global, types: &[GoType]) -> Result<Vec<GoType>, AllocError>
     ensures { IfOk result (λ copies. map type_of copies.items ≡ map type_of types.now) }
 {
     let mut copies = Vec::new(alloc);

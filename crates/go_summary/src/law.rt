@@ -6,7 +6,8 @@ ghost use Rattle.std.specs.List.Sorted.{IsStrictlySortedBy};
 ghost use Rattle.std.specs.Map.{keys_of, values_of};
 ghost use Rattle.std.specs.Ordering.{nat_cmp};
 ghost use Rattle.go_typed.specs.Trees.{Package};
-ghost use Rattle.go_summary.specs.Exports.{is_exported, declared_by, exports_of, look_up};
+ghost use Rattle.go_types.specs.Names.{is_exported};
+ghost use Rattle.go_summary.specs.Exports.{declared_by, exports_of, look_up};
 ghost use Rattle.go_summary.specs.Summaries.{Summary as ASummary, summary_text};
 ghost use Rattle.go_summary.specs.Writable.{IsShown, IsWritten};
 

@@ -6,3 +6,4 @@ pub mod export;
 pub mod law;
 pub mod summary;
 mod text;
+mod written;

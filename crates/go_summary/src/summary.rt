@@ -4,11 +4,13 @@ ghost use Rattle.std.specs.Option.{option_map};
 ghost use Rattle.go_typed.specs.Views.{typed_of};
 ghost use Rattle.go_summary.specs.Exports.{look_up};
 ghost use Rattle.go_summary.specs.Summaries.{summary_of, summary_text, summary_digest};
-ghost use Rattle.go_summary.specs.Views.{export_of};
+ghost use Rattle.go_summary.specs.Views.{all_of, export_of};
+ghost use Rattle.go_summary.specs.Writable.{IsWritten};
 
 use crate::collection::exports_of;
 use crate::export::Export;
 use crate::text::text_of;
+use crate::written::are_shown;
 use go_export::field::digest;
 use go_typed::package::Typed;
 use std::alloc::{AllocError, Global};
@@ -16,7 +18,8 @@ use std::collections::BTreeMap;
 use std::marker::Model;
 
 /// What the importers of a package know of it: its path, its name and what it exports. It holds
-/// the text that stands for it in digests.
+/// the text that stands for it in digests, and that text's digest, so that none who takes the
+/// digest hashes the text again.
 /// [Import declarations](https://go.dev/ref/spec#Import_declarations)
 #[derive(Drop)]
 pub struct Summary {
@@ -24,6 +27,7 @@ pub struct Summary {
     name: String,
     named: BTreeMap<String, Export>,
     text: Vec<u8>,
+    digest: [u8; 32],
 }
 
 impl Model for Summary {
@@ -39,24 +43,44 @@ impl Model for Summary {
 
     ghost view = { λ s. shown (string_bytes s.path) (string_bytes s.name) s.named.entries };
 
-    ghost invariant = { λ s. s.text.items ≡ summaries.summary_text (shown (string_bytes s.path) (string_bytes s.name) s.named.entries) };
+    ghost use Rattle.sha2.specs.Sha256.{sha256};
+    ghost use Rattle.go_summary.specs.Writable as writable;
+
+    ghost invariant = { λ s. (s.text.items ≡ summaries.summary_text (shown (string_bytes s.path) (string_bytes s.name) s.named.entries))
+        × (s.digest ≡ sha256 s.text.items)
+        × writable.IsWritten (shown (string_bytes s.path) (string_bytes s.name) s.named.entries) };
 }
 
 impl Summary {
-    /// The summary of a checked package. An `Err` only where memory ran out.
+    /// The summary of a checked package. An `Err` where memory ran out, or where the text wouldn't
+    /// tell the summary: names in it have a space, a brace or a dot, or a constant isn't of its
+    /// type, which is so of no checked package.
     pub fn of(alloc: Global, typed: &Typed) -> Result<Summary, AllocError>
         ensures { IfOk result (λ s. s ≡ summary_of (typed_of typed.now)) }
     {
         let path = typed.path.clone()?;
         let name = typed.name.clone()?;
         let named = exports_of(alloc, typed)?;
+        if !are_shown(&named) {
+            return Err(AllocError);
+        }
         let text = text_of(alloc, &path, &name, &named)?;
+        let _ = text.len();
+        let digest = digest(&text);
         Ok(Summary {
             path,
             name,
             named,
             text,
+            digest,
         })
+    }
+
+    /// That its text tells it.
+    pub fn written(&self)
+        ensures { IsWritten self.now }
+    {
+        let _ = self.text.len();
     }
 
     /// The directory that the package stands in, which is its path.
@@ -81,6 +105,13 @@ impl Summary {
         self.named.get(name)
     }
 
+    /// All that the package exports, by name.
+    pub fn exports(&self) -> &BTreeMap<String, Export>
+        ensures { all_of result.now.entries ≡ self.now.exports }
+    {
+        &self.named
+    }
+
     /// The text that stands for the summary in digests.
     pub fn text(&self) -> &[u8]
         ensures value { result.now ≡ summary_text self.now }
@@ -93,6 +124,6 @@ impl Summary {
     pub fn digest(&self) -> [u8; 32]
         ensures { result ≡ summary_digest self.now }
     {
-        digest(&self.text)
+        self.digest
     }
 }

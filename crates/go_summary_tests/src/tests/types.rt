@@ -1,7 +1,7 @@
 //! Types, written as words with a space between each two: the name of a basic type, or a type
 //! that is made of the types before it.
 use go_const::kind::IntKind;
-use go_types::types::{Basic, Field, GoType, Named, Untyped};
+use go_types::types::{Basic, Element, Field, Fields, GoType, Named, Untyped};
 use std::alloc::{AllocError, Global};
 use std::sync::Arc;
 
@@ -44,7 +44,7 @@ fn newest(types: &mut Vec<GoType>) -> Result<GoType, AllocError> {
 
 /// An array of a type.
 fn array(alloc: Global, length: u32, of: GoType) -> Result<GoType, AllocError> {
-    Ok(GoType::Array(length, Arc::new(alloc, of)?))
+    Ok(GoType::Array(length, Arc::new(alloc, Element::new(of))?))
 }
 
 /// A field with a name, behind its package's path and a colon where it isn't exported.
@@ -67,7 +67,7 @@ fn structure(alloc: Global, types: &mut Vec<GoType>, names: &str) -> Result<GoTy
         }
     }
     fields.reverse();
-    Ok(GoType::Struct(Arc::new(alloc, fields)?))
+    Ok(GoType::Struct(Arc::new(alloc, Fields::new(fields))?))
 }
 
 /// A declared type, by its package's path, a colon and its name.
@@ -75,11 +75,7 @@ fn named(alloc: Global, name: &str, of: GoType) -> Result<GoType, AllocError> {
     let (path, name) = name.split_once(':').unwrap_or(("", name));
     let path = String::from_str(alloc, path)?;
     let name = String::from_str(alloc, name)?;
-    let named = Named {
-        path,
-        name,
-        underlying: of,
-    };
+    let named = Named::new(path, name, of);
     Ok(GoType::Named(Arc::new(alloc, named)?))
 }
 
