@@ -1,0 +1,10 @@
+pub mod Circles
+pub mod Computed
+pub mod First
+pub mod Keys
+pub mod Members
+pub mod Orders
+pub mod Queued
+pub mod Steps
+pub mod Turns
+pub mod Waiters

@@ -1,0 +1,3 @@
+pub mod Packages
+pub mod Queues
+pub mod Turns
