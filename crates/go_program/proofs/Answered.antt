@@ -17,9 +17,10 @@ use Rattle.go_link.specs.Links.{Links, IsRefusal, link_refusal, in_order}
 use Rattle.go_link.specs.declared.link.LinkError.{LinkError}
 use Rattle.go_link.specs.declared.link.LinkError.TheVariants as linking
 use Rattle.go_emit.specs.Translation.{object_of}
+use Rattle.go_checked.specs.Packages.{is_initialized}
 use Rattle.go_program.specs.declared.error.ProgramError.{ProgramError}
 use Rattle.go_program.specs.declared.error.ProgramError.TheVariants as errors
-use Rattle.go_program.specs.Programs.{AreTreesOf, fmt_alone, AreTyped, AreFaulty, is_initialized, IsImageOf, AreProgram}
+use Rattle.go_program.specs.Programs.{AreTreesOf, fmt_alone, AreTyped, AreFaulty, IsImageOf, AreProgram}
 use Rattle.go_program.specs.Told.{of_checker, of_linker, Types, Compiles, Builds}
 
 -- ---- the checker

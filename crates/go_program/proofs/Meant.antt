@@ -1,7 +1,7 @@
 -- What a program's image does its sources mean.
-use Rattle.std.proofs.Common.{◌≡◌, ℕ, Bool, true, false, ◌||◌, ◌&&◌, List, [], ◌∷◌, map, refl}
-use Rattle.std.specs.Prelude.{codes, if◌then◌else◌, Result, Ok, Err, IfOk}
-use Rattle.std.specs.List.{filter, list_all, list_any}
+use Rattle.std.proofs.Common.{◌≡◌, ℕ, false, List, [], ◌∷◌, map, refl}
+use Rattle.std.specs.Prelude.{codes, Result, Ok, Err, IfOk}
+use Rattle.std.specs.List.{list_all}
 use Rattle.std.proofs.lemmas.Bool.{and_parts}
 use Rattle.go_ast.specs.Trees.{File}
 use Rattle.go_ast.specs.Parse.{Parsed}
@@ -13,30 +13,14 @@ use Rattle.go_vm.specs.Answers.{Answers}
 use Rattle.go_vm.specs.Outcomes.{Outcome}
 use Rattle.go_vm.specs.declared.run.RunError.{RunError}
 use Rattle.go_vm.specs.declared.run.RunError.TheVariants.{Memory, BadCode as Nonsense}
-use Rattle.go_typed.specs.Trees.{Function, Package}
-use Rattle.go_meaning.specs.Programs as programs
+use Rattle.go_typed.specs.Trees.{Package}
 use Rattle.go_sound.specs.WellTyped.{is_text}
+use Rattle.go_emit.specs.Translation.{object_of}
+use Rattle.go_simulation.specs.Programs.{IsLinked}
 use Rattle.go_simulation.proofs.Refusals.{linked_program}
 use Rattle.go_checked.specs.Packages as checked
 use Rattle.go_checked.proofs.Meant.{checked_same, checked_sense}
-use Rattle.go_program.specs.Programs.{AreTreesOf, fmt_alone, has_values, is_init, is_initialized, IsImageOf, AreTyped, AreProgram, AreTexts, Mean}
-
--- ---- nothing comes before main
-
-neither : (a b : Bool) → (a || b) ≡ false → (a ≡ false) × (b ≡ false)
-neither true b e = cc
-neither false b e = (refl, e)
-
-no_inits : (fs : List Function) → list_any is_init fs ≡ false → filter programs.is_init fs ≡ []
-no_inits [] e = refl
-no_inits (f ∷ fs) e =
-    let h = neither (is_init f) (list_any is_init fs) e in
-    let plain = neither _ (programs.is_init f) h.0 in
-    by_name (programs.is_init f) plain.1 (no_inits fs h.1)
-  where
-    by_name : (b : Bool) → b ≡ false → filter programs.is_init fs ≡ [] → (if b then f ∷ filter programs.is_init fs else filter programs.is_init fs) ≡ []
-    by_name true e rest = cc
-    by_name false e rest = rest
+use Rattle.go_program.specs.Programs.{AreTreesOf, fmt_alone, AreTyped, AreProgram, AreTexts, Mean}
 
 -- ---- the texts of the files
 
@@ -50,12 +34,12 @@ of_texts (s ∷ sources) (f ∷ fs) trees texts =
 
 -- ---- programs
 
-pub program_by : (path : List ℕ) (sources : List Parsed) (whole : Package) (typed : AreTyped path sources whole) → is_initialized whole ≡ false → whole.name ≡ codes "main"
+pub program_by : (path : List ℕ) (sources : List Parsed) (whole : Package) (typed : AreTyped path sources whole) → checked.is_initialized whole ≡ false → whole.name ≡ codes "main"
     → AreTexts sources → checked.AreProgram path typed.files fmt_alone (map (λ s. s.name) sources) whole
 program_by path sources whole typed plain named texts = record {
   sources = of_texts sources typed.files typed.trees texts;
   typed = typed.typed;
-  plain = no_inits whole.functions (neither (has_values whole.initializations) (list_any is_init whole.functions) plain).1;
+  plain = plain;
   named = named;
 }
 
@@ -64,17 +48,21 @@ module _ (path : List ℕ) (sources : List Parsed) (image : Image) (it : AreProg
   names = map (λ s. s.name) sources
 
   good : checked.AreProgram path it.typed.files fmt_alone names it.whole
-  good = program_by path sources it.whole it.typed it.is.plain (linked_program it.whole it.is.links.0).0 texts
+  good = program_by path sources it.whole it.typed it.is.plain (linked_program (it.whole ∷ []) it.is.links.0).0 texts
+
+  linked : IsLinked (it.whole ∷ []) image
+  linked = (object_of it.whole ∷ [], 0 ∷ [], refl, it.is.links)
 
   pub meant : (ticks : ℕ) (ending : Ending) (output : List ℕ) → MachineMeaning image ticks (Ends ending output) → Mean path sources ticks ending output
   meant ticks ending output h = record {
     whole = it.whole;
     typed = it.typed;
-    meaning = (checked_same path it.typed.files fmt_alone names it.whole (refl, tt) good image it.is.links ticks ending output).1 h;
+    plain = it.is.plain;
+    meaning = (checked_same path it.typed.files fmt_alone names it.whole (refl, tt) good image linked ticks ending output).1 h;
   }
 
   pub sensible : (ticks : ℕ) → MachineMeaning image ticks BadCode → ⊥
-  sensible ticks h = checked_sense path it.typed.files fmt_alone names it.whole (refl, tt) good image ticks it.is.links h
+  sensible ticks h = checked_sense path it.typed.files fmt_alone names it.whole (refl, tt) good image ticks linked h
 
 -- ---- what a run answers
 

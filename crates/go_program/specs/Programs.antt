@@ -1,12 +1,12 @@
 -- What the sources of a package are typed to, and which image is their program's.
-use Rattle.std.specs.Prelude.{◌≡◌, ℕ, nat_eq, Bool, true, false, ◌||◌, bytes_eq, codes, List, [], ◌∷◌, map, Option, Some}
-use Rattle.std.specs.List.{list_all, list_any, starts_with}
+use Rattle.std.specs.Prelude.{◌≡◌, ℕ, true, false, codes, List, [], ◌∷◌, map, Option, Some}
+use Rattle.std.specs.List.{list_all}
 use Rattle.go_text.specs.declared.place.Place.{Place}
 use Rattle.go_text.specs.declared.fault.FaultKind.{FaultKind}
 use Rattle.go_ast.specs.Trees.{File}
 use Rattle.go_ast.specs.Parse.{Parsed, Derived, IsParse}
 use Rattle.go_expr.specs.Known.{library}
-use Rattle.go_typed.specs.Trees.{Function, Initialization, Package}
+use Rattle.go_typed.specs.Trees.{Package}
 use Rattle.go_package.specs.Imports.{Importable}
 use Rattle.go_package.specs.Packages.{package_in, IsFaultOf}
 use Rattle.go_package.specs.Typed.{IsTypedIn}
@@ -17,6 +17,7 @@ use Rattle.go_code.specs.declared.ending.Ending.{Ending}
 use Rattle.go_emit.specs.Translation.{object_of}
 use Rattle.go_meaning.specs.Programs.{SourceMeaning}
 use Rattle.go_sound.specs.WellTyped.{is_text}
+use Rattle.go_checked.specs.Packages.{is_initialized}
 
 -- ---- files
 
@@ -42,19 +43,6 @@ pub record AreFaulty (path : List ℕ) (sources : List Parsed) (fault : ℕ × (
   pub files : List File
   pub trees : AreTreesOf sources files
   pub first : IsFaultOf path files fmt_alone (Some fault)
-
--- ---- what isn't compiled yet: https://go.dev/ref/spec#Package_initialization
-
-abbrev pub has_values : List Initialization → Bool
-has_values is = elim is [ [] ↦ false | i ∷ others ↦ true ]
-
--- by its name in the source, or in a typed package of a later stage
-abbrev pub is_init : Function → Bool
-is_init f = bytes_eq f.name (codes "init") || starts_with nat_eq f.name (codes "init.")
-
--- a variable has an initial value, or there is a function init
-abbrev pub is_initialized : Package → Bool
-is_initialized t = has_values t.initializations || list_any is_init t.functions
 
 -- ---- images
 
@@ -94,8 +82,9 @@ pub record AreUnlinked (path : List ℕ) (sources : List Parsed) (why : LinkErro
 abbrev pub AreTexts : List Parsed → Type 0
 AreTexts sources = list_all (λ s. is_text s.text) sources ≡ true
 
--- the sources are typed to a package that ends so, and prints this, when it is given so many ticks
+-- The sources are typed to a package with nothing that comes before main; that ends so, and prints this, when it is given so many ticks.
 pub record Mean (path : List ℕ) (sources : List Parsed) (ticks : ℕ) (ending : Ending) (output : List ℕ) : Type 0 where
   pub whole : Package
   pub typed : AreTyped path sources whole
+  pub plain : is_initialized whole ≡ false
   pub meaning : SourceMeaning (whole ∷ []) ticks ending output

@@ -11,7 +11,8 @@ use Rattle.go_link.specs.declared.link.LinkError.{LinkError}
 use Rattle.go_link.specs.declared.link.LinkError.TheVariants as linking
 use Rattle.go_program.specs.declared.error.ProgramError.{ProgramError}
 use Rattle.go_program.specs.declared.error.ProgramError.TheVariants as errors
-use Rattle.go_program.specs.Programs.{AreTyped, AreFaulty, is_initialized, IsImageOf, IsUnlinked, AreProgram, AreInitialized, AreUnlinked}
+use Rattle.go_checked.specs.Packages.{is_initialized}
+use Rattle.go_program.specs.Programs.{AreTyped, AreFaulty, IsImageOf, IsUnlinked, AreProgram, AreInitialized, AreUnlinked}
 
 -- errors of the parts as errors of the whole
 abbrev pub of_checker : DeclError → ProgramError

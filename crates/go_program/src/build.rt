@@ -8,7 +8,8 @@ ghost use Rattle.go_typed.specs.Views.{function_of, typed_of};
 ghost use Rattle.go_link.specs.declared.link.LinkError.TheVariants as linking;
 ghost use Rattle.go_package.specs.Seen.{files_of};
 ghost use Rattle.go_program.specs.declared.error.ProgramError.TheVariants as errors;
-ghost use Rattle.go_program.specs.Programs.{AreFaulty, AreInitialized, AreProgram, AreTreesOf, AreUnlinked, is_init, is_initialized};
+ghost use Rattle.go_checked.specs.Packages.{is_init, is_initialized};
+ghost use Rattle.go_program.specs.Programs.{AreFaulty, AreInitialized, AreProgram, AreTreesOf, AreUnlinked};
 ghost use Rattle.go_program.specs.Told.{Builds, Compiles, Types};
 
 use crate::error::ProgramError;
@@ -35,8 +36,8 @@ fn names_of(alloc: Global, files: &[Parsed]) -> Result<Vec<&str>, AllocError>
     Ok(names)
 }
 
-/// The trees of files, in their order.
-fn trees_of(alloc: Global, files: &[Parsed]) -> Result<Vec<&File>, AllocError>
+/// The trees of files, in their order. An `Err` only where memory ran out.
+pub fn trees_of(alloc: Global, files: &[Parsed]) -> Result<Vec<&File>, AllocError>
     ensures { IfOk result (λ trees. AreTreesOf files.now (files_of trees.items)) }
 {
     let mut trees = Vec::with_capacity(alloc, files.len())?;

@@ -1,3 +1,4 @@
+mod Plans
 mod Reading
 mod Within
 mod Faults

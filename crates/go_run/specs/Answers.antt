@@ -1,5 +1,5 @@
 -- What the answers about sources say.
-use Rattle.std.specs.Prelude.{◌≡◌, ℕ, List, map, Some, Result, Ok, Err, Vec}
+use Rattle.std.specs.Prelude.{◌≡◌, ℕ, List, map, Option, Some, None, Result, Ok, Err, Vec}
 use Rattle.std.specs.List.{slice_get}
 use Rattle.std.specs.Global.{Global}
 use Rattle.go_text.specs.Faults.{Fault}
@@ -10,8 +10,9 @@ use Rattle.go_ast.specs.Parse.{Parsed}
 use Rattle.go_code.specs.Images.{Image}
 use Rattle.go_program.specs.Programs.{AreProgram, AreInitialized, AreTexts, Mean}
 use Rattle.go_run.specs.declared.answer.Answer.{Answer}
+use Rattle.go_run.specs.declared.plan.PlanFault.{PlanFault}
 use Rattle.go_run.specs.declared.answer.Answer.TheVariants as answers
-use Rattle.go_run.specs.Sources.{main_path, parsed_as, all_parsed, IsFile, IsStopped, IsTextFault, IsFirstFault, AreNoProgram}
+use Rattle.go_run.specs.Sources.{main_path, parsed_as, all_parsed, IsFile, IsStopped, IsTextFault, IsFirstFault, IsPlanFault, AreOnePackage, AreNoProgram}
 
 -- of a source that is read
 abbrev pub IsRead : Source → Result Parsed Fault → Type 0
@@ -23,6 +24,11 @@ abbrev pub AreRead : List Source → Result (Vec Parsed Global) Fault → Type 0
 AreRead sources (Ok files) = (files.items ≡ all_parsed sources) × AreTexts files.items
 AreRead sources (Err fault) = IsTextFault sources fault
 
+-- of what the files of sources have in common
+abbrev pub IsPlanned : List Source → Option Fault → Type 0
+IsPlanned sources None = AreOnePackage sources
+IsPlanned sources (Some fault) = IsPlanFault sources fault
+
 -- a fault by the number of its file, and by its name
 pub record IsFaultIn (files : List Parsed) (numbered : ℕ × (Place × FaultKind)) (fault : Fault) : Type 0 where
   pub name : slice_get (map (λ f. f.name) files) numbered.0 ≡ Some fault.file
@@ -33,8 +39,21 @@ abbrev pub IsOfTexts : Image → Type 0
 IsOfTexts image = (sources : List Parsed) × AreProgram main_path sources image × AreTexts sources
 
 -- of the program that sources are, which is given so many ticks
-abbrev pub Answers : List Source → ℕ → Answer → Type 0
-Answers sources ticks (answers.Ran o) = Mean main_path (all_parsed sources) ticks o.ending o.output
-Answers sources ticks (answers.Faulty fault) = IsFirstFault sources fault
-Answers sources ticks answers.Initialized = AreInitialized main_path (all_parsed sources)
-Answers sources ticks answers.NoMain = AreNoProgram sources
+abbrev pub Tells : List Source → ℕ → Answer → Type 0
+Tells sources ticks (answers.Ran o) = Mean main_path (all_parsed sources) ticks o.ending o.output
+Tells sources ticks (answers.Faulty fault) = IsFirstFault sources fault
+Tells sources ticks answers.Initialized = AreInitialized main_path (all_parsed sources)
+Tells sources ticks answers.NoMain = AreNoProgram sources
+
+-- where no fault is told, the sources are the files of one package
+abbrev pub AreOneUnlessFaulty : List Source → Answer → Type 0
+AreOneUnlessFaulty sources (answers.Faulty fault) = Unit {0}
+AreOneUnlessFaulty sources answer = AreOnePackage sources
+
+pub record Answers (sources : List Source) (ticks : ℕ) (answer : Answer) : Type 0 where
+  pub tells : Tells sources ticks answer
+  pub one : AreOneUnlessFaulty sources answer
+
+-- a fault of what files have in common, as the code has it
+abbrev pub numbered_of : PlanFault → ℕ × (Place × FaultKind)
+numbered_of fault = (fault.file, (fault.place, fault.kind))

@@ -1,3 +1,4 @@
+pub mod Plan
 pub mod Sources
 pub mod Answers
 pub mod Told

@@ -6,7 +6,9 @@ use Rattle.go_text.specs.Named.{Source}
 use Rattle.go_ast.specs.Trees.{File}
 use Rattle.go_ast.specs.Parse.{Parsed, Derived, Stopped, IsParse}
 use Rattle.go_typed.specs.Trees.{Package}
-use Rattle.go_program.specs.Programs.{AreTyped, AreFaulty, is_initialized}
+use Rattle.go_checked.specs.Packages.{is_initialized}
+use Rattle.go_program.specs.Programs.{AreTyped, AreFaulty, AreTreesOf}
+use Rattle.go_run.specs.Plan.{plan_faults}
 
 -- the path of a program's package
 abbrev pub main_path : List ℕ
@@ -33,14 +35,29 @@ abbrev pub IsTextFault : List Source → Fault → Type 0
 IsTextFault [] fault = ⊥
 IsTextFault (s ∷ ss) fault = IsStopped s fault ⊎ (IsFile s × IsTextFault ss fault)
 
--- all sources are files, and the first fault of their package is this, in the file of that number
+-- all sources are files, and the first fault of what they must have in common is this, in the file of that number
+pub record IsPlanFault (sources : List Source) (fault : Fault) : Type 0 where
+  pub files : List File
+  pub trees : AreTreesOf (all_parsed sources) files
+  pub number : ℕ
+  pub name : slice_get (map (λ s. s.name) sources) number ≡ Some fault.file
+  pub first : slice_get (plan_faults files) 0 ≡ Some (number, (fault.place, fault.kind))
+
+-- all sources are the files of one package, which imports what is there
+pub record AreOnePackage (sources : List Source) : Type 0 where
+  pub files : List File
+  pub trees : AreTreesOf (all_parsed sources) files
+  pub none : plan_faults files ≡ []
+
+-- they are, and the first fault of their package is this
 pub record IsPackageFault (sources : List Source) (fault : Fault) : Type 0 where
+  pub one : AreOnePackage sources
   pub number : ℕ
   pub name : slice_get (map (λ s. s.name) sources) number ≡ Some fault.file
   pub first : AreFaulty main_path (all_parsed sources) (number, (fault.place, fault.kind))
 
 abbrev pub IsFirstFault : List Source → Fault → Type 0
-IsFirstFault sources fault = IsTextFault sources fault ⊎ IsPackageFault sources fault
+IsFirstFault sources fault = IsTextFault sources fault ⊎ (IsPlanFault sources fault ⊎ IsPackageFault sources fault)
 
 -- ---- packages that aren't programs
 

@@ -2,4 +2,5 @@
 #![tactic(auto)]
 
 pub mod answer;
+mod plan;
 pub mod run;

@@ -9,14 +9,15 @@ ghost use Rattle.go_sound.specs.WellTyped.{is_text};
 ghost use Rattle.go_vm.specs.Outcomes.{Outcome as AnOutcome};
 ghost use Rattle.go_program.specs.Programs.{AreProgram, AreInitialized, AreTexts, Mean};
 ghost use Rattle.go_run.specs.declared.answer.Answer.TheVariants as answers;
-ghost use Rattle.go_run.specs.Sources.{main_path, all_parsed, IsFirstFault, AreNoProgram};
-ghost use Rattle.go_run.specs.Answers.{IsRead, AreRead, IsFaultIn, IsOfTexts, Answers};
+ghost use Rattle.go_run.specs.Sources.{main_path, all_parsed, IsFirstFault, AreOnePackage, AreNoProgram};
+ghost use Rattle.go_run.specs.Answers.{IsRead, AreRead, IsFaultIn, IsOfTexts, IsPlanned, AreOneUnlessFaulty, Answers};
 
 use crate::answer::Answer;
+use crate::plan::plan_fault;
 use go_ast::parsed::Parsed;
 use go_code::image::Image;
 use go_parse::{ParseError, parse};
-use go_program::build::build;
+use go_program::build::{build, trees_of};
 use go_program::error::ProgramError;
 use go_program::run::run_program;
 use go_text::fault::{Fault, FaultKind};
@@ -102,10 +103,22 @@ fn run_image(alloc: Global, image: &Image, ticks: u64) -> Result<Outcome, AllocE
     }
 }
 
-/// What comes of files.
-fn run_files(alloc: Global, files: &[Parsed], ticks: u64) -> Result<Answer, AllocError>
+/// The fault of what files have in common, if they have one.
+fn plan_fault_in(alloc: Global, files: &[Parsed]) -> Result<Option<Fault>, AllocError>
+    ensures { (sources : List ASource) → files.now ≡ all_parsed sources → IfOk result (λ fault. IsPlanned sources fault) }
+{
+    let trees = trees_of(alloc, files)?;
+    let Some(first) = plan_fault(&trees) else {
+        return Ok(None);
+    };
+    let fault = fault_in(alloc, files, first.file, first.place, first.kind)?;
+    Ok(Some(fault))
+}
+
+/// What comes of the files of one package.
+fn run_package(alloc: Global, files: &[Parsed], ticks: u64) -> Result<Answer, AllocError>
     requires { AreTexts files.now }
-    ensures { (sources : List ASource) → files.now ≡ all_parsed sources → IfOk result (λ a. Answers sources ticks a) }
+    ensures { (sources : List ASource) → files.now ≡ all_parsed sources → AreOnePackage sources → IfOk result (λ a. Answers sources ticks a) }
 {
     match build(alloc, "main", files) {
         Ok(image) => Ok(Answer::Ran(run_image(alloc, &image, ticks)?)),
@@ -121,12 +134,24 @@ fn run_files(alloc: Global, files: &[Parsed], ticks: u64) -> Result<Answer, Allo
     }
 }
 
+/// What comes of files.
+fn run_files(alloc: Global, files: &[Parsed], ticks: u64) -> Result<Answer, AllocError>
+    requires { AreTexts files.now }
+    ensures { (sources : List ASource) → files.now ≡ all_parsed sources → IfOk result (λ a. Answers sources ticks a) }
+{
+    match plan_fault_in(alloc, files)? {
+        Some(fault) => Ok(Answer::Faulty(fault)),
+        None => run_package(alloc, files, ticks),
+    }
+}
+
 /// What comes of the sources of a program, in this order, that is given so many ticks. It may import
 /// the library fmt alone.
 ///
 /// - `Ran`: it ended and printed as the sources mean.
 /// - `Faulty`: the first source that is no file has this fault; or all are files, and this is the
-///   first fault of their package.
+///   first clause that names another package than the first file's, or else the first import of
+///   another package than fmt, or else the first fault of their package.
 /// - `Initialized`: the package has no fault, but an initial value of a variable, or a function init.
 /// - `NoMain`: it has neither, but it isn't named main.
 ///
@@ -136,6 +161,7 @@ pub fn run_sources(alloc: Global, sources: &[Source], ticks: u64) -> Result<Answ
     ensures faulty { (fault : AFault) → result ≡ Ok (answers.Faulty fault) → IsFirstFault sources.now fault }
     ensures initialized { result ≡ Ok answers.Initialized → AreInitialized main_path (all_parsed sources.now) }
     ensures no_main { result ≡ Ok answers.NoMain → AreNoProgram sources.now }
+    ensures one { IfOk result (λ a. AreOneUnlessFaulty sources.now a) }
 {
     answer_of(alloc, sources, ticks)
 }

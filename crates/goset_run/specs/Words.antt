@@ -1,8 +1,27 @@
 -- What the words of a command line ask for.
-use Rattle.std.specs.Prelude.{ℕ, ◌==◌, ◌&&◌, not, nat_eq, bytes_eq, codes, if◌then◌else◌, Bool, List, ◌∷◌, length, map, Option, Some, None, string_bytes}
+use Rattle.std.specs.Prelude.{ℕ, ◌==◌, ◌&&◌, ◌||◌, not, nat_eq, bytes_eq, codes, if◌then◌else◌, Bool, List, [], ◌∷◌, length, map, Option, Some, None, string_bytes}
 use Rattle.std.specs.List.{list_all, starts_with}
 use Rattle.ws_command.specs.Lines.{number_of}
 use Rattle.goset_run.specs.declared.words.Request.{Request}
+
+-- ---- texts, for which one word alone asks
+
+abbrev pub usage : List ℕ
+usage = codes "usage: ./goset --run [--ticks N] FILE..\n"
+
+abbrev pub version : List ℕ
+version = codes "goset 0.1.0\n"
+
+abbrev pub text_of : List ℕ → Option (List ℕ)
+text_of word =
+    if bytes_eq word (codes "--help") || bytes_eq word (codes "-h") then Some usage
+    else (if bytes_eq word (codes "--version") || bytes_eq word (codes "-V") then Some version else None)
+
+abbrev pub text_asked : List (List ℕ) → Option (List ℕ)
+text_asked (word ∷ []) = text_of word
+text_asked words = None
+
+-- ---- programs
 
 -- how many ticks a program is run for where none are named
 abbrev pub all_ticks : ℕ

@@ -1,93 +1,48 @@
 //! `goset_run`: runs the Go program of one package that some files are.
 #![tactic(auto)]
 
+mod failure;
+mod files;
 mod words;
 
+use failure::Failure;
+use files::read_sources;
 use go_run::answer::Answer;
 use go_run::run::run_sources;
-use go_text::source::Source;
-use go_text::text::TextError;
-use std::alloc::{AllocError, AllocFailed};
 use std::io::Write;
 use std::process::ExitCode;
-use std::{env, fs, io};
-use words::{Request, read_words};
+use std::{env, io};
+use words::{Request, USAGE, read_words, text_asked};
 
-const USAGE: &[u8] = b"usage: ./goset --run [--ticks N] FILE..\n";
-
-/// Why nothing is run, or it isn't told.
-#[derive(Drop)]
-enum Failure {
-    /// The words are wrong.
-    Words,
-    /// The file can't be read, or holds no source text.
-    Unread(String),
-    /// Memory ran out.
-    Memory,
-    /// An end failed.
-    Ends,
-}
-
-impl From<AllocError> for Failure {
-    fn from(_e: AllocError) -> Failure {
-        Failure::Memory
-    }
-}
-
-impl<T: Drop> From<AllocFailed<T>> for Failure {
-    fn from(_e: AllocFailed<T>) -> Failure {
-        Failure::Memory
-    }
-}
-
-impl From<io::Error> for Failure {
-    fn from(_e: io::Error) -> Failure {
-        Failure::Ends
-    }
-}
-
-/// The source of a file.
-fn read_source(rt: &HostRuntime, file: &String) -> Result<Source, Failure> {
-    let Ok(text) = fs::read_to_string(rt, file.as_str()) else {
-        return Err(Failure::Unread(file.clone()?));
-    };
-    match Source::new(rt.alloc(), file.clone()?, text) {
-        Ok(source) => Ok(source),
-        Err(TextError::Memory) => Err(Failure::Memory),
-        Err(_) => Err(Failure::Unread(file.clone()?)),
-    }
-}
-
-/// The sources of files, in byte order of their names.
-fn read_sources(rt: &HostRuntime, files: &[String]) -> Result<Vec<Source>, Failure> {
-    let mut names = Vec::with_capacity(rt.alloc(), files.len())?;
-    for file in files {
-        names.push(file.clone()?)?;
-    }
-    names.sort()?;
-    let mut sources = Vec::with_capacity(rt.alloc(), files.len())?;
-    for name in &names {
-        sources.push(read_source(rt, name)?)?;
-    }
-    Ok(sources)
-}
-
-/// Writes what comes of a program, and returns its status.
+/// Writes what comes of a program, and returns its status. What standard error doesn't take
+/// changes no status.
 fn tell(rt: &HostRuntime, answer: &Answer) -> Result<u8, Failure> {
     let complaint = answer.complaint(rt.alloc())?;
     rt.stdout().write_all(answer.output())?;
-    rt.stderr().write_all(&complaint)?;
+    let _ = rt.stderr().write_all(&complaint);
     Ok(answer.status())
 }
 
-/// Runs the program that the words ask for, and returns its status.
+/// The words of the command line, the program's name among them.
+fn words_of(rt: &HostRuntime) -> Result<Vec<String>, Failure> {
+    match env::args(rt) {
+        Ok(words) => Ok(words.collect(rt.alloc())?),
+        Err(error) if error.kind() == io::ErrorKind::OutOfMemory => Err(Failure::Memory),
+        Err(_) => Err(Failure::Name),
+    }
+}
+
+/// Does what the words ask for, and returns the status.
 fn run(rt: &HostRuntime) -> Result<u8, Failure> {
-    let words: Vec<String> = env::args(rt)?.collect(rt.alloc())?;
-    let asked = match words.as_slice() {
-        [] => None,
-        [_, words @ ..] => read_words(words),
+    let words = words_of(rt)?;
+    let [_, words @ ..] = words.as_slice() else {
+        return Err(Failure::Words);
     };
-    let Some(Request { ticks, files }) = asked else {
+    if let Some(text) = text_asked(words) {
+        rt.stdout().write_all(text.as_bytes())?;
+        return Ok(0);
+    }
+    let Some(Request { ticks, files }) = read_words(words) else {
         return Err(Failure::Words);
     };
     let sources = read_sources(rt, files)?;
@@ -99,10 +54,11 @@ fn run(rt: &HostRuntime) -> Result<u8, Failure> {
 fn fail(rt: &HostRuntime, failure: &Failure) -> u8 {
     let mut errors = rt.stderr();
     let (said, status) = match failure {
-        Failure::Words => (errors.write_all(USAGE), 64),
-        Failure::Unread(file) => (eprintln!(rt; "goset: {file}: no source text"), 70),
+        Failure::Words => (errors.write_all(USAGE.as_bytes()), 64),
+        Failure::Name => (errors.write_all(b"goset: a file's name isn't UTF-8\n"), 70),
+        Failure::Unread(file, why) => (eprintln!(rt; "goset: {file}: {}", why.reason()), 70),
         Failure::Memory => (errors.write_all(b"goset: memory\n"), 70),
-        Failure::Ends => (errors.write_all(b"goset: read or write\n"), 70),
+        Failure::Ends => (errors.write_all(b"goset: write\n"), 70),
     };
     let _ = said;
     status

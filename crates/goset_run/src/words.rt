@@ -1,9 +1,36 @@
 //! The words of the command line.
 ghost use Rattle.std.specs.Prelude.{◌≡◌, option_map, map, string_bytes};
 ghost use Rattle.std.specs.List.{list_all};
-ghost use Rattle.goset_run.specs.Words.{is_file, are_files, files_for, request_of, seen};
+ghost use Rattle.goset_run.specs.Words.{text_of, text_asked, is_file, are_files, files_for, request_of, seen};
 
 use ws_command::lines::number;
+
+/// How the program is started.
+pub const USAGE: &str = "usage: ./goset --run [--ticks N] FILE..\n";
+
+/// Which program it is.
+const VERSION: &str = "goset 0.1.0\n";
+
+/// The text that a word asks for which stands alone.
+fn text_of(word: &str) -> Option<&'static str>
+    ensures { option_map (λ text. text.now) result ≡ text_of word.now }
+{
+    match word {
+        "--help" | "-h" => Some(USAGE),
+        "--version" | "-V" => Some(VERSION),
+        _ => None,
+    }
+}
+
+/// The text that words ask for, if they do.
+pub fn text_asked(words: &[String]) -> Option<&'static str>
+    ensures { option_map (λ text. text.now) result ≡ text_asked (map string_bytes words.now) }
+{
+    match words {
+        [word] => text_of(word.as_str()),
+        _ => None,
+    }
+}
 
 /// What words ask for.
 pub struct Request<'a> {
