@@ -1,7 +1,8 @@
-use Rattle.std.proofs.Common.{◌≡◌, ◌∷◌, ℕ, List, sym, ap, subst, ◌∙◌}
+use Rattle.std.proofs.Common.{arith, ◌≡◌, ◌∷◌, ℕ, List, sym, ap, subst, ◌∙◌}
 use Rattle.std.specs.declared.cmp.Ordering.TheVariants.{Equal, Greater}
 use Rattle.ws_version.specs.Writes.{path_cmp}
 use Rattle.ws_version.proofs.Writes.{path_cmp_total, path_cmp-IsAntisymmetric}
+use Rattle.std.proofs.lemmas.Grind.{common_steps}
 use Rattle.ws_pages.specs.Pages.{AllBelow}
 use Rattle.ws_pages.proofs.Searching.{turned_greater}
 use Rattle.ws_pages.proofs.Walks.{compared, take-front, take-front_of_others, still-ascends}
@@ -54,3 +55,33 @@ pub returns-in_ok-take_below-in-Greater-clause-theirs : goal.returns-in_ok-take_
 returns-in_ok-take_below-in-Greater-clause-theirs c =
     let taken = c.in_ok-take_below-in-Greater.ensures.taken in
     still-ascends c.args.theirs.now taken.0 c.take_below-in-Greater.new.rest taken.1 c.requires.theirs
+
+pub returns-in_default-clause-joined : goal.returns-in_default-clause-joined
+returns-in_default-clause-joined c = grind (arith, common_steps)
+
+pub returns-in_default-clause-mine : goal.returns-in_default-clause-mine
+returns-in_default-clause-mine c = grind (arith, common_steps)
+
+pub returns-in_default-clause-theirs : goal.returns-in_default-clause-theirs
+returns-in_default-clause-theirs c = grind (arith, common_steps)
+
+pub returns-in_default-clause-more : goal.returns-in_default-clause-more
+returns-in_default-clause-more c = grind (arith, common_steps)
+
+pub returns-in_default-clause-done : goal.returns-in_default-clause-done
+returns-in_default-clause-done c = grind (arith, common_steps)
+
+pub returns-in_default-first-clause-joined : goal.returns-in_default-first-clause-joined
+returns-in_default-first-clause-joined c = grind (arith, common_steps)
+
+pub returns-in_default-first-clause-mine : goal.returns-in_default-first-clause-mine
+returns-in_default-first-clause-mine c = grind (arith, common_steps)
+
+pub returns-in_default-first-clause-theirs : goal.returns-in_default-first-clause-theirs
+returns-in_default-first-clause-theirs c = grind (arith, common_steps)
+
+pub returns-in_default-first-clause-more : goal.returns-in_default-first-clause-more
+returns-in_default-first-clause-more c = grind (arith, common_steps)
+
+pub returns-in_default-first-clause-done : goal.returns-in_default-first-clause-done
+returns-in_default-first-clause-done c = grind (arith, common_steps)

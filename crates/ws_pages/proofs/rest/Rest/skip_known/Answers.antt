@@ -1,5 +1,6 @@
-use Rattle.std.proofs.Common.{◌≡◌, ◌++◌, drop, sym, subst}
+use Rattle.std.proofs.Common.{arith, ◌≡◌, ◌++◌, drop, sym, subst}
 use Rattle.std.specs.Arc.{arc_value}
+use Rattle.std.proofs.lemmas.Grind.{common_steps}
 use Rattle.ws_pages.specs.Listed.{writes_of, all_writes}
 use Rattle.ws_pages.specs.Pages.{values, Ascends, joined_writes}
 use Rattle.ws_pages.proofs.Searching.{parted}
@@ -54,3 +55,57 @@ returns-clause-ascends c =
     first_page c.args.self.now c.self.inside.writes.now c.self.inside.pages.now c.in-Some.pages.now c.in-Some.page.now
     (empty_values c.self.inside.writes.now c.is_empty.result c.is_empty.ensures c.if-not-is_empty.false) c.in-Some.ensures.cases.0 c.self.view_is in
     still-ascends c.args.self.now page left cut c.requires.ascends
+
+pub returns-then-not-is_empty-clause-joined : goal.returns-then-not-is_empty-clause-joined
+returns-then-not-is_empty-clause-joined c = grind (arith, common_steps)
+
+pub returns-then-not-is_empty-clause-ascends : goal.returns-then-not-is_empty-clause-ascends
+returns-then-not-is_empty-clause-ascends c = grind (arith, common_steps)
+
+pub returns-then-not-is_empty-clause-skipped : goal.returns-then-not-is_empty-clause-skipped
+returns-then-not-is_empty-clause-skipped c = grind (arith, common_steps)
+
+pub returns-then-not-is_empty-clause-same : goal.returns-then-not-is_empty-clause-same
+returns-then-not-is_empty-clause-same c = grind (arith, common_steps)
+
+pub returns-in_default-clause-joined : goal.returns-in_default-clause-joined
+returns-in_default-clause-joined c = grind (arith, common_steps)
+
+pub returns-in_default-clause-ascends : goal.returns-in_default-clause-ascends
+returns-in_default-clause-ascends c = grind (arith, common_steps)
+
+pub returns-in_default-clause-skipped : goal.returns-in_default-clause-skipped
+returns-in_default-clause-skipped c = grind (arith, common_steps)
+
+pub returns-in_default-clause-same : goal.returns-in_default-clause-same
+returns-in_default-clause-same c = grind (arith, common_steps)
+
+pub returns-in_default-first-clause-joined : goal.returns-in_default-first-clause-joined
+returns-in_default-first-clause-joined c = grind (arith, common_steps)
+
+pub returns-in_default-first-clause-ascends : goal.returns-in_default-first-clause-ascends
+returns-in_default-first-clause-ascends c = grind (arith, common_steps)
+
+pub returns-in_default-first-clause-skipped : goal.returns-in_default-first-clause-skipped
+returns-in_default-first-clause-skipped c = grind (arith, common_steps)
+
+pub returns-in_default-first-clause-same : goal.returns-in_default-first-clause-same
+returns-in_default-first-clause-same c = grind (arith, common_steps)
+
+pub returns-then-not-is_known-clause-joined : goal.returns-then-not-is_known-clause-joined
+returns-then-not-is_known-clause-joined c = grind (arith, common_steps)
+
+pub returns-then-not-is_known-clause-ascends : goal.returns-then-not-is_known-clause-ascends
+returns-then-not-is_known-clause-ascends c = grind (arith, common_steps)
+
+pub returns-then-not-is_known-clause-skipped : goal.returns-then-not-is_known-clause-skipped
+returns-then-not-is_known-clause-skipped c = grind (arith, common_steps)
+
+pub returns-then-not-is_known-clause-same : goal.returns-then-not-is_known-clause-same
+returns-then-not-is_known-clause-same c = grind (arith, common_steps)
+
+pub returns-clause-skipped : goal.returns-clause-skipped
+returns-clause-skipped c = grind (arith, common_steps)
+
+pub returns-clause-same : goal.returns-clause-same
+returns-clause-same c = grind (arith, common_steps)
