@@ -94,6 +94,13 @@ def text_error(text):
     return None
 
 
+def unread(error):
+    """Why a file can't be read, in words."""
+    if isinstance(error, FileNotFoundError):
+        return "no such file"
+    return "a folder, not a file" if isinstance(error, IsADirectoryError) else "can't be read"
+
+
 class Lines:
     """The lines of a script that aren't read yet."""
 

@@ -4,7 +4,8 @@
     python3 tests/programs/make.py           says which rows of the kept table differ from what is made here
     python3 tests/programs/make.py --write   writes the crate's stdin and stdout
 
-A row is a line with a name and a number of ticks, the text of one Go file, and a line `----`. Rows come from rows/, from
+A row is a line with a name and a number of ticks, the text of one Go file, or of several with a line `---- next` between
+each two, and a line `----`. Rows come from rows/, from
 templates for each integer type (templates.py), and from three programs that are cut at every tick (ticks.py).
 
 What a row's program prints is what Go prints: the row is built and run by the `go` that is installed, which is to be Go
@@ -16,6 +17,7 @@ is wanted was worked out by hand; where that is a fault of the language itself, 
 import concurrent.futures
 import os
 import re
+import shutil
 import subprocess
 import sys
 import tempfile
@@ -27,6 +29,7 @@ HERE = os.path.dirname(os.path.abspath(__file__))
 CRATE = os.path.join(os.path.dirname(os.path.dirname(HERE)), "crates", "go_program_tests")
 ROWS = os.path.join(HERE, "rows")
 END = "----\n"
+NEXT = "---- next\n"
 REFUSED = "?? Go refuses it"
 # How a Go program says that it panicked, and the word for that here.
 PANICS = [
@@ -117,10 +120,13 @@ def go_told(row, folder):
     """What Go says of a row."""
     place = os.path.join(folder, row.name)
     os.mkdir(place)
-    with open(os.path.join(place, "main.go"), "w", encoding="utf-8") as file:
-        file.write(for_old_go(row.text))
+    names = []
+    for number, text in enumerate(row.text.split(NEXT)):
+        names.append(f"file{number}.go")
+        with open(os.path.join(place, names[-1]), "w", encoding="utf-8") as file:
+            file.write(for_old_go(text))
     env = {**os.environ, "GO111MODULE": "off", "GOFLAGS": "-p=1"}
-    made = subprocess.run(["go", "build", "-o", "program", "main.go"], cwd=place, env=env, capture_output=True, check=False)
+    made = subprocess.run(["go", "build", "-o", "program", *names], cwd=place, env=env, capture_output=True, check=False)
     if made.returncode != 0:
         return f"{REFUSED}: {made.stderr.decode()}"
     ran = subprocess.run([os.path.join(place, "program")], capture_output=True, check=False, timeout=60)
@@ -135,6 +141,8 @@ def wanted_of(row, folder):
 
 def made():
     """The table, and what is wanted of each row."""
+    if not shutil.which("go"):
+        sys.exit("tests/programs/make.py: there is no go on the path: what programs print is what Go itself prints")
     rows = all_rows()
     with tempfile.TemporaryDirectory() as folder, concurrent.futures.ThreadPoolExecutor(2) as pool:
         wanted = list(pool.map(lambda row: wanted_of(row, folder), rows))

@@ -3,10 +3,11 @@
 
     python3 tests/summaries/rows.py
 
-A row is `SIZE DIGEST FOUND | PATH NAME | DECLARATION | ..`. A declaration is `const NAME VALUE TYPE`, `var NAME TYPE`,
+A row is `SIZE DIGEST FOUND NAMES | PATH NAME | DECLARATION | ..`. A declaration is `const NAME VALUE TYPE`, `var NAME TYPE`,
 `type NAME TYPE` or `func NAME TYPES -> TYPES`. A type is words: a basic one, or one made of the types before it: `[3` an
 array of the newest, `{A,p:b` a struct of the two newest, `=p:T` a declared one. A string is written behind a `"`.
-FOUND has for each declaration the letter under which its name is found in the summary, or a dash.
+FOUND has for each declaration the letter under which its name is found in the summary, or a dash, and NAMES all names that
+are exported, in byte order.
 
 The digests are hashlib's; `printf` of the same bytes into `sha256sum` prints them too.
 """
@@ -18,6 +19,7 @@ lib lib | const K 1 untyped_int
 lib lib | const K 5 untyped_int
 lib lib | const k 2 untyped_int | const K 1 untyped_int
 lib/q r
+cmd/a main
 p p | type Tb int =p:Tb | var T int | const k 3 untyped_int | func F -> | type Ta bool =p:Ta | const A 2 untyped_int
 p p | var Z string | var \u00c9 int | var \u00e9 int | var \u01c5 int | var _X int | var \u2167 int | var Aa int | var A int
 p p | const N -170141183460469231731687303715884105728 untyped_int | const M 170141183460469231731687303715884105727 untyped_int
@@ -86,7 +88,8 @@ def row(text):
         found.append(chr(held[8]) if held else "-")
     parts = b"".join(field(key) + exports[key] for key in sorted(exports))
     whole = field(b"goset summary") + field(path.encode()) + field(name.encode()) + be(len(exports)) + parts
-    return f"{len(whole)} {hashlib.sha256(whole).hexdigest()} {''.join(found) or '.'} | {text}"
+    names = ",".join(key.decode() for key in sorted(exports))
+    return f"{len(whole)} {hashlib.sha256(whole).hexdigest()} {''.join(found) or '.'} {names or '.'} | {text}"
 
 
 for each in ROWS.split("\n"):

@@ -1,0 +1,247 @@
+"""What the tools that start the Rattle kit have in common: crates and their sources, turns, and commands that end with whoever started them.
+
+Other files of tools/ import it; nothing here knows what a program prints.
+"""
+import contextlib
+import fcntl
+import glob
+import hashlib
+import os
+import resource
+import select
+import shutil
+import signal
+import subprocess
+import sys
+import time
+
+TOP = os.path.dirname(os.path.dirname(os.path.abspath(__file__)))
+PARTS = ("src", "specs", "proofs")
+# All crates together, 8,400 kilobytes, took about 100 processor minutes.
+MINUTES_OF_A_KILOBYTE = 0.012
+NO_KIT = "there is no rt on the path: the Rattle kit is needed, as README.md says"
+
+
+def say(text):
+    print(f"goset: {text}", file=sys.stderr, flush=True)
+
+
+def has_kit():
+    """Whether there is a kit; says so if there is none."""
+    if not shutil.which("rt"):
+        say(NO_KIT)
+        return False
+    return True
+
+
+def told_minutes(minutes):
+    """A number of minutes in words."""
+    return "less than a minute" if minutes < 1 else f"about {minutes:.0f} minute{'s' * (round(minutes) != 1)}"
+
+
+# crates
+
+
+def libraries():
+    """Each crate of crates.txt, in its order, with the crates of this repository that it stands on."""
+    with open(os.path.join(TOP, "crates.txt"), encoding="utf-8") as file:
+        lines = [line.partition("#")[0].partition(":") for line in file]
+    given = {name.split()[0]: rest.split() for name, _, rest in lines if name.strip()}
+    return {name: [it for it in rest if it in given] for name, rest in given.items()}
+
+
+def needed(program):
+    """The program, and before it all crates that it stands on, each behind those below it."""
+    given, found = libraries(), []
+
+    def add(name):
+        for it in given.get(name, []):
+            add(it)
+        if name not in found:
+            found.append(name)
+
+    add(program)
+    return found
+
+
+def program_file(program):
+    return os.path.join(TOP, "crates", program, "out", program)
+
+
+def proved_program(program="goset"):
+    """Where a proved program is. Whatever needs it ends with a sentence where there is none, which asks for no proof by itself."""
+    file = program_file(program)
+    if not os.access(file, os.X_OK):
+        name = os.path.relpath(sys.argv[0], TOP)
+        told = f"{name}: there is no program {os.path.relpath(file, TOP)}; ./goset --prove builds it, after its proof"
+        print(told, file=sys.stderr)
+        sys.exit(2)
+    return file
+
+
+def sources_sum(crates, parts=PARTS, said=b""):
+    """The SHA-256 of the files of some crates."""
+    total = hashlib.sha256(said)
+    for crate in sorted(crates):
+        for part in parts:
+            for name in sorted(glob.glob(os.path.join(TOP, "crates", crate, part, "**", "*"), recursive=True)):
+                if os.path.isfile(name):
+                    with open(name, "rb") as file:
+                        told = f"{os.path.relpath(name, TOP)}\0".encode()
+                        total.update(told + hashlib.sha256(file.read()).digest())
+    return total.hexdigest()
+
+
+def timed():
+    """The processor minutes that the proof of each crate took in a measured build, by tools/minutes."""
+    with open(os.path.join(TOP, "tools", "minutes"), encoding="utf-8") as file:
+        rows = (line.split() for line in file if line.strip() and not line.startswith("#"))
+        return {row[0]: float(row[1]) for row in rows}
+
+
+def reckoned(crates):
+    """The processor minutes that the proofs of some crates take. One that wasn't timed takes what its size lets expect."""
+    known = timed()
+    return sum(known[name] if name in known else size(name) * MINUTES_OF_A_KILOBYTE for name in crates)
+
+
+def size(crate):
+    """The kilobytes of a crate's sources."""
+    folders = [os.path.join(TOP, "crates", crate, part) for part in PARTS]
+    return sum(os.path.getsize(os.path.join(at, it)) for folder in folders for at, _, names in os.walk(folder) for it in names) / 1000
+
+
+class Watch:
+    """Which crates are being proved, and what the processors did for each, as /proc shows it: the kit tells of a crate when
+    it is done."""
+
+    def __init__(self, top=TOP):
+        self.top, self.seconds = top, {}
+
+    def look(self):
+        """Looks, and returns the crates whose proofs ended since the last look, each with its processor seconds."""
+        now = {}
+        for process in filter(str.isdigit, os.listdir("/proc")):
+            name, seconds = self.seen(process)
+            if name:
+                now.setdefault(name, {})[process] = seconds
+        ended = {name: sum(self.seconds.pop(name).values()) for name in [*self.seconds] if name not in now}
+        for name, seconds in now.items():
+            self.seconds.setdefault(name, {}).update(seconds)
+        return ended
+
+    def seen(self, process):
+        """The crate of the checkout that a process proves, and its processor seconds, or nothing twice."""
+        try:
+            with open(f"/proc/{process}/cmdline", "rb") as file:
+                words = os.fsdecode(file.read()).split("\0")
+            if "--crate-name" not in words or "--only" in words or "--test" in words:
+                return None, None
+            name = words[words.index("--crate-name") + 1]
+            if os.readlink(f"/proc/{process}/cwd") != os.path.join(self.top, "crates", name):
+                return None, None
+            with open(f"/proc/{process}/stat", encoding="ascii", errors="replace") as file:
+                ticks = file.read().rpartition(")")[2].split()[11:13]
+            return name, sum(map(int, ticks)) / os.sysconf("SC_CLK_TCK")
+        except (OSError, IndexError):
+            return None, None
+
+
+# turns and commands
+
+
+class Ended(Exception):
+    """The number of the signal that ends this command."""
+
+
+def end_on_signals():
+    """From here on INT and TERM raise Ended, and so does HUP where it isn't ignored; so what was started is ended, too."""
+    ending = [signal.SIGINT, signal.SIGTERM]
+    ending += [signal.SIGHUP] * (signal.getsignal(signal.SIGHUP) != signal.SIG_IGN)
+
+    def end(number, _):
+        # a second one doesn't break the ending off
+        for it in ending:
+            signal.signal(it, signal.SIG_IGN)
+        raise Ended(number)
+
+    for it in ending:
+        signal.signal(it, end)
+
+
+@contextlib.contextmanager
+def started(command, **how):
+    """A command that is ended where what is done beside it ends early. (The kit ends with it all that it started.)"""
+    child = subprocess.Popen(command, **how)
+    try:
+        yield child
+    finally:
+        if child.poll() is None:
+            child.terminate()
+            try:
+                child.wait(10)
+            except subprocess.TimeoutExpired:
+                child.kill()
+                child.wait()
+        if child.stdout:
+            child.stdout.close()
+
+
+def processor_seconds():
+    """What the processors did so far for commands that this one started and that ended."""
+    used = resource.getrusage(resource.RUSAGE_CHILDREN)
+    return used.ru_utime + used.ru_stime
+
+
+def lines_of(child, seconds):
+    """The lines that a command prints, and nothing in place of a line where none comes for so many seconds."""
+    rest = b""
+    while True:
+        if not select.select([child.stdout], [], [], seconds)[0]:
+            yield None
+            continue
+        data = os.read(child.stdout.fileno(), 65536)
+        if not data:
+            break
+        *lines, rest = (rest + data).split(b"\n")
+        yield from (f"{line.decode('utf-8', 'replace')}\n" for line in lines)
+    if rest:
+        yield f"{rest.decode('utf-8', 'replace')}\n"
+
+
+def whose(file):
+    """Takes the turn that a file stands for, or says who has it."""
+    try:
+        fcntl.flock(file, fcntl.LOCK_EX | fcntl.LOCK_NB)
+        return None
+    except BlockingIOError:
+        file.seek(0)
+        return f"another ./goset, {file.read() or 'which begins just now'}"
+
+
+def whose_turn(name):
+    """Who has a turn, or nothing where nobody has it."""
+    try:
+        with open(os.path.join(TOP, "out", name), "a+", encoding="utf-8") as file:
+            return whose(file)
+    except FileNotFoundError:
+        return None
+
+
+@contextlib.contextmanager
+def turn(name, what):
+    """Waits until no other ./goset of this checkout does what needs this turn, and says for whom it waits."""
+    path = os.path.join(TOP, "out", name)
+    os.makedirs(os.path.dirname(path), exist_ok=True)
+    with open(path, "a+", encoding="utf-8") as file:
+        who = whose(file)
+        if who:
+            say(f"{who}; this one waits for it, and Ctrl-C ends it")
+            fcntl.flock(file, fcntl.LOCK_EX)
+        file.truncate(0)
+        file.write(f"process {os.getpid()}, is {what} since {time.strftime('%H:%M')}")
+        file.flush()
+        try:
+            yield
+        finally:
+            file.truncate(0)

@@ -1,0 +1,125 @@
+"""Which words the programs take, by docs/SCRIPT.md: looked at before anything is built for them.
+
+Where a program is built it looks at its words itself, and says the same.
+"""
+import contextlib
+import os
+import re
+import subprocess
+import sys
+
+import script
+from kit import TOP
+
+HELP, VERSION = ("--help", "-h"), ("--version", "-V")
+RUN_USAGE = "usage: ./goset --run [--ticks N] FILE..\n"
+# What each option of a session takes at most; the least is 1.
+OPTIONS = {"--workers": 64, "--edition": 1}
+NO_TEXT = "not a text: it is UTF-8 without NUL, with a byte order mark at its start alone"
+
+
+class Answer(Exception):
+    """What is answered in place of a run: the status, and what standard output and standard error get."""
+
+    def __init__(self, status, out="", err=""):
+        super().__init__(status)
+        self.status, self.out, self.err = status, out, err
+
+
+def give(answer):
+    """Writes an answer, and returns its status. What standard error doesn't take changes no status."""
+    sys.stdout.write(answer.out)
+    sys.stdout.flush()
+    with contextlib.suppress(OSError):
+        sys.stderr.write(answer.err)
+        sys.stderr.flush()
+    return answer.status
+
+
+def is_utf8(word):
+    return not any("\udc80" <= it <= "\udcff" for it in word)
+
+
+def own(flag):
+    """What the script goset says to a flag of its own."""
+    ran = subprocess.run([os.path.join(TOP, "goset"), flag], stdin=subprocess.DEVNULL, capture_output=True, check=False)
+    return Answer(0, ran.stdout.decode("utf-8", "replace"))
+
+
+def misused(why, usage="Usage: goset [OPTIONS]\n\n"):
+    return Answer(2, err=f"error: {why}\n\n{usage}For more information, try '--help'.\n")
+
+
+def is_number(word, most=script.GREATEST):
+    """Whether a word is a number of decimal digits, of at most so much."""
+    digits = word.lstrip("0") or "0"
+    return bool(re.fullmatch(r"[0-9]+", word)) and len(digits) < 30 and int(digits) <= most
+
+
+def look_at_session(words):
+    """Words of the program goset: each option at most once, and nothing else."""
+    if not all(map(is_utf8, words)):
+        raise Answer(2, err="error: a word isn't UTF-8\n")
+    left, seen = list(words), set()
+    while left:
+        word = left.pop(0)
+        option, equals, value = word.partition("=")
+        if word.startswith(("--help", "-h")):
+            raise own("--help")
+        if word.startswith(("--version", "-V")):
+            raise own("--version")
+        if option not in OPTIONS:
+            raise misused(f"unexpected argument '{word}' found")
+        if not equals and (not left or left[0].startswith("-")):
+            raise misused(f"a value is required for '{option} <N>' but none was supplied", "")
+        value = value if equals else left.pop(0)
+        number = value.removeprefix("+")
+        if not is_number(number, OPTIONS[option]) or not number.strip("0"):
+            why = f"{number} is not in 1..={OPTIONS[option]}" if is_number(number) else "it is no number"
+            raise misused(f"invalid value '{value}' for '{option} <N>': {why}", "")
+        if option in seen:
+            raise misused(f"the argument '{option} <N>' cannot be used multiple times")
+        seen.add(option)
+
+
+def ticks_and_files(words):
+    """Words of the program behind --run: the files, behind `--ticks N` where that stands in front."""
+    if len(words) == 1 and words[0] in HELP:
+        raise Answer(0, RUN_USAGE)
+    if len(words) == 1 and words[0] in VERSION:
+        raise Answer(0, own("--version").out.partition("\n")[0] + "\n")
+    has_ticks = len(words) > 1 and words[0] == "--ticks"
+    files = words[2:] if has_ticks else words
+    if not files or any(it.startswith("-") for it in files) or has_ticks and not is_number(words[1]):
+        raise Answer(64, err=RUN_USAGE)
+    return words[: 2 * has_ticks], files
+
+
+def why_unread(file):
+    """Why a file can't be taken as a source, or nothing."""
+    try:
+        with open(file, "rb") as opened:
+            text = opened.read(script.LONGEST_TEXT + 1)
+    except OSError as error:
+        return script.unread(error)
+    if len(text) > script.LONGEST_TEXT:
+        return f"longer than {script.LONGEST_TEXT} bytes"
+    return NO_TEXT if script.text_error(text) else None
+
+
+def look_at_files(files):
+    """The files are texts; in byte order of their names the first that isn't one is told."""
+    if not all(map(is_utf8, files)):
+        raise Answer(70, err="goset: a file's name isn't UTF-8\n")
+    for file in sorted(files, key=os.fsencode):
+        why = why_unread(file)
+        if why:
+            raise Answer(70, err=f"goset: {file}: {why}\n")
+
+
+def look_at(program, words):
+    """Raises what a program answers to words that ask for no session and for no run."""
+    if program == "goset":
+        look_at_session(words)
+    else:
+        look_at_files(ticks_and_files(words)[1])
