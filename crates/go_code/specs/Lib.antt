@@ -9,4 +9,3 @@ pub mod Operators
 pub mod Packages
 pub mod Parts
 pub mod Referred
-pub mod Symbols

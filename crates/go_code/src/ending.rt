@@ -2,7 +2,7 @@
 ghost use Rattle.std.specs.Prelude.{◌≡◌};
 ghost use Rattle.go_code.specs.Kinds.{panic_word};
 
-use crate::cell::Text;
+use go_const::constant::Text;
 
 /// Why a program panics.
 #[derive(Drop)]

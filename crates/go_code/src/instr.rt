@@ -1,58 +1,6 @@
-//! Instructions, and the names by which objects refer to functions.
-ghost use Rattle.std.specs.Prelude.{◌≡◌, IfOk, string_bytes};
-
+//! Instructions.
 use crate::cell::Cell;
 use crate::operator::Operator;
-use std::alloc::AllocError;
-use std::marker::Model;
-
-/// A function or a variable of a package, by the package's path and its own name.
-#[derive(Drop)]
-pub struct Symbol {
-    path: String,
-    name: String,
-}
-
-impl Model for Symbol {
-    ghost use Rattle.std.specs.Prelude.{string_bytes};
-    ghost use Rattle.go_code.specs.Symbols as symbols;
-
-    ghost Value = { symbols.Symbol };
-
-    ghost view = { λ a. record { path = string_bytes a.path; name = string_bytes a.name } };
-}
-
-impl Symbol {
-    /// The symbol of a package's path and a name in it.
-    pub fn new(path: String, name: String) -> Symbol
-        ensures { result ≡ record { path = string_bytes path; name = string_bytes name } }
-    {
-        Symbol { path, name }
-    }
-
-    /// The package's path.
-    pub fn path(&self) -> &str
-        ensures { result.now ≡ self.now.path }
-    {
-        self.path.as_str()
-    }
-
-    /// The name of the function or the variable.
-    pub fn name(&self) -> &str
-        ensures { result.now ≡ self.now.name }
-    {
-        self.name.as_str()
-    }
-
-    /// Another of equal contents. An `Err` only where memory ran out.
-    pub fn copy(&self) -> Result<Symbol, AllocError>
-        ensures { IfOk result (λ copy. copy ≡ self.now) }
-    {
-        let path = self.path.clone()?;
-        let name = self.name.clone()?;
-        Ok(Symbol { path, name })
-    }
-}
 
 /// What is about the newest frame's stack alone.
 #[derive(Drop)]

@@ -4,10 +4,10 @@ ghost use Rattle.std.specs.Prelude.{◌≡◌, string_bytes};
 pub mod function;
 pub mod variable;
 
-use crate::instr::Symbol;
 use crate::object::function::PackageFunction;
 use crate::object::variable::PackageVariable;
 use crate::setup::Setup;
+use go_symbol::Symbol;
 use std::marker::Model;
 
 /// What a package is compiled to: its path, its name, its variables and its functions in

@@ -5,9 +5,9 @@ use crate::packages::object;
 use go_code::cell::Cell;
 use go_code::function::Function;
 use go_code::image::{Image, Start};
-use go_code::instr::Symbol;
 use go_code::object::Object;
 use go_code::setup::Setup;
+use go_symbol::Symbol;
 use std::alloc::{AllocError, Global};
 use test_rows::answers::RowError;
 

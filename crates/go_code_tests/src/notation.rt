@@ -1,9 +1,10 @@
 //! Code, written as words with a space between each two.
-use go_code::cell::{Cell, Text};
+use go_code::cell::Cell;
 use go_code::instr::{
     AccessInstr, CallInstr, FrameInstr, Instr, JumpInstr, OutputInstr, PartInstr,
 };
 use go_code::operator::{Operator, TextOperator};
+use go_const::constant::Text;
 use go_const::kind::IntKind;
 use go_const::operator::{ArithmeticOperator, ComparisonOperator, ShiftOperator};
 use std::alloc::Global;

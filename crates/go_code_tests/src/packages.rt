@@ -1,14 +1,16 @@
 //! Images of packages that are written by hand.
 use crate::notation::{global, number, parts, plain};
-use go_code::cell::{Cell, Text};
+use go_code::cell::Cell;
 use go_code::function::Function;
 use go_code::image::{Image, Start};
-use go_code::instr::{AccessInstr, CallInstr, FrameInstr, Instr, Symbol};
+use go_code::instr::{AccessInstr, CallInstr, FrameInstr, Instr};
 use go_code::object::Object;
 use go_code::object::function::PackageFunction;
 use go_code::object::variable::PackageVariable;
 use go_code::setup::Setup;
+use go_const::constant::Text;
 use go_link::link::{LinkError, link};
+use go_symbol::Symbol;
 use std::alloc::{AllocError, Global};
 use std::sync::Arc;
 use test_rows::answers::RowError;

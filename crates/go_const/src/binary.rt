@@ -43,7 +43,7 @@ fn concatenated(alloc: Global, s: &Text, t: &Text) -> Result<Const, ConstError>
     let mut bytes = Vec::with_capacity(alloc, s.len() + t.len())?;
     bytes.extend_from_slice(s)?;
     bytes.extend_from_slice(t)?;
-    Ok(Const::Text(Text::new(bytes)?))
+    Ok(Const::Text(Text::from_vec(bytes)?))
 }
 
 /// A comparison of two constants. Truth values are equal or not, and neither is less.

@@ -1,11 +1,11 @@
 //! The values of constants.
 ghost use Rattle.std.specs.Prelude.{◌≡◌, IfOk};
 
-use std::alloc::AllocError;
+use std::alloc::{AllocError, Global};
 use std::marker::Model;
 use std::sync::ArcSlice;
 
-/// The bytes of a string constant. Copies share them.
+/// A text of any bytes, as a string has it. Copies share them.
 #[derive(Drop)]
 pub struct Text {
     held: ArcSlice<u8>,
@@ -22,7 +22,15 @@ impl Model for Text {
 
 impl Text {
     /// The text of some bytes. An `Err` only where memory ran out.
-    pub fn new(bytes: Vec<u8>) -> Result<Text, AllocError>
+    pub fn new(alloc: Global, bytes: &[u8]) -> Result<Text, AllocError>
+        ensures { IfOk result (λ text. text ≡ bytes.now) }
+    {
+        let held = ArcSlice::from_slice(alloc, bytes)?;
+        Ok(Text { held })
+    }
+
+    /// The text of a buffer's bytes. An `Err` only where memory ran out.
+    pub fn from_vec(bytes: Vec<u8>) -> Result<Text, AllocError>
         ensures { IfOk result (λ text. text ≡ bytes.items) }
     {
         let held = ArcSlice::from_vec(bytes)?;

@@ -110,7 +110,7 @@ fn constant(alloc: Global, word: &str) -> Result<Const, AllocError> {
     for run in runs.split('.') {
         push_run(&mut bytes, run)?;
     }
-    Ok(Const::Text(Text::new(bytes)?))
+    Ok(Const::Text(Text::from_vec(bytes)?))
 }
 
 fn told_text(alloc: Global, bytes: &[u8]) -> Result<String, AllocError> {
@@ -622,7 +622,7 @@ fn operators(rt: HostRuntime) -> Result<(), AllocError> {
 fn long_text(alloc: Global, length: usize) -> Result<Const, AllocError> {
     let mut bytes = Vec::new(alloc);
     bytes.resize(length, b'a')?;
-    Ok(Const::Text(Text::new(bytes)?))
+    Ok(Const::Text(Text::from_vec(bytes)?))
 }
 
 /// How many bytes a text has, and none where there is none.

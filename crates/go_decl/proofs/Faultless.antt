@@ -10,12 +10,13 @@ use Rattle.go_scope.specs.Order.{DependsOnItself, Grounded}
 use Rattle.go_scope.proofs.Laws.{all_grounded}
 use Rattle.go_text.specs.declared.fault.FaultKind.TheVariants.{Redeclared, Recursive}
 use Rattle.go_ast.specs.Trees.{Name, TypeExpr, Expr, Exprs, no_exprs, some_exprs, ConstSpec, VarSpec, TypeSpec, constants, variables, types, TopLevel, declared, function, File}
-use Rattle.go_objects.specs.Objects.{Form, constant, valued_variable, Object, begin_of, other_object, paired, unpaired, meant, constants_of, in_group, typed_object, result_objects, uncounted, variables_of, type_object, objects_in, objects_from, firsts, objects_of}
+use Rattle.go_scope.specs.Specifications.{meant, is_repeated}
+use Rattle.go_objects.specs.Objects.{Form, constant, valued_variable, Object, begin_of, other_object, paired, unpaired, constants_of, in_group, typed_object, result_objects, uncounted, variables_of, type_object, objects_in, objects_from, firsts, objects_of}
 use Rattle.go_objects.specs.Table.{number_of, rows}
 use Rattle.go_objects.specs.Numbers.{Numbered}
 use Rattle.go_objects.proofs.Firsts.{numbered_none, numbered_more}
 use Rattle.go_objects.proofs.Lookups.{length_rows, rows_stay}
-use Rattle.go_decl.specs.Faults.{Facts, Faults, AreRecursive, is_declared_by, name_faults, constants_faults, is_repeated, group_faults, type_spec_faults, var_spec_faults, own_faults, top_faults, files_faults}
+use Rattle.go_decl.specs.Faults.{Facts, Faults, AreRecursive, is_declared_by, name_faults, constants_faults, group_faults, type_spec_faults, var_spec_faults, own_faults, top_faults, files_faults}
 
 none_front : {A : Type 0} (xs ys : List A) → xs ++ ys ≡ [] → xs ≡ []
 none_front [] ys h = refl

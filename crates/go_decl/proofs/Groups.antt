@@ -12,10 +12,10 @@ use Rattle.go_ast.specs.declared.file.File.{File}
 use Rattle.go_expr.specs.declared.error.ExprError.{ExprError}
 use Rattle.go_expr.specs.Seen.{Fails}
 use Rattle.go_objects.proofs.Signatures.{next_of}
-use Rattle.go_objects.specs.Objects.{meant}
+use Rattle.go_scope.specs.Specifications.{meant, is_repeated}
 use Rattle.go_decl.specs.declared.error.DeclError.{DeclError}
 use Rattle.go_decl.specs.declared.error.DeclError.TheVariants as errors
-use Rattle.go_decl.specs.Faults.{Facts, Faults, constants_faults, is_repeated, group_faults, top_faults, files_faults}
+use Rattle.go_decl.specs.Faults.{Facts, Faults, constants_faults, group_faults, top_faults, files_faults}
 use Rattle.go_decl.specs.Seen.{FailsIn}
 use Rattle.go_decl.proofs.Parts.{sooner}
 

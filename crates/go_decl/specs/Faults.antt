@@ -1,10 +1,10 @@
 -- The faults of what the files of a package declare, in the order of the text.
-use Rattle.std.specs.Prelude.{ℕ, suc, Bool, true, false, ◌&&◌, ◌||◌, not, IsTrue, ◌↔◌, nat_eq, bytes_eq, if◌then◌else◌, option_map, List, [], ◌∷◌, ◌++◌, map, codes, is_some, Option, Some, None}
+use Rattle.std.specs.Prelude.{ℕ, suc, Bool, false, ◌&&◌, ◌||◌, not, IsTrue, ◌↔◌, nat_eq, bytes_eq, if◌then◌else◌, option_map, List, [], ◌∷◌, ◌++◌, map, codes, is_some, Option, Some, None}
 use Rattle.std.specs.List.{slice_get, flat_map, list_any}
 use Rattle.go_text.specs.declared.place.Place.{Place}
 use Rattle.go_text.specs.declared.fault.FaultKind.{FaultKind}
 use Rattle.go_text.specs.declared.fault.FaultKind.TheVariants.{Redeclared, Recursive}
-use Rattle.go_ast.specs.Trees.{Name, TypeExpr, Expr, no_exprs, some_exprs, ConstSpec, VarSpec, TypeSpec, constants, variables, types, Function, TopLevel, declared, function, File}
+use Rattle.go_ast.specs.Trees.{Name, TypeExpr, Expr, no_exprs, ConstSpec, VarSpec, TypeSpec, constants, variables, types, Function, TopLevel, declared, function, File}
 use Rattle.ws_reach.specs.Worklist.{is_marked}
 use Rattle.go_types.specs.Types.{Type'}
 use Rattle.go_typed.specs.Trees.{Expr as Typed}
@@ -18,7 +18,8 @@ use Rattle.go_stmt.specs.Rules.{constants_of, variables_source}
 use Rattle.go_stmt.specs.Statements.{values_known, values_faults}
 use Rattle.go_stmt.specs.Functions.{function_at}
 use Rattle.go_objects.specs.Objects as objects
-use Rattle.go_objects.specs.Objects.{constant, valued_variable, Object, variables_of, meant, type_object}
+use Rattle.go_scope.specs.Specifications.{meant, is_repeated}
+use Rattle.go_objects.specs.Objects.{constant, valued_variable, Object, variables_of, type_object}
 use Rattle.go_objects.specs.Table.{Package, in_written, number_of, scope_at, object_verdict}
 
 -- a package, what is known of its objects, and of each object whether it depends on itself
@@ -131,9 +132,6 @@ constants_faults t file iota repeated spec = elim spec.names [
   | first ∷ others ↦ (let s = scope_at t.package t.known file (Some iota) in
       flat_map (name_faults t file) spec.names ++ (told_at repeated first.place (parts_faults s spec) ++ (spec_broken first.place s spec ++ constants_apart t file iota first.place s spec)))
 ]
-
-abbrev pub is_repeated : ConstSpec → Bool
-is_repeated spec = elim spec.values [ no_exprs ↦ true | some_exprs e es ↦ false ]
 
 abbrev pub group_faults : Facts → ℕ → ℕ → ConstSpec → List ConstSpec → Faults
 group_faults t file iota before [] = []

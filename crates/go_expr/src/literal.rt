@@ -79,6 +79,6 @@ pub(crate) fn rune(value: u32) -> TypedExpr
 pub(crate) fn text_constant(alloc: Global, bytes: &[u8]) -> Result<TypedExpr, AllocError>
     ensures { IfOk result (λ e. expr_of e ≡ constant (basic (basics.Untyped kinds.String)) (AText bytes.now)) }
 {
-    let text = Text::new(Vec::from_slice(alloc, bytes)?)?;
+    let text = Text::new(alloc, bytes)?;
     Ok(untyped(Untyped::String, Const::Text(text)))
 }

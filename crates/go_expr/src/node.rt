@@ -8,8 +8,8 @@ ghost use Rattle.go_expr.specs.Rules.{constant_in};
 
 use go_const::constant::Const;
 use go_const::operator::UnaryOperator;
+use go_symbol::Symbol;
 use go_typed::expression::{Operator, TypedExpr, TypedExprKind, TypedPart};
-use go_typed::symbol::Symbol;
 use go_types::types::GoType;
 use std::alloc::{AllocError, Global};
 

@@ -6,9 +6,9 @@ use Rattle.std.specs.List.{list_any}
 use Rattle.std.specs.Option.{is_some}
 use Rattle.std.specs.Ordering.{is_eq}
 use Rattle.std.proofs.lemmas.List.Folds.{list_any-append}
-use Rattle.go_code.specs.Symbols.{Symbol}
+use Rattle.go_symbol.specs.Symbols.{Symbol, same_symbol}
 use Rattle.go_code.specs.Packages.{Object, PackageVariable}
-use Rattle.go_link.specs.Links.{Held, place_in, same_symbol, symbol_of, variables}
+use Rattle.go_link.specs.Links.{Held, place_in, symbol_of, variables}
 use Rattle.go_link.specs.Named.{Firsts, Name, cells_of, name_cmp, place, symbol_at}
 use Rattle.go_link.proofs.Numbered.{cmp_same, same_back, same_eq}
 

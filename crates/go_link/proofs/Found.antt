@@ -9,11 +9,11 @@ use Rattle.std.proofs.lemmas.List.{map-append}
 use Rattle.std.proofs.lemmas.List.Folds.{list_any-append}
 use Rattle.std.proofs.lemmas.Slice.Eq.{bytes_eq-Decides}
 use Rattle.go_code.specs.Packages.{Object, PackageFunction}
-use Rattle.go_code.specs.Symbols.{Symbol}
+use Rattle.go_symbol.specs.Symbols.{Symbol, same_symbol}
 use Rattle.go_code.specs.declared.instr.Instr.TheVariants.{Calls as By_call}
 use Rattle.go_code.specs.declared.instr.CallInstr.TheVariants.{Call}
 use Rattle.go_link.specs.declared.link.LinkError.TheVariants.{NoMain, NameMissing}
-use Rattle.go_link.specs.Links.{code_of, has_main, has_main_in, is_missing, last_package, link_refusal, name_missing, linked_function, variables, names, number_of, same_symbol, symbol_of}
+use Rattle.go_link.specs.Links.{code_of, has_main, has_main_in, is_missing, last_package, link_refusal, name_missing, linked_function, variables, names, number_of, symbol_of}
 use Rattle.go_link.specs.Found.{IsDeclared, Found}
 
 -- ---- indexes

@@ -2,7 +2,7 @@
 use Rattle.std.proofs.Common.{◌≡◌, List, true, false, not, Some, None, Result, Ok, Err, IfOk, IfErr, OnOk, ap, ◌∙◌, subst}
 use Rattle.std.specs.Prelude.{if◌then◌else◌}
 use Rattle.std.specs.List.{flat_map, list_any}
-use Rattle.go_code.specs.Symbols.{Symbol}
+use Rattle.go_symbol.specs.Symbols.{Symbol}
 use Rattle.go_code.specs.Images.{Image}
 use Rattle.go_code.specs.Packages.{Object}
 use Rattle.go_link.specs.Links.{Held, variables, IsRefusal, code_of, has_main, is_missing, link_refusal, linked, name_missing, names}

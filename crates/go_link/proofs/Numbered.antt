@@ -14,8 +14,8 @@ use Rattle.std.proofs.lemmas.List.Sums.{prefix_len-le-length}
 use Rattle.std.proofs.lemmas.Iterator.Adapters.{position_from-zero}
 use Rattle.std.proofs.lemmas.Map.Text.{is_eq-slice_cmp}
 use Rattle.std.proofs.lemmas.Slice.Eq.{bytes_eq-Decides}
-use Rattle.go_code.specs.Symbols.{Symbol}
-use Rattle.go_link.specs.Links.{same_symbol, number_of}
+use Rattle.go_symbol.specs.Symbols.{Symbol, same_symbol}
+use Rattle.go_link.specs.Links.{number_of}
 use Rattle.go_link.specs.Named.{Name, Numbers, name_cmp, symbol_at}
 
 -- ---- symbols that are the same

@@ -11,11 +11,11 @@ use Rattle.std.proofs.Math.Seq.{take-append_seam, drop-append_seam}
 use Rattle.go_code.specs.declared.cell.Cell.{Cell}
 use Rattle.go_code.specs.Accesses.{cells_at}
 use Rattle.go_code.specs.Packages.{Object, PackageVariable}
-use Rattle.go_code.specs.Symbols.{Symbol}
+use Rattle.go_symbol.specs.Symbols.{Symbol, same_symbol}
 use Rattle.go_code.specs.declared.instr.AccessInstr.{AccessInstr}
 use Rattle.go_code.specs.declared.instr.Instr.TheVariants.{Global as On_globals}
 use Rattle.go_code.specs.Referred.{place_of}
-use Rattle.go_link.specs.Links.{Held, code_of, is_missing, name_missing, names, place_in, same_symbol, symbol_of, variables, zeros_of}
+use Rattle.go_link.specs.Links.{Held, code_of, is_missing, name_missing, names, place_in, symbol_of, variables, zeros_of}
 use Rattle.go_link.specs.Found.{Placed}
 use Rattle.go_link.proofs.Found.{any_at, any_in, not_false, not_missing}
 

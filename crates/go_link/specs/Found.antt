@@ -2,7 +2,7 @@
 use Rattle.std.specs.Prelude.{◌≡◌, ℕ, List, Some, length, slice_get}
 use Rattle.go_code.specs.Accesses.{cells_at}
 use Rattle.go_code.specs.Packages.{Object, PackageFunction, PackageVariable}
-use Rattle.go_code.specs.Symbols.{Symbol}
+use Rattle.go_symbol.specs.Symbols.{Symbol}
 use Rattle.go_link.specs.Links.{linked, linked_function, names, number_of, variables, place_in, symbol_of}
 
 -- a package has the function, and is one of these

@@ -14,7 +14,7 @@ use Rattle.go_code.specs.Functions.{Function, Setup}
 use Rattle.go_code.specs.Images.{Image}
 use Rattle.go_code.specs.Packages.{Object, PackageFunction}
 use Rattle.go_code.specs.Referred.{Changes, place_of, refer_function, refer_setup}
-use Rattle.go_code.specs.Symbols.{Symbol}
+use Rattle.go_symbol.specs.Symbols.{Symbol, same_symbol}
 use Rattle.go_link.specs.declared.link.LinkError.{LinkError}
 use Rattle.go_link.specs.declared.link.LinkError.TheVariants.{Memory, NoMain, NameMissing}
 
@@ -23,9 +23,6 @@ abbrev pub in_order : List Object → List ℕ → List Object
 in_order objects order = filter_map (slice_get objects) order
 
 -- ---- names
-
-abbrev pub same_symbol : Symbol → Symbol → Bool
-same_symbol s t = bytes_eq s.path t.path && bytes_eq s.name t.name
 
 abbrev pub symbol_of : Object → List ℕ → Symbol
 symbol_of o name = record { path = o.path; name = name }

@@ -6,8 +6,8 @@ use Rattle.std.specs.Cmp.Lexicographic.{slice_cmp}
 use Rattle.std.specs.List.{list_any, position}
 use Rattle.std.specs.Ordering.{nat_cmp, ordering_then}
 use Rattle.std.specs.declared.cmp.Ordering.{Ordering}
-use Rattle.go_code.specs.Symbols.{Symbol}
-use Rattle.go_link.specs.Links.{Held, place_in, same_symbol}
+use Rattle.go_symbol.specs.Symbols.{Symbol, same_symbol}
+use Rattle.go_link.specs.Links.{Held, place_in}
 
 -- a path and a name, each behind a reference
 abbrev pub Name : Type 0

@@ -9,10 +9,11 @@ use crate::names::Names;
 use crate::places::{Places, place_of};
 use go_code::cell::{Cell, push_copies};
 use go_code::function::Function;
-use go_code::instr::{AccessInstr, CallInstr, FrameInstr, Instr, Symbol};
+use go_code::instr::{AccessInstr, CallInstr, FrameInstr, Instr};
 use go_code::object::Object;
 use go_code::object::function::PackageFunction;
 use go_code::object::variable::PackageVariable;
+use go_symbol::Symbol;
 use std::alloc::{AllocError, Global};
 use std::sync::Arc;
 

@@ -1,7 +1,7 @@
 //! What holds of linked packages.
 ghost use Rattle.std.specs.Prelude.{◌≡◌, ℕ, List, Some, None, codes, slice_get};
 ghost use Rattle.go_code.specs.Packages.{Object, PackageFunction};
-ghost use Rattle.go_code.specs.Symbols.{Symbol};
+ghost use Rattle.go_symbol.specs.Symbols.{Symbol};
 ghost use Rattle.go_code.specs.declared.instr.CallInstr.TheVariants.{Call};
 ghost use Rattle.go_code.specs.declared.instr.Instr.TheVariants.{Calls, Global};
 ghost use Rattle.go_code.specs.declared.instr.AccessInstr.{AccessInstr};

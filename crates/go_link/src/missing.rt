@@ -6,10 +6,11 @@ ghost use Rattle.go_link.specs.Links.{is_missing, misses, code_of};
 
 use crate::names::Names;
 use crate::places::Places;
-use go_code::instr::{CallInstr, Instr, Symbol};
+use go_code::instr::{CallInstr, Instr};
 use go_code::object::Object;
 use go_code::object::function::PackageFunction;
 use go_code::setup::Setup;
+use go_symbol::Symbol;
 use std::sync::Arc;
 
 /// Whether a call goes to none of the functions.

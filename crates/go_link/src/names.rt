@@ -2,8 +2,9 @@
 ghost use Rattle.std.specs.Prelude.{◌≡◌, ◌++◌, ◌∷◌, [], List, length, OnOk, IfOk, map};
 ghost use Rattle.std.specs.List.{position};
 ghost use Rattle.std.specs.Arc.{arc_value};
-ghost use Rattle.go_code.specs.Symbols.{Symbol as ASymbol};
-ghost use Rattle.go_link.specs.Links.{same_symbol, symbol_of, names, number_of};
+ghost use Rattle.go_symbol.specs.Symbols.{Symbol as ASymbol};
+ghost use Rattle.go_symbol.specs.Symbols.{same_symbol};
+ghost use Rattle.go_link.specs.Links.{symbol_of, names, number_of};
 ghost use Rattle.go_link.specs.Named.{Numbers, symbol_at};
 
 use go_code::object::Object;
@@ -25,7 +26,7 @@ pub(crate) struct Names<'a> {
 
 impl<'a> Model for Names<'a> {
     ghost use Rattle.std.specs.Prelude.{List, map};
-    ghost use Rattle.go_code.specs.Symbols.{Symbol as ASymbol};
+    ghost use Rattle.go_symbol.specs.Symbols.{Symbol as ASymbol};
     ghost use Rattle.go_link.specs.Named.{Numbers, symbol_at};
 
     ghost Value = { List ASymbol };

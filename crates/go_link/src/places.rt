@@ -3,12 +3,14 @@ ghost use Rattle.std.specs.Prelude.{◌≡◌, ◌++◌, ◌∷◌, [], ℕ, Lis
 ghost use Rattle.std.specs.Arc.{arc_value};
 ghost use Rattle.std.specs.List.{list_any};
 ghost use Rattle.go_code.specs.Referred.{place_of};
-ghost use Rattle.go_link.specs.Links.{Held, same_symbol, symbol_of, place_in, variables};
+ghost use Rattle.go_symbol.specs.Symbols.{same_symbol};
+ghost use Rattle.go_link.specs.Links.{Held, symbol_of, place_in, variables};
 ghost use Rattle.go_link.specs.Named.{Firsts, cells_of, held_at, place, symbol_at};
 
 use crate::names::Name;
-use go_code::instr::{AccessInstr, Symbol};
+use go_code::instr::AccessInstr;
 use go_code::object::Object;
+use go_symbol::Symbol;
 use std::alloc::{AllocError, Global};
 use std::collections::BTreeMap;
 use std::marker::Model;

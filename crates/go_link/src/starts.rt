@@ -1,18 +1,18 @@
 //! Start steps.
-ghost use Rattle.std.specs.Prelude.{◌≡◌, ◌++◌, OnOk, IfOk, map, codes, IsTrue, option_map};
+ghost use Rattle.std.specs.Prelude.{◌≡◌, ◌++◌, OnOk, IfOk, map, codes};
 ghost use Rattle.std.specs.Arc.{arc_value};
 ghost use Rattle.std.specs.List.{flat_map, filter, list_any};
 ghost use Rattle.std.specs.Str.{bytes_eq};
-ghost use Rattle.go_link.specs.Links.{has_main, has_main_in, is_init, last_package, linked_setup, main_start, package_starts, start_of};
+ghost use Rattle.go_link.specs.Links.{has_main, is_init, last_package, linked_setup, main_start, package_starts, start_of};
 
 use crate::code::link_code;
 use crate::names::Names;
 use crate::places::Places;
 use go_code::image::Start;
-use go_code::instr::Symbol;
 use go_code::object::Object;
 use go_code::object::function::PackageFunction;
 use go_code::setup::Setup;
+use go_symbol::Symbol;
 use std::alloc::{AllocError, Global};
 use std::sync::Arc;
 

@@ -1,8 +1,7 @@
 -- What expressions, statements and calls come to.
-use Rattle.std.specs.Prelude.{ℕ, zero, suc, ◌+◌, nat_lt, nat_le, nat_eq, Bool, true, false, ◌&&◌, List, [], ◌∷◌, ◌++◌, length, map, slice_get, slice_set, pos, negsuc, Option, Some, None, if◌then◌else◌}
+use Rattle.std.specs.Prelude.{ℕ, zero, suc, ◌+◌, nat_lt, nat_le, nat_eq, Bool, true, false, List, [], ◌∷◌, ◌++◌, length, map, slice_get, slice_set, pos, negsuc, Option, Some, None, if◌then◌else◌}
 use Rattle.std.specs.List.{find, flat_map}
 use Rattle.std.specs.Option.{option_map, option_and_then}
-use Rattle.std.specs.Str.{bytes_eq}
 use Rattle.go_types.specs.Types.{Type', array}
 use Rattle.go_types.specs.Relations.{underlying}
 use Rattle.go_types.specs.Sizes.{cells}
@@ -17,6 +16,7 @@ use Rattle.go_code.specs.Lines.{line_text}
 use Rattle.go_code.specs.Operators as operators
 use Rattle.go_code.specs.Operators.{Operated}
 use Rattle.go_typed.specs.declared.expression.Operator.TheVariants.{Comparison as comparison}
+use Rattle.go_symbol.specs.Symbols.{same_symbol}
 use Rattle.go_typed.specs.Trees.{Symbol, Expr, constant, local, global, field, index, length as length_of, unary, binary, both, either, conversion, literal, call, Exprs, no_exprs, some_exprs, Parts, no_parts, part, Steps, here, to_field as then_field, to_element as then_element, Left, blank, of_local, of_global, Source, each, results, zeros, Stmt, define, assign, update, run, print, panic, if_statement, for_statement, range_statement, switch_statement, block, break, continue, return, Stmts, no_stmts, some_stmts, Clauses, no_clauses, clause, expr_type}
 use Rattle.go_meaning.specs.Values.{Value, single, parts, flat, is_of, are_of, zero_of, Step, to_field, to_element, part_of, read, updated, or_else}
 use Rattle.go_meaning.specs.Choices.{cell_of, unary_operators, binary_operators, conversion_operators, operated, field_type, element_type}
@@ -100,9 +100,6 @@ if_true (single (Text t)) a b = Stuck
 if_true (parts vs) a b = Stuck
 
 -- ---- variables
-
-abbrev pub same_symbol : Symbol → Symbol → Bool
-same_symbol s t = bytes_eq s.path t.path && bytes_eq s.name t.name
 
 abbrev pub local_value : Locals → ℕ → Operated Value
 local_value locals n = or_else operators.Senseless (option_and_then (λ l. l.value) (slice_get locals n))

@@ -9,7 +9,8 @@ use Rattle.go_code.specs.declared.ending.Ending.TheVariants.{Ended, Panicked}
 use Rattle.go_code.specs.declared.ending.PanicKind.TheVariants.{Depth}
 use Rattle.go_typed.specs.Trees.{Symbol, Function, Package}
 use Rattle.go_meaning.specs.Values.{Value, are_of, zero_of}
-use Rattle.go_meaning.specs.Meaning.{Stored, World, Outcome, Gives, Ends, Stuck, Locals, Flow, Normal, Breaks, Continues, Returns, and_then, with_tick, Calls, same_symbol, exec_all}
+use Rattle.go_symbol.specs.Symbols.{same_symbol}
+use Rattle.go_meaning.specs.Meaning.{Stored, World, Outcome, Gives, Ends, Stuck, Locals, Flow, Normal, Breaks, Continues, Returns, and_then, with_tick, Calls, exec_all}
 
 -- ---- calls
 

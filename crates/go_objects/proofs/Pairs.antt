@@ -3,10 +3,11 @@ use Rattle.std.proofs.Common.{◌≡◌, ℕ, suc, false, nat_eq, option_copied,
 use Rattle.std.specs.Prelude.{option_map, unwrap_or}
 use Rattle.std.proofs.lemmas.List.{map-append, drop_all}
 use Rattle.go_ast.specs.Trees as trees
-use Rattle.go_ast.specs.Trees.{Name, no_exprs, some_exprs}
+use Rattle.go_ast.specs.Trees.{Name}
 use Rattle.go_ast.specs.Views.{type_of, expr_of, exprs_in, if_some}
 use Rattle.go_ast.specs.declared.expression.Expr.{Expr}
 use Rattle.go_ast.specs.declared.expression.TypeExpr.{TypeExpr}
+use Rattle.go_scope.specs.Specifications.{meant}
 use Rattle.go_objects.specs.Objects as objects
 use Rattle.go_objects.specs.Objects.{begin_of, paired, unpaired, constants_of, valued_object, uncounted, result_objects, variables_of}
 use Rattle.go_objects.specs.declared.object.Object.{Object}
@@ -82,7 +83,7 @@ alone file ns (f ∷ []) e l is = ap (λ (x : Expr). result_objects file ns 0 (e
 alone file ns (f ∷ g ∷ es) e l is = absurd (omega (arith, l))
 
 pub meant_own : (before : trees.ConstSpec) (ns : List Name) (t : Option trees.TypeExpr) (es : List Expr) → nat_eq (length es) 0 ≡ false →
-    objects.meant before (record { names = ns; type = t; values = exprs_in es }) ≡ record { names = ns; type = t; values = exprs_in es }
+    meant before (record { names = ns; type = t; values = exprs_in es }) ≡ record { names = ns; type = t; values = exprs_in es }
 meant_own before ns t [] some = cc
 meant_own before ns t (e ∷ es) some = refl
 

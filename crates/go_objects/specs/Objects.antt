@@ -4,6 +4,7 @@ use Rattle.std.specs.List.{slice_get, flat_map, list_any}
 use Rattle.std.specs.Str.{bytes_eq}
 use Rattle.go_text.specs.declared.place.Place.{Place}
 use Rattle.go_ast.specs.Trees.{Name, TypeExpr, Expr, Exprs, no_exprs, some_exprs, ConstSpec, VarSpec, TypeSpec, constants, variables, types, Parameter, TopLevel, declared, function, File}
+use Rattle.go_scope.specs.Specifications.{meant}
 
 -- A constant has the type that is written, if one is, its own value, and the value of iota. A variable has the type that is written;
 -- where none is, it has that of its own value, or it takes its place among as many results of a call. A function has a signature.
@@ -40,11 +41,6 @@ other_object file all t values n = record { file = file; begins = begin_of all n
 
 abbrev pub unpaired : ℕ → Option TypeExpr → Exprs → List Name → List Object
 unpaired file t values ns = map (other_object file ns t values) ns
-
--- https://go.dev/ref/spec#Constant_declarations
--- a specification of constants without values means the type and the values of the one before
-abbrev pub meant : ConstSpec → ConstSpec → ConstSpec
-meant before spec = elim spec.values [ no_exprs ↦ record { names = spec.names; type = before.type; values = before.values } | some_exprs e es ↦ spec ]
 
 abbrev pub constants_of : ℕ → ℕ → ConstSpec → List Object
 constants_of file iota s =

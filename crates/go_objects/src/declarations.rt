@@ -4,7 +4,7 @@ ghost use Rattle.std.specs.List.{flat_map};
 ghost use Rattle.go_ast.specs.Trees.{no_exprs};
 ghost use Rattle.go_ast.specs.Trees as trees;
 ghost use Rattle.go_ast.specs.Views.{type_of, expr_of, exprs_in, const_of, var_of, type_spec_of, function_of, top_of, file_of};
-ghost use Rattle.go_objects.specs.Objects as objects;
+ghost use Rattle.go_scope.specs.Specifications as specifications;
 ghost use Rattle.go_objects.specs.Objects.{begin_of, unpaired, constants_of, in_group, typed_object, result_objects, uncounted, variables_of, type_object, objects_in, objects_from};
 ghost use Rattle.go_objects.specs.Seen.{object_of, spec_of};
 
@@ -72,7 +72,7 @@ pub struct Spec<'a> {
 /// What a specification of constants means behind another: without values the type and the values
 /// of that one. [Constant declarations](https://go.dev/ref/spec#Constant_declarations)
 pub fn meant<'a>(before: Spec<'a>, spec: &'a ConstSpec) -> Spec<'a>
-    ensures { spec_of result ≡ objects.meant (spec_of before.entry) (const_of spec.now) }
+    ensures { spec_of result ≡ specifications.meant (spec_of before.entry) (const_of spec.now) }
 {
     let names = spec.names.as_slice();
     let values = spec.values.as_slice();

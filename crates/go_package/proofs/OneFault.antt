@@ -9,11 +9,12 @@ use Rattle.go_text.specs.declared.fault.FaultKind.TheVariants.{Redeclared, Recur
 use Rattle.go_ast.specs.Trees.{Name, ConstSpec, VarSpec, TypeSpec, constants, variables, types, Function, TopLevel, declared, function, File}
 use Rattle.go_expr.specs.Known.{Names}
 use Rattle.go_expr.specs.Verdicts.{broken, type_faults}
-use Rattle.go_objects.specs.Objects.{meant, type_object}
+use Rattle.go_scope.specs.Specifications.{meant, is_repeated}
+use Rattle.go_objects.specs.Objects.{type_object}
 use Rattle.go_objects.specs.Table.{Package, number_of, scope_at, object_verdict}
 use Rattle.go_objects.proofs.Filling.{one_table}
 use Rattle.go_stmt.specs.Functions.{function_at}
-use Rattle.go_decl.specs.Faults.{Facts, Faults, is_declared_by, name_faults, spec_broken, constants_apart, parts_faults, told_at, is_repeated, group_faults, type_spec_faults, var_parts_faults, var_broken, variables_apart, var_spec_faults, context_at, own_faults, top_faults}
+use Rattle.go_decl.specs.Faults.{Facts, Faults, is_declared_by, name_faults, spec_broken, constants_apart, parts_faults, told_at, group_faults, type_spec_faults, var_parts_faults, var_broken, variables_apart, var_spec_faults, context_at, top_faults}
 use Rattle.go_decl.specs.Faults as decl
 use Rattle.go_package.specs.Imports.{Importable, imports_in}
 use Rattle.go_package.specs.Packages.{import_faults, imports_faults, file_faults, each_file, numbered_faults, constants_faults, main_faults, package_faults, IsFaultIn}

@@ -6,7 +6,8 @@ use Rattle.go_text.specs.declared.place.Place.{Place}
 use Rattle.go_text.specs.declared.fault.FaultKind.{FaultKind}
 use Rattle.go_text.specs.declared.fault.FaultKind.TheVariants.{Main}
 use Rattle.go_ast.specs.Trees.{Name, TypeExpr, Expr, Exprs, no_exprs, some_exprs, ConstSpec, VarSpec, constants, variables, types, TopLevel, declared, function, File}
-use Rattle.go_objects.specs.Objects.{Object, constant, function', paired, begin_of, other_object, unpaired, meant, constants_of, in_group, typed_object, valued_object, result_objects, uncounted, variables_of, type_object, objects_in, objects_from, firsts, objects_of}
+use Rattle.go_scope.specs.Specifications.{meant}
+use Rattle.go_objects.specs.Objects.{Object, constant, function', paired, begin_of, other_object, unpaired, constants_of, in_group, typed_object, valued_object, result_objects, uncounted, variables_of, type_object, objects_in, objects_from, firsts, objects_of}
 use Rattle.go_objects.specs.Table.{number_of}
 use Rattle.go_decl.specs.Faults.{Facts, Faults, object_faults}
 use Rattle.go_package.specs.Imports.{Importable}

@@ -1,5 +1,5 @@
 -- What a package without faults is: its typed tree, by what is known of its names.
-use Rattle.std.specs.Prelude.{◌≡◌, ℕ, suc, Bool, true, false, ◌&&◌, not, bytes_eq, codes, if◌then◌else◌, List, [], ◌∷◌, ◌++◌, map, Option, Some, None, unwrap_or}
+use Rattle.std.specs.Prelude.{◌≡◌, ℕ, suc, Bool, true, false, ◌&&◌, not, bytes_eq, if◌then◌else◌, List, [], ◌∷◌, ◌++◌, map, Option, Some, None, unwrap_or}
 use Rattle.std.specs.List.{slice_get, filter, filter_map, flat_map}
 use Rattle.std.specs.Map.{lookup}
 use Rattle.go_ast.specs.Trees.{Name, Expr, Exprs, some_exprs, VarSpec, variables, TopLevel, declared, function, File}
@@ -7,6 +7,7 @@ use Rattle.go_const.specs.declared.constant.Const.{Const}
 use Rattle.go_types.specs.Types.{Type'}
 use Rattle.go_typed.specs.Trees as typed
 use Rattle.go_typed.specs.Trees.{pack_exprs}
+use Rattle.go_scope.specs.Scopes.{is_blank}
 use Rattle.go_scope.specs.Names.{Used, in_expr, in_exprs}
 use Rattle.go_expr.specs.Known.{Declared, value, type', Names}
 use Rattle.go_expr.specs.Known as known
@@ -20,9 +21,6 @@ use Rattle.go_objects.specs.Table.{Package, imports_at, is_hidden, scope_at}
 use Rattle.go_decl.specs.Faults.{Facts, written_type, context_at}
 use Rattle.go_package.specs.Imports.{Importable}
 use Rattle.go_package.specs.Packages.{AreFacts, package_faults}
-
-abbrev pub is_blank : Name → Bool
-is_blank n = bytes_eq n.text (codes "_")
 
 -- ---- names of the package, in declaration order
 
@@ -64,7 +62,7 @@ abbrev pub references : Facts → ℕ → List Used → List (List ℕ)
 references t file us = filter (is_reference t file) (map (λ u. u.0) us)
 
 abbrev pub own_name : Name → Option (List ℕ)
-own_name n = if is_blank n then None else Some n.text
+own_name n = if is_blank n.text then None else Some n.text
 
 -- a variable that has its own value
 abbrev pub alone : Facts → ℕ → Name → Expr → typed.Expr → typed.Initialization
@@ -97,7 +95,7 @@ top_initializations t file top = elim top [ declared (variables p ss) ↦ flat_m
 -- a function of the blank name is checked alone
 abbrev pub top_functions : Facts → ℕ → TopLevel → List typed.Function
 top_functions t file top = elim top [
-  | function f ↦ elim (function_at (context_at t file) f).known [ None ↦ [] | Some g ↦ if is_blank f.name then [] else g ∷ [] ]
+  | function f ↦ elim (function_at (context_at t file) f).known [ None ↦ [] | Some g ↦ if is_blank f.name.text then [] else g ∷ [] ]
   | _ ↦ []
 ]
 

@@ -4,3 +4,4 @@ pub mod Names
 pub mod Order
 pub mod Placing
 pub mod Scopes
+pub mod Specifications

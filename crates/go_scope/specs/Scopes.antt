@@ -23,9 +23,12 @@ look_up env x = lookup (bytes_eq x) (flat_map (λ block. block) (env.inner ∷ e
 abbrev pub is_own : {T : Type 0} → Env T → List ℕ → Bool
 is_own env x = is_some (lookup (bytes_eq x) env.inner)
 
+abbrev pub is_blank : List ℕ → Bool
+is_blank x = bytes_eq x (codes "_")
+
 -- a name more in the innermost block; the blank one declares nothing
 abbrev pub declare : {T : Type 0} → Env T → List ℕ → T → Env T
-declare env x t = if bytes_eq x (codes "_") then env else record { inner = env.inner ++ (x, t) ∷ []; outer = env.outer; next = env.next }
+declare env x t = if is_blank x then env else record { inner = env.inner ++ (x, t) ∷ []; outer = env.outer; next = env.next }
 
 -- into a block, and out of it again
 abbrev pub enter : {T : Type 0} → Env T → Env T

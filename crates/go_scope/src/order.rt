@@ -163,7 +163,11 @@ fn is_last_wait(waits: &mut [usize], declaration: usize) -> bool {
 
 // How many needs each declaration waits for.
 fn waits_of(alloc: Global, rows: &[Vec<usize>]) -> Result<Vec<usize>, AllocError> {
-    rows.iter().map(|needs| needs.len()).collect(alloc)
+    let mut waits = Vec::with_capacity(alloc, rows.len())?;
+    for needs in rows {
+        waits.push(needs.len())?;
+    }
+    Ok(waits)
 }
 
 // The edges turned round: each row has those that need the declaration.

@@ -16,7 +16,8 @@ use Rattle.go_expr.specs.declared.known.Declared.{Declared}
 use Rattle.go_expr.specs.declared.known.Declared.TheVariants.{Local}
 use Rattle.go_expr.specs.Known as known
 use Rattle.go_expr.specs.Seen.{declared_of}
-use Rattle.go_stmt.specs.Scopes.{Env, is_blank, declare_new, declare_variable}
+use Rattle.go_scope.specs.Scopes.{is_blank}
+use Rattle.go_stmt.specs.Scopes.{Env, declare_new, declare_variable}
 use Rattle.go_stmt.specs.Seen.{shown_block}
 use Rattle.go_stmt.proofs.Lookups.{own_shown, shown_more}
 

@@ -20,7 +20,8 @@ use Rattle.go_expr.specs.Seen.{Fails}
 use Rattle.go_expr.proofs.Lists.{fails_front}
 use Rattle.go_stmt.specs.Scopes.{Env, Context, Checked, Faults, nothing, scope_in, number_of, paired, declare_new, still, follow, appended}
 use Rattle.go_stmt.specs.Rules.{Values, all_some, variables_source, constants_of}
-use Rattle.go_stmt.specs.Statements.{names_faults, names_at, written_at, values_at, place_at, variable_types, variables_at, each_of, operands_faults, told_at, constants_at, declared_as, is_repeated, meant, group_at}
+use Rattle.go_scope.specs.Specifications.{meant, is_repeated}
+use Rattle.go_stmt.specs.Statements.{names_faults, names_at, written_at, values_at, place_at, variable_types, variables_at, each_of, operands_faults, told_at, constants_at, declared_as, group_at}
 use Rattle.go_stmt.proofs.Defining.{made, made_fails}
 
 -- a rule that doesn't look at what is known of the first part

@@ -8,7 +8,7 @@ use Rattle.go_ast.specs.Views.{type_of, exprs_in, if_some, const_of}
 use Rattle.go_ast.specs.declared.declaration.ConstSpec.{ConstSpec}
 use Rattle.go_ast.specs.declared.expression.Expr.{Expr}
 use Rattle.go_ast.specs.declared.expression.TypeExpr.{TypeExpr}
-use Rattle.go_stmt.specs.Statements.{meant, is_repeated}
+use Rattle.go_scope.specs.Specifications.{meant, is_repeated}
 
 -- one with values means its own
 pub meant_own : (before : trees.ConstSpec) (ns : List Name) (t : Option trees.TypeExpr) (es : List Expr) → nat_eq (length es) 0 ≡ false →

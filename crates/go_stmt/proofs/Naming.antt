@@ -11,7 +11,8 @@ use Rattle.go_text.specs.declared.fault.FaultKind.TheVariants.{Redeclared}
 use Rattle.go_ast.specs.Trees.{Name}
 use Rattle.go_scope.specs.Index as index
 use Rattle.go_scope.proofs.Indexes.{Differing, differing_more, differing_not, is_some_position}
-use Rattle.go_stmt.specs.Scopes.{Env, is_blank, own}
+use Rattle.go_scope.specs.Scopes.{is_blank}
+use Rattle.go_stmt.specs.Scopes.{Env, own}
 use Rattle.go_stmt.specs.Rules.{differ}
 use Rattle.go_stmt.specs.Seen.{own_texts}
 use Rattle.go_stmt.specs.Statements.{names_faults}

@@ -15,7 +15,7 @@ use Rattle.go_typed.specs.Trees.{Symbol, Expr, constant, local, global, field, i
 use Rattle.go_expr.specs.Known.{Declared, value, Known, declared, results as call_results, printed, panicked, Verdict, Fine, Breaks, Passed}
 use Rattle.go_expr.specs.Rules.{checked, constant_in, each_unless, least, wrong, value_due, is_integer, assigned, defaulted, as_type, condition, operand_type, binary_of}
 use Rattle.go_expr.specs.Verdicts.{asked}
-use Rattle.go_stmt.specs.Scopes.{is_blank}
+use Rattle.go_scope.specs.Scopes.{is_blank}
 use Rattle.go_typed.specs.Terminating.{list_terminates}
 
 abbrev pub all_some : {A : Type 0} → List (Option A) → Option (List A)

@@ -1,5 +1,5 @@
 -- What is in scope in a function, and its forms one behind another.
-use Rattle.std.specs.Prelude.{ℕ, Bool, if◌then◌else◌, bytes_eq, codes, length, List, [], ◌∷◌, ◌++◌, map, Option, Some, None, option_map}
+use Rattle.std.specs.Prelude.{ℕ, Bool, if◌then◌else◌, bytes_eq, length, List, [], ◌∷◌, ◌++◌, map, Option, Some, None, option_map}
 use Rattle.std.specs.List.{flat_map}
 use Rattle.std.specs.Map.{lookup}
 use Rattle.go_text.specs.declared.place.Place.{Place}
@@ -7,6 +7,7 @@ use Rattle.go_text.specs.declared.fault.FaultKind.{FaultKind}
 use Rattle.go_types.specs.Types.{Type'}
 use Rattle.go_ast.specs.Trees.{Name}
 use Rattle.go_scope.specs.Scopes as scopes
+use Rattle.go_scope.specs.Scopes.{is_blank}
 use Rattle.go_typed.specs.Trees.{local}
 use Rattle.go_expr.specs.Known.{Declared, value, Known, Verdict, named, Scope}
 use Rattle.go_expr.specs.Rules.{fine}
@@ -44,9 +45,6 @@ enter env = record { names = scopes.enter env.names; types = env.types }
 
 abbrev pub leave : Env → Env
 leave env = record { names = scopes.leave env.names; types = env.types }
-
-abbrev pub is_blank : List ℕ → Bool
-is_blank x = bytes_eq x (codes "_")
 
 -- what the innermost block has under a name
 abbrev pub own : Env → Name → Option (Option Declared)

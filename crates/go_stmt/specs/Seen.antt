@@ -33,7 +33,8 @@ use Rattle.go_stmt.specs.declared.function.Inside.{Inside}
 use Rattle.go_stmt.specs.declared.values.Values as values
 use Rattle.go_stmt.specs.declared.values.Values.TheVariants as variants
 use Rattle.go_stmt.specs.Rules.{Clause as ClauseValue, Values, separate, together, no_values}
-use Rattle.go_stmt.specs.Scopes.{Env, Context, Checked, is_blank}
+use Rattle.go_scope.specs.Scopes.{is_blank}
+use Rattle.go_stmt.specs.Scopes.{Env, Context, Checked}
 use Rattle.go_stmt.specs.Statements.{leads_on, in_clause, clause_at, list_at}
 
 -- names of blocks, each with what it declares where that is known

@@ -17,7 +17,9 @@ use Rattle.go_expr.specs.Verdicts.{asked, both, operand, operands, verdict, type
 use Rattle.go_scope.specs.Names.{Used}
 use Rattle.go_uses.specs.Uses as uses
 use Rattle.go_uses.specs.Uses.{texts, outside}
-use Rattle.go_stmt.specs.Scopes.{Env, Context, scope_in, is_blank, declare, paired, declare_new, own, number_of, Faults, Checked, still, given, follow, seen, single, appended, node, inside, declaring, perhaps}
+use Rattle.go_scope.specs.Scopes.{is_blank}
+use Rattle.go_scope.specs.Specifications.{meant, is_repeated}
+use Rattle.go_stmt.specs.Scopes.{Env, Context, scope_in, declare, paired, declare_new, own, number_of, Faults, Checked, still, given, follow, seen, single, appended, node, inside, declaring, perhaps}
 use Rattle.go_stmt.specs.Rules.{all_some, Values, separate, together, no_values, values_of, constants_of, variables_source, redefined, performed, assigned_to, updated, stepped, conditional, looped, ranged, Clause, clause_of, switched, branch, returned}
 
 -- ---- expressions in statements
@@ -89,14 +91,6 @@ variables_at c p spec env =
     let numbers = map (number_of (change env)) spec.names in
     declaring change (node (place_at p spec.names) (λ k. checked (λ source. Fine (typed.define numbers source ∷ [])) (variables_source spec.names (k.1).0 (k.1).1))
     (follow (names_at spec.names) (follow (written_at s spec.type) (values_at c spec.values)))) env
-
--- https://go.dev/ref/spec#Constant_declarations
--- a specification without values means the type and the values of the one before
-abbrev pub meant : ConstSpec → ConstSpec → ConstSpec
-meant before spec = elim spec.values [ no_exprs ↦ record { names = spec.names; type = before.type; values = before.values } | some_exprs e es ↦ spec ]
-
-abbrev pub is_repeated : ConstSpec → Bool
-is_repeated spec = elim spec.values [ no_exprs ↦ true | some_exprs e es ↦ false ]
 
 -- what a constant's name declares, by its own value
 abbrev pub declared_as : Option typed.Expr → Option Declared

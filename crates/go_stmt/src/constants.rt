@@ -13,7 +13,8 @@ ghost use Rattle.go_expr.specs.Verdicts.{asked, both, operand, verdict};
 ghost use Rattle.go_expr.specs.Seen.{all_of, declared_of, scope_of, AnswersAt, Fails};
 ghost use Rattle.go_stmt.specs.Scopes.{nothing, paired};
 ghost use Rattle.go_stmt.specs.Rules.{all_some, constants_of};
-ghost use Rattle.go_stmt.specs.Statements.{each_of, operands_faults, written_at, meant, is_repeated, declared_as, constant_in};
+ghost use Rattle.go_scope.specs.Specifications.{meant, is_repeated};
+ghost use Rattle.go_stmt.specs.Statements.{each_of, operands_faults, written_at, declared_as, constant_in};
 ghost use Rattle.go_stmt.specs.Statements.{declare_constants, constants_at, group_at};
 ghost use Rattle.go_stmt.specs.Seen.{context_of, env_of, spec_of, typed_in, Answered, Finds};
 

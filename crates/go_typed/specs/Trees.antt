@@ -6,12 +6,8 @@ use Rattle.go_const.specs.declared.constant.Const.{Const}
 use Rattle.go_const.specs.declared.operator.UnaryOperator.{UnaryOperator}
 use Rattle.go_types.specs.Types.{Type'}
 pub use Rattle.go_typed.specs.declared.expression.Operator.{Operator}
+pub use Rattle.go_symbol.specs.Symbols.{Symbol}
 pub use Rattle.go_typed.specs.declared.expression.Operator.TheVariants.{Arithmetic as arithmetic, Shift as shift, Comparison as comparison}
-
--- what packages declare is known by the package's path and the name
-pub record Symbol : Type 0 where
-  pub path : List ℕ
-  pub name : List ℕ
 
 mutual
   -- an expression, with its type first

@@ -1,8 +1,8 @@
 //! Expressions.
 
-use crate::symbol::Symbol;
 use go_const::constant::Const;
 use go_const::operator::{ArithmeticOperator, ComparisonOperator, ShiftOperator, UnaryOperator};
+use go_symbol::Symbol;
 use go_types::types::GoType;
 
 /// An operator both of whose operands are evaluated. [Operators](https://go.dev/ref/spec#Operators)

@@ -5,4 +5,3 @@
 pub mod expression;
 pub mod package;
 pub mod statement;
-pub mod symbol;

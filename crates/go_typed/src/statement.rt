@@ -1,7 +1,7 @@
 //! Statements.
 
 use crate::expression::{Operator, TypedExpr};
-use crate::symbol::Symbol;
+use go_symbol::Symbol;
 use go_types::types::GoType;
 
 /// A step from a variable to a part of it.

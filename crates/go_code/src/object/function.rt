@@ -2,7 +2,7 @@
 ghost use Rattle.std.specs.Prelude.{◌≡◌, string_bytes};
 
 use crate::function::Function;
-use crate::instr::Symbol;
+use go_symbol::Symbol;
 use std::marker::Model;
 
 /// A function of a package, with its name.

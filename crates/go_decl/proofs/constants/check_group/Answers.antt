@@ -3,7 +3,7 @@ use Rattle.go_ast.specs.declared.expression.Expr.{Expr}
 use Rattle.std.proofs.lemmas.Result.{err_from_is_err_and}
 use Rattle.go_ast.specs.Views.{const_of}
 use Rattle.go_objects.specs.Seen.{spec_of}
-use Rattle.go_decl.specs.Faults.{is_repeated}
+use Rattle.go_scope.specs.Specifications.{is_repeated}
 use Rattle.go_decl.specs.Seen.{facts_of}
 use Rattle.go_decl.proofs.Groups.{none_written, group_here, group_later}
 use Rattle.go_decl.proofs.constants.check_group.Goals as goal

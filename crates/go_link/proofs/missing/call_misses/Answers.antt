@@ -1,8 +1,8 @@
 use Rattle.std.proofs.Common.{◌≡◌, ℕ, not, List, ap, ◌∙◌, sym}
 use Rattle.std.specs.List.{list_any}
 use Rattle.std.specs.Option.{is_some}
-use Rattle.go_code.specs.Symbols.{Symbol}
-use Rattle.go_link.specs.Links.{misses, same_symbol}
+use Rattle.go_symbol.specs.Symbols.{Symbol, same_symbol}
+use Rattle.go_link.specs.Links.{misses}
 use Rattle.go_link.proofs.Numbered.{missing_is}
 use Rattle.go_link.proofs.missing.call_misses.Goals as goal
 

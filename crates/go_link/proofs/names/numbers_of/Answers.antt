@@ -1,6 +1,6 @@
 use Rattle.std.proofs.Common.{◌≡◌, List, [], length, map, take, sym, subst, ◌∙◌, arith}
 use Rattle.std.proofs.lemmas.List.{length-map, length-take-le, map_more}
-use Rattle.go_code.specs.Symbols.{Symbol}
+use Rattle.go_symbol.specs.Symbols.{Symbol}
 use Rattle.go_link.specs.Named.{Name, Numbers, symbol_at}
 use Rattle.go_link.proofs.names.numbers_of.Goals as goal
 

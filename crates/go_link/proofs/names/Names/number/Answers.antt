@@ -1,6 +1,6 @@
 use Rattle.std.proofs.Common.{ap, ◌∙◌}
 use Rattle.std.specs.List.{position}
-use Rattle.go_link.specs.Links.{same_symbol}
+use Rattle.go_symbol.specs.Symbols.{same_symbol}
 use Rattle.go_link.proofs.names.Names.number.Goals as goal
 
 pub returns : goal.returns

@@ -1,8 +1,7 @@
 use Rattle.std.proofs.Common.{◌≡◌, true, false, sym, ap, ◌∙◌}
 use Rattle.std.specs.Option.{option_map}
-use Rattle.go_scope.specs.Scopes.{is_own}
+use Rattle.go_scope.specs.Scopes.{is_own, is_blank}
 use Rattle.go_types.specs.Views.{type_of}
-use Rattle.go_stmt.specs.Scopes.{is_blank}
 use Rattle.go_stmt.proofs.Declaring.{mapped_ok, kept_own, new_one}
 use Rattle.go_stmt.proofs.env.Env.declare_new.Goals as goal
 

@@ -1,4 +1,6 @@
-//! The names by which packages know one another's functions and variables.
+//! The names by which packages, and their code, know one another's functions and variables.
+#![tactic(auto)]
+
 ghost use Rattle.std.specs.Prelude.{◌≡◌, IfOk, string_bytes};
 
 use std::alloc::AllocError;
@@ -14,15 +16,15 @@ pub struct Symbol {
 
 impl Model for Symbol {
     ghost use Rattle.std.specs.Prelude.{string_bytes};
-    ghost use Rattle.go_typed.specs.Trees as trees;
+    ghost use Rattle.go_symbol.specs.Symbols as symbols;
 
-    ghost Value = { trees.Symbol };
+    ghost Value = { symbols.Symbol };
 
     ghost view = { λ a. record { path = string_bytes a.path; name = string_bytes a.name } };
 }
 
 impl Symbol {
-    /// The symbol of a package's path and a name.
+    /// The symbol of a package's path and a name in it.
     pub fn new(path: String, name: String) -> Symbol
         ensures { result ≡ record { path = string_bytes path; name = string_bytes name } }
     {
