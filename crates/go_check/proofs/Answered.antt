@@ -1,35 +1,45 @@
--- Files are answered, and in one way alone.
-use Rattle.std.proofs.Common.{◌≡◌, ℕ, Option, Some, None, List, [], ◌∷◌, refl, sym, ◌∙◌}
+-- From what the checker of packages answers to what is answered about files.
+use Rattle.std.proofs.Common.{◌≡◌, ℕ, ◌<◌, List, ◌∷◌, map, length, Some, Result, Ok, Err, IfOk, subst}
 use Rattle.go_text.specs.Faults.{Fault}
-use Rattle.go_export.specs.Typed.{Typed}
-use Rattle.go_check.specs.Packages.{NamedFile, package_faults, package_known, Answer, Good, Faulty, PassedOver, IsAnswer}
+use Rattle.go_text.specs.declared.fault.FaultKind.{FaultKind}
+use Rattle.go_text.specs.declared.place.Place.{Place}
+use Rattle.go_ast.specs.Trees.{File}
+use Rattle.go_ast.specs.Parse.{Parsed}
+use Rattle.go_typed.specs.Trees.{Package}
+use Rattle.go_typed.specs.Views.{typed_of}
+use Rattle.go_typed.specs.declared.package.Typed.{Typed}
+use Rattle.go_package.specs.Imports.{Importable}
+use Rattle.go_package.specs.Packages.{package_in, IsFaultOf}
+use Rattle.go_package.specs.Typed.{IsTypedIn}
+use Rattle.go_check.specs.Checked.{AreTrees, fmt, AreTyped, HaveFault}
+use Rattle.go_check.specs.Told.{IsFaultIn, Tells}
+use Rattle.go_check.specs.declared.error.CheckError.{CheckError}
+use Rattle.go_check.proofs.Some.{of_file}
 
-pub one_answer : (path : List ℕ) (files : List NamedFile) (a b : Answer) → IsAnswer path files a → IsAnswer path files b → a ≡ b
-one_answer path files (Good t) (Good u) a b =
-    let e : Some t ≡ Some u = sym a.known ∙ b.known in cc
-one_answer path files (Good t) (Faulty f) a b =
-    let e : [] ≡ f ∷ b.0 = sym a.faultless ∙ b.1 in cc
-one_answer path files (Good t) PassedOver a b =
-    let e : Some t ≡ None = sym a.known ∙ b.1 in cc
-one_answer path files (Faulty f) (Good t) a b =
-    let e : [] ≡ f ∷ a.0 = sym b.faultless ∙ a.1 in cc
-one_answer path files (Faulty f) (Faulty g) a b =
-    let e : f ∷ a.0 ≡ g ∷ b.0 = sym a.1 ∙ b.1 in cc
-one_answer path files (Faulty f) PassedOver a b =
-    let e : [] ≡ f ∷ a.0 = sym b.0 ∙ a.1 in cc
-one_answer path files PassedOver (Good t) a b =
-    let e : Some t ≡ None = sym b.known ∙ a.1 in cc
-one_answer path files PassedOver (Faulty f) a b =
-    let e : [] ≡ f ∷ b.0 = sym a.0 ∙ b.1 in cc
-one_answer path files PassedOver PassedOver a b = refl
+module _ (path : List ℕ) (files : List Parsed) (imports packages : List Importable) (trees : List File) (parse : AreTrees files trees) (are : packages ≡ fmt ∷ imports) where
+  pub typed_by : (names : List (List ℕ)) (t : Package) → names ≡ map (λ f. f.name) files → IsTypedIn (package_in path trees packages) trees packages names t → AreTyped path files imports t
+  typed_by names t named typed = record {
+    trees = trees;
+    parse = parse;
+    is = subst (λ (ns : List (List ℕ)). IsTypedIn (package_in path trees (fmt ∷ imports)) trees (fmt ∷ imports) ns t) named
+        (subst (λ (ps : List Importable). IsTypedIn (package_in path trees ps) trees ps names t) are typed);
+  }
 
-by_known : (path : List ℕ) (files : List NamedFile) (known : Option Typed) → package_faults files ≡ [] → package_known path files ≡ known → (a : Answer) × IsAnswer path files a
-by_known path files (Some typed) none is = (Good typed, record { faultless = none; known = is })
-by_known path files None none is = (PassedOver, (none, is))
+  same : (numbered : ℕ × (Place × FaultKind)) → IsFaultOf path trees packages (Some numbered) → IsFaultOf path trees (fmt ∷ imports) (Some numbered)
+  same numbered = subst (λ (ps : List Importable). IsFaultOf path trees ps (Some numbered)) are
 
-by_faults : (path : List ℕ) (files : List NamedFile) (faults : List Fault) → package_faults files ≡ faults → (a : Answer) × IsAnswer path files a
-by_faults path files [] e = by_known path files (package_known path files) e refl
-by_faults path files (f ∷ others) e = (Faulty f, (others, e))
+  pub within : (numbered : ℕ × (Place × FaultKind)) → IsFaultOf path trees packages (Some numbered) → numbered.0 < length files
+  within numbered is = of_file path files imports trees parse numbered (same numbered is)
 
-pub some_answer : (path : List ℕ) (files : List NamedFile) → (a : Answer) × IsAnswer path files a
-some_answer path files = by_faults path files (package_faults files) refl
+  pub fault_by : (number : ℕ) (place : Place) (kind : FaultKind) (fault : Fault) → IsFaultOf path trees packages (Some (number, (place, kind))) → IsFaultIn files (number, (place, kind)) fault → HaveFault path files imports fault
+  fault_by number place kind fault is told = record {
+    trees = trees;
+    parse = parse;
+    number = number;
+    name = told.name;
+    is = subst (λ (x : Place × FaultKind). IsFaultOf path trees (fmt ∷ imports) (Some (number, x))) told.same (same (number, (place, kind)) is);
+  }
+
+pub typed_told : (path : List ℕ) (files : List Parsed) (imports : List Importable) (result : Result Typed CheckError) → Tells path files imports result → IfOk result (λ t. AreTyped path files imports (typed_of t))
+typed_told path files imports (Ok t) is = is
+typed_told path files imports (Err error) is = tt

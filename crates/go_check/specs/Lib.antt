@@ -1,9 +1,2 @@
-pub mod Forms
-pub mod Imports
-pub mod Meaning
-pub mod Packages
-pub mod Rules
-pub mod Seen
-pub mod Sources
-pub mod Verdicts
-pub mod Written
+pub mod Checked
+pub mod Told

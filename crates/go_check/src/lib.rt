@@ -1,17 +1,7 @@
-//! The checker of packages, and what checked packages mean.
+//! The checker of a package that imports others, which it knows by their summaries.
 #![tactic(auto)]
 
-pub mod answer;
+pub mod check;
 pub mod error;
-mod expression;
-mod file;
-mod form;
-mod import;
-mod known;
+pub mod files;
 pub mod law;
-pub mod left_out;
-pub mod package;
-mod reference;
-mod scope;
-mod statement;
-mod table;

@@ -1,6 +1,6 @@
-pub mod Fields
+pub mod Codes
+pub mod Exports
 pub mod Summaries
-pub mod Typed
-pub mod Types
 pub mod Views
-pub mod WellTyped
+pub mod Writable
+pub mod Fields

@@ -1,55 +1,25 @@
--- Which values the code's typed trees are.
-use Rattle.std.specs.Prelude.{map, string_bytes}
-use Rattle.go_export.specs.Types as types
-use Rattle.go_export.specs.Typed as typed
-use Rattle.go_export.specs.declared.typed.GoType.{GoType}
-use Rattle.go_export.specs.declared.typed.GoType.TheVariants.{Int, String, Bool}
-use Rattle.go_export.specs.declared.typed.Const.{Const}
-use Rattle.go_export.specs.declared.typed.Const.TheVariants.{Integer, Text, Bool as Truth}
-use Rattle.go_export.specs.declared.typed.TypedExpr.{TypedExpr}
-use Rattle.go_export.specs.declared.typed.TypedExprKind.{TypedExprKind}
-use Rattle.go_export.specs.declared.typed.TypedExprKind.TheVariants.{Constant}
-use Rattle.go_export.specs.declared.typed.TypedStmt.{TypedStmt}
-use Rattle.go_export.specs.declared.typed.TypedStmt.TheVariants.{Print}
-use Rattle.go_export.specs.declared.typed.TypedVariable.{TypedVariable}
-use Rattle.go_export.specs.declared.typed.TypedFunction.{TypedFunction}
-use Rattle.go_export.specs.declared.typed.Typed.{Typed}
+-- Which values the code's exports are.
+use Rattle.std.specs.Prelude.{ℕ, List, map, string_bytes, String}
+use Rattle.std.specs.Global.{Global}
+use Rattle.go_types.specs.Views.{type_of}
+use Rattle.go_export.specs.Exports as exports
+use Rattle.go_export.specs.Summaries.{Summary}
+use Rattle.go_export.specs.declared.export.Export.{Export}
+use Rattle.go_export.specs.declared.export.Export.TheVariants as variants
 
-abbrev pub type_of : GoType → types.Type'
-type_of Int = types.int
-type_of String = types.string
-type_of Bool = types.bool
+abbrev pub export_of : Export → exports.Export
+export_of (variants.Constant t c) = exports.constant (type_of t) c
+export_of (variants.Variable t) = exports.variable (type_of t)
+export_of (variants.Function parameters results) = exports.function (map type_of parameters.items) (map type_of results.items)
+export_of (variants.Type t) = exports.type' (type_of t)
 
-abbrev pub constant_of : Const → typed.Constant
-constant_of (Integer z) = typed.integer z
-constant_of (Text bytes) = typed.text bytes.items
-constant_of (Truth b) = typed.truth b
+-- a name with what it exports
+abbrev pub named_of : String Global × Export → List ℕ × exports.Export
+named_of e = (string_bytes e.0, export_of e.1)
 
--- an expression of a kind and a type
-abbrev pub kind_of : TypedExprKind → GoType → typed.Expr
-kind_of (Constant c) of = typed.constant (type_of of) (constant_of c)
+abbrev pub all_of : List (String Global × Export) → exports.Exports
+all_of es = map named_of es
 
-abbrev pub expression_of : TypedExpr → typed.Expr
-expression_of e = kind_of e.kind e.of
-
-abbrev pub statement_of : TypedStmt → typed.Stmt
-statement_of (Print operands) = typed.print (typed.pack_exprs (map expression_of operands.items))
-
-abbrev pub variable_of : TypedVariable → typed.Variable
-variable_of v = record { name = string_bytes v.name; of = type_of v.of; file = string_bytes v.file; place = v.place; references = map string_bytes v.references.items }
-
-abbrev pub function_of : TypedFunction → typed.Function
-function_of f = record {
-  name = string_bytes f.name;
-  parameters = map type_of f.parameters.items;
-  locals = map type_of f.locals.items;
-  body = typed.pack_stmts (map statement_of f.body.items);
-}
-
-abbrev pub typed_of : Typed → typed.Typed
-typed_of t = record {
-  path = string_bytes t.path;
-  «package» = string_bytes t.package;
-  variables = map variable_of t.variables.items;
-  functions = map function_of t.functions.items;
-}
+-- the summary of a package by its path, its name and its exports
+abbrev pub shown : List ℕ → List ℕ → List (String Global × Export) → Summary
+shown path name es = record { path = path; «package» = name; exports = all_of es }

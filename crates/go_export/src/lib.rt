@@ -1,6 +1,10 @@
-//! Typed trees: what a checked package holds, and the summaries that its importers know it by.
+//! Summaries: what the importers of a package know of it.
 #![tactic(auto)]
 
+mod collection;
+pub mod export;
 pub mod field;
+pub mod law;
 pub mod summary;
-pub mod typed;
+mod text;
+mod written;

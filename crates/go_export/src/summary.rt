@@ -1,50 +1,86 @@
-//! Summaries: what the importers of a package know of it. No package exports anything so far.
-ghost use Rattle.std.specs.Prelude.{◌≡◌, IfOk};
-ghost use Rattle.go_export.specs.Views.{typed_of};
-ghost use Rattle.go_export.specs.Summaries.{Summary as ASummary, summary_of, summary_text, summary_digest};
+//! What the importers of a package know of it.
+ghost use Rattle.std.specs.Prelude.{◌≡◌, ◌<◌, ◌^◌, IfOk, length};
+ghost use Rattle.std.specs.Option.{option_map};
+ghost use Rattle.go_typed.specs.Views.{typed_of};
+ghost use Rattle.go_export.specs.Exports.{look_up};
+ghost use Rattle.go_export.specs.Summaries.{summary_of, summary_text, summary_digest};
+ghost use Rattle.go_export.specs.Views.{all_of, export_of};
+ghost use Rattle.go_export.specs.Writable.{IsWritten};
 
-use crate::field::{digest, push_field, push_number};
-use crate::typed::Typed;
+use crate::collection::exports_of;
+use crate::export::Export;
+use crate::field::digest;
+use crate::text::text_of;
+use crate::written::are_shown;
+use go_typed::package::Typed;
 use std::alloc::{AllocError, Global};
+use std::collections::BTreeMap;
 use std::marker::Model;
 
-/// What the importers of a package know of it: its path and its name. It holds the text that
-/// stands for it in digests.
+/// What the importers of a package know of it: its path, its name and what it exports. It holds
+/// the text that stands for it in digests, and that text's digest, so that none who takes the
+/// digest hashes the text again.
+/// [Import declarations](https://go.dev/ref/spec#Import_declarations)
 #[derive(Drop)]
 pub struct Summary {
     path: String,
     name: String,
+    named: BTreeMap<String, Export>,
     text: Vec<u8>,
+    digest: [u8; 32],
 }
 
 impl Model for Summary {
     ghost use Rattle.std.specs.Prelude.{◌≡◌, string_bytes};
+    ghost use Rattle.go_export.specs.Codes.{summary_code};
     ghost use Rattle.go_export.specs.Summaries as summaries;
 
     ghost Value = { summaries.Summary };
 
-    ghost view = { λ s. record { path = string_bytes s.path; «package» = string_bytes s.name } };
+    ghost coded = { summary_code };
 
-    ghost invariant = { λ s. s.text.items ≡ summaries.summary_text (record { path = string_bytes s.path; «package» = string_bytes s.name }) };
+    ghost use Rattle.go_export.specs.Views.{shown};
+
+    ghost view = { λ s. shown (string_bytes s.path) (string_bytes s.name) s.named.entries };
+
+    ghost use Rattle.sha2.specs.Sha256.{sha256};
+    ghost use Rattle.go_export.specs.Writable as writable;
+
+    ghost invariant = { λ s. (s.text.items ≡ summaries.summary_text (shown (string_bytes s.path) (string_bytes s.name) s.named.entries))
+        × (s.digest ≡ sha256 s.text.items)
+        × writable.IsWritten (shown (string_bytes s.path) (string_bytes s.name) s.named.entries) };
 }
 
 impl Summary {
-    /// The summary of a package by its path and its name. An `Err` only where memory ran out.
-    pub fn new(alloc: Global, path: &str, name: &str) -> Result<Summary, AllocError>
-        ensures path { IfOk result (λ s. s.path ≡ path.now) }
-        ensures name { IfOk result (λ s. s.package ≡ name.now) }
-    {
-        let path = String::from_str(alloc, path)?;
-        let name = String::from_str(alloc, name)?;
-        let text = text_of(alloc, &path, &name)?;
-        Ok(Summary { path, name, text })
-    }
-
-    /// The summary of a checked package. An `Err` only where memory ran out.
+    /// The summary of a checked package. An `Err` where memory ran out, or where the text wouldn't
+    /// tell the summary: names in it have a space, a brace or a dot, or a constant isn't of its
+    /// type, which is so of no checked package.
     pub fn of(alloc: Global, typed: &Typed) -> Result<Summary, AllocError>
         ensures { IfOk result (λ s. s ≡ summary_of (typed_of typed.now)) }
     {
-        Summary::new(alloc, &typed.path, &typed.package)
+        let path = typed.path.clone()?;
+        let name = typed.name.clone()?;
+        let named = exports_of(alloc, typed)?;
+        if !are_shown(&named) {
+            return Err(AllocError);
+        }
+        let text = text_of(alloc, &path, &name, &named)?;
+        let _ = text.len();
+        let digest = digest(&text);
+        Ok(Summary {
+            path,
+            name,
+            named,
+            text,
+            digest,
+        })
+    }
+
+    /// That its text tells it.
+    pub fn written(&self)
+        ensures { IsWritten self.now }
+    {
+        let _ = self.text.len();
     }
 
     /// The directory that the package stands in, which is its path.
@@ -61,9 +97,25 @@ impl Summary {
         self.name.as_str()
     }
 
+    /// What a name exports, if the package exports that name.
+    /// [Qualified identifiers](https://go.dev/ref/spec#Qualified_identifiers)
+    pub fn find(&self, name: &str) -> Option<&Export>
+        ensures { option_map (λ e. export_of e.now) result ≡ look_up name.now self.now.exports }
+    {
+        self.named.get(name)
+    }
+
+    /// All that the package exports, by name.
+    pub fn exports(&self) -> &BTreeMap<String, Export>
+        ensures { all_of result.now.entries ≡ self.now.exports }
+    {
+        &self.named
+    }
+
     /// The text that stands for the summary in digests.
     pub fn text(&self) -> &[u8]
-        ensures { result.now ≡ summary_text self.now }
+        ensures value { result.now ≡ summary_text self.now }
+        ensures sized { length (summary_text self.now) < 2 ^ 64 }
     {
         self.text.as_slice()
     }
@@ -72,23 +124,6 @@ impl Summary {
     pub fn digest(&self) -> [u8; 32]
         ensures { result ≡ summary_digest self.now }
     {
-        digest(&self.text)
+        self.digest
     }
 }
-
-/// The text of the summary of a package by its path and its name.
-fn text_of(alloc: Global, path: &str, name: &str) -> Result<Vec<u8>, AllocError>
-    ensures { IfOk result (λ text. text.items ≡ summary_text (record { path = path.now; «package» = name.now })) }
-{
-    let mut text = Vec::new(alloc);
-    push_field(&mut text, b"goset summary")?;
-    push_field(&mut text, path.as_bytes())?;
-    push_field(&mut text, name.as_bytes())?;
-    push_number(&mut text, 0)?;
-    Ok(text)
-}
-
-/// Summaries of one path whose texts are equal are equal.
-pub fn law_one_summary()
-    ensures { (s t : ASummary) → s.path ≡ t.path → summary_text s ≡ summary_text t → s ≡ t }
-{}

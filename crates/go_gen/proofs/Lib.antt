@@ -1,5 +1,8 @@
-pub mod Counts
-pub mod Equality
-pub mod Linking
-pub mod Runs
-pub mod Zeros
+pub mod Arms
+pub mod ByKind
+pub mod Closed
+pub mod Emitted
+pub mod Found
+pub mod Made
+pub mod Reversed
+pub mod Totals

@@ -1,123 +1,83 @@
 //! The object of a checked package.
-ghost use Rattle.std.specs.Prelude.{◌≡◌, ◌++◌, map, OnOk, IfOk};
-ghost use Rattle.go_export.specs.Typed.{pack_exprs, pack_stmts};
-ghost use Rattle.go_export.specs.Views.{type_of, variable_of, constant_of, expression_of, statement_of, function_of, typed_of};
-ghost use Rattle.go_gen.specs.Translation.{no_slots, zero_cell, translated_variable, cell_of, operands_count, expression_code, operands_code, statement_code, statements_code, body_code, translated, object_of};
+ghost use Rattle.std.specs.Prelude.{◌≡◌, IfOk, map};
+ghost use Rattle.go_typed.specs.Views.{stmts_in, variable_of, function_of, typed_of};
+ghost use Rattle.go_gen.specs.Translation.{body_code, translated_variable, translated_function, object_of};
+ghost use Rattle.go_gen.specs.Views.{places_of};
 
 use crate::code::Code;
-use go_code::cell::{Cell, Text};
+use crate::layout::Layout;
+use crate::size::{push_slots, sum};
+use crate::statement::emit_stmts;
+use crate::statement_temps::stmts_temps;
+use crate::zero::push_zero;
 use go_code::function::Function;
-use go_code::instr::{CallInstr, FrameInstr, Instr, OutputInstr};
+use go_code::instr::{CallInstr, Instr};
 use go_code::object::Object;
 use go_code::object::function::PackageFunction;
 use go_code::object::variable::PackageVariable;
-use go_export::typed::{
-    Const, GoType, Typed, TypedExpr, TypedExprKind, TypedFunction, TypedStmt, TypedVariable,
-};
+use go_symbol::Symbol;
+use go_typed::package::{Typed, TypedFunction, TypedVariable};
+use go_typed::statement::TypedStmt;
 use std::alloc::{AllocError, Global};
 
-/// The cell of a constant.
-fn constant_cell(alloc: Global, constant: &Const) -> Result<Cell, AllocError>
-    ensures { IfOk result (λ cell. cell ≡ cell_of (constant_of constant.now)) }
-{
-    match constant {
-        Const::Integer(value) => Ok(Cell::Int(*value)),
-        Const::Text(bytes) => Ok(Cell::Text(Text::new(alloc, bytes)?)),
-        Const::Bool(truth) => Ok(Cell::Bool(*truth)),
-    }
-}
-
-/// Puts an expression's code before a code.
-fn emit_expression(alloc: Global, code: &mut Code, expression: &TypedExpr) -> Result<(), AllocError>
-    ensures { OnOk result (code.new ≡ expression_code no_slots (expression_of expression.now) ++ code.old) }
-{
-    let TypedExprKind::Constant(constant) = &expression.kind;
-    code.put(Instr::Frame(FrameInstr::Push(constant_cell(alloc, constant)?)))
-}
-
-/// Puts the code of operands before a code.
-fn emit_operands(alloc: Global, code: &mut Code, operands: &[TypedExpr]) -> Result<(), AllocError>
-    ensures { OnOk result (code.new ≡ operands_code no_slots (pack_exprs (map expression_of operands.now)) ++ code.old) }
-{
-    for i in (0..operands.len()).rev() {
-        emit_expression(alloc, code, &operands[i])?;
-    }
-    Ok(())
-}
-
-/// How many operands there are.
-fn operands_count(operands: &[TypedExpr]) -> usize
-    ensures { result ≡ operands_count (pack_exprs (map expression_of operands.now)) }
-{
-    operands.len()
-}
-
-/// Puts a statement's code before a code.
-fn emit_statement(alloc: Global, code: &mut Code, statement: &TypedStmt) -> Result<(), AllocError>
-    ensures { OnOk result (code.new ≡ statement_code no_slots (statement_of statement.now) ++ code.old) }
-{
-    let TypedStmt::Print(operands) = statement;
-    code.put(Instr::Output(OutputInstr::Print(operands_count(operands))))?;
-    emit_operands(alloc, code, operands)
-}
-
-/// Puts the code of statements before a code.
-fn emit_statements(
+/// The code of a function's body, whose end returns nothing.
+fn generate_body(
     alloc: Global,
-    code: &mut Code,
-    statements: &[TypedStmt],
-) -> Result<(), AllocError>
-    ensures { OnOk result (code.new ≡ statements_code no_slots (pack_stmts (map statement_of statements.now)) ++ code.old) }
-{
-    for i in (0..statements.len()).rev() {
-        emit_statement(alloc, code, &statements[i])?;
-    }
-    Ok(())
-}
-
-/// The function of an object.
-fn generate_function(alloc: Global, function: &TypedFunction) -> Result<PackageFunction, AllocError>
-    ensures { IfOk result (λ generated. generated ≡ translated (function_of function.now)) }
+    layout: &Layout<'_>,
+    k: usize,
+    body: &[TypedStmt],
+) -> Result<Vec<Instr<Symbol>>, AllocError>
+    ensures { IfOk result (λ code. code.items ≡ body_code (places_of layout.now) k (stmts_in body.now)) }
 {
     let mut code = Code::new(alloc);
     code.put(Instr::Calls(CallInstr::Return(0)))?;
-    emit_statements(alloc, &mut code, &function.body)?;
-    let name = function.name.clone()?;
-    let function = Function::new(0, 0, code.into_vec());
-    Ok(PackageFunction::new(name, function))
+    emit_stmts(alloc, &mut code, layout, k, body, 0, 0)?;
+    Ok(code.into_vec())
 }
 
-/// The functions of an object, in their order.
+/// The code of a function, which doesn't know its name. The parameters come first, then the other
+/// local variables by their numbers, then the temporaries.
+fn translate(alloc: Global, function: &TypedFunction) -> Result<Function<Symbol>, AllocError>
+    ensures { IfOk result (λ made. made ≡ (translated_function (function_of function.now)).function) }
+{
+    let mut slots = Vec::new(alloc);
+    let parameters = push_slots(&mut slots, 0, &function.parameters)?;
+    let size = push_slots(&mut slots, parameters, &function.locals)?;
+    let layout = Layout { slots: &slots };
+    let code = generate_body(alloc, &layout, size, &function.body)?;
+    let cells = sum(size, stmts_temps(alloc, &function.body)?)?;
+    Ok(Function::new(parameters, cells, code))
+}
+
+/// A function of a package's object.
+fn generate_function(alloc: Global, function: &TypedFunction) -> Result<PackageFunction, AllocError>
+    ensures { IfOk result (λ made. made ≡ translated_function (function_of function.now)) }
+{
+    let translated = translate(alloc, function)?;
+    let name = function.name.clone()?;
+    Ok(PackageFunction::new(name, translated))
+}
+
+/// The functions of a package's object, in their order.
 fn generate_functions(
     alloc: Global,
     functions: &[TypedFunction],
 ) -> Result<Vec<PackageFunction>, AllocError>
-    ensures { IfOk result (λ generated. generated.items ≡ map translated (map function_of functions.now)) }
+    ensures { IfOk result (λ made. made.items ≡ map translated_function (map function_of functions.now)) }
 {
-    let mut generated = Vec::with_capacity(alloc, functions.len())?;
+    let mut made = Vec::with_capacity(alloc, functions.len())?;
     for function in functions {
-        generated.push(generate_function(alloc, function)?)?;
+        made.push(generate_function(alloc, function)?)?;
     }
-    Ok(generated)
+    Ok(made)
 }
 
-/// The cell of a type's zero value.
-fn zero_cell(alloc: Global, of: GoType) -> Result<Cell, AllocError>
-    ensures { IfOk result (λ cell. cell ≡ zero_cell (type_of of)) }
-{
-    match of {
-        GoType::Int => Ok(Cell::Int(0)),
-        GoType::String => Ok(Cell::Text(Text::new(alloc, &[])?)),
-        GoType::Bool => Ok(Cell::Bool(false)),
-    }
-}
-
-/// The variable of an object.
+/// A variable of an object, with its zero value's cells.
 fn generate_variable(alloc: Global, variable: &TypedVariable) -> Result<PackageVariable, AllocError>
-    ensures { IfOk result (λ generated. generated ≡ translated_variable (variable_of variable.now)) }
+    ensures { IfOk result (λ made. made ≡ translated_variable (variable_of variable.now)) }
 {
     let mut zero = Vec::new(alloc);
-    zero.push(zero_cell(alloc, variable.of)?)?;
+    push_zero(alloc, &mut zero, &variable.of)?;
     let name = variable.name.clone()?;
     Ok(PackageVariable::new(name, zero))
 }
@@ -127,24 +87,24 @@ fn generate_variables(
     alloc: Global,
     variables: &[TypedVariable],
 ) -> Result<Vec<PackageVariable>, AllocError>
-    ensures { IfOk result (λ generated. generated.items ≡ map translated_variable (map variable_of variables.now)) }
+    ensures { IfOk result (λ made. made.items ≡ map translated_variable (map variable_of variables.now)) }
 {
-    let mut generated = Vec::with_capacity(alloc, variables.len())?;
+    let mut made = Vec::with_capacity(alloc, variables.len())?;
     for variable in variables {
-        generated.push(generate_variable(alloc, variable)?)?;
+        made.push(generate_variable(alloc, variable)?)?;
     }
-    Ok(generated)
+    Ok(made)
 }
 
-/// The object of a checked package: its code does what the package means. An `Err` only where
-/// memory ran out.
+/// The object of a checked package. Initial values of its variables aren't in it. An `Err` only
+/// where memory ran out, or where there is none with so many cells or instructions.
 pub fn generate(alloc: Global, typed: &Typed) -> Result<Object, AllocError>
     ensures { IfOk result (λ object. object ≡ object_of (typed_of typed.now)) }
 {
     let path = typed.path.clone()?;
-    let name = typed.package.clone()?;
-    let functions = generate_functions(alloc, &typed.functions)?;
+    let name = typed.name.clone()?;
     let variables = generate_variables(alloc, &typed.variables)?;
+    let functions = generate_functions(alloc, &typed.functions)?;
     let setups = Vec::new(alloc);
     Ok(Object::new(path, name, variables, functions, setups))
 }

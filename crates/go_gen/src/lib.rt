@@ -1,6 +1,16 @@
 //! From checked packages to objects, whose code does what the packages mean.
 #![tactic(auto)]
 
+mod assignment;
 mod code;
+mod expression;
 pub mod generate;
-pub mod law;
+mod instr;
+mod layout;
+mod operator;
+mod size;
+mod source;
+mod statement;
+mod statement_temps;
+mod temps;
+mod zero;

@@ -20,9 +20,9 @@ use Rattle.go_expr.specs.declared.known.Declared as declared
 use Rattle.go_expr.specs.Known as known
 use Rattle.go_expr.specs.Known.{Names}
 use Rattle.go_expr.specs.Seen.{declared_of, names_of}
-use Rattle.go_summary.specs.Exports.{Export, Exports}
-use Rattle.go_summary.specs.Views.{all_of}
-use Rattle.go_summary.specs.declared.export.Export as rust
+use Rattle.go_export.specs.Exports.{Export, Exports}
+use Rattle.go_export.specs.Views.{all_of}
+use Rattle.go_export.specs.declared.export.Export as rust
 use Rattle.go_import.specs.Names.{declared_as, names_by}
 
 abbrev pub name_cmp : List ℕ → List ℕ → Ordering

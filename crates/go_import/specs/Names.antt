@@ -3,9 +3,9 @@ use Rattle.std.specs.Prelude.{ℕ, List, map, Some}
 use Rattle.go_typed.specs.Trees as typed
 use Rattle.go_typed.specs.Trees.{Symbol, Package}
 use Rattle.go_expr.specs.Known.{Declared, value, type', function, Names}
-use Rattle.go_summary.specs.Exports as exports
-use Rattle.go_summary.specs.Exports.{Export, Exports, exports_of}
-use Rattle.go_summary.specs.Summaries.{Summary}
+use Rattle.go_export.specs.Exports as exports
+use Rattle.go_export.specs.Exports.{Export, Exports, exports_of}
+use Rattle.go_export.specs.Summaries.{Summary}
 use Rattle.go_package.specs.Imports.{Importable}
 
 abbrev pub symbol_of : List ℕ → List ℕ → Symbol

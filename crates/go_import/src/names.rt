@@ -2,13 +2,13 @@
 //! [Qualified identifiers](https://go.dev/ref/spec#Qualified_identifiers)
 ghost use Rattle.std.specs.Prelude.{◌≡◌, IfOk};
 ghost use Rattle.go_expr.specs.Seen.{declared_of, names_of};
-ghost use Rattle.go_summary.specs.Views.{export_of};
+ghost use Rattle.go_export.specs.Views.{export_of};
 ghost use Rattle.go_import.specs.Names.{symbol_of, declared_as, summary_names};
 
+use go_export::export::{Export, copy_types};
+use go_export::summary::Summary;
 use go_expr::known::{Declared, Function, Names};
-use go_summary::export::{Export, copy_types};
-use go_summary::summary::Summary;
-use go_typed::symbol::Symbol;
+use go_symbol::Symbol;
 use indexmap::IndexMap;
 use std::alloc::{AllocError, Global};
 use std::sync::Arc;

@@ -2,7 +2,7 @@ use Rattle.std.proofs.Common.{rules, ◌≡◌, ◌∷◌, ◌++◌, map, string
 use Rattle.std.specs.List.Sorted.{IsStrictlySortedBy}
 use Rattle.std.specs.Map.{keys_of}
 use Rattle.go_expr.specs.Seen.{declared_of}
-use Rattle.go_summary.specs.Views.{all_of, export_of}
+use Rattle.go_export.specs.Views.{all_of, export_of}
 use Rattle.go_import.specs.Names.{declared_as, names_by, summary_names}
 use Rattle.go_import.proofs.Found.{name_cmp, entry_of, ordered, keys_named, one_more}
 use Rattle.go_import.proofs.names.exported_names.Goals as goal

@@ -4,7 +4,7 @@ use Rattle.std.specs.List.Sorted.{IsStrictlySortedBy}
 use Rattle.std.specs.Map.{keys_of}
 use Rattle.std.specs.Ordering.{nat_cmp}
 use Rattle.go_expr.specs.Seen.{names_of}
-use Rattle.go_summary.specs.Views.{all_of}
+use Rattle.go_export.specs.Views.{all_of}
 use Rattle.go_import.specs.Names.{names_by, summary_names}
 use Rattle.go_import.proofs.names.exported_names.Given as goal
 

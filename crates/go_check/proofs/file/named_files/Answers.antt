@@ -1,9 +1,0 @@
-use Rattle.std.proofs.Common.{◌<◌, length, map, arith}
-use Rattle.std.specs.Arc.{arc_value}
-use Rattle.go_check.proofs.Trees.{trees_next}
-use Rattle.go_check.proofs.file.named_files.Goals as goal
-
-pub loop-file-preserved : goal.loop-file-preserved
-loop-file-preserved c =
-    let within : c.loop-file.file-index < length c.args.files.now = omega arith in
-    trees_next c.args.files.now (map arc_value c.args.summaries.now) c.loop-file.file-index c.file-item.result c.loop-file.named.items c.push.new.self.items _ within c.file-item.is c.in_ok-push.ensures.items c.loop-file.invariant c.in_ok-next.ensures

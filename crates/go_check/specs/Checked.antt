@@ -1,0 +1,36 @@
+-- What the files of a package come to, which may import the library fmt and other packages: a typed package, or its first fault.
+use Rattle.std.specs.Prelude.{◌≡◌, ℕ, codes, List, [], ◌∷◌, map, Some}
+use Rattle.std.specs.List.{slice_get}
+use Rattle.go_text.specs.Faults.{Fault}
+use Rattle.go_ast.specs.Trees.{File}
+use Rattle.go_ast.specs.Parse.{Parsed, Derived, IsParse}
+use Rattle.go_typed.specs.Trees.{Package}
+use Rattle.go_expr.specs.Known.{library}
+use Rattle.go_package.specs.Imports.{Importable}
+use Rattle.go_package.specs.Packages.{package_in, IsFaultOf}
+use Rattle.go_package.specs.Typed.{IsTypedIn}
+
+-- the trees of some files, one after another: what their texts parse to
+abbrev pub AreTrees : List Parsed → List File → Type 0
+AreTrees [] [] = Unit {0}
+AreTrees [] (tree ∷ trees) = ⊥
+AreTrees (file ∷ files) [] = ⊥
+AreTrees (file ∷ files) (tree ∷ trees) = IsParse file.text (Derived tree) × AreTrees files trees
+
+-- the library, which each package may import
+abbrev pub fmt : Importable
+fmt = record { path = codes "fmt"; name = codes "fmt"; exports = library }
+
+-- the files at a path, which may import these packages too, are typed to this one
+pub record AreTyped (path : List ℕ) (files : List Parsed) (imports : List Importable) (typed : Package) : Type 0 where
+  pub trees : List File
+  pub parse : AreTrees files trees
+  pub is : IsTypedIn (package_in path trees (fmt ∷ imports)) trees (fmt ∷ imports) (map (λ f. f.name) files) typed
+
+-- or this is the first fault of their package, in the file of that number
+pub record HaveFault (path : List ℕ) (files : List Parsed) (imports : List Importable) (fault : Fault) : Type 0 where
+  pub trees : List File
+  pub parse : AreTrees files trees
+  pub number : ℕ
+  pub name : slice_get (map (λ f. f.name) files) number ≡ Some fault.file
+  pub is : IsFaultOf path trees (fmt ∷ imports) (Some (number, (fault.place, fault.kind)))

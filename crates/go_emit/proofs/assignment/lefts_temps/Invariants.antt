@@ -1,7 +1,0 @@
-use Rattle.std.proofs.Common.{◌≡◌, ◌+◌, drop, map}
-use Rattle.go_typed.specs.Views.{left_of}
-use Rattle.go_emit.specs.Translation.{lefts_temps}
-use Rattle.go_emit.proofs.assignment.lefts_temps.Given as goal
-
-abbrev pub invariant-loop-left : goal.invariant-loop-left
-invariant-loop-left l = l.count + lefts_temps (map left_of (drop l.left-index l.lefts)) ≡ lefts_temps (map left_of l.lefts)

@@ -1,7 +1,0 @@
-use Rattle.std.proofs.Common.{◌≡◌, take, map}
-use Rattle.go_typed.specs.Views.{function_of}
-use Rattle.go_emit.specs.Translation.{translated_function}
-use Rattle.go_emit.proofs.generate.generate_functions.Given as goal
-
-abbrev pub invariant-loop-function : goal.invariant-loop-function
-invariant-loop-function l = l.made.items ≡ map translated_function (map function_of (take l.function-index l.functions))

@@ -1,0 +1,76 @@
+use Rattle.std.proofs.Common.{arith}
+use Rattle.std.proofs.lemmas.Result.{on_ok_weaker}
+use Rattle.go_gen.specs.Views.{places_of}
+use Rattle.go_types.specs.Views.{type_of}
+use Rattle.go_gen.proofs.Emitted.{row_back, field_emitted, index_emitted, binary_emitted, both_emitted, either_emitted, literal_emitted, call_emitted, exprs_step, exprs_left, parts_step, parts_left}
+use Rattle.go_gen.proofs.expression.+expressions.Goals as goal
+
+pub emit_expr-returns-in_ok-put_field-in-Field : goal.emit_expr-returns-in_ok-put_field-in-Field
+emit_expr-returns-in_ok-put_field-in-Field t c =
+    on_ok_weaker c.emit_expr.result
+    (field_emitted (places_of c.args.layout.now) c.args.k c.args.e.now c.in-Field.operand c.in-Field.number _ _ _ _ _ c.in-Field.is c.deref.ensures c.deref-in-Field.ensures c.in_ok-put_field-in-Field.ensures)
+    c.emit_expr.ensures
+
+pub emit_expr-returns-in_ok-emit_expr-in-Index : goal.emit_expr-returns-in_ok-emit_expr-in-Index
+emit_expr-returns-in_ok-emit_expr-in-Index t c =
+    on_ok_weaker c.emit_expr-in-Index-2.result
+    (index_emitted (places_of c.args.layout.now) c.args.k c.args.e.now c.in-Index.operand c.in-Index.index _ _ _ _ _ _ _ _ _ _ _ c.in-Index.is
+    c.deref-in-Index.ensures c.deref-in-Index-2.ensures c.deref-in-Index-4.ensures c.deref-in-Index-3.ensures
+    c.in_ok-expr_temps-in-Index.ensures c.in_ok-behind-in-Index.ensures c.underlying.ensures c.in_ok-put_index-in-Index.ensures c.in_ok-emit_expr-in-Index.ensures)
+    c.emit_expr-in-Index-2.ensures
+
+pub emit_expr-returns-in_ok-emit_expr-in-Binary : goal.emit_expr-returns-in_ok-emit_expr-in-Binary
+emit_expr-returns-in_ok-emit_expr-in-Binary t c =
+    on_ok_weaker c.emit_expr-in-Binary-2.result
+    (binary_emitted (places_of c.args.layout.now) c.args.k c.args.e.now c.in-Binary.operator c.in-Binary.a c.in-Binary.b _ _ _ _ _ _ _ _ _ _ c.in-Binary.is
+    c.deref-in-Binary.ensures c.deref-in-Binary-2.ensures c.deref-in-Binary-4.ensures c.deref-in-Binary-3.ensures
+    c.in_ok-expr_temps-in-Binary.ensures c.in_ok-behind-in-Binary.ensures c.in_ok-put_binary-in-Binary.ensures c.in_ok-emit_expr-in-Binary.ensures)
+    c.emit_expr-in-Binary-2.ensures
+
+pub emit_expr-returns-in_ok-put-in-Both : goal.emit_expr-returns-in_ok-put-in-Both
+emit_expr-returns-in_ok-put-in-Both t c =
+    on_ok_weaker c.emit_expr-in-Both-2.result
+    (both_emitted (places_of c.args.layout.now) c.args.k c.args.e.now c.in-Both.a c.in-Both.b _ _ _ _ _ _ _ _ _ _ _ _ c.in-Both.is
+    c.deref-in-Both.ensures c.deref-in-Both-3.ensures c.deref-in-Both-2.ensures
+    c.in_ok-expr_temps-in-Both.ensures c.in_ok-behind-in-Both.ensures c.in_ok-put_answer-in-Both.ensures c.len-end.ensures c.in_ok-emit_expr-in-Both.ensures c.len.ensures c.in_ok-put-in-Both.ensures)
+    c.emit_expr-in-Both-2.ensures
+
+pub emit_expr-returns-in_ok-put-in-Either : goal.emit_expr-returns-in_ok-put-in-Either
+emit_expr-returns-in_ok-put-in-Either t c =
+    on_ok_weaker c.emit_expr-in-Either-2.result
+    (either_emitted (places_of c.args.layout.now) c.args.k c.args.e.now c.in-Either.a c.in-Either.b _ _ _ _ _ _ _ _ _ _ _ _ c.in-Either.is
+    c.deref-in-Either.ensures c.deref-in-Either-3.ensures c.deref-in-Either-2.ensures
+    c.in_ok-expr_temps-in-Either.ensures c.in_ok-behind-in-Either.ensures c.in_ok-put_answer-in-Either.ensures c.len-end-in-Either.ensures c.in_ok-emit_expr-in-Either.ensures c.len-in-Either.ensures c.in_ok-put-in-Either.ensures)
+    c.emit_expr-in-Either-2.ensures
+
+pub emit_expr-returns-in_ok-put-in-Literal-2 : goal.emit_expr-returns-in_ok-put-in-Literal-2
+emit_expr-returns-in_ok-put-in-Literal-2 t c =
+    on_ok_weaker c.emit_zero.result
+    (literal_emitted (places_of c.args.layout.now) c.args.k c.args.e.now c.in-Literal.parts _ _ _ _ _ _ _ _ _ _ _ c.in-Literal.is c.deref-in-Literal.ensures.value
+    c.in_ok-count-in-Literal.ensures c.in_ok-sum-in-Literal.ensures c.underlying-in-Literal.ensures c.load-in-Literal.ensures c.in_ok-put-in-Literal.ensures c.in_ok-emit_parts-in-Literal.ensures c.store.ensures c.in_ok-put-in-Literal-2.ensures)
+    c.emit_zero.ensures
+
+pub emit_expr-returns-in_ok-put-in-Call : goal.emit_expr-returns-in_ok-put-in-Call
+emit_expr-returns-in_ok-put-in-Call t c =
+    on_ok_weaker c.emit_exprs.result
+    (call_emitted (places_of c.args.layout.now) c.args.k c.args.e.now c.in-Call.function c.in-Call.arguments _ _ _ _ _ c.in-Call.is c.deref-in-Call.ensures.value c.in_ok-call-in-Call.ensures c.in_ok-put-in-Call.ensures)
+    c.emit_exprs.ensures
+
+pub emit_exprs-loop-i-preserved : goal.emit_exprs-loop-i-preserved
+emit_exprs-loop-i-preserved t c =
+    let p = places_of c.args.layout.now in
+    let row = row_back c.args.es.now c.loop-i.i _ c.index-es-i.is (omega arith) (omega arith) in
+    record {
+      code = exprs_step p c.args.k c.args.es.now c.loop-i.i _ c.loop-i.behind _ _ _ _ _ row c.in_ok-expr_temps.ensures c.in_ok-behind-2.ensures c.loop-i.invariant.code c.in_ok-emit_expr.ensures;
+      behind = exprs_left p c.args.k c.args.es.now c.loop-i.i _ c.loop-i.behind _ _ _ row c.in_ok-expr_temps.ensures c.in_ok-behind-2.ensures c.loop-i.invariant.behind;
+    }
+
+pub emit_parts-loop-i-preserved : goal.emit_parts-loop-i-preserved
+emit_parts-loop-i-preserved t c =
+    let p = places_of c.args.layout.now in
+    let row = row_back c.args.parts.now c.loop-i.i _ c.index-parts-i.is (omega arith) (omega arith) in
+    record {
+      code = parts_step p c.args.k (type_of c.args.of.now) c.args.at c.args.parts.now c.loop-i.i _ c.loop-i.behind _ _ _ _ _ _ _ _ _ _ row
+          c.in_ok-expr_temps.ensures c.in_ok-behind-2.ensures c.in_ok-offset.ensures c.in_ok-first.ensures c.in_ok-cells.ensures c.store.ensures c.loop-i.invariant.code c.in_ok-put.ensures c.in_ok-emit_expr.ensures;
+      behind = parts_left p c.args.k c.args.parts.now c.loop-i.i _ c.loop-i.behind _ _ _ row c.in_ok-expr_temps.ensures c.in_ok-behind-2.ensures c.loop-i.invariant.behind;
+    }

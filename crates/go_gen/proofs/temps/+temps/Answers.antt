@@ -1,0 +1,22 @@
+use Rattle.std.proofs.Common.{◌≡◌, ◌+◌, IfOk, ap, sym, ◌∙◌, subst, ℕ}
+use Rattle.go_types.specs.Views.{type_of}
+use Rattle.go_types.specs.Sizes.{cells}
+use Rattle.go_typed.specs.Views.{expr_of, exprs_in, parts_in}
+use Rattle.go_gen.specs.Translation.{expr_temps, exprs_temps, parts_temps}
+use Rattle.go_gen.proofs.ByKind.{literal_kind, call_kind}
+use Rattle.go_gen.proofs.temps.+temps.Goals as goal
+
+pub expr_temps-returns-in_ok-parts_temps-in-Literal : goal.expr_temps-returns-in_ok-parts_temps-in-Literal
+expr_temps-returns-in_ok-parts_temps-in-Literal t c =
+    let e = c.args.e.now in
+    let is : c.in_ok-cells-in-Literal.field-0 + c.in_ok-parts_temps-in-Literal.field-0 ≡ expr_temps (expr_of e) =
+    ap (λ n. n + c.in_ok-parts_temps-in-Literal.field-0) c.in_ok-cells-in-Literal.ensures
+    ∙ ap (λ n. cells (type_of e.of) + n) (c.in_ok-parts_temps-in-Literal.ensures ∙ ap (λ l. parts_temps (parts_in l)) c.deref-in-Literal.ensures.value)
+    ∙ ap expr_temps (sym (literal_kind e c.in-Literal.parts c.in-Literal.is)) in
+    subst (λ (x : ℕ). IfOk c.sum-in-Literal.result (λ n. n ≡ x)) is c.sum-in-Literal.ensures
+
+pub expr_temps-returns-in-Call : goal.expr_temps-returns-in-Call
+expr_temps-returns-in-Call t c =
+    let is : exprs_temps (exprs_in c.deref-in-Call.result.now) ≡ expr_temps (expr_of c.args.e.now) =
+    ap (λ l. exprs_temps (exprs_in l)) c.deref-in-Call.ensures.value ∙ ap expr_temps (sym (call_kind c.args.e.now c.in-Call.field-0 c.in-Call.arguments c.in-Call.is)) in
+    subst (λ (x : ℕ). IfOk c.exprs_temps.result (λ n. n ≡ x)) is c.exprs_temps.ensures

@@ -1,0 +1,55 @@
+//! How many cells temporaries take.
+ghost use Rattle.std.specs.Prelude.{◌≡◌, IfOk};
+ghost use Rattle.go_typed.specs.Views.{expr_of, exprs_in, parts_in};
+ghost use Rattle.go_gen.specs.Translation.{expr_temps, exprs_temps, parts_temps};
+
+use crate::size::{cells, sum};
+use go_typed::expression::{TypedExpr, TypedExprKind, TypedPart};
+use std::alloc::AllocError;
+
+/// Those of an expression.
+#[cycle(temps)]
+#[tactic(auto, unfolding(go_typed::specs::Views::expr_of))]
+pub(crate) fn expr_temps(e: &TypedExpr) -> Result<usize, AllocError>
+    ensures { IfOk result (λ n. n ≡ expr_temps (expr_of e.now)) }
+{
+    match &e.kind {
+        TypedExprKind::Constant(_) => Ok(0),
+        TypedExprKind::Local(_) => Ok(0),
+        TypedExprKind::Global(_) => Ok(0),
+        TypedExprKind::Field(operand, _) => expr_temps(operand),
+        TypedExprKind::Index(operand, index) => sum(expr_temps(operand)?, expr_temps(index)?),
+        TypedExprKind::Length(operand) => expr_temps(operand),
+        TypedExprKind::Unary(_, operand) => expr_temps(operand),
+        TypedExprKind::Binary(_, a, b) => sum(expr_temps(a)?, expr_temps(b)?),
+        TypedExprKind::Both(a, b) => sum(expr_temps(a)?, expr_temps(b)?),
+        TypedExprKind::Either(a, b) => sum(expr_temps(a)?, expr_temps(b)?),
+        TypedExprKind::Conversion(operand) => expr_temps(operand),
+        TypedExprKind::Literal(parts) => sum(cells(&e.of)?, parts_temps(parts)?),
+        TypedExprKind::Call(_, arguments) => exprs_temps(arguments),
+    }
+}
+
+/// Those of some expressions.
+#[cycle(temps)]
+pub(crate) fn exprs_temps(es: &[TypedExpr]) -> Result<usize, AllocError>
+    ensures { IfOk result (λ n. n ≡ exprs_temps (exprs_in es.now)) }
+{
+    let mut count = 0;
+    for e in es {
+        count = sum(count, expr_temps(e)?)?;
+    }
+    Ok(count)
+}
+
+/// Those of parts of a literal.
+#[cycle(temps)]
+pub(crate) fn parts_temps(parts: &[TypedPart]) -> Result<usize, AllocError>
+    ensures { IfOk result (λ n. n ≡ parts_temps (parts_in parts.now)) }
+{
+    let mut count = 0;
+    for part in parts {
+        count = sum(count, expr_temps(&part.value)?)?;
+    }
+    Ok(count)
+}

@@ -1,5 +1,0 @@
-//! Tests of the translation of typed packages.
-#![tactic(auto)]
-
-#[cfg(test)]
-mod tests;

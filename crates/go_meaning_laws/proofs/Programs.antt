@@ -1,0 +1,177 @@
+-- Well typed programs are never stuck: calls by how many more may be open, and the steps of a start.
+use Rattle.std.proofs.Common.{◌≡◌, ◌≢◌, ℕ, zero, suc, ◌≤◌, Bool, true, false, ◌||◌, List, [], ◌∷◌, ◌++◌, length, map, Option, Some, None, refl, sym, ap, subst, arith, nat_eq, slice_get, if◌then◌else◌}
+use Rattle.std.specs.Prelude.{⊤}
+use Rattle.std.specs.List.{All, find, flat_map}
+use Rattle.std.specs.Option.{option_map}
+use Rattle.std.proofs.lemmas.Bool.{ne_eqb}
+use Rattle.std.proofs.lemmas.List.Elements.{All-head, All-tail, All-nil, All-append, All-map}
+use Rattle.go_types.specs.Types.{Type'}
+use Rattle.go_code.specs.declared.ending.Ending.{Ending}
+use Rattle.go_code.specs.declared.ending.Ending.TheVariants.{Ended, Panicked}
+use Rattle.go_code.specs.declared.ending.PanicKind.TheVariants.{Depth}
+use Rattle.go_typed.specs.Trees.{Symbol, Function, Package}
+use Rattle.go_typed.specs.Terminating.{list_terminates, breaks_any}
+use Rattle.go_meaning.specs.Values.{Value, zero_of}
+use Rattle.go_symbol.specs.Symbols.{same_symbol}
+use Rattle.go_meaning.specs.Meaning.{Stored, World, Outcome, Gives, Ends, Stuck, Local, Flow, Normal, Breaks, Continues, Returns, and_then, with_tick, exec_all}
+use Rattle.go_meaning.specs.Programs.{results_of, enter, with_arguments, first_locals, Declared, package_functions, function_at, call_at, Step, calls, start_steps, step, step_all, first_variables, first_world, most_open, run, IsOver, IsProgram, SourceMeaning}
+use Rattle.go_meaning_laws.specs.WellTyped.{has, first, signature_at, variable_at, setting, are_none, IsWhole, after_all, IsFunction, IsStart, IsWellTyped}
+use Rattle.go_meaning_laws.proofs.Values.{Of, AllOf, all_are, zero_is}
+use Rattle.go_meaning_laws.proofs.Worlds.{Sound, sound_then, Stores, Held, Fits}
+use Rattle.go_meaning_laws.proofs.Exprs.{AllValued, Answers}
+use Rattle.go_meaning_laws.proofs.Flows.{Leaves, ticked}
+use Rattle.go_meaning_laws.proofs.Statements.{stmts_leave}
+
+-- ---- what is found in a list
+
+found_all : {X : Type 0} (P : X → Type 0) (test : X → Bool) (xs : List X) (x : X) → All P xs → find test xs ≡ Some x → P x
+found_all P test [] x all e = absurd (cc)
+found_all P test (y ∷ xs) x all e = by_test (test y) refl (λ f. found_all P test xs x (All-tail P y xs all) f)
+  where
+    by_test : (b : Bool) → test y ≡ b → (find test xs ≡ Some x → P x) → P x
+    by_test true k rest =
+        let found : Some y ≡ Some x = rw k at e in
+        let same : y ≡ x = cc in
+        subst P same (All-head P y xs all)
+    by_test false k rest = rest (rw k at e)
+
+mapped : {A B : Type 0} (f : A → B) (o : Option A) (b : B) → option_map f o ≡ Some b → (a : A) × (o ≡ Some a) × (f a ≡ b)
+mapped f None b e = absurd (cc)
+mapped f (Some a) b e = (a, refl, cc)
+
+-- ---- the local variables of a function that is entered
+
+-- the first numbers are below
+past_first : (k n : ℕ) → k ≤ n → has (first k) n ≡ false
+past_first zero n l = refl
+past_first (suc k) n l =
+    let apart : nat_eq n k ≡ false = ne_eqb n k (λ e. absurd (omega (arith, e, l))) in
+    rw apart (past_first k n (omega (arith, l)))
+
+-- an argument, or none behind the parameters
+abbrev Row : List Type' → Type' → ℕ → Option Value → Type 0
+Row ps t n None = length ps ≤ n
+Row ps t n (Some v) = Of t v
+
+abbrev no_value : Type' → Local
+no_value t = record { of = t; value = None }
+
+abbrev Rows : List Type' → List Type' → List Value → Type 0
+Rows ps ts vs = (n : ℕ) (t : Type') → slice_get (ps ++ ts) n ≡ Some t → (o : Option Value) × (slice_get (with_arguments ps vs ++ map no_value ts) n ≡ Some (record { of = t; value = o })) × Row ps t n o
+
+no_values : (ts : List Type') (n : ℕ) (t : Type') → slice_get ts n ≡ Some t → slice_get (map no_value ts) n ≡ Some (no_value t)
+no_values [] n t e = cc
+no_values (u ∷ ts) zero t e = (let same : u ≡ t = cc in ap (λ s. Some (no_value s)) same)
+no_values (u ∷ ts) (suc n) t e = no_values ts n t e
+
+further : (p : Type') (ps : List Type') (t : Type') (n : ℕ) (o : Option Value) → Row ps t n o → Row (p ∷ ps) t (suc n) o
+further p ps t n None h = omega (arith, h)
+further p ps t n (Some v) h = h
+
+rows : (ps ts : List Type') (vs : List Value) → AllOf ps vs → Rows ps ts vs
+rows [] ts [] h n t e = (None, no_values ts n t e, omega arith)
+rows [] ts (v ∷ vs) h n t e = absurd h
+rows (p ∷ ps) ts [] h n t e = absurd h
+rows (p ∷ ps) ts (v ∷ vs) h zero t e =
+    let same : p ≡ t = cc in
+    (Some v, ap (λ s. Some (record { of = s; value = Some v })) same, subst (λ s. Of s v) same h.0)
+rows (p ∷ ps) ts (v ∷ vs) h (suc n) t e = (let r = rows ps ts vs h.1 n t e in (r.0, r.1, further p ps t n r.0 r.2))
+
+held : (ps : List Type') (t : Type') (n : ℕ) (o : Option Value) → Row ps t n o → Held t (first (length ps)) n o
+held ps t n None h = past_first (length ps) n h
+held ps t n (Some v) h = h
+
+locals_fit : (f : Function) (vs : List Value) → AllOf f.parameters vs → Fits (f.parameters ++ f.locals) (first (length f.parameters)) (first_locals f vs)
+locals_fit f vs h = record { each = λ n t e. (let r = rows f.parameters f.locals vs h n t e in (r.0, r.1, held f.parameters t n r.0 r.2)) }
+
+-- ---- calls
+
+module _ (packages : List Package) (typed : IsWellTyped packages) where
+  abbrev Answer : List Type' → List Value → World → Type 0
+  Answer = AllValued (variable_at packages)
+
+  -- a function that is found is well typed
+  found_function : (s : Symbol) (f : Function) → function_at packages s ≡ Some f → IsFunction packages f
+  found_function s f e =
+      let m = mapped (λ d. d.function) (find (λ d. same_symbol s d.symbol) (flat_map package_functions packages)) f e in
+      subst (IsFunction packages) m.2 (found_all (λ (d : Declared). IsFunction packages d.function) (λ d. same_symbol s d.symbol) (flat_map package_functions packages) m.0 typed.functions m.1)
+
+  no_results : (ts : List Type') (ends : Bool) → (are_none ts || ends) ≡ true → ends ≡ false → AllOf ts []
+  no_results [] ends e n = tt
+  no_results (t ∷ ts) true e n = absurd (cc)
+  no_results (t ∷ ts) false e n = absurd (cc)
+
+  left_body : (f : Function) → IsFunction packages f → (d : List ℕ) (breaks : Bool) (flow : Flow) (w : World) → Leaves (setting packages f) (first (length f.parameters)) d (list_terminates f.body) breaks flow w → Sound (Answer f.results) (results_of flow w)
+  left_body f is d breaks (Normal ls) w l = (no_results f.results (list_terminates f.body) is.ended l.1, (l.0).1)
+  left_body f is d breaks (Breaks ls) w l = (let k = l.1 in absurd (cc))
+  left_body f is d breaks (Continues ls) w l = (let k = l.1 in absurd (cc))
+  left_body f is d breaks (Returns vs) w l = l
+
+  -- what is called is found, takes such arguments and gives such results
+  entered : (s : Symbol) (ps rs : List Type') (vs : List Value) (w : World) (next : Function → World → Outcome (List Value)) → signature_at packages s ≡ Some (record { parameters = ps; results = rs }) → AllOf ps vs → ((f : Function) → IsFunction packages f → AllOf f.parameters vs → (n : ℕ) → Sound (Answer f.results) (next f (record w { ticks = n }))) → Sound (Answer rs) (enter (function_at packages s) vs w next)
+  entered s ps rs vs w next e h goes =
+      let m = mapped (λ f. record { parameters = f.parameters; results = f.results }) (function_at packages s) (record { parameters = ps; results = rs }) e in
+      let f : Function = m.0 in
+      let takes : f.parameters ≡ ps = ap (λ q. q.parameters) m.2 in
+      let gives : f.results ≡ rs = ap (λ q. q.results) m.2 in
+      let arguments : AllOf f.parameters vs = subst (λ q. AllOf q vs) (sym takes) h in
+      let body : Sound (Answer f.results) (with_tick w (next f)) = ticked (Answer f.results) w (next f) (goes f (found_function s f m.1) arguments) in
+      subst (λ o. Sound (Answer rs) (enter o vs w next)) (sym m.1)
+      (subst (λ b. Sound (Answer rs) (if b then with_tick w (next f) else Stuck)) (sym (all_are f.parameters vs arguments)) (subst (λ q. Sound (Answer q) (with_tick w (next f))) gives body))
+
+  pub calls_answer : (left : ℕ) → Answers (signature_at packages) (variable_at packages) (call_at packages left)
+  calls_answer zero = record { each = λ s ps rs vs w e h good. entered s ps rs vs w (λ f w1. Ends (Panicked Depth) w1.output) e h (λ f is k n. tt) }
+  calls_answer (suc left) = record {
+    each = λ s ps rs vs w e h good.
+        entered s ps rs vs w (λ f w1. and_then (exec_all (call_at packages left) f.body (first_locals f vs) w1) results_of) e h
+        (λ f is k n.
+        sound_then (Leaves (setting packages f) (first (length f.parameters)) (after_all (first (length f.parameters)) f.body) (list_terminates f.body) (breaks_any f.body)) (Answer f.results)
+        (exec_all (call_at packages left) f.body (first_locals f vs) (record w { ticks = n })) results_of
+        (stmts_leave (call_at packages left) (setting packages f) (first (length f.parameters)) (calls_answer left) f.body is.body (first_locals f vs) (record w { ticks = n }) (locals_fit f vs k, good))
+        (left_body f is (after_all (first (length f.parameters)) f.body) (breaks_any f.body)));
+  }
+
+  -- ---- the start
+
+  abbrev Starting : ⊤ → World → Type 0
+  Starting done w = Stores (variable_at packages) w.variables
+
+  steps_go : (left : ℕ) (ss : List Step) (w : World) → All (IsStart packages) ss → Stores (variable_at packages) w.variables → Sound Starting (step_all (call_at packages left) ss w)
+  steps_go left [] w all good = good
+  steps_go left (calls s ∷ ss) w all good =
+      sound_then Starting Starting (step (call_at packages left) (calls s) w) (λ done w1. step_all (call_at packages left) ss w1)
+      (sound_then (Answer []) Starting (call_at packages left s [] w) (λ results w1. Gives tt w1) ((calls_answer left).each s [] [] [] w (All-head (IsStart packages) (calls s) ss all) tt good)
+      (λ rs w1 h. h.1))
+      (λ done w1 h. steps_go left ss w1 (All-tail (IsStart packages) (calls s) ss all) h)
+
+  zeros_first : (packages : List Package) → All (λ (x : Stored). x.value ≡ zero_of x.of) (flat_map first_variables packages)
+  zeros_first [] = All-nil (λ (x : Stored). x.value ≡ zero_of x.of)
+  zeros_first (p ∷ ps) =
+      All-append (λ (x : Stored). x.value ≡ zero_of x.of) (first_variables p) (flat_map first_variables ps)
+      (All-map (λ (x : Stored). x.value ≡ zero_of x.of) (λ v. record { symbol = record { path = p.path; name = v.name }; of = v.of; value = zero_of v.of }) p.variables (λ k d l. refl)) (zeros_first ps)
+
+  first_stores : Stores (variable_at packages) (flat_map first_variables packages)
+  first_stores = record {
+    each = λ s t e.
+        (let variables = flat_map first_variables packages in
+        let m = mapped (λ v. v.of) (find (λ v. same_symbol s v.symbol) variables) t e in
+        let x : Stored = m.0 in
+        let whole : IsWhole x.of = found_all (λ (v : Stored). IsWhole v.of) (λ v. same_symbol s v.symbol) variables x typed.variables m.1 in
+        let value : x.value ≡ zero_of x.of = found_all (λ (v : Stored). v.value ≡ zero_of v.of) (λ v. same_symbol s v.symbol) variables x (zeros_first packages) m.1 in
+        (x, m.1, m.2, subst (λ u. Of u x.value) m.2 (subst (λ v. Of x.of v) (sym value) (zero_is x.of whole))));
+  }
+
+  runs : (ticks : ℕ) → Sound Starting (run packages ticks)
+  runs ticks = steps_go most_open (start_steps packages) (first_world packages ticks) typed.start first_stores
+
+  pub never_stuck : (ticks : ℕ) → run packages ticks ≢ Stuck
+  never_stuck ticks e = subst (Sound Starting) e (runs ticks)
+
+  over : (o : Outcome ⊤) → Sound Starting o → (ending : Ending) × (output : List ℕ) × IsOver o ending output
+  over (Gives done w) h = (Ended, w.output, (refl, refl))
+  over (Ends ending output) h = (ending, output, (refl, refl))
+  over Stuck h = absurd h
+
+  -- for any ticks it ends in a way, and has an output
+  pub means : (ticks : ℕ) → IsProgram packages → (ending : Ending) × (output : List ℕ) × SourceMeaning packages ticks ending output
+  means ticks program = (let r = over (run packages ticks) (runs ticks) in (r.0, r.1, (program, r.2)))

@@ -1,0 +1,209 @@
+-- Outcomes that are sound, and variables that hold values of their types.
+use Rattle.std.proofs.Common.{◌≡◌, ℕ, zero, suc, Bool, true, false, ◌||◌, List, [], ◌∷◌, ◌++◌, Option, Some, None, ◌⊎◌, inl, inr, refl, sym, ap, ◌∙◌, subst, nat_eq, slice_get, slice_set}
+use Rattle.std.specs.List.{find}
+use Rattle.std.proofs.lemmas.Bool.{eqb-true, eqb-false, cases_Bool}
+use Rattle.go_types.specs.Types.{Type'}
+use Rattle.go_code.specs.Operators as operators
+use Rattle.go_code.specs.Operators.{Operated}
+use Rattle.go_typed.specs.Trees.{Symbol}
+use Rattle.go_meaning.specs.Values.{Value, is_of, or_else}
+use Rattle.go_symbol.specs.Symbols.{same_symbol}
+use Rattle.go_meaning.specs.Meaning.{Stored, World, Outcome, Gives, Ends, Stuck, Local, Locals, and_then, given, local_value, global_value, with_local, with_global, defined}
+use Rattle.go_meaning_laws.specs.WellTyped.{has, AreNew, numbers}
+use Rattle.go_meaning_laws.proofs.Values.{Of, Proper, AllOf, suits}
+use Rattle.go_meaning_laws.proofs.Parts.{Fine}
+
+-- ---- outcomes
+
+-- it isn't stuck, and what it gives is so
+abbrev pub Sound : {A : Type 0} → (A → World → Type 0) → Outcome A → Type 0
+Sound P (Gives a w) = P a w
+Sound P (Ends ending output) = Unit {0}
+Sound P Stuck = ⊥
+
+pub sound_then : {A B : Type 0} (P : A → World → Type 0) (Q : B → World → Type 0) (o : Outcome A) (next : A → World → Outcome B) → Sound P o → ((a : A) (w : World) → P a w → Sound Q (next a w)) → Sound Q (and_then o next)
+sound_then P Q (Gives a w) next h k = k a w h
+sound_then P Q (Ends ending output) next h k = tt
+sound_then P Q Stuck next h k = absurd h
+
+pub sound_map : {A : Type 0} (P Q : A → World → Type 0) (o : Outcome A) → ((a : A) (w : World) → P a w → Q a w) → Sound P o → Sound Q o
+sound_map P Q (Gives a w) f h = f a w h
+sound_map P Q (Ends ending output) f h = tt
+sound_map P Q Stuck f h = absurd h
+
+-- ---- package variables
+
+-- each has its type and a value of it
+pub record Stores (types : Symbol → Option Type') (variables : List Stored) : Type 0 where
+  pub each : (s : Symbol) (t : Type') → types s ≡ Some t → (x : Stored) × (find (λ v. same_symbol s v.symbol) variables ≡ Some x) × (x.of ≡ t) × Of t x.value
+
+-- a value of that type, in a world that stores such
+abbrev pub Valued : (Symbol → Option Type') → Type' → Value → World → Type 0
+Valued types t v w = Of t v × Stores types w.variables
+
+pub sound_given : (types : Symbol → Option Type') (t : Type') (o : Operated Value) (w : World) → Stores types w.variables → Fine (Of t) o → Sound (Valued types t) (given t o w)
+sound_given types t (operators.Gives v) w good h = rw (h.0) (h, good)
+sound_given types t (operators.Panics kind) w good h = tt
+sound_given types t operators.Senseless w good h = absurd h
+
+pub global_is : (types : Symbol → Option Type') (variables : List Stored) (s : Symbol) (t : Type') → Stores types variables → types s ≡ Some t → Fine (Of t) (global_value variables s)
+global_is types variables s t good e = (let r = good.each s t e in rw (r.1) (r.3))
+
+-- what is found there after a value was given to another or the same
+abbrev Renewed : Value → Stored → Stored → Type 0
+Renewed v x y = (y.of ≡ x.of) × ((y.value ≡ x.value) ⊎ ((y.value ≡ v) × (is_of x.of v ≡ true)))
+
+abbrev among : Symbol → List Stored → Option Stored
+among r variables = find (λ z. same_symbol r z.symbol) variables
+
+abbrev StillThere : Symbol → Value → List Stored → Stored → Type 0
+StillThere r v later x = (y : Stored) × (among r later ≡ Some y) × Renewed v x y
+
+renewed_here : (r : Symbol) (v : Value) (z x : Stored) (zs : List Stored) → is_of z.of v ≡ true → among r (z ∷ zs) ≡ Some x → StillThere r v (record z { value = v } ∷ zs) x
+renewed_here r v z x zs e f = by_test (same_symbol r z.symbol) refl
+  where
+    by_test : (b : Bool) → same_symbol r z.symbol ≡ b → StillThere r v (record z { value = v } ∷ zs) x
+    by_test true k =
+        let found : Some z ≡ Some x = rw k at f in
+        let same : z ≡ x = cc in
+        (record z { value = v }, rw k refl, (ap (λ q. q.of) same, inr (refl, subst (λ q. is_of q.of v ≡ true) same e)))
+    by_test false k = (let found : among r zs ≡ Some x = rw k at f in (x, rw k found, (refl, inl refl)))
+
+renewed_later : (r : Symbol) (v : Value) (z x : Stored) (zs ys : List Stored) → ((x : Stored) → among r zs ≡ Some x → StillThere r v ys x) → among r (z ∷ zs) ≡ Some x → StillThere r v (z ∷ ys) x
+renewed_later r v z x zs ys rest f = by_test (same_symbol r z.symbol) refl
+  where
+    by_test : (b : Bool) → same_symbol r z.symbol ≡ b → StillThere r v (z ∷ ys) x
+    by_test true k =
+        let found : Some z ≡ Some x = rw k at f in
+        let same : z ≡ x = cc in
+        (z, rw k refl, (ap (λ q. q.of) same, inl (ap (λ q. q.value) same)))
+    by_test false k =
+        let found : among r zs ≡ Some x = rw k at f in
+        let h = rest x found in
+        (h.0, rw k h.1, h.2)
+
+-- a variable that is there gets a value of its type; those that are found stay, with their types
+abbrev Puts : Symbol → Value → List Stored → Type 0
+Puts s v variables = (later : List Stored) × (with_global variables s v ≡ Some later) × ((r : Symbol) (x : Stored) → among r variables ≡ Some x → StillThere r v later x)
+
+put : (s : Symbol) (v : Value) (variables : List Stored) (x : Stored) → among s variables ≡ Some x → is_of x.of v ≡ true → Puts s v variables
+put s v [] x f e = absurd (cc)
+put s v (z ∷ zs) x f e = by_test (same_symbol s z.symbol) refl (put s v zs x)
+  where
+    by_test : (b : Bool) → same_symbol s z.symbol ≡ b → (among s zs ≡ Some x → is_of x.of v ≡ true → Puts s v zs) → Puts s v (z ∷ zs)
+    by_test true k rest =
+        let found : Some z ≡ Some x = rw k at f in
+        let same : z ≡ x = cc in
+        let typed : is_of z.of v ≡ true = subst (λ q. is_of q.of v ≡ true) (sym same) e in
+        (record z { value = v } ∷ zs, rw (k, typed) refl, λ r y g. renewed_here r v z y zs typed g)
+    by_test false k rest =
+        let found : among s zs ≡ Some x = rw k at f in
+        let h = rest found e in
+        (z ∷ h.0, rw (k, h.1) refl, λ r y g. renewed_later r v z y zs h.0 (h.2 r) g)
+
+still_of : (t : Type') (v : Value) (x y : Stored) → x.of ≡ t → Of t x.value → Proper v → Renewed v x y → (y.of ≡ t) × Of t y.value
+still_of t v x y e h k n =
+    (n.0 ∙ e, elim n.1 [ inl same ↦ subst (λ u. Of t u) (sym same) h | inr new ↦ subst (λ u. Of t u) (sym new.0) (subst (λ s. is_of s v ≡ true) e new.1, k) ])
+
+pub global_put : (types : Symbol → Option Type') (variables : List Stored) (s : Symbol) (t : Type') (v : Value) → Stores types variables → types s ≡ Some t → Of t v → (later : List Stored) × (with_global variables s v ≡ Some later) × Stores types later
+global_put types variables s t v good e h =
+    let r = good.each s t e in
+    let p = put s v variables r.0 r.1 (subst (λ u. is_of u v ≡ true) (sym r.2) h.0) in (
+      p.0,
+      p.1,
+      record {
+        each = λ q u k.
+            (let x = good.each q u k in
+            let y = p.2 q x.0 x.1 in
+            (let z = still_of u v x.0 y.0 x.2 x.3 h.1 y.2 in (y.0, y.1, z.0, z.1)));
+      },
+    )
+
+-- ---- local variables
+
+-- what a variable of that number holds, where those of these numbers have been given a value
+abbrev pub Held : Type' → List ℕ → ℕ → Option Value → Type 0
+Held t d n None = has d n ≡ false
+Held t d n (Some v) = Of t v
+
+pub record Fits (types : List Type') (d : List ℕ) (ls : Locals) : Type 0 where
+  pub each : (n : ℕ) (t : Type') → slice_get types n ≡ Some t → (o : Option Value) × (slice_get ls n ≡ Some (record { of = t; value = o })) × Held t d n o
+
+pub local_is : (types : List Type') (d : List ℕ) (ls : Locals) (n : ℕ) (t : Type') → Fits types d ls → slice_get types n ≡ Some t → has d n ≡ true → Fine (Of t) (local_value ls n)
+local_is types d ls n t fits e h = (let r = fits.each n t e in rw (r.1) (by_value r.0 r.2))
+  where
+    by_value : (o : Option Value) → Held t d n o → Fine (Of t) (or_else operators.Senseless o)
+    by_value None k = absurd (cc)
+    by_value (Some v) k = k
+
+get_same : (ls : Locals) (n : ℕ) (x y : Local) → slice_get ls n ≡ Some y → slice_get (slice_set ls n x) n ≡ Some x
+get_same [] n x y e = cc
+get_same (l ∷ ls) zero x y e = refl
+get_same (l ∷ ls) (suc n) x y e = get_same ls n x y e
+
+get_other : (ls : Locals) (m n : ℕ) (x : Local) → (m ≡ n → ⊥) → slice_get (slice_set ls n x) m ≡ slice_get ls m
+get_other [] m n x e = refl
+get_other (l ∷ ls) zero zero x e = absurd (e refl)
+get_other (l ∷ ls) zero (suc n) x e = refl
+get_other (l ∷ ls) (suc m) zero x e = refl
+get_other (l ∷ ls) (suc m) (suc n) x e = get_other ls m n x (λ h. e (ap suc h))
+
+same_type : (t u : Type') → Some t ≡ Some u → t ≡ u
+same_type t u e = cc
+
+held_still : (t : Type') (d : List ℕ) (m n : ℕ) (o : Option Value) → nat_eq m n ≡ false → Held t d m o → Held t (n ∷ d) m o
+held_still t d m n None e h = rw (e) h
+held_still t d m n (Some v) e h = h
+
+pub local_put : (types : List Type') (d : List ℕ) (ls : Locals) (n : ℕ) (t : Type') (v : Value) → Fits types d ls → slice_get types n ≡ Some t → Of t v → (later : Locals) × (with_local ls n v ≡ Some later) × Fits types (n ∷ d) later
+local_put types d ls n t v fits e h =
+    let r = fits.each n t e in
+    let x : Local = record { of = t; value = Some v } in (
+      slice_set ls n x,
+      rw (r.1, h.0) refl,
+      record {
+        each = λ m u k. elim (cases_Bool (nat_eq m n)) [
+          | inl is ↦
+              let same : m ≡ n = eqb-true m n is in
+              let alike : t ≡ u = same_type t u (sym e ∙ ap (slice_get types) (sym same) ∙ k) in
+              (Some v, ap (slice_get (slice_set ls n x)) same ∙ get_same ls n x _ (r.1) ∙ ap (λ s. Some (record { of = s; value = Some v })) alike, subst (λ s. Of s v) alike h)
+          | inr not_so ↦
+              let s = fits.each m u k in
+              (s.0, get_other ls m n x (eqb-false m n not_so) ∙ s.1, held_still u d m n s.0 not_so s.2)
+        ];
+      },
+    )
+
+-- ---- more, or fewer, that have been given a value
+
+abbrev pub Within : List ℕ → List ℕ → Type 0
+Within d e = (n : ℕ) → has d n ≡ true → has e n ≡ true
+
+held_before : (t : Type') (d e : List ℕ) (n : ℕ) (o : Option Value) → Within d e → Held t e n o → Held t d n o
+held_before t d e n None w h = elim (cases_Bool (has d n)) [ inl is ↦ (let more = w n is in cc) | inr not_so ↦ not_so ]
+held_before t d e n (Some v) w h = h
+
+pub fits_before : (types : List Type') (d e : List ℕ) (ls : Locals) → Within d e → Fits types e ls → Fits types d ls
+fits_before types d e ls w h = record { each = λ n t k. (let r = h.each n t k in (r.0, r.1, held_before t d e n r.0 w r.2)) }
+
+pub within_more : (xs d : List ℕ) → Within d (xs ++ d)
+within_more [] d n h = h
+within_more (x ∷ xs) d n h = either_way (nat_eq n x) (has (xs ++ d) n) (within_more xs d n h)
+  where
+    either_way : (p q : Bool) → q ≡ true → (p || q) ≡ true
+    either_way true q e = refl
+    either_way false q e = e
+
+-- new variables get values
+pub defined_is : (types : List Type') (d : List ℕ) (os : List (Option ℕ)) (ts : List Type') (vs : List Value) (ls : Locals) → AreNew types os ts → AllOf ts vs → Fits types d ls → (later : Locals) × (defined os vs ls ≡ Some later) × Fits types (numbers os ++ d) later
+defined_is types d [] [] [] ls new h fits = (ls, refl, fits)
+defined_is types d [] [] (v ∷ vs) ls new h fits = absurd h
+defined_is types d [] (t ∷ ts) vs ls new h fits = absurd new
+defined_is types d (o ∷ os) [] vs ls new h fits = absurd new
+defined_is types d (o ∷ os) (t ∷ ts) [] ls new h fits = absurd h
+defined_is types d (None ∷ os) (t ∷ ts) (v ∷ vs) ls new h fits = defined_is types d os ts vs ls new h.1 fits
+defined_is types d (Some n ∷ os) (t ∷ ts) (v ∷ vs) ls new h fits =
+    let r = defined_is types d os ts vs ls new.1 h.1 fits in
+    let u = new.0 in
+    let s = local_put types (numbers os ++ d) r.0 n u.0 v r.2 u.1 (suits t u.0 v u.2 h.0) in
+    (s.0, rw (r.1) (s.1), s.2)

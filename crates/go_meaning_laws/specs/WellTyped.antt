@@ -1,0 +1,369 @@
+-- When typed trees are well typed: what they claim of types is so by the Go specification, and what is read has been given a value.
+use Rattle.std.specs.Prelude.{◌≡◌, ℕ, zero, suc, nat_eq, nat_le, nat_lt, Bool, true, false, ◌&&◌, ◌||◌, List, [], ◌∷◌, ◌++◌, length, pos, Option, Some, None, option_map, ⊤, ◌⊎◌, if◌then◌else◌}
+use Rattle.std.specs.List.{All, find, flat_map, list_all, list_any, slice_get}
+use Rattle.go_const.specs.Constants.{fits}
+use Rattle.go_const.specs.declared.kind.IntKind.TheVariants as integers
+use Rattle.go_const.specs.declared.constant.Const.{Const}
+use Rattle.go_const.specs.declared.operator.UnaryOperator.{UnaryOperator}
+use Rattle.go_const.specs.declared.operator.UnaryOperator.TheVariants.{Negation}
+use Rattle.go_const.specs.declared.operator.ArithmeticOperator.{ArithmeticOperator}
+use Rattle.go_const.specs.declared.operator.ArithmeticOperator.TheVariants.{Add}
+use Rattle.go_const.specs.declared.operator.ComparisonOperator.{ComparisonOperator}
+use Rattle.go_const.specs.declared.operator.ComparisonOperator.TheVariants.{Equal, NotEqual}
+use Rattle.go_types.specs.declared.types.Basic.{Basic}
+use Rattle.go_types.specs.declared.types.Basic.TheVariants as basics
+use Rattle.go_types.specs.declared.types.Untyped.TheVariants as kinds
+use Rattle.go_types.specs.Types.{Type', basic, array, struct, named, Fields, no_fields, field}
+use Rattle.go_types.specs.Relations.{underlying}
+use Rattle.go_types.specs.Sizes.{cells}
+use Rattle.go_code.specs.declared.cell.Cell.{Cell}
+use Rattle.go_code.specs.declared.cell.Cell.TheVariants.{Text}
+use Rattle.go_typed.specs.declared.expression.Operator.{Operator}
+use Rattle.go_typed.specs.declared.expression.Operator.TheVariants.{Arithmetic as arithmetic, Shift as shift, Comparison as comparison}
+use Rattle.go_typed.specs.Trees as trees
+use Rattle.go_typed.specs.Trees.{Symbol, Expr, constant, local, global, index, unary, binary, both, either, conversion, literal, call, Exprs, no_exprs, some_exprs, Parts, no_parts, part, Steps, here, to_field, to_element, Left, blank, of_local, of_global, Source, each, results, zeros, Stmt, define, assign, update, run, print, panic, if_statement, for_statement, range_statement, switch_statement, block, break, continue, return, Stmts, no_stmts, some_stmts, Clauses, no_clauses, clause, Function, Package, expr_type}
+use Rattle.go_meaning.specs.Values.{single, is_of}
+use Rattle.go_meaning.specs.Choices.{cell_of, field_type, element_type}
+use Rattle.go_symbol.specs.Symbols.{same_symbol}
+use Rattle.go_meaning.specs.Meaning.{Stored, most_cells}
+use Rattle.go_meaning.specs.Programs.{Step, calls, Declared, package_functions, function_at, first_variables, start_steps}
+use Rattle.go_typed.specs.Terminating.{list_terminates}
+
+-- ---- what is known where an expression or a statement stands
+
+-- https://go.dev/ref/spec#Function_types
+pub record Signature : Type 0 where
+  pub parameters : List Type'
+  pub results : List Type'
+
+-- The functions and the package variables of the program, the types of the local variables, parameters first, the results of the
+-- function, and whether a break and a continue may stand here.
+pub record Setting : Type 0 where
+  pub functions : Symbol → Option Signature
+  pub variables : Symbol → Option Type'
+  pub locals : List Type'
+  pub results : List Type'
+  pub breaks : Bool
+  pub continues : Bool
+
+-- the numbers of the local variables that have been given a value
+abbrev pub has : List ℕ → ℕ → Bool
+has given n = list_any (nat_eq n) given
+
+-- a local variable of that type, which has a value
+abbrev pub Holds : Setting → List ℕ → ℕ → Type' → Type 0
+Holds g given n t = (slice_get g.locals n ≡ Some t) × (has given n ≡ true)
+
+-- ---- types: https://go.dev/ref/spec#Types
+
+abbrev pub int : Type'
+int = basic (basics.Integer integers.Int)
+
+abbrev pub byte : Type'
+byte = basic (basics.Integer integers.Uint8)
+
+abbrev pub is_integer : Type' → Bool
+is_integer (basic (basics.Integer i)) = true
+is_integer t = false
+
+abbrev pub is_string : Type' → Bool
+is_string (basic basics.String) = true
+is_string t = false
+
+-- a comparison has no type of its own: its value is an untyped one
+abbrev pub is_bool : Type' → Bool
+is_bool (basic basics.Bool) = true
+is_bool (basic (basics.Untyped kinds.Bool)) = true
+is_bool t = false
+
+-- types of variables are typed in all their parts
+abbrev pub is_typed : Basic → Bool
+is_typed (basics.Untyped kind) = false
+is_typed b = true
+
+abbrev mutual
+  pub IsWhole : Type' → Type 0
+  IsWhole (basic b) = is_typed b ≡ true
+  IsWhole (array n t) = IsWhole t
+  IsWhole (struct fs) = AreWhole fs
+  IsWhole (named path name t) = IsWhole t
+
+  pub AreWhole : Fields → Type 0
+  AreWhole no_fields = ⊤
+  AreWhole (field path name t fs) = IsWhole t × AreWhole fs
+
+-- https://go.dev/ref/spec#Assignability
+-- values of the first type are values of the second: their underlying types are the same
+abbrev pub Suits : Type' → Type' → Type 0
+Suits t u = underlying t ≡ underlying u
+
+abbrev pub AllSuit : List Type' → List Type' → Type 0
+AllSuit [] [] = ⊤
+AllSuit [] (u ∷ us) = ⊥
+AllSuit (t ∷ ts) [] = ⊥
+AllSuit (t ∷ ts) (u ∷ us) = Suits t u × AllSuit ts us
+
+-- ---- constants and operators
+
+-- https://go.dev/ref/spec#String_types: a sequence of bytes, whose length is an int
+abbrev pub is_text : List ℕ → Bool
+is_text text = list_all (λ b. nat_lt b 256) text && fits (Some integers.Int) (pos (length text))
+
+abbrev pub is_sound_cell : Cell → Bool
+is_sound_cell (Text text) = is_text text
+is_sound_cell c = true
+
+-- https://go.dev/ref/spec#Constants, Representability
+abbrev pub IsConstant : Type' → Const → Type 0
+IsConstant t c = (is_of t (single (cell_of c)) ≡ true) × (is_sound_cell (cell_of c) ≡ true)
+
+-- https://go.dev/ref/spec#Arithmetic_operators, Logical_operators, by the underlying type of the operand
+abbrev pub is_unary : UnaryOperator → Type' → Bool
+is_unary Negation s = is_bool s
+is_unary op s = is_integer s
+
+abbrev pub is_sum : ArithmeticOperator → Type' → Bool
+is_sum Add s = is_integer s || is_string s
+is_sum op s = is_integer s
+
+-- https://go.dev/ref/spec#Comparison_operators: all types are comparable, integers and strings are ordered
+abbrev pub is_compared : ComparisonOperator → Type' → Bool
+is_compared Equal s = true
+is_compared NotEqual s = true
+is_compared op s = is_integer s || is_string s
+
+-- the operator gives a value of the first type of operands of the others
+abbrev pub IsOperation : Operator → Type' → Type' → Type' → Type 0
+IsOperation (arithmetic op) t a b = (a ≡ t) × (b ≡ t) × (is_sum op (underlying t) ≡ true)
+IsOperation (shift op) t a b = (a ≡ t) × (is_integer (underlying t) ≡ true) × (is_integer (underlying b) ≡ true)
+IsOperation (comparison op) t a b = (is_bool (underlying t) ≡ true) × (a ≡ b) × (is_compared op (underlying a) ≡ true)
+
+-- https://go.dev/ref/spec#Conversions, by underlying types: between integers, of an untyped truth value, or between types that are the same
+abbrev pub Converts : Type' → Type' → Type 0
+Converts t u = (t ≡ u) ⊎ ((is_integer t ≡ true) × (is_integer u ≡ true)) ⊎ ((is_bool t ≡ true) × (is_bool u ≡ true))
+
+-- https://go.dev/ref/spec#Index_expressions, by the underlying type: an element of an array, a byte of a string
+abbrev pub indexed_type : Type' → Option Type'
+indexed_type (array n t) = Some t
+indexed_type (basic basics.String) = Some byte
+indexed_type s = None
+
+-- https://go.dev/ref/spec#Composite_literals, by the underlying type: the part of that number
+abbrev pub part_type : Type' → ℕ → Option Type'
+part_type (array count t) n = if nat_lt n count then Some t else None
+part_type s n = field_type s n
+
+-- ---- expressions: https://go.dev/ref/spec#Expressions
+
+abbrev pub exprs_types : Exprs → List Type'
+exprs_types no_exprs = []
+exprs_types (some_exprs e es) = expr_type e ∷ exprs_types es
+
+-- https://go.dev/ref/spec#Calls: the function takes arguments of these types, and gives results of those
+abbrev pub IsCall : Setting → Symbol → List Type' → List Type' → Type 0
+IsCall g s arguments given = g.functions s ≡ Some (record { parameters = arguments; results = given })
+
+abbrev mutual
+  pub IsExpr : Setting → List ℕ → Expr → Type 0
+  IsExpr g d (constant t c) = IsConstant t c
+  IsExpr g d (local t n) = Holds g d n t
+  IsExpr g d (global t s) = g.variables s ≡ Some t
+  -- https://go.dev/ref/spec#Selectors
+  IsExpr g d (trees.field t e n) = IsExpr g d e × (field_type (underlying (expr_type e)) n ≡ Some t)
+  IsExpr g d (index t e i) =
+      IsExpr g d e × IsExpr g d i × (is_integer (underlying (expr_type i)) ≡ true) × (indexed_type (underlying (expr_type e)) ≡ Some t)
+  -- https://go.dev/ref/spec#Length_and_capacity
+  IsExpr g d (trees.length t e) = IsExpr g d e × (is_string (underlying (expr_type e)) ≡ true) × (t ≡ int)
+  IsExpr g d (unary t op e) = IsExpr g d e × (expr_type e ≡ t) × (is_unary op (underlying t) ≡ true)
+  IsExpr g d (binary t op a b) = IsExpr g d a × IsExpr g d b × IsOperation op t (expr_type a) (expr_type b)
+  IsExpr g d (both t a b) = IsExpr g d a × IsExpr g d b × (expr_type a ≡ t) × (expr_type b ≡ t) × (is_bool (underlying t) ≡ true)
+  IsExpr g d (either t a b) = IsExpr g d a × IsExpr g d b × (expr_type a ≡ t) × (expr_type b ≡ t) × (is_bool (underlying t) ≡ true)
+  IsExpr g d (conversion t e) = IsExpr g d e × Converts (underlying (expr_type e)) (underlying t)
+  IsExpr g d (literal t ps) = IsWhole t × AreParts g d t ps
+  IsExpr g d (call t s es) = AreExprs g d es × IsCall g s (exprs_types es) (t ∷ [])
+
+  pub AreExprs : Setting → List ℕ → Exprs → Type 0
+  AreExprs g d no_exprs = ⊤
+  AreExprs g d (some_exprs e es) = IsExpr g d e × AreExprs g d es
+
+  -- parts of a value of that type
+  pub AreParts : Setting → List ℕ → Type' → Parts → Type 0
+  AreParts g d t no_parts = ⊤
+  AreParts g d t (part n e ps) = IsExpr g d e × (part_type (underlying t) n ≡ Some (expr_type e)) × AreParts g d t ps
+
+-- ---- values that are due, and what they are given to: https://go.dev/ref/spec#Assignment_statements
+
+abbrev pub source_types : Source → List Type'
+source_types (each es) = exprs_types es
+source_types (results ts s es) = ts
+source_types (zeros ts) = ts
+
+abbrev pub AllWhole : List Type' → Type 0
+AllWhole [] = ⊤
+AllWhole (t ∷ ts) = IsWhole t × AllWhole ts
+
+abbrev pub IsSource : Setting → List ℕ → Source → Type 0
+IsSource g d (each es) = AreExprs g d es
+IsSource g d (results ts s es) = AreExprs g d es × IsCall g s (exprs_types es) ts
+-- https://go.dev/ref/spec#The_zero_value
+IsSource g d (zeros ts) = AllWhole ts
+
+-- https://go.dev/ref/spec#Variable_declarations: new variables get values of these types; a blank one may get any
+abbrev pub AreNew : List Type' → List (Option ℕ) → List Type' → Type 0
+AreNew locals [] [] = ⊤
+AreNew locals [] (t ∷ ts) = ⊥
+AreNew locals (o ∷ os) [] = ⊥
+AreNew locals (None ∷ os) (t ∷ ts) = AreNew locals os ts
+AreNew locals (Some n ∷ os) (t ∷ ts) = ((u : Type') × (slice_get locals n ≡ Some u) × Suits t u) × AreNew locals os ts
+
+-- the steps lead from a variable of the first type to a part that may be given a value of the other
+abbrev pub LeadsTo : Setting → List ℕ → Type' → Steps → Type' → Type 0
+LeadsTo g d t here u = Suits u t
+LeadsTo g d t (to_field n ss) u = (part : Type') × (field_type (underlying t) n ≡ Some part) × LeadsTo g d part ss u
+LeadsTo g d t (to_element e ss) u =
+    (part : Type') × (element_type (underlying t) ≡ Some part) × IsExpr g d e × (is_integer (underlying (expr_type e)) ≡ true) × LeadsTo g d part ss u
+
+-- a part of a variable, which is no larger than types may be
+abbrev pub IsPart : Setting → List ℕ → Left → Type' → Type 0
+IsPart g d blank u = ⊥
+IsPart g d (of_local t n ss) u = Holds g d n t × (nat_le (cells t) most_cells ≡ true) × LeadsTo g d t ss u
+IsPart g d (of_global t s ss) u = (g.variables s ≡ Some t) × (nat_le (cells t) most_cells ≡ true) × LeadsTo g d t ss u
+
+abbrev pub AreLefts : Setting → List ℕ → List Left → List Type' → Type 0
+AreLefts g d [] [] = ⊤
+AreLefts g d [] (t ∷ ts) = ⊥
+AreLefts g d (l ∷ ls) [] = ⊥
+AreLefts g d (blank ∷ ls) (t ∷ ts) = AreLefts g d ls ts
+AreLefts g d (l ∷ ls) (t ∷ ts) = IsPart g d l t × AreLefts g d ls ts
+
+-- ---- statements: https://go.dev/ref/spec#Statements
+
+-- the variables that are declared behind a statement: a block may be that of a declaration, so what it declares stays
+abbrev pub numbers : List (Option ℕ) → List ℕ
+numbers [] = []
+numbers (None ∷ os) = numbers os
+numbers (Some n ∷ os) = n ∷ numbers os
+
+abbrev mutual
+  pub after : List ℕ → Stmt → List ℕ
+  after d (define os s) = numbers os ++ d
+  after d (block ss) = after_all d ss
+  after d s = d
+
+  pub after_all : List ℕ → Stmts → List ℕ
+  after_all d no_stmts = d
+  after_all d (some_stmts s ss) = after_all (after d s) ss
+
+abbrev pub in_loop : Setting → Setting
+in_loop g = record g { breaks = true; continues = true }
+
+abbrev pub in_clause : Setting → Setting
+in_clause g = record g { breaks = true }
+
+-- behind each turn of a loop
+abbrev pub in_post : Setting → Setting
+in_post g = record g { breaks = false; continues = false }
+
+-- the condition of an if or a loop
+abbrev pub IsCondition : Setting → List ℕ → Expr → Type 0
+IsCondition g d e = IsExpr g d e × (is_bool (underlying (expr_type e)) ≡ true)
+
+abbrev pub IsConditionOrNone : Setting → List ℕ → Option Expr → Type 0
+IsConditionOrNone g d None = ⊤
+IsConditionOrNone g d (Some e) = IsCondition g d e
+
+-- the variable that counts has the type of the range
+abbrev pub IsCounter : Setting → Option ℕ → Type' → Type 0
+IsCounter g None t = ⊤
+IsCounter g (Some n) t = slice_get g.locals n ≡ Some t
+
+-- https://go.dev/ref/spec#Expression_switches: the cases may be compared with the tag
+abbrev pub AreCases : Type' → List Type' → Type 0
+AreCases t [] = ⊤
+AreCases t (u ∷ us) = Suits u t × AreCases t us
+
+-- https://go.dev/ref/spec#Fallthrough_statements: the last clause doesn't fall through
+abbrev pub is_last : Clauses → Bool
+is_last no_clauses = true
+is_last (clause o ss falls cs) = false
+
+abbrev mutual
+  pub IsStmt : Setting → List ℕ → Stmt → Type 0
+  IsStmt g d (define os s) = IsSource g d s × AreNew g.locals os (source_types s)
+  IsStmt g d (assign ls s) = AreLefts g d ls (source_types s) × IsSource g d s
+  -- https://go.dev/ref/spec#Assignment_statements, IncDec_statements
+  IsStmt g d (update t l op e) = IsPart g d l t × IsExpr g d e × IsOperation op t t (expr_type e)
+  -- https://go.dev/ref/spec#Expression_statements
+  IsStmt g d (run ts s es) = IsSource g d (results ts s es)
+  IsStmt g d (print es) = AreExprs g d es
+  -- https://go.dev/ref/spec#Handling_panics
+  IsStmt g d (panic e) = IsExpr g d e × (is_string (underlying (expr_type e)) ≡ true)
+  -- https://go.dev/ref/spec#If_statements
+  IsStmt g d (if_statement e a b) = IsCondition g d e × AreStmts g d a × AreStmts g d b
+  -- https://go.dev/ref/spec#For_statements
+  IsStmt g d (for_statement o post ss) = IsConditionOrNone g d o × AreStmts (in_post g) d post × AreStmts (in_loop g) d ss
+  IsStmt g d (range_statement o t e ss) =
+      IsExpr g d e × (expr_type e ≡ t) × (is_integer (underlying t) ≡ true) × IsCounter g o t × AreStmts (in_loop g) (numbers (o ∷ []) ++ d) ss
+  -- https://go.dev/ref/spec#Switch_statements
+  IsStmt g d (switch_statement e cs) = IsExpr g d e × AreClauses g d (expr_type e) cs
+  IsStmt g d (block ss) = AreStmts g d ss
+  -- https://go.dev/ref/spec#Break_statements
+  IsStmt g d break = g.breaks ≡ true
+  -- https://go.dev/ref/spec#Continue_statements
+  IsStmt g d continue = g.continues ≡ true
+  -- https://go.dev/ref/spec#Return_statements
+  IsStmt g d (return s) = IsSource g d s × AllSuit (source_types s) g.results
+
+  pub AreStmts : Setting → List ℕ → Stmts → Type 0
+  AreStmts g d no_stmts = ⊤
+  AreStmts g d (some_stmts s ss) = IsStmt g d s × AreStmts g (after d s) ss
+
+  -- clauses of a switch over a tag of that type
+  pub AreClauses : Setting → List ℕ → Type' → Clauses → Type 0
+  AreClauses g d t no_clauses = ⊤
+  AreClauses g d t (clause None ss falls cs) = AreStmts (in_clause g) d ss × (falls && is_last cs ≡ false) × AreClauses g d t cs
+  AreClauses g d t (clause (Some es) ss falls cs) =
+      AreExprs g d es × AreCases t (exprs_types es) × AreStmts (in_clause g) d ss × (falls && is_last cs ≡ false) × AreClauses g d t cs
+
+-- ---- functions and programs
+
+-- the first numbers, up to one that isn't among them
+abbrev pub first : ℕ → List ℕ
+first zero = []
+first (suc n) = n ∷ first n
+
+abbrev pub signature_at : List Package → Symbol → Option Signature
+signature_at packages s = option_map (λ f. record { parameters = f.parameters; results = f.results }) (function_at packages s)
+
+abbrev pub variable_at : List Package → Symbol → Option Type'
+variable_at packages s = option_map (λ v. v.of) (find (λ v. same_symbol s v.symbol) (flat_map first_variables packages))
+
+abbrev pub setting : List Package → Function → Setting
+setting packages f = record {
+  functions = signature_at packages;
+  variables = variable_at packages;
+  locals = f.parameters ++ f.locals;
+  results = f.results;
+  breaks = false;
+  continues = false;
+}
+
+abbrev pub are_none : List Type' → Bool
+are_none [] = true
+are_none (t ∷ ts) = false
+
+-- https://go.dev/ref/spec#Function_declarations, Terminating_statements
+-- its arguments are given, and where it has results it doesn't run off its end
+pub record IsFunction (packages : List Package) (f : Function) : Type 0 where
+  pub body : AreStmts (setting packages f) (first (length f.parameters)) f.body
+  pub ended : (are_none f.results || list_terminates f.body) ≡ true
+
+-- https://go.dev/ref/spec#Program_execution: what a program starts with takes no arguments, and gives no results
+abbrev pub IsStart : List Package → Step → Type 0
+IsStart packages (calls s) = signature_at packages s ≡ Some (record { parameters = []; results = [] })
+
+-- packages whose functions and variables are well typed, and so are the calls that the program starts with
+pub record IsWellTyped (packages : List Package) : Type 0 where
+  pub functions : All (λ (d : Declared). IsFunction packages d.function) (flat_map package_functions packages)
+  pub variables : All (λ (v : Stored). IsWhole v.of) (flat_map first_variables packages)
+  pub start : All (IsStart packages) (start_steps packages)

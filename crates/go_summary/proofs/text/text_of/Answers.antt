@@ -1,8 +1,0 @@
-use Rattle.std.proofs.Common.{arith}
-use Rattle.std.proofs.lemmas.Grind.{common_steps}
-use Rattle.go_summary.specs.Summaries.{summary_text}
-use Rattle.go_summary.proofs.text.text_of.Goals as goal
-
-pub returns : goal.returns
-unfolding summary_text
-returns c = grind (arith, common_steps)

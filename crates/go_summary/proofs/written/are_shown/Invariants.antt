@@ -1,9 +1,0 @@
-use Rattle.std.specs.List.{All}
-use Rattle.std.specs.Map.{values_of}
-use Rattle.go_summary.specs.Views.{all_of}
-use Rattle.go_summary.specs.Writable.{IsShown}
-use Rattle.go_summary.proofs.written.are_shown.Given as goal
-
--- all are, where what is left is
-abbrev pub invariant-loop-export : goal.invariant-loop-export
-invariant-loop-export l = All IsShown (values_of (all_of l.export-iterator)) → All IsShown (values_of (all_of l.exports.entries))

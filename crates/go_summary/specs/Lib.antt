@@ -1,5 +1,0 @@
-pub mod Codes
-pub mod Exports
-pub mod Summaries
-pub mod Views
-pub mod Writable

@@ -1,9 +1,0 @@
-//! Summaries: what the importers of a package know of it.
-#![tactic(auto)]
-
-mod collection;
-pub mod export;
-pub mod law;
-pub mod summary;
-mod text;
-mod written;

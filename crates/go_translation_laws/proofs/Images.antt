@@ -1,0 +1,179 @@
+-- What the objects of packages are linked to: their functions by their numbers, their variables' cells and their start steps.
+use Rattle.std.proofs.Common.{◌≡◌, ℕ, ◌+◌, Bool, true, false, not, List, [], ◌∷◌, ◌++◌, length, map, Option, None, Some, refl, sym, ap, ◌∙◌, cond}
+use Rattle.std.specs.Prelude.{◌-◌, slice_get}
+use Rattle.std.specs.List.{filter, find, flat_map, position_or_len, prefix_len}
+use Rattle.std.specs.Option.{option_map}
+use Rattle.std.proofs.lemmas.List.{map-append, length-map}
+use Rattle.std.proofs.lemmas.List.Folds.{find_at}
+use Rattle.std.proofs.lemmas.Option.{slice_get-map}
+use Rattle.go_code.specs.declared.image.Start.{Start}
+use Rattle.go_code.specs.declared.image.Start.TheVariants.{Function as Run}
+use Rattle.go_code.specs.Functions as in_code
+use Rattle.go_code.specs.Images.{Image}
+use Rattle.go_code.specs.Packages.{Object, PackageFunction, PackageVariable}
+use Rattle.go_symbol.specs.Symbols as symbols
+use Rattle.go_symbol.specs.Symbols.{same_symbol}
+use Rattle.go_link.specs.Links.{Held, symbol_of as code_symbol, names, variables, place_in, number_of, numbers, linked_function, zeros_of as object_zeros, is_init as is_object_init, package_starts, main_start, last_package as last_object, linked}
+use Rattle.go_typed.specs.Trees.{Symbol, Function, Variable, Package}
+use Rattle.go_meaning.specs.Values.{flat, zero_of}
+use Rattle.go_meaning.specs.Programs.{Declared, symbol_of, package_functions, function_at, is_init, last_package, Step, calls, package_steps, main_steps, start_steps, first_variables}
+use Rattle.go_gen.specs.Translation.{translated, symbol_code, translated_function, translated_variable, object_of}
+use Rattle.go_translation_laws.proofs.Runs.{held}
+use Rattle.go_translation_laws.proofs.FirstVariables.{stored_first, held_behind}
+use Rattle.go_translation_laws.proofs.ReferredBodies.{function_referred}
+
+-- ---- places of names
+
+-- two tests that agree element by element find the same place
+place_same : {A B : Type 0} (p : A → Bool) (q : B → Bool) (h : A → B) → ((a : A) → q (h a) ≡ p a) → (xs : List A) → position_or_len q (map h xs) ≡ position_or_len p xs
+place_same p q h same [] = refl
+place_same p q h same (x ∷ xs) =
+    ap (λ b. cond (not b) (1 + prefix_len (λ y. not (q y)) (map h xs)) 0) (same x)
+    ∙ ap (λ n. cond (not (p x)) (1 + n) 0) (place_same p q h same xs)
+
+-- the objects of packages
+abbrev pub objects_of : List Package → List Object
+objects_of packages = map object_of packages
+
+-- the functions of packages
+abbrev pub all_functions : List Package → List Declared
+all_functions packages = flat_map package_functions packages
+
+-- the linker's number of a symbol, for the objects of packages
+abbrev pub linked_number : List Package → Symbol → ℕ
+linked_number packages s = number_of (names (objects_of packages)) (symbol_code s)
+
+-- where the packages' variables lie
+abbrev pub slot_in : List Package → Symbol → ℕ
+slot_in packages s = place_in (variables (objects_of packages)) (symbol_code s)
+
+-- a function in the image of packages
+abbrev pub compiled : List Package → Function → in_code.Function ℕ
+compiled packages f = translated (slot_in packages) (linked_number packages) f
+
+abbrev pub declared_in : Package → Function → Declared
+declared_in typed f = record { symbol = symbol_of typed f.name; function = f }
+
+abbrev pub symbol_in : Declared → symbols.Symbol
+symbol_in d = symbol_code d.symbol
+
+names_each : (typed : Package) (fs : List Function) → map (λ (f : PackageFunction). code_symbol (object_of typed) f.name) (map translated_function fs) ≡ map symbol_in (map (declared_in typed) fs)
+names_each typed [] = refl
+names_each typed (f ∷ fs) = ap (λ l. symbol_code (symbol_of typed f.name) ∷ l) (names_each typed fs)
+
+-- the linker's names are those of the packages' functions
+pub names_linked : (packages : List Package) → names (objects_of packages) ≡ map symbol_in (all_functions packages)
+names_linked [] = refl
+names_linked (p ∷ packages) =
+    ap (λ l. l ++ names (objects_of packages)) (names_each p p.functions)
+    ∙ ap (λ l. map symbol_in (package_functions p) ++ l) (names_linked packages)
+    ∙ sym (map-append symbol_in (package_functions p) (all_functions packages))
+
+number_same : (packages : List Package) (s : Symbol) → linked_number packages s ≡ position_or_len (λ d. same_symbol s d.symbol) (all_functions packages)
+number_same packages s =
+    ap (position_or_len (same_symbol (symbol_code s))) (names_linked packages)
+    ∙ place_same (λ (d : Declared). same_symbol s d.symbol) (same_symbol (symbol_code s)) symbol_in (λ d. refl) (all_functions packages)
+
+-- ---- functions
+
+functions_each : (typed : Package) (all : List symbols.Symbol) (held : List Held) (fs : List Function) → map (linked_function all held) (map translated_function fs) ≡ map (λ (d : Declared). translated (λ s. place_in held (symbol_code s)) (λ s. number_of all (symbol_code s)) d.function) (map (declared_in typed) fs)
+functions_each typed all held [] = refl
+functions_each typed all held (f ∷ fs) =
+    ap (λ g. g ∷ map (linked_function all held) (map translated_function fs)) (function_referred (numbers all held) symbol_code symbol_code f)
+    ∙ ap (λ l. translated (λ s. place_in held (symbol_code s)) (λ s. number_of all (symbol_code s)) f ∷ l) (functions_each typed all held fs)
+
+functions_linked : (all : List symbols.Symbol) (held : List Held) (packages : List Package) → flat_map (λ (o : Object). map (linked_function all held) o.functions) (objects_of packages) ≡ map (λ (d : Declared). translated (λ s. place_in held (symbol_code s)) (λ s. number_of all (symbol_code s)) d.function) (all_functions packages)
+functions_linked all held [] = refl
+functions_linked all held (p ∷ packages) =
+    let image_of : Declared → in_code.Function ℕ = λ d. translated (λ s. place_in held (symbol_code s)) (λ s. number_of all (symbol_code s)) d.function in
+    ap (λ l. l ++ flat_map (λ (o : Object). map (linked_function all held) o.functions) (objects_of packages)) (functions_each p all held p.functions)
+    ∙ ap (λ l. map image_of (package_functions p) ++ l) (functions_linked all held packages)
+    ∙ sym (map-append image_of (package_functions p) (all_functions packages))
+
+-- what is made of what is found
+made_of : {B : Type 0} (h : Function → B) (o : Option Declared) (f : Function) → option_map (λ d. d.function) o ≡ Some f → option_map (λ d. h d.function) o ≡ Some (h f)
+made_of h None f e = absurd (cc)
+made_of h (Some d) f e = let same : d.function ≡ f = cc in ap (λ g. Some (h g)) same
+
+found_linked : (packages : List Package) (s : Symbol) (f : Function) → function_at packages s ≡ Some f → slice_get (linked (objects_of packages)).functions (linked_number packages s) ≡ Some (compiled packages f)
+found_linked packages s f e =
+    let ds = all_functions packages in
+    let image_of : Declared → in_code.Function ℕ = λ d. compiled packages d.function in
+    let is : Declared → Bool = λ d. same_symbol s d.symbol in
+    ap (λ l. slice_get l (linked_number packages s)) (functions_linked (names (objects_of packages)) (variables (objects_of packages)) packages)
+    ∙ ap (slice_get (map image_of ds)) (number_same packages s)
+    ∙ slice_get-map image_of ds _
+    ∙ ap (option_map image_of) (sym (find_at is ds))
+    ∙ made_of (compiled packages) (find is ds) f e
+
+-- ---- start steps
+
+-- the image's step for one of the source
+abbrev pub start_of : (Symbol → ℕ) → Step → Start
+start_of number (calls s) = Run (number s)
+
+-- an element that is kept or not
+kept : {A B : Type 0} (b : Bool) (h : A → B) (x : A) (xs : List A) → map h (cond b (x ∷ xs) xs) ≡ cond b (h x ∷ map h xs) (map h xs)
+kept true h x xs = refl
+kept false h x xs = refl
+
+inits_linked : (typed : Package) (number : Symbol → ℕ) (fs : List Function) → map (λ (f : PackageFunction). Run (number (symbol_of typed f.name))) (filter is_object_init (map translated_function fs)) ≡ map (start_of number) (map (λ f. calls (symbol_of typed f.name)) (filter is_init fs))
+inits_linked typed number [] = refl
+inits_linked typed number (f ∷ fs) =
+    kept (is_init f) (λ (g : PackageFunction). Run (number (symbol_of typed g.name))) (translated_function f) (filter is_object_init (map translated_function fs))
+    ∙ ap (λ l. cond (is_init f) (Run (number (symbol_of typed f.name)) ∷ l) l) (inits_linked typed number fs)
+    ∙ sym (ap (map (start_of number)) (kept (is_init f) (λ (g : Function). calls (symbol_of typed g.name)) f (filter is_init fs)) ∙ kept (is_init f) (start_of number) (calls (symbol_of typed f.name)) (map (λ (g : Function). calls (symbol_of typed g.name)) (filter is_init fs)))
+
+-- package by package
+steps_linked : (all : List symbols.Symbol) (held : List Held) (packages : List Package) → flat_map (package_starts all held) (objects_of packages) ≡ map (start_of (λ s. number_of all (symbol_code s))) (flat_map package_steps packages)
+steps_linked all held [] = refl
+steps_linked all held (p ∷ packages) =
+    let number : Symbol → ℕ = λ s. number_of all (symbol_code s) in
+    ap (λ l. l ++ flat_map (package_starts all held) (objects_of packages)) (inits_linked p number p.functions)
+    ∙ ap (λ l. map (start_of number) (package_steps p) ++ l) (steps_linked all held packages)
+    ∙ sym (map-append (start_of number) (package_steps p) (flat_map package_steps packages))
+
+-- the last package's object is the last
+pub last_linked : (packages : List Package) → last_object (objects_of packages) ≡ option_map object_of (last_package packages)
+last_linked packages = ap (λ n. slice_get (objects_of packages) (n - 1)) (length-map packages object_of) ∙ slice_get-map object_of packages (length packages - 1)
+
+main_linked : (all : List symbols.Symbol) (o : Option Package) → main_start all (option_map object_of o) ≡ map (start_of (λ s. number_of all (symbol_code s))) (main_steps o)
+main_linked all None = refl
+main_linked all (Some p) = refl
+
+starts_linked : (packages : List Package) → (linked (objects_of packages)).starts ≡ map (start_of (linked_number packages)) (start_steps packages)
+starts_linked packages =
+    let all = names (objects_of packages) in
+    ap (λ l. l ++ main_start all (last_object (objects_of packages))) (steps_linked all (variables (objects_of packages)) packages)
+    ∙ ap (λ l. map (start_of (linked_number packages)) (flat_map package_steps packages) ++ l) (ap (main_start all) (last_linked packages) ∙ main_linked all (last_package packages))
+    ∙ sym (map-append (start_of (linked_number packages)) (flat_map package_steps packages) (main_steps (last_package packages)))
+
+-- ---- package variables
+
+variables_held : (typed : Package) (vs : List Variable) → flat_map (λ (v : PackageVariable). v.zero) (map translated_variable vs) ≡ held (map (stored_first typed) vs)
+variables_held typed [] = refl
+variables_held typed (v ∷ vs) = ap (λ l. flat (zero_of v.of) ++ l) (variables_held typed vs)
+
+-- the image's globals are the cells of the packages' variables
+globals_linked : (packages : List Package) → (linked (objects_of packages)).globals ≡ held (flat_map first_variables packages)
+globals_linked [] = refl
+globals_linked (p ∷ packages) =
+    ap (λ l. l ++ flat_map object_zeros (objects_of packages)) (variables_held p p.variables)
+    ∙ ap (λ l. held (first_variables p) ++ l) (globals_linked packages)
+    ∙ sym (held_behind (first_variables p) (flat_map first_variables packages))
+
+-- ---- together
+
+-- the image's start steps call what the start of the packages calls, its globals are the cells of their variables, and their functions
+-- have these numbers
+pub record Starts (packages : List Package) (image : Image) (globals numbers : Symbol → ℕ) : Type 0 where
+  pub starts : image.starts ≡ map (start_of numbers) (start_steps packages)
+  pub globals_held : image.globals ≡ held (flat_map first_variables packages)
+  pub found : (s : Symbol) (f : Function) → function_at packages s ≡ Some f → slice_get image.functions (numbers s) ≡ Some (translated globals numbers f)
+
+pub links_starts : (packages : List Package) (image : Image) → image ≡ linked (objects_of packages) → Starts packages image (slot_in packages) (linked_number packages)
+links_starts packages image l = record {
+  starts = ap (λ i. i.starts) l ∙ starts_linked packages;
+  globals_held = ap (λ (i : Image). i.globals) l ∙ globals_linked packages;
+  found = λ s f e. ap (λ (i : Image). slice_get i.functions (linked_number packages s)) l ∙ found_linked packages s f e;
+}
