@@ -1,0 +1,15 @@
+-- Files of texts declare no types in functions: the grammar has no such statement.
+use Rattle.std.proofs.Common.{List, [], ◌∷◌}
+use Rattle.go_ast.specs.Trees.{TopLevel, declared, function, File}
+use Rattle.go_check_laws.specs.Whole.{AreParsed}
+use Rattle.go_check_laws.proofs.Grammar.{AllLocal, parsed_local}
+use Rattle.go_package_laws.proofs.Found.{LocalTops, LocalFiles}
+
+local_tops : (tops : List TopLevel) → AllLocal tops → LocalTops tops
+local_tops [] h = tt
+local_tops (declared d ∷ tops) h = (tt, local_tops tops h)
+local_tops (function f ∷ tops) h = (h.0, local_tops tops h.1)
+
+pub local_files : (files : List File) → AreParsed files → LocalFiles files
+local_files [] h = tt
+local_files (f ∷ fs) h = (local_tops f.declarations (parsed_local (h.0).0 f (h.0).1), local_files fs h.1)

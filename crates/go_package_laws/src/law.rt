@@ -1,0 +1,87 @@
+//! What holds of the typed trees that the checker makes.
+ghost use Rattle.std.specs.Prelude.{◌≡◌, ◌≢◌, ℕ, true, false, List, [], ◌∷◌, map, None, codes};
+ghost use Rattle.std.specs.List.{All, Contains, list_any};
+ghost use Rattle.std.specs.Map.{values_of};
+ghost use Rattle.go_ast.specs.Trees.{File};
+ghost use Rattle.go_code.specs.Images.{Image};
+ghost use Rattle.go_link.specs.Links.{link_refusal};
+ghost use Rattle.go_typed.specs.Trees.{Package, Function, no_exprs, no_stmts, some_stmts, run as run_call};
+ghost use Rattle.go_meaning.specs.Meaning.{Stuck};
+ghost use Rattle.go_meaning.specs.Programs.{IsProgram, run, symbol_of};
+ghost use Rattle.go_import.specs.Names.{importable_of};
+ghost use Rattle.go_export.specs.Exports.{exports_of};
+ghost use Rattle.go_export.specs.Writable.{IsShown};
+ghost use Rattle.go_package.specs.Imports.{Importable};
+ghost use Rattle.go_package.specs.Packages.{package_in};
+ghost use Rattle.go_package.specs.Typed.{IsTypedIn};
+ghost use Rattle.go_meaning_laws.specs.WellTyped.{IsWellTyped};
+ghost use Rattle.go_gen.specs.Translation.{object_of};
+ghost use Rattle.go_translation_laws.specs.Programs.{IsLinked, MeansTheSame, MakesSense};
+ghost use Rattle.go_package_laws.specs.Packages.{AreLibraries, AreProgram, AreChecked, IsNamedMain, HavePlainPaths, AreSmall, HasMeaning, has_values, is_init, is_initialized};
+
+/// Packages whose files have no fault, each checked with packages that stand before it, are well
+/// typed, and a program where the last is named main: their paths differ, no variable has an initial
+/// value, and there is no function init.
+pub fn law_checked_packages_are_well_typed()
+    ensures { (packages : List Package) → AreChecked packages → IsNamedMain packages → IsWellTyped packages × IsProgram packages }
+{}
+
+/// Such a program breaks no rule of the language, whatever its number of ticks: it has a meaning.
+pub fn law_checked_program_is_never_stuck()
+    ensures never { (packages : List Package) (ticks : ℕ) → AreChecked packages → IsNamedMain packages → run packages ticks ≢ Stuck }
+    ensures means { (packages : List Package) (ticks : ℕ) → AreChecked packages → IsNamedMain packages → HasMeaning packages ticks }
+{}
+
+/// Such a program is linked. Whatever its number of ticks, its image prints and ends as its sources
+/// mean and in no other way, and its code makes sense.
+pub fn law_checked_program_means_its_sources()
+    ensures linked { (packages : List Package) → AreChecked packages → IsNamedMain packages → link_refusal (map object_of packages) ≡ None }
+    ensures same { (packages : List Package) (image : Image)
+        → AreChecked packages → IsNamedMain packages → IsLinked packages image → MeansTheSame packages image }
+    ensures sense { (packages : List Package) (image : Image) (ticks : ℕ)
+        → AreChecked packages → IsNamedMain packages → IsLinked packages image → MakesSense image ticks }
+{}
+
+/// What such a package exports can be shown, so that the text of its summary tells it, where no path
+/// has a space or a closing brace and the integers of its constants have 128 bits: names hold no
+/// space, closing brace or dot, and each constant is one of its type.
+pub fn law_checked_packages_are_shown()
+    ensures { (packages : List Package) (p : Package) → AreChecked packages → HavePlainPaths packages → Contains packages p → AreSmall p.constants
+        → All IsShown (values_of (exports_of p)) }
+{}
+
+/// A package of files that may import libraries alone is such a program by itself, where it is named
+/// main.
+pub fn law_one_checked_package()
+    ensures { (path : List ℕ) (files : List File) (ps : List Importable) (names : List (List ℕ)) (p : Package)
+        → AreLibraries ps → AreProgram path files ps names p → AreChecked (p ∷ []) × IsNamedMain (p ∷ []) }
+{}
+
+/// Files named main without fault can have nothing that comes before main, an initial value, or a
+/// function init: the laws above speak of the first alone.
+pub fn law_packages_may_be_initialized()
+    ensures plain { (path : List ℕ) → (files : List File) × (names : List (List ℕ)) × (p : Package)
+        × IsTypedIn (package_in path files []) files [] names p × (p.name ≡ codes "main") × (is_initialized p ≡ false) }
+    ensures valued { (path : List ℕ) → (files : List File) × (names : List (List ℕ)) × (p : Package)
+        × IsTypedIn (package_in path files []) files [] names p × (p.name ≡ codes "main") × (has_values p.initializations ≡ true) }
+    ensures init { (path : List ℕ) → (files : List File) × (names : List (List ℕ)) × (p : Package)
+        × IsTypedIn (package_in path files []) files [] names p × (p.name ≡ codes "main") × (list_any is_init p.functions ≡ true) }
+{}
+
+/// A package named main without fault can call a function of another without fault that it imports,
+/// where neither has an initial value or a function init. No list of checked packages has one twice.
+pub fn law_packages_may_import()
+    ensures calls { (path : List ℕ) → (others files : List File) × (names : List (List ℕ)) × (q p : Package)
+        × IsTypedIn (package_in q.path others []) others [] names q
+        × IsTypedIn (package_in path files (importable_of q ∷ [])) files (importable_of q ∷ []) names p
+        × (is_initialized q ≡ false) × (is_initialized p ≡ false) × (p.name ≡ codes "main")
+        × ((x : List ℕ) × (map (λ (f : Function). f.body) p.functions ≡ some_stmts (run_call [] (symbol_of q x) no_exprs) no_stmts ∷ [])) }
+    ensures once { (p : Package) → AreChecked (p ∷ p ∷ []) → ⊥ }
+{}
+
+/// There are such programs: two texts are parsed to the files of a package without fault and of a
+/// package main without fault, which imports it and calls its function.
+pub fn law_texts_may_be_checked()
+    ensures { (q p : Package) × AreChecked (q ∷ p ∷ []) × IsNamedMain (q ∷ p ∷ [])
+        × ((x : List ℕ) × (map (λ (f : Function). f.body) p.functions ≡ some_stmts (run_call [] (symbol_of q x) no_exprs) no_stmts ∷ [])) }
+{}
