@@ -1,9 +1,59 @@
 //! Paths of files: which texts are paths, and their two parts.
 #![tactic(auto)]
 
-ghost use Rattle.std.specs.Prelude.{◌≡◌, ℕ, List, ◌∷◌, ◌++◌, true, not};
+ghost use Rattle.std.specs.Prelude.{◌≡◌, ℕ, List, ◌∷◌, ◌++◌, true, false, not, string_bytes, IfOk, IfSome, IfNone};
 ghost use Rattle.std.specs.List.{All, list_all};
 ghost use Rattle.ws_path.specs.Paths.{is_slash, is_element_byte, is_only_dots, is_element, is_go_file, is_reserved, has_two_elements, has_elements, is_path, directory, file_name};
+
+use std::alloc::AllocError;
+use std::marker::Model;
+
+/// The path of a file.
+#[derive(Drop)]
+pub struct FilePath {
+    text: String,
+}
+
+impl Model for FilePath {
+    ghost use Rattle.std.specs.Prelude.{List, ℕ, ◌≡◌, true, string_bytes};
+    ghost use Rattle.ws_path.specs.Paths.{is_path};
+
+    ghost Value = { List ℕ };
+
+    ghost view = { λ a. string_bytes a.text };
+
+    ghost invariant = { λ a. is_path (string_bytes a.text) ≡ true };
+}
+
+impl FilePath {
+    /// The text, if it is a path.
+    pub fn new(text: String) -> Option<FilePath>
+        ensures path { IfSome result (λ path. path ≡ string_bytes text) }
+        ensures allowed { IfSome result (λ _. is_path (string_bytes text) ≡ true) }
+        ensures refused { IfNone result (is_path (string_bytes text) ≡ false) }
+    {
+        if !is_path(text.as_str()) {
+            return None;
+        }
+        Some(FilePath { text })
+    }
+
+    /// Its text.
+    pub fn as_str(&self) -> &str
+        ensures value { result.now ≡ self.now }
+        ensures valid { is_path self.now ≡ true }
+    {
+        self.text.as_str()
+    }
+
+    /// Another of the same text. An `Err` only where memory ran out.
+    pub fn copy(&self) -> Result<FilePath, AllocError>
+        ensures { IfOk result (λ copy. copy ≡ self.now) }
+    {
+        let text = self.text.clone()?;
+        Ok(FilePath { text })
+    }
+}
 
 /// What stands before the last slash, and nothing where there is none.
 pub fn directory(path: &str) -> &str

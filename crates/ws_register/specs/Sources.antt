@@ -1,14 +1,14 @@
 -- The sources among writes, and the files of one package.
-use Rattle.std.specs.Prelude.{◌≡◌, ℕ, Bool, cond, List, map, Option, None}
-use Rattle.std.specs.List.{filter, filter_map}
+use Rattle.std.specs.Prelude.{◌≡◌, ℕ, Bool, true, cond, List, map, Option, Some, None}
+use Rattle.std.specs.List.{Contains, filter, filter_map}
 use Rattle.std.specs.Option.{option_map}
 use Rattle.std.specs.Str.{bytes_eq}
-use Rattle.std.specs.FinMap.{entries}
+use Rattle.std.specs.FinMap.{entries, get}
 use Rattle.go_text.specs.Named.{Source}
 use Rattle.ws_map.specs.Kept.{StandsFor}
-use Rattle.ws_path.specs.Paths.{directory, file_name}
-use Rattle.ws_version.specs.Writes.{Write, held_cmp}
-use Rattle.ws_register.specs.Edits.{Contents}
+use Rattle.ws_path.specs.Paths.{directory, file_name, is_path}
+use Rattle.ws_version.specs.Writes.{Write, Held, IsText, IsOfFile, held_cmp}
+use Rattle.ws_register.specs.Edits.{Contents, IsGreatestCounter}
 pub use Rattle.ws_register.specs.Edits.{top}
 
 -- path and text, unless it is a removal
@@ -46,3 +46,21 @@ pair_of source = (source.name, source.text)
 -- the file that one write is in a directory, if it is one
 abbrev pub file_in : List ℕ → Write → Option (List ℕ × List ℕ)
 file_in dir w = cond (is_in dir w.0) (option_map named (source_of w)) None
+
+-- a source text, of bytes, at the path of a file
+pub record IsSource (source : List ℕ × List ℕ) : Type 0 where
+  pub path : is_path source.0 ≡ true
+  pub text : IsText source.1
+
+-- the sources of a set of writes are such
+abbrev pub HasFiles : List Write → Type 0
+HasFiles W = (S : List (List ℕ × List ℕ)) → IsSources W S → (source : List ℕ × List ℕ) → Contains S source → IsSource source
+
+-- what is held at each path is of a file
+abbrev pub HoldsFiles : Contents → Type 0
+HoldsFiles m = (path : List ℕ) (held : Held) → get m path ≡ Some held → IsOfFile (path, held)
+
+-- what registers keep of their contents
+pub record IsKept (m : Contents) (greatest : ℕ) : Type 0 where
+  pub counter : IsGreatestCounter m greatest
+  pub files : HoldsFiles m

@@ -1,7 +1,7 @@
 //! The greatest write for each path.
 #![tactic(auto)]
 
-ghost use Rattle.std.specs.Prelude.{◌≡◌, ℕ, ◌+◌, ◌++◌, ◌∷◌, [], List, OnOk, OnErr, IfOk, IfErr, true, false, Some, None, string_bytes, option_copied, option_map, map as map_list};
+ghost use Rattle.std.specs.Prelude.{◌≡◌, ℕ, ◌+◌, ◌++◌, ◌∷◌, [], List, OnOk, OnErr, IfOk, IfErr, IfSome, IfNone, true, false, Some, None, string_bytes, option_copied, option_map, map as map_list};
 ghost use Rattle.std.specs.FinMap as map;
 ghost use Rattle.std.specs.List.{AllByRecursion, Contains};
 ghost use Rattle.std.specs.Ordering.{is_gt, is_lt};
@@ -10,7 +10,7 @@ ghost use Rattle.ws_version.specs.Writes.{Write as AWrite, Held as AHeld, held_c
 ghost use Rattle.ws_register.specs.Texted.{texted};
 ghost use Rattle.ws_pages.specs.Pages.{Ascends};
 ghost use Rattle.ws_register.specs.Between.{is_from, is_past, is_between};
-ghost use Rattle.ws_register.specs.Sources.{texts_of, is_in, file_in, files_in, pair_of, IsShown, IsSources};
+ghost use Rattle.ws_register.specs.Sources.{texts_of, is_in, file_in, files_in, pair_of, IsShown, IsSources, HasFiles};
 ghost use Rattle.ws_register.specs.declared.EditError.TheVariants.{Memory};
 ghost use Rattle.ws_register.specs.Edits.{top, greatest_at, greatest_counter, fits, is_missing, edit_refusal, removal_refusal, IsRefusal, edited, removed};
 
@@ -21,7 +21,7 @@ use std::marker::Model;
 use std::ops::Bound;
 use thiserror::Error;
 use ws_pages::{Pages, Rest};
-use ws_path::{directory as directory_of, file_name, is_path};
+use ws_path::{FilePath, directory as directory_of, file_name};
 use ws_version::{Held, Join, Version, Write};
 
 /// Why an edit or a removal is refused.
@@ -66,11 +66,11 @@ impl Model for Registers {
 
     ghost coded = { finite.code (coded_list coded_ℕ) held_code };
 
-    ghost use Rattle.ws_register.specs.Edits.{IsGreatestCounter};
+    ghost use Rattle.ws_register.specs.Sources.{IsKept};
 
     ghost view = { λ a. a.held };
 
-    ghost invariant = { λ a. IsGreatestCounter a.held a.greatest };
+    ghost invariant = { λ a. IsKept a.held a.greatest };
 }
 
 impl Registers {
@@ -100,6 +100,7 @@ impl Registers {
         ensures err { OnErr result (self.new ≡ self.old) }
         ensures stands { OnOk result ((W : List AWrite) → StandsFor held_cmp self.old W → StandsFor held_cmp self.new (W ++ write ∷ [])) }
     {
+        write.see_file();
         let counter = write.held().counter();
         self.held.take(write)?;
         self.greatest = self.greatest.max(counter);
@@ -112,6 +113,14 @@ impl Registers {
         ensures stands { (W : List AWrite) → StandsFor held_cmp self.now W → result ≡ top W }
     {
         self.greatest
+    }
+
+    /// Sees that the sources are source texts at paths of files.
+    pub fn see_files(&self)
+        ensures { (W : List AWrite) → StandsFor held_cmp self.now W → HasFiles W }
+    {
+        // So that what registers keep is known.
+        let _held = &self.held;
     }
 
     /// Copies of the held writes, removals too, in path order. An `Err` is for want of memory.
@@ -168,9 +177,9 @@ impl Registers {
         ensures err { OnErr result (self.new ≡ self.old) }
         ensures stands { OnOk result ((W : List AWrite) → StandsFor held_cmp self.old W → StandsFor held_cmp self.new (W ++ (string_bytes path, edited (top W) number source.text) ∷ [])) }
     {
-        if !fits(path.as_str(), source.name()) {
+        let Some(path) = fitting(path, source.name()) else {
             return Err(EditError::BadPath);
-        }
+        };
         let greatest = self.greatest_counter();
         if greatest == u64::MAX {
             return Err(EditError::CounterFull);
@@ -207,9 +216,9 @@ impl Registers {
         ensures err { OnErr result (self.new ≡ self.old) }
         ensures stands { OnOk result ((W : List AWrite) → StandsFor held_cmp self.old W → StandsFor held_cmp self.new (W ++ (string_bytes path, removed (top W) number) ∷ [])) }
     {
-        if !is_path(path.as_str()) {
+        let Some(path) = FilePath::new(path) else {
             return Err(EditError::BadPath);
-        }
+        };
         if self.is_missing(path.as_str()) {
             return Err(EditError::NoFile);
         }
@@ -226,11 +235,17 @@ impl Registers {
     }
 }
 
-// Whether a path is one, and this the name of the file there.
-fn fits(path: &str, name: &str) -> bool
-    ensures { result ≡ fits path.now name.now }
+// The path, if it is one, and this the name of the file there.
+fn fitting(text: String, name: &str) -> Option<FilePath>
+    ensures path { IfSome result (λ path. path ≡ string_bytes text) }
+    ensures allowed { IfSome result (λ _. fits (string_bytes text) name.now ≡ true) }
+    ensures refused { IfNone result (fits (string_bytes text) name.now ≡ false) }
 {
-    is_path(path) && name == file_name(path)
+    let path = FilePath::new(text)?;
+    if name != file_name(path.as_str()) {
+        return None;
+    }
+    Some(path)
 }
 
 /// Replicas that took the same writes hold the same, however each came to them.
@@ -279,8 +294,7 @@ fn list_of(alloc: Global, rest: Rest<'_>) -> Result<Vec<Write>, AllocError>
     let mut writes = Vec::new(alloc);
     let mut left = rest;
     'writes: while let Some(write) = left.next() {
-        let path = String::from_str(alloc, write.path())?;
-        writes.push(Write::new(path, write.held().copy()?))?;
+        writes.push(write.copy()?)?;
     }
     Ok(writes)
 }

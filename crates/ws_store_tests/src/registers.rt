@@ -77,7 +77,10 @@ fn change(
 ) -> Result<&'static str, RowError> {
     let (word, rest) = cut(step);
     match word {
-        "take" => registers.apply(write(alloc, rest)?)?,
+        "take" => match write(alloc, rest)? {
+            None => return Ok("bad path"),
+            Some(write) => registers.apply(write)?,
+        },
         "edit" => return edited(alloc, registers, rest),
         "remove" => return Ok(answer(registers.remove(String::from_str(alloc, rest)?, 7))),
         "merge" => registers.merge(others)?,

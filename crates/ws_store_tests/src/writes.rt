@@ -3,6 +3,7 @@ use go_text::text::Text;
 use std::alloc::Global;
 use std::cmp::Ordering;
 use test_rows::answers::RowError;
+use ws_path::FilePath;
 use ws_version::{Held, Version, Write};
 
 /// What stands before and behind the first space; without one, all and nothing.
@@ -42,10 +43,14 @@ pub(crate) fn held(alloc: Global, row: &str) -> Result<Held, RowError> {
     held_text(alloc, version, content)
 }
 
-/// A write, of its path and of what is held.
-pub(crate) fn write(alloc: Global, row: &str) -> Result<Write, RowError> {
+/// A write, of its path and of what is held; none where the path isn't one.
+pub(crate) fn write(alloc: Global, row: &str) -> Result<Option<Write>, RowError> {
     let (path, rest) = cut(row);
-    Ok(Write::new(String::from_str(alloc, path)?, held(alloc, rest)?))
+    let held = held(alloc, rest)?;
+    let Some(path) = FilePath::new(String::from_str(alloc, path)?) else {
+        return Ok(None);
+    };
+    Ok(Some(Write::new(path, held)))
 }
 
 /// Whether what is held is above all others, and they below it, and it is the same as itself.
@@ -84,11 +89,13 @@ pub(crate) fn told(alloc: Global, held: &Held) -> Result<String, RowError> {
 
 /// A write's path and what it holds, which is the same as its copy.
 pub(crate) fn kept(alloc: Global, row: &str) -> Result<String, RowError> {
-    let write = write(alloc, row)?;
+    let Some(write) = write(alloc, row)? else {
+        return Ok(String::from_str(alloc, "bad path")?);
+    };
     let copy = write.held().copy()?;
     let (before, removed) = (told(alloc, write.held())?, write.held().is_removed());
     let path = String::from_str(alloc, write.path())?;
     let (same_path, kept) = write.into_parts();
-    let is_kept = path == same_path && kept.cmp_held(&copy) == Ordering::Equal;
+    let is_kept = path.as_str() == same_path.as_str() && kept.cmp_held(&copy) == Ordering::Equal;
     Ok(format!(in alloc; "{path} {before}, removed {removed}, kept {is_kept}")?)
 }

@@ -1,17 +1,20 @@
 //! What replicas join: the trait, versions, and what is held at a path.
 #![tactic(auto)]
 
-ghost use Rattle.std.specs.Prelude.{◌≡◌, OnOk, OnErr, IfOk, string_bytes, is_none, option_copied};
+ghost use Rattle.std.specs.Prelude.{◌≡◌, true, OnOk, OnErr, IfOk, is_none, option_copied};
+ghost use Rattle.std.specs.List.{list_all};
 ghost use Rattle.std.specs.Ordering.{nat_cmp};
 ghost use Rattle.std.specs.Option.{option_cmp};
 ghost use Rattle.std.specs.Cmp.Lexicographic.{slice_cmp};
-ghost use Rattle.ws_version.specs.Writes.{held_cmp};
+ghost use Rattle.ws_path.specs.Paths.{is_path};
+ghost use Rattle.ws_version.specs.Writes.{held_cmp, is_byte, IsOfFile};
 
 use go_text::text::Text;
 use std::alloc::AllocError;
 use std::cmp::Ordering;
 use std::marker::Model;
 use ws_map::Ranked;
+use ws_path::FilePath;
 
 /// A replica's contents, which any other's may be joined to.
 pub trait Join: Send + Sync + Sized {
@@ -155,27 +158,35 @@ impl Ranked for Held {
     }
 }
 
-/// A write: what is held, at a path.
+/// A write: what is held, at the path of a file.
 #[derive(Drop)]
 pub struct Write {
-    path: String,
+    path: FilePath,
     held: Held,
 }
 
 impl Model for Write {
-    ghost use Rattle.std.specs.Prelude.{string_bytes};
     ghost use Rattle.ws_version.specs.Writes as writes;
 
     ghost Value = { writes.Write };
 
-    ghost view = { λ a. (string_bytes a.path, a.held) };
+    ghost view = { λ a. (a.path, a.held) };
 }
 
 impl Write {
-    pub fn new(path: String, held: Held) -> Write
-        ensures { result ≡ (string_bytes path, held) }
+    pub fn new(path: FilePath, held: Held) -> Write
+        ensures { result ≡ (path, held) }
     {
         Write { path, held }
+    }
+
+    /// Another of equal contents, or an `Err` for want of memory.
+    pub fn copy(&self) -> Result<Write, AllocError>
+        ensures { IfOk result (λ copy. copy ≡ self.now) }
+    {
+        let path = self.path.copy()?;
+        let held = self.held.copy()?;
+        Ok(Write { path, held })
     }
 
     pub fn path(&self) -> &str
@@ -190,10 +201,25 @@ impl Write {
         &self.held
     }
 
-    pub fn into_parts(self) -> (String, Held)
-        ensures path { string_bytes result.0 ≡ self.0 }
+    pub fn into_parts(self) -> (FilePath, Held)
+        ensures path { result.0 ≡ self.0 }
         ensures held { result.1 ≡ self.1 }
     {
         (self.path, self.held)
     }
+
+    /// Sees that the path is one, and the text a source text.
+    pub fn see_file(&self)
+        ensures { IsOfFile self.now }
+    {
+        let _path = self.path.as_str();
+        if let Some(text) = self.held.text() {
+            see_bytes(text.as_str().as_bytes());
+        }
+    }
 }
+
+/// Sees that bytes are such.
+fn see_bytes(bytes: &[u8])
+    ensures { list_all is_byte bytes.now ≡ true }
+{}
