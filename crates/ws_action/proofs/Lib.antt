@@ -6,3 +6,4 @@ pub mod Order
 mod Imported
 mod Mapped
 mod Walks
+pub mod Crossing

@@ -7,6 +7,7 @@ use Rattle.std.specs.Ordering.{nat_cmp, ordering_then, is_lt}
 use Rattle.std.specs.Coded.{Coded, code_by, coded×, coded_ℕ, coded_list}
 use Rattle.std.specs.Cmp.Lexicographic.{slice_cmp}
 use Rattle.sha2.specs.Sha256.{sha256}
+use Rattle.go_text.specs.Named.{Source}
 use Rattle.go_ast.specs.Trees.{Name, File, ImportSpec}
 use Rattle.go_ast.specs.Parse.{Parsed, Derived, IsParse, IsPackage, IsNamed, IsOther}
 use Rattle.go_export.specs.Fields.{be, field}
@@ -36,6 +37,14 @@ action_code = code_by (ℕ × (List ℕ × (List Named × List Named))) (coded×
 -- a file's name and text
 abbrev pub source_of : Parsed → Named
 source_of file = (file.name, file.text)
+
+-- and back
+abbrev pub parsed_of : Named → Parsed
+parsed_of n = record { name = n.0; text = n.1 }
+
+-- so is a source's
+abbrev pub named_source : Source → Named
+named_source source = (source.name, source.text)
 
 -- the path of an imported package and its summary's text
 abbrev pub import_of : Summary → Named

@@ -4,23 +4,26 @@
 ghost use Rattle.std.specs.Prelude.{◌≡◌, ℕ, List, map, OnOk, IfOk, IfErr, string_bytes};
 ghost use Rattle.std.specs.Arc.{arc_value};
 ghost use Rattle.std.specs.Bool.{OnTrue, OnFalse};
-ghost use Rattle.std.specs.Cmp.Lexicographic.{slice_cmp};
-ghost use Rattle.std.specs.List.{Contains};
-ghost use Rattle.std.specs.Ordering.{ordering_then};
+ghost use Rattle.std.specs.List.{All, Contains};
 ghost use Rattle.go_text.specs.Editions.{edition_number};
 ghost use Rattle.go_ast.specs.Parse.{IsNamed, IsOther};
+ghost use Rattle.go_export.specs.Writable.{IsWritten};
 ghost use Rattle.ws_action.specs.Clash.{NoClash, Includes, hashed_actions, AllSized};
-ghost use Rattle.ws_action.specs.Actions.{Action as AnAction, source_of, import_of, action_of, are_ordered, HaveOneName, HaveOtherName, MakeAction, AreRefused, action_text, action_id, IsSized, named_cmp, action_cmp};
+ghost use Rattle.ws_action.specs.Actions.{Action as AnAction, source_of, import_of, action_of, are_ordered, HaveOneName, HaveOtherName, MakeAction, AreRefused, action_text, action_id, IsSized, action_cmp};
 
+mod files;
 mod import;
+mod origin;
 mod part;
 
 use crate::import::are_imports;
-use crate::part::{ascend, cmp_parts, measure, push_parts};
+use crate::part::{ascend, cmp_lists, measure, push_parts};
+pub use files::Files;
 use go_ast::parsed::Parsed;
 use go_export::field::{digest, push_field};
 use go_export::summary::Summary;
 use go_text::edition::Edition;
+pub use origin::Origin;
 use std::alloc::{AllocError, Global};
 use std::cmp::Ordering;
 use std::marker::Model;
@@ -52,7 +55,7 @@ pub struct Action {
     alloc: Global,
     edition: Edition,
     path: String,
-    files: Vec<Parsed>,
+    files: Arc<Files>,
     imports: Vec<Arc<Summary>>,
 }
 
@@ -66,9 +69,12 @@ impl Model for Action {
 
     ghost coded = { actions.action_code };
 
-    ghost view = { λ a. actions.action_of (edition_number a.edition) (string_bytes a.path) a.files.items (map arc_value a.imports.items) };
+    ghost view = { λ a. actions.action_of (edition_number a.edition) (string_bytes a.path) (arc_value a.files) (map arc_value a.imports.items) };
 
-    ghost invariant = { λ a. actions.MakeAction a.files.items (map arc_value a.imports.items) };
+    ghost use Rattle.std.specs.List.{All};
+    ghost use Rattle.go_export.specs.Writable.{IsWritten};
+
+    ghost invariant = { λ a. actions.MakeAction (arc_value a.files) (map arc_value a.imports.items) × All IsWritten (map arc_value a.imports.items) };
 }
 
 impl Action {
@@ -79,18 +85,19 @@ impl Action {
         alloc: Global,
         edition: Edition,
         path: String,
-        files: Vec<Parsed>,
+        files: Arc<Files>,
         imports: Vec<Arc<Summary>>,
     ) -> Result<Action, ActionError>
-        ensures ok { let summaries = map arc_value imports.items in IfOk result (λ a. a ≡ action_of (edition_number edition) (string_bytes path) files.items summaries) }
-        ensures allowed { OnOk result (MakeAction files.items (map arc_value imports.items)) }
-        ensures refused { IfErr result (λ e. AreRefused files.items (map arc_value imports.items) e) }
+        ensures ok { let summaries = map arc_value imports.items in IfOk result (λ a. a ≡ action_of (edition_number edition) (string_bytes path) (arc_value files) summaries) }
+        ensures allowed { OnOk result (MakeAction (arc_value files) (map arc_value imports.items)) }
+        ensures refused { IfErr result (λ e. AreRefused (arc_value files) (map arc_value imports.items) e) }
         ensures sized { IfOk result (λ a. IsSized a) }
     {
-        check_parts(&files, &imports)?;
+        check_parts(files.parsed(), &imports)?;
         let _ = path.len();
-        measure(&files);
+        measure(files.parsed());
         measure(&imports);
+        see_written(&imports);
         Ok(Action {
             alloc,
             edition,
@@ -119,12 +126,13 @@ impl Action {
         ensures value { map source_of result.now ≡ self.now.files }
         ensures named { HaveOneName result.now }
     {
-        self.files.as_slice()
+        self.files.parsed()
     }
 
     /// The summaries of the packages that the files import.
     pub fn imports(&self) -> &[Arc<Summary>]
-        ensures { map import_of (map arc_value result.now) ≡ self.now.imports }
+        ensures value { map import_of (map arc_value result.now) ≡ self.now.imports }
+        ensures written { All IsWritten (map arc_value result.now) }
     {
         self.imports.as_slice()
     }
@@ -134,7 +142,7 @@ impl Action {
         self.alloc
     }
 
-    /// Another of equal contents, which shares the texts and the summaries. An `Err` only where memory ran out.
+    /// Another of equal contents, which shares the files and the summaries. An `Err` only where memory ran out.
     pub fn copy(&self) -> Result<Action, AllocError>
         ensures { IfOk result (λ copy. copy ≡ self.now) }
     {
@@ -142,7 +150,7 @@ impl Action {
             alloc: self.alloc,
             edition: self.edition,
             path: self.path.clone()?,
-            files: copy_files(self.alloc, &self.files)?,
+            files: Arc::try_clone(&self.files)?,
             imports: copy_imports(self.alloc, &self.imports)?,
         })
     }
@@ -156,7 +164,7 @@ impl Action {
         push_field(&mut text, b"goset action")?;
         push_field(&mut text, edition.as_bytes())?;
         push_field(&mut text, self.path.as_bytes())?;
-        push_parts(&mut text, &self.files)?;
+        self.files.push(&mut text)?;
         push_parts(&mut text, &self.imports)?;
         Ok(text)
     }
@@ -176,19 +184,14 @@ impl Action {
     {
         match self.edition.number().cmp(&other.edition.number()) {
             Ordering::Equal => match self.path.cmp(&other.path) {
-                Ordering::Equal => self.cmp_parts(other),
+                Ordering::Equal => cmp_lists(
+                    self.files.parsed(),
+                    other.files.parsed(),
+                    &self.imports,
+                    &other.imports,
+                ),
                 unequal => unequal,
             },
-            unequal => unequal,
-        }
-    }
-
-    /// By the files, then the imports.
-    fn cmp_parts(&self, other: &Action) -> Ordering
-        ensures { result ≡ ordering_then (slice_cmp named_cmp self.now.files other.now.files) (slice_cmp named_cmp self.now.imports other.now.imports) }
-    {
-        match cmp_parts(&self.files, &other.files) {
-            Ordering::Equal => cmp_parts(&self.imports, &other.imports),
             unequal => unequal,
         }
     }
@@ -246,22 +249,21 @@ fn has_one_name(files: &[Parsed]) -> bool
     true
 }
 
+/// That the text of each summary tells it.
+fn see_written(imports: &[Arc<Summary>])
+    ensures { All IsWritten (map arc_value imports.now) }
+{
+    for summary in imports {
+        summary.written();
+    }
+}
+
 fn copy_imports(alloc: Global, imports: &[Arc<Summary>]) -> Result<Vec<Arc<Summary>>, AllocError>
     ensures { IfOk result (λ copies. map arc_value copies.items ≡ map arc_value imports.now) }
 {
     let mut copies = Vec::new(alloc);
     for summary in imports {
         copies.push(Arc::try_clone(summary)?)?;
-    }
-    Ok(copies)
-}
-
-fn copy_files(alloc: Global, files: &[Parsed]) -> Result<Vec<Parsed>, AllocError>
-    ensures { IfOk result (λ copies. copies.items ≡ files.now) }
-{
-    let mut copies = Vec::new(alloc);
-    for file in files {
-        copies.push(file.copy()?)?;
     }
     Ok(copies)
 }

@@ -1,12 +1,16 @@
 //! What actions are made of besides the edition and the directory: files and imports, each a text with a name.
 ghost use Rattle.std.specs.Prelude.{◌≡◌, ℕ, List, ◌++◌, ◌<◌, ◌^◌, length, map, OnOk};
+ghost use Rattle.std.specs.Arc.{arc_value};
+ghost use Rattle.std.specs.Ordering.{ordering_then};
 ghost use Rattle.std.specs.List.{All, flat_map};
 ghost use Rattle.std.specs.Cmp.Lexicographic.{slice_cmp};
-ghost use Rattle.ws_action.specs.Actions.{Named, ascends, list_text, AreSized, named_cmp};
+ghost use Rattle.sha2.specs.Sha256.{sha256};
+ghost use Rattle.ws_action.specs.Actions.{Named, import_of, ascends, list_text, AreSized, named_cmp};
 
 use go_ast::parsed::Parsed;
 use go_export::field::{digest, push_field, push_number};
 use go_export::summary::Summary;
+use go_text::source::Source;
 use std::alloc::AllocError;
 use std::cmp::Ordering;
 use std::sync::Arc;
@@ -22,6 +26,10 @@ pub(crate) trait Part {
     /// The bytes of its text.
     fn part_text(&self) -> &[u8]
         ensures { result.now ≡ (named self.now).1 };
+
+    /// The digest of its text.
+    fn part_digest(&self) -> [u8; 32]
+        ensures { result ≡ sha256 (named self.now).1 };
 }
 
 impl Part for Parsed {
@@ -35,6 +43,28 @@ impl Part for Parsed {
 
     fn part_text(&self) -> &[u8] {
         self.text().as_str().as_bytes()
+    }
+
+    fn part_digest(&self) -> [u8; 32] {
+        digest(self.text().as_str().as_bytes())
+    }
+}
+
+impl Part for Source {
+    ghost use Rattle.ws_action.specs.Actions.{named_source};
+
+    ghost named = { named_source };
+
+    fn part_name(&self) -> &str {
+        self.name()
+    }
+
+    fn part_text(&self) -> &[u8] {
+        self.text().as_str().as_bytes()
+    }
+
+    fn part_digest(&self) -> [u8; 32] {
+        digest(self.text().as_str().as_bytes())
     }
 }
 
@@ -50,6 +80,10 @@ impl Part for Arc<Summary> {
 
     fn part_text(&self) -> &[u8] {
         self.text()
+    }
+
+    fn part_digest(&self) -> [u8; 32] {
+        self.digest()
     }
 }
 
@@ -87,7 +121,7 @@ pub(crate) fn push_parts<P: Part>(text: &mut Vec<u8>, parts: &[P]) -> Result<(),
     push_number(text, parts.len() as u64)?;
     for part in parts {
         push_field(text, part.part_name().as_bytes())?;
-        push_field(text, &digest(part.part_text()))?;
+        push_field(text, &part.part_digest())?;
     }
     Ok(())
 }
@@ -119,5 +153,20 @@ pub(crate) fn cmp_parts<P: Part>(parts: &[P], others: &[P]) -> Ordering
         Ordering::Less
     } else {
         Ordering::Equal
+    }
+}
+
+/// By the files, then the imports.
+pub(crate) fn cmp_lists<P: Part>(
+    files: &[P],
+    other_files: &[P],
+    imports: &[Arc<Summary>],
+    other_imports: &[Arc<Summary>],
+) -> Ordering
+    ensures { result ≡ ordering_then (slice_cmp named_cmp (map P.named files.now) (map P.named other_files.now)) (slice_cmp named_cmp (map import_of (map arc_value imports.now)) (map import_of (map arc_value other_imports.now))) }
+{
+    match cmp_parts(files, other_files) {
+        Ordering::Equal => cmp_parts(imports, other_imports),
+        unequal => unequal,
     }
 }

@@ -8,7 +8,7 @@ use Rattle.std.proofs.lemmas.Slice.Eq.{bytes_eq-Decides}
 use Rattle.ws_action.specs.Actions.{Action, action_id}
 use Rattle.ws_action.proofs.Members.{none_in_empty, head_or_later, later, at_head}
 use Rattle.ws_cache.specs.Count.{count_new}
-use Rattle.ws_board.proofs.Carry.{first_false, second_false}
+use Rattle.ws_board.proofs.Later.{first_false, second_false}
 
 -- the id is one of these
 abbrev pub known : List (List ℕ) → List ℕ → Bool

@@ -2,23 +2,24 @@
 use denote.Param.Send.{IsSend, sendable}
 use Rattle.std.proofs.Crossing.{crosses}
 use Rattle.std.proofs.MapsCrossing as maps
-use Rattle.go_ast.proofs.Crossing.{parsed_send}
+use Rattle.ws_action.proofs.Crossing.{action_send, action_sync, files_send, files_sync}
 use Rattle.ws_cache.proofs.Crossing.{cache_send}
-use Rattle.ws_action.specs.contracts.Action as action
 use Rattle.ws_board.proofs.work.Status.TheSendSync as status
 use Rattle.ws_board.proofs.work.Event.TheSendSync as event
 use Rattle.ws_board.specs.contracts.work.Identified as identified
+use Rattle.ws_board.specs.contracts.work.Work as work
 use Rattle.ws_board.specs.contracts.work.Job as job
 use Rattle.ws_board.specs.contracts.Board as board
 
-action_send : IsSend action.the_row
-action_send = search (parsed_send, crosses, maps.crosses, sendable) depth 20
-
+-- what owners share has to be both
 identified_send : IsSend identified.the_row
-identified_send = search (action_send, crosses, sendable) depth 20
+identified_send = search (action_send, action_sync, crosses, maps.crosses, sendable) depth 20
+
+work_send : IsSend work.the_row
+work_send = search (files_send, files_sync, crosses, maps.crosses, sendable) depth 20
 
 job_send : IsSend job.the_row
-job_send = search (identified_send, crosses, sendable) depth 20
+job_send = search (work_send, crosses, sendable) depth 20
 
 pub board_send : IsSend board.the_row
-board_send = search (job_send, cache_send, status.the_field_send, event.the_field_send, crosses, sendable) depth 20
+board_send = search (job_send, identified_send, cache_send, status.the_field_send, event.the_field_send, crosses, sendable) depth 20

@@ -1,16 +1,22 @@
 -- A legal history, and one event more.
-use Rattle.std.proofs.Common.{◌≡◌, ℕ, Bool, List, [], ◌∷◌, ◌++◌, map, Some, refl, sym, subst}
-use Rattle.std.specs.FinMap.{empty}
+use Rattle.std.proofs.Common.{◌≡◌, ℕ, Bool, List, [], ◌∷◌, ◌++◌, length, Option, Some, None, refl, sym, ap, ◌∙◌, subst}
+use Rattle.std.specs.Prelude.{true, false, if◌then◌else◌}
+use Rattle.std.specs.FinMap.{get, empty}
+use Rattle.std.specs.Option.{option_or}
+use Rattle.std.specs.Str.{bytes_eq}
 use Rattle.std.specs.List.{slice_get}
+use Rattle.std.proofs.lemmas.Slice.Eq.{bytes_eq-Decides}
 use Rattle.ws_map.specs.Kept.{taken}
 use Rattle.ws_action.specs.Actions.{Action, action_id}
 use Rattle.ws_cache.specs.Joined.{lesser}
 use Rattle.ws_board.specs.declared.work.Status.{Status}
-use Rattle.ws_board.specs.declared.work.Status.TheVariants.{Waiting, Ready}
+use Rattle.ws_board.specs.declared.work.Status.TheVariants.{Waiting, Ready, Running, Blocked, Done}
 use Rattle.ws_board.specs.declared.work.Event.{Event}
-use Rattle.ws_board.specs.Work.{Job, Entries, Opening, State}
-use Rattle.ws_board.specs.Machine.{status_at, action_at, held, held_in, IsGoodness, Stands, Carried, IsMarked, IsRunBy, Finishes, BoardStep, Replays, IsHistory}
-use Rattle.ws_board.proofs.Sounds.{at_rest, IsSound, history_sound, ready_acts, acting_action}
+use Rattle.ws_board.specs.Work.{Job, Entries, Standings, Opening, State}
+use Rattle.ws_board.specs.Machine.{Held, is_waiting, status_at, action_at, held, IsGoodness, Carried, IsMarked, IsRunBy, Finishes, BoardStep, Replays, IsFirst, IsHistory, unopened}
+use Rattle.ws_board.specs.Carrying.{held_with, AreOf}
+use Rattle.ws_board.proofs.Grown.{taken_here, taken_other, grows}
+use Rattle.ws_board.proofs.Sounds.{IsSound, KeepsIn, history_keeps, running_unheld, half_marked}
 
 replays_more : (opening : Opening) (events : List Event) (first old : State) (event : Event) (new : State) → Replays opening first events old → BoardStep opening old event new → Replays opening first (events ++ event ∷ []) new
 replays_more opening [] first old event new r step = (new, subst (λ s. BoardStep opening s event new) r step, refl)
@@ -20,30 +26,90 @@ pub history_more : (opening : Opening) (events all : List Event) (old : State) (
 history_more opening events all old event new h step is =
     subst (λ l. IsHistory opening l new) (sym is) (record { first = h.first; begins = h.begins; replays = replays_more opening events h.first old event new h.replays step })
 
-pub opened_history : (jobs : List Job) (cache added : Entries) (statuses : List Status) → added ≡ empty → Carried jobs (held_in cache added) (map (λ job. Waiting) jobs) statuses
-    → IsHistory (record { jobs = jobs; cache = cache }) [] (record { statuses = statuses; added = added })
-opened_history jobs cache added statuses none carried =
-    record { first = record { statuses = statuses; added = added }; begins = record { added = none; carried = carried }; replays = refl }
-
 -- in a legal history a job that is ready has an action
-pub ready_has : (opening : Opening) (events : List Event) (now : State) → IsHistory opening events now → (job : ℕ) → status_at now.statuses job ≡ Ready → (action : Action) × (action_at opening.jobs job ≡ Some action)
+pub ready_has : (opening : Opening) (events : List Event) (now : State) → IsHistory opening events now → (job : ℕ) → status_at now.standings.statuses job ≡ Ready → (action : Action) × (action_at now.standings.actions job ≡ Some action)
 ready_has opening events now h job ready =
-    let sound : IsSound opening now = history_sound opening events now h in
-    let stands : Stands (held opening now) (status_at now.statuses) (slice_get opening.jobs job) Ready = subst (λ s. Stands (held opening now) (status_at now.statuses) (slice_get opening.jobs job) (at_rest s)) ready (sound.stands job) in
-    let acts = ready_acts (held opening now) (status_at now.statuses) (slice_get opening.jobs job) stands in
-    (acts.0, acting_action (status_at now.statuses) (slice_get opening.jobs job) acts.0 acts.2)
+    has (slice_get opening.jobs job) (action_at now.standings.actions job)
+    (subst (λ s. IsSound (held opening now) now.standings (slice_get opening.jobs job) s (action_at now.standings.actions job)) ready ((history_keeps opening events now h).sound job))
+  where
+    has : (o : Option Job) (x : Option Action) → IsSound (held opening now) now.standings o Ready x → (a : Action) × (x ≡ Some a)
+    has None x sound = let c : Ready ≡ Blocked = sound.0 in absurd (cc)
+    has (Some job) x sound = (sound.0, sound.1)
+
+-- ---- what is held while an entry is about to be added, and then
+
+or_some : (a : Option Action) (c : Action) → a ≡ Some c → (b : Option Action) → option_or a b ≡ Some c
+or_some a c e b = ap (λ o. option_or o b) e
+
+or_assoc : (a b c : Option Action) → c ≡ None → option_or a (option_or b c) ≡ option_or a b
+or_assoc None None c e = e
+or_assoc None (Some x) c e = refl
+or_assoc (Some x) b c e = refl
+
+or_none : (a b : Option Action) → option_or a b ≡ None → (a ≡ None) × (b ≡ None)
+or_none None b h = (refl, h)
+or_none (Some x) b h = absurd (cc)
+
+held_newest : (cache added : Entries) (entry : Action) (id : List ℕ) → get cache (action_id entry) ≡ None → get added (action_id entry) ≡ None → (b : Bool) → bytes_eq (action_id entry) id ≡ b
+    → held_with cache added (Some entry) id ≡ option_or (get cache id) (get (taken lesser added (action_id entry) entry) id)
+held_newest cache added entry id none nor true e =
+    let same : action_id entry ≡ id = (bytes_eq-Decides (action_id entry) id).0 e in
+    let first : get cache id ≡ None = ap (get cache) (sym same) ∙ none in
+    let second : get added id ≡ None = ap (get added) (sym same) ∙ nor in
+    let put : get (taken lesser added (action_id entry) entry) id ≡ Some entry = ap (get (taken lesser added (action_id entry) entry)) (sym same) ∙ taken_here added (action_id entry) entry nor in
+    let new : (if bytes_eq (action_id entry) id then Some entry else None) ≡ Some entry = ap (λ b. if b then Some entry else None) e in
+    ap (λ o. option_or o (option_or (get added id) (if bytes_eq (action_id entry) id then Some entry else None))) first
+    ∙ ap (λ o. option_or o (if bytes_eq (action_id entry) id then Some entry else None)) second
+    ∙ new ∙ sym (ap (λ o. option_or o (get (taken lesser added (action_id entry) entry) id)) first ∙ put)
+held_newest cache added entry id none nor false e =
+    let other : id ≡ action_id entry → ⊥ = λ same. (let c : true ≡ false = sym ((bytes_eq-Decides (action_id entry) id).1 (sym same)) ∙ e in cc) in
+    or_assoc (get cache id) (get added id) (if bytes_eq (action_id entry) id then Some entry else None) (ap (λ b. if b then Some entry else None) e)
+    ∙ ap (option_or (get cache id)) (sym (taken_other added (action_id entry) entry id other))
+
+-- what is held with the newest entry is what is held once it was added
+pub held_grown : (opening : Opening) (old : State) (entry : Action) → held opening old (action_id entry) ≡ None
+    → held_with opening.cache old.added (Some entry) ≡ held opening (record { standings = old.standings; added = taken lesser old.added (action_id entry) entry })
+held_grown opening old entry none =
+    let parts = or_none (get opening.cache (action_id entry)) (get old.added (action_id entry)) none in
+    λ i id. held_newest opening.cache old.added entry id parts.0 parts.1 (bytes_eq (action_id entry) id) refl i
+
+-- without one it is what is held
+pub held_still : (cache added : Entries) → held_with cache added None ≡ (λ id. option_or (get cache id) (get added id))
+held_still cache added = λ i id. or_assoc (get cache id) (get added id) None refl i
+
+-- what is marked and waits has no action
+pub marked_bare : (opening : Opening) (old : State) (hand job : ℕ) (action entry : Action) (good : Bool) (marked : Standings) → KeepsIn opening old → IsRunBy old.standings hand job action → action_id entry ≡ action_id action → IsGoodness entry good
+    → IsMarked (action_id action) good old.standings marked → (k : ℕ) → status_at marked.statuses k ≡ Waiting → action_at marked.actions k ≡ None
+marked_bare opening old hand job action entry good marked keeps run fits goodness marks k waits =
+    let new : State = record { standings = old.standings; added = taken lesser old.added (action_id action) entry } in
+    let grown = grows opening old new (action_id action) entry refl (running_unheld opening old hand job action keeps run) in
+    (half_marked opening.jobs (held opening old) (held opening new) (action_id action) entry good grown goodness old.standings marked marks keeps).bare k (ap is_waiting waits)
+
+pub marked_of : (jobs : List Job) (id : List ℕ) (good : Bool) (old marked : Standings) → AreOf jobs old → IsMarked id good old marked → AreOf jobs marked
+marked_of jobs id good old marked all marks = record { statuses = marks.same_length ∙ all.statuses; actions = ap length marks.actions ∙ all.actions }
 
 -- what a finish does is a step
-pub finish_step : (jobs js ks : List Job) (opened added put : Entries) (old marked new : List Status) (hand job : ℕ) (action entry : Action) (id : List ℕ) (good : Bool) → js ≡ jobs → ks ≡ jobs → id ≡ action_id action
-    → IsRunBy jobs old hand job action → action_id entry ≡ action_id action → IsGoodness entry good → put ≡ taken lesser added (action_id entry) entry → IsMarked js id good old marked → Carried ks (held_in opened put) marked new
-    → Finishes (record { jobs = jobs; cache = opened }) (record { statuses = old; added = added }) hand job action entry (record { statuses = new; added = put })
-finish_step jobs js ks opened added put old marked new hand job action entry id good same again is run fits goodness joins marks carried = record {
-  good = good;
-  marked = marked;
-  run = run;
-  fits = fits;
-  goodness = goodness;
-  joins = joins;
-  marks = subst (λ i. IsMarked jobs i good old marked) is (subst (λ l. IsMarked l id good old marked) same marks);
-  carried = subst (λ l. Carried l (held_in opened put) marked new) again carried;
-}
+pub finish_step : (opening : Opening) (old : State) (hand job : ℕ) (action entry : Action) (good : Bool) (marked new : Standings) → KeepsIn opening old → IsRunBy old.standings hand job action → action_id entry ≡ action_id action → IsGoodness entry good
+    → IsMarked (action_id action) good old.standings marked → Carried opening.jobs (held_with opening.cache old.added (Some entry)) marked new
+    → Finishes opening old hand job action entry (record { standings = new; added = taken lesser old.added (action_id entry) entry })
+finish_step opening old hand job action entry good marked new keeps run fits goodness marks carried =
+    let none : held opening old (action_id entry) ≡ None = ap (held opening old) fits ∙ running_unheld opening old hand job action keeps run in
+    record {
+      good = good;
+      marked = marked;
+      run = run;
+      fits = fits;
+      goodness = goodness;
+      joins = refl;
+      marks = marks;
+      carried = subst (λ h. Carried opening.jobs h marked new) (held_grown opening old entry none) carried;
+    }
+
+-- ---- the opening
+
+pub opened_first : (jobs : List Job) (cache added : Entries) (now : Standings) → added ≡ empty → Carried jobs (held_with cache added None) (unopened jobs) now
+    → IsFirst (record { jobs = jobs; cache = cache }) (record { standings = now; added = added })
+opened_first jobs cache added now none carried = record { added = none; carried = subst (λ h. Carried jobs h (unopened jobs) now) (held_still cache added) carried }
+
+pub opened_history : (opening : Opening) (first : State) → IsFirst opening first → IsHistory opening [] first
+opened_history opening first begins = record { first = first; begins = begins; replays = refl }

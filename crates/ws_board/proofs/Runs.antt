@@ -1,5 +1,5 @@
 -- How many jobs run.
-use Rattle.std.proofs.Common.{◌≡◌, ℕ, zero, suc, ◌+◌, ◌<◌, ◌≤◌, Bool, true, false, ◌&&◌, cond, List, [], ◌∷◌, length, get_or, count_by, map, replicate, Option, Some, None, refl, sym, ap, ◌∙◌, inl, inr, arith}
+use Rattle.std.proofs.Common.{◌≡◌, ℕ, zero, suc, ◌+◌, ◌<◌, ◌≤◌, Bool, true, false, ◌&&◌, cond, List, [], ◌∷◌, length, get_or, count_by, map, Option, Some, None, refl, sym, ap, ◌∙◌, inl, inr, arith}
 use Rattle.std.specs.Prelude.{if◌then◌else◌}
 use Rattle.std.specs.List.{slice_get}
 use Rattle.std.proofs.Math.ListN.{set}
@@ -9,8 +9,8 @@ use Rattle.std.proofs.lemmas.Slice.Eq.{bytes_eq-Decides}
 use Rattle.ws_action.specs.Actions.{Action, action_id}
 use Rattle.ws_board.specs.declared.work.Status.{Status}
 use Rattle.ws_board.specs.declared.work.Status.TheVariants.{Waiting, Running, Blocked, Done}
-use Rattle.ws_board.specs.Work.{Job}
-use Rattle.ws_board.specs.Machine.{is_open, is_running, is_waiting, is_active, status_at, has_id, has_action_id, Verdict, Wait, Stop, Act, verdict, Follows, IsPlaced, Stands, Carried, mark, IsMarked, IsRunBy}
+use Rattle.ws_board.specs.Work.{Job, Standings}
+use Rattle.ws_board.specs.Machine.{Held, is_open, is_running, is_waiting, is_active, status_at, action_at, has_id, has_action_id, Verdict, Wait, Stop, Act, Follows, IsPlaced, Stands, Carried, mark, IsMarked, IsRunBy, unopened}
 use Rattle.ws_board.proofs.Carry.{past_end, waiting_or, carried_agrees}
 
 cond_le : (a b : Bool) → (a ≡ true → b ≡ true) → cond a 1 0 ≤ cond b 1 0
@@ -46,48 +46,49 @@ inside_of xs k s e a = elim (cases_lt k (length xs)) [
 
 -- ---- what stands so doesn't run
 
-placed_rests : (held : Option Action) (s : Status) → IsPlaced held s → is_running s ≡ false
-placed_rests None s h = ap is_running h
-placed_rests (Some b) s h = ap is_running h.2
+pub stands_rests : (h : Held) (now : Standings) (o : Option Job) (s : Status) (x : Option Action) → Stands h now o s x → is_running s ≡ false
+stands_rests h now None s x st = ap is_running st.0
+stands_rests h now (Some job) s x st = by_verdict st.0 st.2
+  where
+    placed : (p : Option Action) → IsPlaced p s → is_running s ≡ false
+    placed None p = ap is_running p
+    placed (Some b) p = ap is_running p.2
 
-follows_rests : (held : List ℕ → Option Action) (v : Verdict) (s : Status) → Follows held v s → is_running s ≡ false
-follows_rests held Wait s h = ap is_running h
-follows_rests held Stop s h = ap is_running h
-follows_rests held (Act a) s h = placed_rests (held (action_id a)) s h
+    by_verdict : (v : Verdict) → Follows h v s x → is_running s ≡ false
+    by_verdict Wait f = ap is_running f.0
+    by_verdict Stop f = ap is_running f.0
+    by_verdict (Act a) f = placed (h (action_id a)) f.0
 
-pub stands_rests : (held : List ℕ → Option Action) (f : ℕ → Status) (o : Option Job) (s : Status) → Stands held f o s → is_running s ≡ false
-stands_rests held f None s h = ap is_running h
-stands_rests held f (Some job) s h = follows_rests held (verdict f job) s h
-
-pub carried_ran : (jobs : List Job) (held : List ℕ → Option Action) (old new : List Status) → Carried jobs held old new → (k : ℕ) → is_running (status_at new k) ≡ true → is_running (status_at old k) ≡ true
-carried_ran jobs held old new c k e = elim (waiting_or (status_at old k)) [
-  | inl w ↦ (let x : true ≡ false = sym e ∙ stands_rests held (status_at new) (slice_get jobs k) (status_at new k) (c.waiting k w) in absurd (cc))
-  | inr w ↦ ap is_running (sym (c.others k w)) ∙ e
+pub carried_ran : (jobs : List Job) (h : Held) (old new : Standings) → Carried jobs h old new → (k : ℕ) → is_running (status_at new.statuses k) ≡ true → is_running (status_at old.statuses k) ≡ true
+carried_ran jobs h old new c k e = elim (waiting_or (status_at old.statuses k)) [
+  | inl w ↦ (let x : true ≡ false = sym e ∙ stands_rests h new (slice_get jobs k) (status_at new.statuses k) (action_at new.actions k) (c.waiting k w) in absurd (cc))
+  | inr w ↦ ap is_running (sym (c.others k w).0) ∙ e
 ]
 
 mark_ran1 : (b : Bool) (good : Bool) (s : Status) → is_running (if b then Done good else s) ≡ true → is_running s ≡ true
 mark_ran1 true good s h = let c : false ≡ true = h in absurd (cc)
 mark_ran1 false good s h = h
 
-pub mark_ran : (jobs : List Job) (id : List ℕ) (good : Bool) (old new : List Status) → IsMarked jobs id good old new → (k : ℕ) → is_running (status_at new k) ≡ true → is_running (status_at old k) ≡ true
-mark_ran jobs id good old new m k e = mark_ran1 (is_active (status_at old k) && has_id jobs id k) good (status_at old k) (ap is_running (sym (m.each k)) ∙ e)
+pub mark_ran : (id : List ℕ) (good : Bool) (old new : Standings) → IsMarked id good old new → (k : ℕ) → is_running (status_at new.statuses k) ≡ true → is_running (status_at old.statuses k) ≡ true
+mark_ran id good old new m k e = mark_ran1 (is_active (status_at old.statuses k) && has_id old.actions id k) good (status_at old.statuses k) (ap is_running (sym (m.each k)) ∙ e)
 
-pub has_its_id : (jobs : List Job) (id : List ℕ) (k : ℕ) (a : Action) → Rattle.ws_board.specs.Machine.action_at jobs k ≡ Some a → action_id a ≡ id → has_id jobs id k ≡ true
-has_its_id jobs id k a its same = ap (has_action_id id) its ∙ (bytes_eq-Decides (action_id a) id).1 same
+pub has_its_id : (actions : List (Option Action)) (id : List ℕ) (k : ℕ) (a : Action) → action_at actions k ≡ Some a → action_id a ≡ id → has_id actions id k ≡ true
+has_its_id actions id k a its same = ap (has_action_id id) its ∙ (bytes_eq-Decides (action_id a) id).1 same
 
-pub marked_done : (jobs : List Job) (id : List ℕ) (good : Bool) (old new : List Status) → IsMarked jobs id good old new → (hand k : ℕ) (a : Action) → IsRunBy jobs old hand k a → action_id a ≡ id → status_at new k ≡ Done good
-marked_done jobs id good old new m hand k a run same =
-    m.each k ∙ ap (mark jobs id good k) run.runs ∙ ap (λ b. if b then Done good else Running hand) (has_its_id jobs id k a run.its same)
+pub marked_done : (id : List ℕ) (good : Bool) (old new : Standings) → IsMarked id good old new → (hand k : ℕ) (a : Action) → IsRunBy old hand k a → action_id a ≡ id → status_at new.statuses k ≡ Done good
+marked_done id good old new m hand k a run same =
+    m.each k ∙ ap (mark old.actions id good k) run.runs ∙ ap (λ b. if b then Done good else Running hand) (has_its_id old.actions id k a run.its same)
 
-pub finished_done : (jobs : List Job) (held : List ℕ → Option Action) (id : List ℕ) (good : Bool) (old mid new : List Status) → IsMarked jobs id good old mid → Carried jobs held mid new → (hand k : ℕ) (a : Action) → IsRunBy jobs old hand k a → action_id a ≡ id → status_at new k ≡ Done good
-finished_done jobs held id good old mid new m c hand k a run same =
-    let done : status_at mid k ≡ Done good = marked_done jobs id good old mid m hand k a run same in
-    carried_agrees jobs held mid new c k (ap is_open done) ∙ done
+pub finished_done : (jobs : List Job) (h : Held) (id : List ℕ) (good : Bool) (old mid new : Standings) → IsMarked id good old mid → Carried jobs h mid new → (hand k : ℕ) (a : Action) → IsRunBy old hand k a → action_id a ≡ id → status_at new.statuses k ≡ Done good
+finished_done jobs h id good old mid new m c hand k a run same =
+    let done : status_at mid.statuses k ≡ Done good = marked_done id good old mid m hand k a run same in
+    carried_agrees jobs h mid new c k (ap is_open done) ∙ done
 
-pub finish_runs : (jobs : List Job) (held : List ℕ → Option Action) (id : List ℕ) (good : Bool) (old mid new : List Status) → IsMarked jobs id good old mid → Carried jobs held mid new → (hand k : ℕ) (a : Action) → IsRunBy jobs old hand k a → action_id a ≡ id → count_by is_running new + 1 ≤ count_by is_running old
-finish_runs jobs held id good old mid new m c hand k a run same =
-    less is_running old new k (c.same_length ∙ m.same_length) (λ i e. mark_ran jobs id good old mid m i (carried_ran jobs held mid new c i e)) (inside_of old k (Running hand) run.runs refl) (ap is_running run.runs)
-    (ap is_running (finished_done jobs held id good old mid new m c hand k a run same))
+pub finish_runs : (jobs : List Job) (h : Held) (id : List ℕ) (good : Bool) (old mid new : Standings) → IsMarked id good old mid → Carried jobs h mid new → (hand k : ℕ) (a : Action) → IsRunBy old hand k a → action_id a ≡ id
+    → count_by is_running new.statuses + 1 ≤ count_by is_running old.statuses
+finish_runs jobs h id good old mid new m c hand k a run same =
+    less is_running old.statuses new.statuses k (c.same_length.0 ∙ m.same_length) (λ i e. mark_ran id good old mid m i (carried_ran jobs h mid new c i e)) (inside_of old.statuses k (Running hand) run.runs refl) (ap is_running run.runs)
+    (ap is_running (finished_done jobs h id good old mid new m c hand k a run same))
 
 -- ---- one job is written
 
@@ -103,13 +104,9 @@ none_runs : (jobs : List Job) → count_by is_running (map (λ job. Waiting) job
 none_runs [] = refl
 none_runs (x ∷ xs) = omega (arith, sum_by-cons (λ s. cond (is_running s) 1 0) Waiting (map (λ job. Waiting) xs), none_runs xs)
 
-pub all_replicated : (jobs : List Job) → replicate (length jobs) Waiting ≡ map (λ job. Waiting) jobs
-all_replicated [] = refl
-all_replicated (x ∷ xs) = ap (λ (l : List Status). Waiting ∷ l) (all_replicated xs)
-
-pub opening_rests : (jobs : List Job) (held : List ℕ → Option Action) (new : List Status) → Carried jobs held (map (λ job. Waiting) jobs) new → count_by is_running new ≡ 0
-opening_rests jobs held new c =
-    let le = at_most is_running (map (λ job. Waiting) jobs) new c.same_length (carried_ran jobs held (map (λ job. Waiting) jobs) new c) in
+pub opening_rests : (jobs : List Job) (h : Held) (new : Standings) → Carried jobs h (unopened jobs) new → count_by is_running new.statuses ≡ 0
+opening_rests jobs h new c =
+    let le = at_most is_running (map (λ job. Waiting) jobs) new.statuses c.same_length.0 (carried_ran jobs h (unopened jobs) new c) in
     omega (arith, le, none_runs jobs)
 
 -- where none runs, the count is 0

@@ -1,343 +1,389 @@
--- What every legal history keeps: each job stands as its imports and what is held say, where one that runs counts as ready.
-use Rattle.std.proofs.Common.{◌≡◌, ℕ, zero, suc, ◌<◌, Bool, true, false, ◌||◌, ◌&&◌, cond, List, [], ◌∷◌, length, map, Option, Some, None, refl, sym, ap, ◌∙◌, subst, inl, inr, arith, get_or-set_other, get_or-set_same}
-use Rattle.std.specs.Prelude.{if◌then◌else◌}
-use Rattle.std.proofs.Math.ListN.{set, length-set}
+-- Along a legal history each job stands as its imports say, and nothing is held for what is ready or runs.
+use Rattle.std.proofs.Common.{◌≡◌, ◌⊎◌, ℕ, zero, suc, Bool, true, false, ◌||◌, cond, List, [], ◌∷◌, map, Option, Some, None, refl, sym, ap, ◌∙◌, subst, inl, inr}
+use Rattle.std.specs.Prelude.{slice_set}
 use Rattle.std.specs.List.{slice_get, list_any}
-use Rattle.std.specs.Option.{option_or}
 use Rattle.std.specs.Str.{bytes_eq}
-use Rattle.std.specs.Ordering.{is_eq, eq_by_cmp}
-use Rattle.std.specs.FinMap.{get, empty, get-empty, insert, get-insert}
-use Rattle.std.proofs.lemmas.Bool.{cases_eq, cases_lt}
-use Rattle.std.proofs.lemmas.Cmp.{tied_itself}
-use Rattle.std.proofs.lemmas.List.{length-map}
-use Rattle.std.proofs.lemmas.Option.{slice_get_past}
 use Rattle.std.proofs.lemmas.Slice.Eq.{bytes_eq-Decides}
 use Rattle.ws_map.specs.Kept.{taken}
-use Rattle.ws_map.specs.Greater.{joined_option}
-use Rattle.ws_map.proofs.Kept.{get-joined}
 use Rattle.ws_action.specs.Actions.{Action, action_id}
-use Rattle.ws_cache.specs.Held.{id_cmp}
 use Rattle.ws_cache.specs.Joined.{lesser}
-use Rattle.ws_cache.proofs.Joined.{id_cmp_total, id_cmp-IsAntisymmetric}
 use Rattle.ws_board.specs.declared.work.Status.{Status}
 use Rattle.ws_board.specs.declared.work.Status.TheVariants.{Waiting, Ready, Running, Blocked, Done}
 use Rattle.ws_board.specs.declared.work.Event.{Event}
 use Rattle.ws_board.specs.declared.work.Event.TheVariants.{Take, Finish, Back, Idle}
-use Rattle.ws_board.specs.Work.{Job, Entries, Opening, State}
-use Rattle.ws_board.specs.Machine.{is_open, is_bad, is_waiting, is_running, is_active, status_at, action_at, action_in, has_id, has_action_id, Verdict, Wait, Stop, Act, judged, verdict, held, IsGoodness, IsPlaced, Follows, Stands, mark, IsMarked, stood, IsRunBy, Finishes, BoardStep, Replays, IsFirst, IsHistory}
-use Rattle.ws_board.proofs.Carry.{Agrees, verdict_stays, any_open, any_bad, past_end, set_agrees, carried_agrees}
-use Rattle.ws_board.proofs.Runs.{inside_of, stands_rests}
+use Rattle.ws_board.specs.Work.{Work, Job, Standings, Opening, State}
+use Rattle.ws_board.specs.Machine.{Held, is_waiting, is_active, is_open, status_at, action_at, has_action_id, has_id, any_open, Verdict, Wait, Stop, Act, IsVerdict, IsGoodness, IsPlaced, Follows, Stands, Carried, held, mark, IsMarked, stood, IsRunBy, Finishes, BoardStep, Replays, unopened, IsFirst, IsHistory}
+use Rattle.ws_board.proofs.Grown.{Grows, grows}
+use Rattle.ws_board.proofs.Later.{Later, act_stays, stop_stays}
+use Rattle.ws_board.proofs.Carry.{shut_waits_not}
 
--- one that runs counts as ready
-abbrev pub at_rest : Status → Status
-at_rest Waiting = Waiting
-at_rest Ready = Ready
-at_rest (Running hand) = Ready
-at_rest Blocked = Blocked
-at_rest (Done good) = Done good
+-- as its imports say; what is done has a result that is held
+abbrev pub IsSound : Held → Standings → Option Job → Status → Option Action → Type 0
+IsSound h now None status action = (status ≡ Blocked) × (action ≡ None)
+IsSound h now (Some job) Waiting action = (action ≡ None) × IsVerdict h now job.work job.imports Wait
+IsSound h now (Some job) Blocked action = (action ≡ None) × IsVerdict h now job.work job.imports Stop
+IsSound h now (Some job) (Done good) action =
+    (a : Action) × (action ≡ Some a) × IsVerdict h now job.work job.imports (Act a) × ((entry : Action) × (h (action_id a) ≡ Some entry) × IsGoodness entry good)
+IsSound h now (Some job) Ready action = (a : Action) × (action ≡ Some a) × IsVerdict h now job.work job.imports (Act a)
+IsSound h now (Some job) (Running hand) action = (a : Action) × (action ≡ Some a) × IsVerdict h now job.work job.imports (Act a)
 
-pub record IsSound (opening : Opening) (state : State) : Type 0 where
-  pub same_length : length state.statuses ≡ length opening.jobs
-  pub stands : (j : ℕ) → Stands (held opening state) (status_at state.statuses) (slice_get opening.jobs j) (at_rest (status_at state.statuses j))
+-- each job stands as its imports say, and nothing is held for what is active
+pub record Keeps (jobs : List Job) (h : Held) (now : Standings) : Type 0 where
+  pub sound : (k : ℕ) → IsSound h now (slice_get jobs k) (status_at now.statuses k) (action_at now.actions k)
+  pub fresh : (k : ℕ) (a : Action) → is_active (status_at now.statuses k) ≡ true → action_at now.actions k ≡ Some a → h (action_id a) ≡ None
 
-open_at_rest : (s : Status) → is_open (at_rest s) ≡ is_open s
-open_at_rest Waiting = refl
-open_at_rest Ready = refl
-open_at_rest (Running hand) = refl
-open_at_rest Blocked = refl
-open_at_rest (Done good) = refl
+-- the same but for what waits, which has no action
+pub record Half (jobs : List Job) (h : Held) (now : Standings) : Type 0 where
+  pub sound : (k : ℕ) → is_waiting (status_at now.statuses k) ≡ false → IsSound h now (slice_get jobs k) (status_at now.statuses k) (action_at now.actions k)
+  pub bare : (k : ℕ) → is_waiting (status_at now.statuses k) ≡ true → action_at now.actions k ≡ None
+  pub fresh : (k : ℕ) (a : Action) → is_active (status_at now.statuses k) ≡ true → action_at now.actions k ≡ Some a → h (action_id a) ≡ None
 
-pub bad_at_rest : (s : Status) → is_bad (at_rest s) ≡ is_bad s
-bad_at_rest Waiting = refl
-bad_at_rest Ready = refl
-bad_at_rest (Running hand) = refl
-bad_at_rest Blocked = refl
-bad_at_rest (Done good) = refl
+-- what is done has an action for which something is held
+pub done_held : (h : Held) (now : Standings) (o : Option Job) (s : Status) (x : Option Action) (good : Bool) → IsSound h now o s x → s ≡ Done good → (a : Action) → x ≡ Some a → (entry : Action) × (h (action_id a) ≡ Some entry)
+done_held h now None s x good sound is a its = let c : Blocked ≡ Done good = sym sound.0 ∙ is in absurd (cc)
+done_held h now (Some job) (Done g) x good sound is a its =
+    let same : sound.0 ≡ a = (let p : Some sound.0 ≡ Some a = sym sound.1 ∙ its in cc) in
+    (sound.3.0, ap (λ z. h (action_id z)) (sym same) ∙ sound.3.1)
+done_held h now (Some job) Waiting x good sound is a its = absurd (cc)
+done_held h now (Some job) Ready x good sound is a its = absurd (cc)
+done_held h now (Some job) (Running hand) x good sound is a its = absurd (cc)
+done_held h now (Some job) Blocked x good sound is a its = absurd (cc)
 
-pub same_at_rest : (s : Status) → is_running s ≡ false → at_rest s ≡ s
-same_at_rest Waiting h = refl
-same_at_rest Ready h = refl
-same_at_rest (Running hand) h = absurd (cc)
-same_at_rest Blocked h = refl
-same_at_rest (Done good) h = refl
+pub waits_unformed : (h : Held) (now : Standings) (o : Option Job) (s : Status) (x : Option Action) → is_waiting s ≡ true → IsSound h now o s x → x ≡ None
+waits_unformed h now None s x w sound = sound.1
+waits_unformed h now (Some job) Waiting x w sound = sound.0
+waits_unformed h now (Some job) Ready x w sound = absurd (cc)
+waits_unformed h now (Some job) (Running hand) x w sound = absurd (cc)
+waits_unformed h now (Some job) Blocked x w sound = absurd (cc)
+waits_unformed h now (Some job) (Done good) x w sound = absurd (cc)
 
--- ---- verdicts see no difference between ready and run
+-- what doesn't wait stays sound
+pub sound_stays : (was is : Held) (old new : Standings) → Later was is old new → (o : Option Job) (s : Status) (x : Option Action)
+    → ((good : Bool) (a : Action) → s ≡ Done good → x ≡ Some a → is (action_id a) ≡ was (action_id a)) → is_waiting s ≡ false → IsSound was old o s x → IsSound is new o s x
+sound_stays was is old new later None s x same w sound = sound
+sound_stays was is old new later (Some job) Waiting x same w sound = absurd (cc)
+sound_stays was is old new later (Some job) Blocked x same w sound = (sound.0, stop_stays was is old new later job.work job.imports sound.1)
+sound_stays was is old new later (Some job) (Done good) x same w sound =
+    (sound.0, sound.1, act_stays was is old new later job.work job.imports sound.0 sound.2, (sound.3.0, same good sound.0 refl sound.1 ∙ sound.3.1, sound.3.2))
+sound_stays was is old new later (Some job) Ready x same w sound = (sound.0, sound.1, act_stays was is old new later job.work job.imports sound.0 sound.2)
+sound_stays was is old new later (Some job) (Running hand) x same w sound = (sound.0, sound.1, act_stays was is old new later job.work job.imports sound.0 sound.2)
 
-abbrev SameAtRest : (ℕ → Status) → (ℕ → Status) → Type 0
-SameAtRest f g = (k : ℕ) → at_rest (g k) ≡ at_rest (f k)
+-- ---- carrying
 
-any_at_rest : (p : Status → Bool) → ((s : Status) → p (at_rest s) ≡ p s) → (f g : ℕ → Status) → SameAtRest f g → (ks : List ℕ) → list_any (λ k. p (g k)) ks ≡ list_any (λ k. p (f k)) ks
-any_at_rest p blind f g same [] = refl
-any_at_rest p blind f g same (k ∷ ks) =
-    let now : p (g k) ≡ p (f k) = sym (blind (g k)) ∙ ap p (same k) ∙ blind (f k) in
-    ap (λ b. b || list_any (λ k. p (g k)) ks) now ∙ ap (λ b. p (f k) || b) (any_at_rest p blind f g same ks)
-
-judged_at_rest : (f g : ℕ → Status) → SameAtRest f g → (ks : List ℕ) (o : Option Action) → judged g ks o ≡ judged f ks o
-judged_at_rest f g same ks None = refl
-judged_at_rest f g same ks (Some a) =
-    ap (λ b. if b then Wait else (if any_bad g ks then Stop else Act a)) (any_at_rest is_open open_at_rest f g same ks)
-    ∙ ap (λ b. if any_open f ks then Wait else (if b then Stop else Act a)) (any_at_rest is_bad bad_at_rest f g same ks)
-
-stands_at_rest : (h : List ℕ → Option Action) (f g : ℕ → Status) → SameAtRest f g → (o : Option Job) (s : Status) → Stands h f o s → Stands h g o s
-stands_at_rest h f g same None s stands = stands
-stands_at_rest h f g same (Some job) s stands = subst (λ v. Follows h v s) (sym (judged_at_rest f g same job.imports job.action)) stands
-
--- ---- one job is taken, or given back
-
-set_at_rest : (xs : List Status) (j : ℕ) (now : Status) → j < length xs → at_rest now ≡ at_rest (status_at xs j) → SameAtRest (status_at xs) (status_at (set xs j now))
-set_at_rest xs j now inside same k = elim (cases_eq k j) [
-  | inl e ↦ ap (λ i. at_rest (status_at (set xs j now) i)) e ∙ ap at_rest (get_or-set_same xs j now Blocked inside) ∙ same ∙ ap (λ i. at_rest (status_at xs i)) (sym e)
-  | inr ne ↦ ap at_rest (get_or-set_other xs j k now Blocked ne)
-]
-
-pub stood_sound : (opening : Opening) (old : State) (j : ℕ) (now : Status) → j < length old.statuses → at_rest now ≡ at_rest (status_at old.statuses j) → IsSound opening old → IsSound opening (stood old j now)
-stood_sound opening old j now inside same sound =
-    let new : List Status = set old.statuses j now in
-    let alike : SameAtRest (status_at old.statuses) (status_at new) = set_at_rest old.statuses j now inside same in
-    record {
-      same_length = length-set old.statuses j now ∙ sound.same_length;
-      stands = λ k. subst (λ s. Stands (held opening old) (status_at new) (slice_get opening.jobs k) s) (sym (alike k))
-          (stands_at_rest (held opening old) (status_at old.statuses) (status_at new) alike (slice_get opening.jobs k) (at_rest (status_at old.statuses k)) (sound.stands k));
-    }
-
--- ---- what is held
-
-both_none : (a b : Option Action) → option_or a b ≡ None → (a ≡ None) × (b ≡ None)
-both_none None b h = (refl, h)
-both_none (Some x) b h = absurd (cc)
-
-get_taken : (m : Entries) (id : List ℕ) (a : Action) (q : List ℕ) → get (taken lesser m id a) q ≡ joined_option lesser (get m q) (cond (eq_by_cmp id_cmp q id) (Some a) None)
-get_taken m id a q =
-    get-joined id_cmp_total lesser m (insert empty id a) q
-    ∙ ap (joined_option lesser (get m q)) (get-insert id_cmp_total empty id a q ∙ ap (λ o. cond (eq_by_cmp id_cmp q id) (Some a) o) (get-empty id_cmp q))
-
-joined_none : (o : Option Action) → joined_option lesser o None ≡ o
-joined_none None = refl
-joined_none (Some x) = refl
-
-ids_equal : (s t : List ℕ) (b : Bool) → eq_by_cmp id_cmp s t ≡ b → (s ≡ t → ⊥) → b ≡ false
-ids_equal s t true e not = absurd (not (id_cmp-IsAntisymmetric s t (equal_from (id_cmp s t) e)))
+-- a job that stands so is sound
+pub stands_sound : (h : Held) (now : Standings) (o : Option Job) (s : Status) (x : Option Action) → Stands h now o s x → IsSound h now o s x
+stands_sound h now None s x st = st
+stands_sound h now (Some job) s x st = by_verdict st.0 st.1 st.2
   where
-    equal_from : (r : Rattle.std.specs.declared.cmp.Ordering.Ordering) → is_eq r ≡ true → r ≡ Rattle.std.specs.declared.cmp.Ordering.TheVariants.Equal
-    equal_from Rattle.std.specs.declared.cmp.Ordering.TheVariants.Less e = cc
-    equal_from Rattle.std.specs.declared.cmp.Ordering.TheVariants.Equal e = refl
-    equal_from Rattle.std.specs.declared.cmp.Ordering.TheVariants.Greater e = cc
-ids_equal s t false e not = refl
+    placed : (a : Action) (p : Option Action) → h (action_id a) ≡ p → IsPlaced p s → x ≡ Some a → IsVerdict h now job.work job.imports (Act a) → IsSound h now (Some job) s x
+    placed a None e p is v = subst (λ z. IsSound h now (Some job) z x) (sym p) (a, is, v)
+    placed a (Some entry) e p is v = subst (λ z. IsSound h now (Some job) z x) (sym p.2) (a, is, v, (entry, e, p.1))
 
-pub taken_other : (m : Entries) (id : List ℕ) (a : Action) (q : List ℕ) → (q ≡ id → ⊥) → get (taken lesser m id a) q ≡ get m q
-taken_other m id a q not = get_taken m id a q ∙ ap (λ b. joined_option lesser (get m q) (cond b (Some a) None)) (ids_equal q id (eq_by_cmp id_cmp q id) refl not) ∙ joined_none (get m q)
+    by_verdict : (v : Verdict) → IsVerdict h now job.work job.imports v → Follows h v s x → IsSound h now (Some job) s x
+    by_verdict Wait v f = subst (λ z. IsSound h now (Some job) z x) (sym f.0) (f.1, v)
+    by_verdict Stop v f = subst (λ z. IsSound h now (Some job) z x) (sym f.0) (f.1, v)
+    by_verdict (Act a) v f = placed a (h (action_id a)) refl f.0 f.1 v
 
-pub taken_here : (m : Entries) (id : List ℕ) (a : Action) → get m id ≡ None → get (taken lesser m id a) id ≡ Some a
-taken_here m id a none =
-    let tie : eq_by_cmp id_cmp id id ≡ true = ap is_eq (tied_itself id_cmp_total id) in
-    get_taken m id a id ∙ ap (λ b. joined_option lesser (get m id) (cond b (Some a) None)) tie ∙ ap (λ o. joined_option lesser o (Some a)) none
-
--- a new entry at an id at which nothing was held
-pub record Grows (old new : List ℕ → Option Action) (id : List ℕ) (entry : Action) : Type 0 where
-  pub before : old id ≡ None
-  pub here : new id ≡ Some entry
-  pub others : (q : List ℕ) → (q ≡ id → ⊥) → new q ≡ old q
-
-pub grows : (opening : Opening) (old new : State) (id : List ℕ) (entry : Action) → new.added ≡ taken lesser old.added id entry → held opening old id ≡ None → Grows (held opening old) (held opening new) id entry
-grows opening old new id entry joins none =
-    let parts = both_none (get opening.cache id) (get old.added id) none in
-    record {
-      before = none;
-      here = ap (λ o. option_or o (get new.added id)) parts.0 ∙ ap (λ (m : Entries). get m id) joins ∙ taken_here old.added id entry parts.1;
-      others = λ q not. ap (λ o. option_or (get opening.cache q) o) (ap (λ (m : Entries). get m q) joins ∙ taken_other old.added id entry q not);
-    }
-
--- ---- what a verdict to act says
-
-is_act_of : Action → Verdict → Action
-is_act_of a Wait = a
-is_act_of a Stop = a
-is_act_of a (Act b) = b
-
-judged_bool : (x y : Bool) (a b : Action) → (if x then Wait else (if y then Stop else Act a)) ≡ Act b → a ≡ b
-judged_bool true y a b e = absurd (cc)
-judged_bool false true a b e = absurd (cc)
-judged_bool false false a b e = (let p : Act a ≡ Act b = e in cc)
-
-pub judged_act : (f : ℕ → Status) (ks : List ℕ) (o : Option Action) (b : Action) → judged f ks o ≡ Act b → o ≡ Some b
-judged_act f ks None b e = absurd (cc)
-judged_act f ks (Some a) b e = ap Some (judged_bool (any_open f ks) (any_bad f ks) a b e)
-
-abbrev pub IsActing : (ℕ → Status) → Option Job → Action → Type 0
-IsActing f o a = (job : Job) × (o ≡ Some job) × (verdict f job ≡ Act a)
-
-ready_placed : (h : Option Action) → IsPlaced h Ready → h ≡ None
-ready_placed None p = refl
-ready_placed (Some b) p = let c : Ready ≡ Done p.0 = p.2 in absurd (cc)
-
-ready_by : (h : List ℕ → Option Action) (f : ℕ → Status) (job : Job) (v : Verdict) → verdict f job ≡ v → Follows h v Ready → (a : Action) × (verdict f job ≡ Act a) × (h (action_id a) ≡ None)
-ready_by h f job Wait e s = let c : Ready ≡ Waiting = s in absurd (cc)
-ready_by h f job Stop e s = let c : Ready ≡ Blocked = s in absurd (cc)
-ready_by h f job (Act a) e s = (a, e, ready_placed (h (action_id a)) s)
-
--- what stands ready has an action, and nothing is held for its id
-pub ready_acts : (h : List ℕ → Option Action) (f : ℕ → Status) (o : Option Job) → Stands h f o Ready → (a : Action) × (h (action_id a) ≡ None) × IsActing f o a
-ready_acts h f None s = let c : Ready ≡ Blocked = s in absurd (cc)
-ready_acts h f (Some job) s = let r = ready_by h f job (verdict f job) refl s in (r.0, r.2, (job, refl, r.1))
-
-pub acting_action : (f : ℕ → Status) (o : Option Job) (a : Action) → IsActing f o a → action_in o ≡ Some a
-acting_action f o a (job, is, v) = ap action_in is ∙ judged_act f job.imports job.action a v
-
-acting_stands : (h : List ℕ → Option Action) (f g : ℕ → Status) → Agrees f g → (o : Option Job) (a : Action) (s : Status) → IsActing f o a → IsPlaced (h (action_id a)) s → Stands h g o s
-acting_stands h f g agree o a s (job, is, v) placed =
-    subst (λ p. Stands h g p s) (sym is) (subst (λ w. Follows h w s) (sym (verdict_stays f g agree job (Act a) refl v)) placed)
-
--- ---- a job is finished
-
-not_equal : (s t : List ℕ) → bytes_eq s t ≡ false → s ≡ t → ⊥
-not_equal s t differ e = let c : true ≡ false = sym ((bytes_eq-Decides s t).1 e) ∙ differ in cc
-
-module _ (jobs : List Job) (old_held new_held : List ℕ → Option Action) (id : List ℕ) (entry : Action) (good : Bool)
-    (grown : Grows old_held new_held id entry) (goodness : IsGoodness entry good) (f g : ℕ → Status) (agree : Agrees f g) where
-  active_by : (k : ℕ) (a : Action) → old_held (action_id a) ≡ None → IsActing f (slice_get jobs k) a → (was : Status) → is_waiting was ≡ false → at_rest was ≡ Ready → (b : Bool) → bytes_eq (action_id a) id ≡ b
-      → g k ≡ (if b then Done good else was) → Stands new_held g (slice_get jobs k) (at_rest (g k))
-  active_by k a none acting was w rest true same is =
-      let ids : action_id a ≡ id = (bytes_eq-Decides (action_id a) id).0 same in
-      let placed : IsPlaced (new_held (action_id a)) (Done good) = subst (λ o. IsPlaced o (Done good)) (sym (ap new_held ids ∙ grown.here)) (good, goodness, refl) in
-      subst (λ s. Stands new_held g (slice_get jobs k) (at_rest s)) (sym is) (acting_stands new_held f g agree (slice_get jobs k) a (Done good) acting placed)
-  active_by k a none acting was w rest false same is =
-      let placed : IsPlaced (new_held (action_id a)) Ready = subst (λ o. IsPlaced o Ready) (sym (grown.others (action_id a) (not_equal (action_id a) id same) ∙ none)) refl in
-      subst (λ s. Stands new_held g (slice_get jobs k) s) (sym (ap at_rest is ∙ rest)) (acting_stands new_held f g agree (slice_get jobs k) a Ready acting placed)
-
-  -- what was ready or run
-  pub active_finished : (k : ℕ) (was : Status) → is_active was ≡ true → is_waiting was ≡ false → at_rest was ≡ Ready → Stands old_held f (slice_get jobs k) Ready → g k ≡ mark jobs id good k was → Stands new_held g (slice_get jobs k) (at_rest (g k))
-  active_finished k was active w rest stands is =
-      let acts = ready_acts old_held f (slice_get jobs k) stands in
-      let a : Action = acts.0 in
-      let its : action_at jobs k ≡ Some a = acting_action f (slice_get jobs k) a acts.2 in
-      let has : has_id jobs id k ≡ bytes_eq (action_id a) id = ap (has_action_id id) its in
-      active_by k a acts.1 acts.2 was w rest (bytes_eq (action_id a) id) refl
-      (is ∙ ap (λ b. if b && has_id jobs id k then Done good else was) active ∙ ap (λ b. if b then Done good else was) has)
-
-  settled_placed : (a : Action) (s : Status) → is_active s ≡ false → (o : Option Action) → old_held (action_id a) ≡ o → IsPlaced o s → IsPlaced (new_held (action_id a)) s
-  settled_placed a s still None e p = let c : true ≡ false = sym (ap is_active p) ∙ still in absurd (cc)
-  settled_placed a s still (Some b) e p =
-      let not : action_id a ≡ id → ⊥ = λ same. (let c : Some b ≡ None = sym e ∙ ap old_held same ∙ grown.before in cc) in
-      subst (λ o. IsPlaced o s) (sym (grown.others (action_id a) not ∙ e)) p
-
-  settled_by : (job : Job) (s : Status) → is_active s ≡ false → is_waiting s ≡ false → (v : Verdict) → verdict f job ≡ v → Follows old_held v s → Follows new_held (verdict g job) s
-  settled_by job s still w Wait e h = let c : true ≡ false = sym (ap is_waiting h) ∙ w in absurd (cc)
-  settled_by job s still w Stop e h = subst (λ v. Follows new_held v s) (sym (verdict_stays f g agree job Stop refl e)) h
-  settled_by job s still w (Act a) e h = subst (λ v. Follows new_held v s) (sym (verdict_stays f g agree job (Act a) refl e)) (settled_placed a s still (old_held (action_id a)) refl h)
-
-  -- what was settled
-  pub settled_finished : (o : Option Job) (s : Status) → is_active s ≡ false → is_waiting s ≡ false → Stands old_held f o s → Stands new_held g o s
-  settled_finished None s still w h = h
-  settled_finished (Some job) s still w h = settled_by job s still w (verdict f job) refl h
-
-mark_settled : (jobs : List Job) (id : List ℕ) (good : Bool) (k : ℕ) (s : Status) → is_open s ≡ false → mark jobs id good k s ≡ s
-mark_settled jobs id good k Waiting h = let c : true ≡ false = h in absurd (cc)
-mark_settled jobs id good k Ready h = let c : true ≡ false = h in absurd (cc)
-mark_settled jobs id good k (Running hand) h = let c : true ≡ false = h in absurd (cc)
-mark_settled jobs id good k Blocked h = refl
-mark_settled jobs id good k (Done v) h = refl
-
-pub marked_agrees : (jobs : List Job) (id : List ℕ) (good : Bool) (old new : List Status) → IsMarked jobs id good old new → Agrees (status_at old) (status_at new)
-marked_agrees jobs id good old new m k h = m.each k ∙ mark_settled jobs id good k (status_at old k) h
-
-pub agrees_through : (f g h : ℕ → Status) → Agrees f g → Agrees g h → Agrees f h
-agrees_through f g h p q k c = q k (ap is_open (p k c) ∙ c) ∙ p k c
-
-mark_waits : (jobs : List Job) (id : List ℕ) (good : Bool) (k : ℕ) (b : Bool) (s : Status) → is_waiting s ≡ false → is_waiting (if b then Done good else s) ≡ false
-mark_waits jobs id good k true s w = refl
-mark_waits jobs id good k false s w = w
-
-pub finish_agrees : (opening : Opening) (old : State) (hand j : ℕ) (a e : Action) (new : State) → Finishes opening old hand j a e new → Agrees (status_at old.statuses) (status_at new.statuses)
-finish_agrees opening old hand j a e new fin =
-    agrees_through (status_at old.statuses) (status_at fin.marked) (status_at new.statuses)
-    (marked_agrees opening.jobs (action_id a) fin.good old.statuses fin.marked fin.marks)
-    (carried_agrees opening.jobs (held opening new) fin.marked new.statuses fin.carried)
-
--- for the id of a job that runs nothing is held
-pub running_unheld : (opening : Opening) (now : State) (hand j : ℕ) (a : Action) → IsSound opening now → IsRunBy opening.jobs now.statuses hand j a → held opening now (action_id a) ≡ None
-running_unheld opening now hand j a sound run =
-    let stands : Stands (held opening now) (status_at now.statuses) (slice_get opening.jobs j) Ready = subst (λ s. Stands (held opening now) (status_at now.statuses) (slice_get opening.jobs j) (at_rest s)) run.runs (sound.stands j) in
-    let acts = ready_acts (held opening now) (status_at now.statuses) (slice_get opening.jobs j) stands in
-    let same : acts.0 ≡ a = (let p : Some acts.0 ≡ Some a = sym (acting_action (status_at now.statuses) (slice_get opening.jobs j) acts.0 acts.2) ∙ run.its in cc) in
-    subst (λ b. held opening now (action_id b) ≡ None) same acts.1
-
-finish_stands : (opening : Opening) (old : State) (hand j : ℕ) (a e : Action) (new : State) (fin : Finishes opening old hand j a e new) → IsSound opening old → (k : ℕ) (was : Status) → status_at old.statuses k ≡ was
-    → Stands (held opening new) (status_at new.statuses) (slice_get opening.jobs k) (at_rest (status_at new.statuses k))
-finish_stands opening old hand j a e new fin sound k was at =
-    let id : List ℕ = action_id a in
-    let jobs : List Job = opening.jobs in
-    let grown : Grows (held opening old) (held opening new) id e =
-    grows opening old new id e (subst (λ i. new.added ≡ taken lesser old.added i e) fin.fits fin.joins) (running_unheld opening old hand j a sound fin.run) in
-    let agree : Agrees (status_at old.statuses) (status_at new.statuses) = finish_agrees opening old hand j a e new fin in
-    let marked : status_at fin.marked k ≡ mark jobs id fin.good k was = fin.marks.each k ∙ ap (mark jobs id fin.good k) at in
-    let before : Stands (held opening old) (status_at old.statuses) (slice_get jobs k) (at_rest was) = subst (λ s. Stands (held opening old) (status_at old.statuses) (slice_get jobs k) (at_rest s)) at (sound.stands k) in
-    let active : is_active was ≡ true → is_waiting was ≡ false → at_rest was ≡ Ready → Stands (held opening new) (status_at new.statuses) (slice_get jobs k) (at_rest (status_at new.statuses k)) =
-    λ is w rest. active_finished jobs (held opening old) (held opening new) id e fin.good grown fin.goodness (status_at old.statuses) (status_at new.statuses) agree k was is w rest
-    (subst (λ s. Stands (held opening old) (status_at old.statuses) (slice_get jobs k) s) rest before)
-    (fin.carried.others k (ap is_waiting marked ∙ mark_waits jobs id fin.good k (is_active was && has_id jobs id k) was w) ∙ marked) in
-    let settled : is_open was ≡ false → is_active was ≡ false → is_waiting was ≡ false → at_rest was ≡ was → Stands (held opening new) (status_at new.statuses) (slice_get jobs k) (at_rest (status_at new.statuses k)) =
-    λ closed is w rest. subst (λ s. Stands (held opening new) (status_at new.statuses) (slice_get jobs k) s) (sym (ap at_rest (agree k (ap is_open at ∙ closed) ∙ at) ∙ rest))
-    (settled_finished jobs (held opening old) (held opening new) id e fin.good grown fin.goodness (status_at old.statuses) (status_at new.statuses) agree (slice_get jobs k) was is w
-    (subst (λ s. Stands (held opening old) (status_at old.statuses) (slice_get jobs k) s) rest before)) in
-    let waits : is_waiting (status_at fin.marked k) ≡ true → Stands (held opening new) (status_at new.statuses) (slice_get jobs k) (at_rest (status_at new.statuses k)) =
-    λ w. (let now = fin.carried.waiting k w in
-    subst (λ s. Stands (held opening new) (status_at new.statuses) (slice_get jobs k) s) (sym (same_at_rest (status_at new.statuses k) (stands_rests (held opening new) (status_at new.statuses) (slice_get jobs k) (status_at new.statuses k) now))) now) in
-    by_status was active settled (λ e. waits (ap is_waiting (marked ∙ ap (mark jobs id fin.good k) e)))
+-- what is placed as active has an id that nothing is held for
+stands_fresh : (h : Held) (now : Standings) (o : Option Job) (s : Status) (x : Option Action) (a : Action) → Stands h now o s x → is_active s ≡ true → x ≡ Some a → h (action_id a) ≡ None
+stands_fresh h now None s x a st active its = let c : true ≡ false = sym active ∙ ap is_active st.0 in absurd (cc)
+stands_fresh h now (Some job) s x a st active its = by_verdict st.0 st.2
   where
-    by_status : {X : Type 0} (s : Status) → (is_active s ≡ true → is_waiting s ≡ false → at_rest s ≡ Ready → X) → (is_open s ≡ false → is_active s ≡ false → is_waiting s ≡ false → at_rest s ≡ s → X) → (s ≡ Waiting → X) → X
-    by_status Waiting a b c = c refl
-    by_status Ready a b c = a refl refl refl
-    by_status (Running hand) a b c = a refl refl refl
-    by_status Blocked a b c = b refl refl refl refl
-    by_status (Done good) a b c = b refl refl refl refl
+    placed : (b : Action) (p : Option Action) → h (action_id b) ≡ p → IsPlaced p s → x ≡ Some b → h (action_id a) ≡ None
+    placed b None e p is = let same : b ≡ a = (let q : Some b ≡ Some a = sym is ∙ its in cc) in ap (λ z. h (action_id z)) (sym same) ∙ e
+    placed b (Some entry) e p is = let c : true ≡ false = sym active ∙ ap is_active p.2 in absurd (cc)
 
-pub finish_sound : (opening : Opening) (old : State) (hand j : ℕ) (a e : Action) (new : State) → Finishes opening old hand j a e new → IsSound opening old → IsSound opening new
-finish_sound opening old hand j a e new fin sound = record {
-  same_length = fin.carried.same_length ∙ fin.marks.same_length ∙ sound.same_length;
-  stands = λ k. finish_stands opening old hand j a e new fin sound k (status_at old.statuses k) refl;
-}
+    by_verdict : (v : Verdict) → Follows h v s x → h (action_id a) ≡ None
+    by_verdict Wait f = let c : true ≡ false = sym active ∙ ap is_active f.0 in absurd (cc)
+    by_verdict Stop f = let c : true ≡ false = sym active ∙ ap is_active f.0 in absurd (cc)
+    by_verdict (Act b) f = placed b (h (action_id b)) refl f.0 f.1
+
+module _ (jobs : List Job) (h : Held) (old new : Standings) (half : Half jobs h old) (c : Carried jobs h old new) where
+  carried_later : Later h h old new
+  carried_later = record { settled = λ k shut. c.others k (shut_waits_not (status_at old.statuses k) shut); keeps = λ k good a done its. refl }
+
+  sound_at : (k : ℕ) (b : Bool) → is_waiting (status_at old.statuses k) ≡ b → IsSound h new (slice_get jobs k) (status_at new.statuses k) (action_at new.actions k)
+  sound_at k true e = stands_sound h new (slice_get jobs k) (status_at new.statuses k) (action_at new.actions k) (c.waiting k e)
+  sound_at k false e =
+      let here = sound_stays h h old new carried_later (slice_get jobs k) (status_at old.statuses k) (action_at old.actions k) (λ good a done its. refl) e (half.sound k e) in
+      subst (λ a. IsSound h new (slice_get jobs k) (status_at new.statuses k) a) (sym (c.others k e).1) (subst (λ s. IsSound h new (slice_get jobs k) s (action_at old.actions k)) (sym (c.others k e).0) here)
+
+  fresh_at : (k : ℕ) (a : Action) → is_active (status_at new.statuses k) ≡ true → action_at new.actions k ≡ Some a → (b : Bool) → is_waiting (status_at old.statuses k) ≡ b → h (action_id a) ≡ None
+  fresh_at k a active its true e = stands_fresh h new (slice_get jobs k) (status_at new.statuses k) (action_at new.actions k) a (c.waiting k e) active its
+  fresh_at k a active its false e = half.fresh k a (ap is_active (sym (c.others k e).0) ∙ active) (sym (c.others k e).1 ∙ its)
+
+  pub carried_keeps : Keeps jobs h new
+  carried_keeps = record { sound = λ k. sound_at k (is_waiting (status_at old.statuses k)) refl; fresh = λ k a active its. fresh_at k a active its (is_waiting (status_at old.statuses k)) refl }
+
+-- ---- a job that is given or given back
+
+set_at : (xs : List Status) (j k : ℕ) (s : Status) → (status_at (slice_set xs j s) k ≡ status_at xs k) ⊎ ((k ≡ j) × (status_at (slice_set xs j s) k ≡ s))
+set_at [] j k s = inl refl
+set_at (x ∷ xs) zero zero s = inr (refl, refl)
+set_at (x ∷ xs) zero (suc k) s = inl refl
+set_at (x ∷ xs) (suc j) zero s = inl refl
+set_at (x ∷ xs) (suc j) (suc k) s = by_rest (set_at xs j k s)
+  where
+    by_rest : (status_at (slice_set xs j s) k ≡ status_at xs k) ⊎ ((k ≡ j) × (status_at (slice_set xs j s) k ≡ s))
+        → (status_at (slice_set xs j s) k ≡ status_at xs k) ⊎ ((suc k ≡ suc j) × (status_at (slice_set xs j s) k ≡ s))
+    by_rest (inl same) = inl same
+    by_rest (inr here) = inr (ap suc here.0, here.1)
+
+active_open : (s : Status) → is_active s ≡ true → is_open s ≡ true
+active_open Ready a = refl
+active_open (Running hand) a = refl
+active_open Waiting a = absurd (cc)
+active_open Blocked a = absurd (cc)
+active_open (Done good) a = absurd (cc)
+
+any_true : (p q : ℕ → Bool) → ((k : ℕ) → p k ≡ true → q k ≡ true) → (ks : List ℕ) → list_any p ks ≡ true → list_any q ks ≡ true
+any_true p q each [] h = absurd (cc)
+any_true p q each (k ∷ ks) h = by_first (p k) (q k) refl (each k) (any_true p q each ks) h
+  where
+    by_first : (b c : Bool) → p k ≡ b → (p k ≡ true → c ≡ true) → (list_any p ks ≡ true → list_any q ks ≡ true) → (b || list_any p ks) ≡ true → (c || list_any q ks) ≡ true
+    by_first true c e one rest h = ap (λ x. x || list_any q ks) (one e)
+    by_first false true e one rest h = refl
+    by_first false false e one rest h = rest h
+
+-- ready or run is alike
+active_alike : (h : Held) (now : Standings) (o : Option Job) (s t : Status) (x : Option Action) → is_active s ≡ true → is_active t ≡ true → IsSound h now o s x → IsSound h now o t x
+active_alike h now None s t x p q sound = let c : true ≡ false = sym p ∙ ap is_active sound.0 in absurd (cc)
+active_alike h now (Some job) Ready Ready x p q sound = sound
+active_alike h now (Some job) Ready (Running hand) x p q sound = sound
+active_alike h now (Some job) (Running hand) Ready x p q sound = sound
+active_alike h now (Some job) (Running hand) (Running other) x p q sound = sound
+active_alike h now (Some job) Ready Waiting x p q sound = absurd (cc)
+active_alike h now (Some job) Ready Blocked x p q sound = absurd (cc)
+active_alike h now (Some job) Ready (Done good) x p q sound = absurd (cc)
+active_alike h now (Some job) (Running hand) Waiting x p q sound = absurd (cc)
+active_alike h now (Some job) (Running hand) Blocked x p q sound = absurd (cc)
+active_alike h now (Some job) (Running hand) (Done good) x p q sound = absurd (cc)
+active_alike h now (Some job) Waiting t x p q sound = absurd (cc)
+active_alike h now (Some job) Blocked t x p q sound = absurd (cc)
+active_alike h now (Some job) (Done good) t x p q sound = absurd (cc)
+
+module _ (jobs : List Job) (h : Held) (old : Standings) (job : ℕ) (s : Status) (was : is_active (status_at old.statuses job) ≡ true) (is : is_active s ≡ true) (keeps : Keeps jobs h old) where
+  abbrev Placed : ℕ → Type 0
+  Placed k = (status_at (slice_set old.statuses job s) k ≡ status_at old.statuses k) ⊎ ((k ≡ job) × (status_at (slice_set old.statuses job s) k ≡ s))
+
+  active_here : (k : ℕ) → k ≡ job → is_active (status_at old.statuses k) ≡ true
+  active_here k e = ap (λ i. is_active (status_at old.statuses i)) e ∙ was
+
+  open_there : (k : ℕ) → Placed k → is_open (status_at old.statuses k) ≡ true → is_open (status_at (stood old job s).statuses k) ≡ true
+  open_there k (inl same) o = ap is_open same ∙ o
+  open_there k (inr here) o = ap is_open here.1 ∙ active_open s is
+
+  settled_there : (k : ℕ) → Placed k → is_open (status_at old.statuses k) ≡ false → status_at (slice_set old.statuses job s) k ≡ status_at old.statuses k
+  settled_there k (inl same) shut = same
+  settled_there k (inr here) shut = let c : true ≡ false = sym (active_open (status_at old.statuses k) (active_here k here.0)) ∙ shut in absurd (cc)
+
+  stood_later : Later h h old (stood old job s)
+  stood_later = record { settled = λ k shut. (settled_there k (set_at old.statuses job k s) shut, refl); keeps = λ k good a done its. refl }
+
+  waits_still : (o : Option Work) (ks : List ℕ) → IsVerdict h old o ks Wait → IsVerdict h (stood old job s) o ks Wait
+  waits_still None ks v = v
+  waits_still (Some work) ks v = any_true (λ k. is_open (status_at old.statuses k)) (λ k. is_open (status_at (stood old job s).statuses k)) (λ k. open_there k (set_at old.statuses job k s)) ks v
+
+  stays_sound : (o : Option Job) (t : Status) (x : Option Action) → IsSound h old o t x → IsSound h (stood old job s) o t x
+  stays_sound None t x sound = sound
+  stays_sound (Some j) Waiting x sound = (sound.0, waits_still j.work j.imports sound.1)
+  stays_sound (Some j) Ready x sound = sound_stays h h old (stood old job s) stood_later (Some j) Ready x (λ good a done its. refl) refl sound
+  stays_sound (Some j) (Running hand) x sound = sound_stays h h old (stood old job s) stood_later (Some j) (Running hand) x (λ good a done its. refl) refl sound
+  stays_sound (Some j) Blocked x sound = sound_stays h h old (stood old job s) stood_later (Some j) Blocked x (λ good a done its. refl) refl sound
+  stays_sound (Some j) (Done good) x sound = sound_stays h h old (stood old job s) stood_later (Some j) (Done good) x (λ good a done its. refl) refl sound
+
+  sound_there : (k : ℕ) → Placed k → IsSound h (stood old job s) (slice_get jobs k) (status_at (slice_set old.statuses job s) k) (action_at old.actions k)
+  sound_there k (inl same) =
+      subst (λ z. IsSound h (stood old job s) (slice_get jobs k) z (action_at old.actions k)) (sym same) (stays_sound (slice_get jobs k) (status_at old.statuses k) (action_at old.actions k) (keeps.sound k))
+  sound_there k (inr here) =
+      subst (λ z. IsSound h (stood old job s) (slice_get jobs k) z (action_at old.actions k)) (sym here.1)
+      (active_alike h (stood old job s) (slice_get jobs k) (status_at old.statuses k) s (action_at old.actions k) (active_here k here.0) is
+      (stays_sound (slice_get jobs k) (status_at old.statuses k) (action_at old.actions k) (keeps.sound k)))
+
+  active_before : (k : ℕ) → Placed k → is_active (status_at (slice_set old.statuses job s) k) ≡ true → is_active (status_at old.statuses k) ≡ true
+  active_before k (inl same) active = ap is_active (sym same) ∙ active
+  active_before k (inr here) active = active_here k here.0
+
+  pub stood_keeps : Keeps jobs h (stood old job s)
+  stood_keeps = record { sound = λ k. sound_there k (set_at old.statuses job k s); fresh = λ k a active its. keeps.fresh k a (active_before k (set_at old.statuses job k s) active) its }
+
+-- ---- jobs that are marked
+
+mark_shut : (actions : List (Option Action)) (id : List ℕ) (good : Bool) (k : ℕ) (s : Status) → is_active s ≡ false → mark actions id good k s ≡ s
+mark_shut actions id good k Waiting a = refl
+mark_shut actions id good k Blocked a = refl
+mark_shut actions id good k (Done g) a = refl
+mark_shut actions id good k Ready a = absurd (cc)
+mark_shut actions id good k (Running hand) a = absurd (cc)
+
+shut_idle : (s : Status) → is_open s ≡ false → is_active s ≡ false
+shut_idle Blocked o = refl
+shut_idle (Done g) o = refl
+shut_idle Waiting o = absurd (cc)
+shut_idle Ready o = absurd (cc)
+shut_idle (Running hand) o = absurd (cc)
+
+-- an active job is done, if it has the id, and stands as it did, if it has another
+abbrev pub IsByMark : List (Option Action) → List ℕ → Bool → ℕ → Status → Type 0
+IsByMark actions id good k s =
+    ((mark actions id good k s ≡ Done good) × ((a : Action) → action_at actions k ≡ Some a → action_id a ≡ id))
+    ⊎ ((mark actions id good k s ≡ s) × ((a : Action) → action_at actions k ≡ Some a → action_id a ≡ id → ⊥))
+
+by_mark : (actions : List (Option Action)) (id : List ℕ) (good : Bool) (k : ℕ) (s : Status) → is_active s ≡ true → IsByMark actions id good k s
+by_mark actions id good k s active = by_id (has_id actions id k) refl
+  where
+    same_id : (a : Action) → action_at actions k ≡ Some a → has_id actions id k ≡ bytes_eq (action_id a) id
+    same_id a e = ap (has_action_id id) e
+
+    chosen : (b : Bool) (s : Status) → is_active s ≡ true → has_id actions id k ≡ b → mark actions id good k s ≡ cond b (Done good) s
+    chosen b Ready active e = ap (λ c. cond c (Done good) Ready) e
+    chosen b (Running hand) active e = ap (λ c. cond c (Done good) (Running hand)) e
+    chosen b Waiting active e = absurd (cc)
+    chosen b Blocked active e = absurd (cc)
+    chosen b (Done g) active e = absurd (cc)
+
+    by_id : (b : Bool) → has_id actions id k ≡ b → IsByMark actions id good k s
+    by_id true e = inl (chosen true s active e, λ a at. (bytes_eq-Decides (action_id a) id).0 (sym (same_id a at) ∙ e))
+    by_id false e = inr (chosen false s active e, λ a at same. let c : false ≡ true = sym e ∙ same_id a at ∙ (bytes_eq-Decides (action_id a) id).1 same in cc)
+
+module _ (jobs : List Job) (was is : Held) (id : List ℕ) (entry : Action) (good : Bool) (grown : Grows was is id entry) (goodness : IsGoodness entry good)
+    (old marked : Standings) (marks : IsMarked id good old marked) (keeps : Keeps jobs was old) where
+  same_actions : (k : ℕ) → action_at marked.actions k ≡ action_at old.actions k
+  same_actions k = ap (λ l. action_at l k) marks.actions
+
+  done_same : (k : ℕ) (g : Bool) (a : Action) → status_at old.statuses k ≡ Done g → action_at old.actions k ≡ Some a → is (action_id a) ≡ was (action_id a)
+  done_same k g a done its =
+      let has = done_held was old (slice_get jobs k) (status_at old.statuses k) (action_at old.actions k) g (keeps.sound k) done a its in
+      grown.others (action_id a) (λ same. let c : Some has.0 ≡ None = sym has.1 ∙ ap was same ∙ grown.before in cc)
+
+  pub marked_later : Later was is old marked
+  marked_later = record { settled = λ k shut. (marks.each k ∙ mark_shut old.actions id good k (status_at old.statuses k) (shut_idle (status_at old.statuses k) shut), same_actions k); keeps = done_same }
+
+  -- what was active and is done is sound
+  done_sound : (o : Option Job) (s : Status) (x : Option Action) → is_active s ≡ true → ((a : Action) → x ≡ Some a → action_id a ≡ id) → IsSound is marked o s x → IsSound is marked o (Done good) x
+  done_sound None s x active same sound = let c : true ≡ false = sym active ∙ ap is_active sound.0 in absurd (cc)
+  done_sound (Some j) Ready x active same sound = (sound.0, sound.1, sound.2, (entry, ap is (same sound.0 sound.1) ∙ grown.here, goodness))
+  done_sound (Some j) (Running hand) x active same sound = (sound.0, sound.1, sound.2, (entry, ap is (same sound.0 sound.1) ∙ grown.here, goodness))
+  done_sound (Some j) Waiting x active same sound = absurd (cc)
+  done_sound (Some j) Blocked x active same sound = absurd (cc)
+  done_sound (Some j) (Done g) x active same sound = absurd (cc)
+
+  abbrev SoundAt : ℕ → Status → Type 0
+  SoundAt k z = IsSound is marked (slice_get jobs k) z (action_at old.actions k)
+
+  moved : (k : ℕ) (s : Status) → status_at old.statuses k ≡ s → is_waiting s ≡ false → SoundAt k s
+  moved k s e w =
+      subst (SoundAt k) e
+      (sound_stays was is old marked marked_later (slice_get jobs k) (status_at old.statuses k) (action_at old.actions k) (done_same k) (ap is_waiting e ∙ w) (keeps.sound k))
+
+  active_marked : (k : ℕ) (s : Status) → status_at old.statuses k ≡ s → is_active s ≡ true → is_waiting s ≡ false → IsByMark old.actions id good k s → SoundAt k (mark old.actions id good k s)
+  active_marked k s e active w (inl done) = subst (SoundAt k) (sym done.0) (done_sound (slice_get jobs k) s (action_at old.actions k) active done.1 (moved k s e w))
+  active_marked k s e active w (inr same) = subst (SoundAt k) (sym same.0) (moved k s e w)
+
+  sound_marked : (k : ℕ) (s : Status) → status_at old.statuses k ≡ s → is_waiting (mark old.actions id good k s) ≡ false → SoundAt k (mark old.actions id good k s)
+  sound_marked k Waiting e w = absurd (cc)
+  sound_marked k Blocked e w = moved k Blocked e refl
+  sound_marked k (Done g) e w = moved k (Done g) e refl
+  sound_marked k Ready e w = active_marked k Ready e refl refl (by_mark old.actions id good k Ready refl)
+  sound_marked k (Running hand) e w = active_marked k (Running hand) e refl refl (by_mark old.actions id good k (Running hand) refl)
+
+  active_waits_not : (k : ℕ) (s : Status) → is_waiting s ≡ false → IsByMark old.actions id good k s → is_waiting (mark old.actions id good k s) ≡ true → is_waiting s ≡ true
+  active_waits_not k s w (inl done) h = let c : false ≡ true = ap is_waiting (sym done.0) ∙ h in absurd (cc)
+  active_waits_not k s w (inr same) h = ap is_waiting (sym same.0) ∙ h
+
+  waited : (k : ℕ) (s : Status) → is_waiting (mark old.actions id good k s) ≡ true → is_waiting s ≡ true
+  waited k Waiting h = refl
+  waited k Blocked h = h
+  waited k (Done g) h = h
+  waited k Ready h = active_waits_not k Ready refl (by_mark old.actions id good k Ready refl) h
+  waited k (Running hand) h = active_waits_not k (Running hand) refl (by_mark old.actions id good k (Running hand) refl) h
+
+  fresh_by : (k : ℕ) (a : Action) (s : Status) → status_at old.statuses k ≡ s → is_active s ≡ true → IsByMark old.actions id good k s → is_active (mark old.actions id good k s) ≡ true → action_at old.actions k ≡ Some a → is (action_id a) ≡ None
+  fresh_by k a s e active (inl done) h at = let c : false ≡ true = ap is_active (sym done.0) ∙ h in absurd (cc)
+  fresh_by k a s e active (inr same) h at = grown.others (action_id a) (same.1 a at) ∙ keeps.fresh k a (ap is_active e ∙ active) at
+
+  fresh_marked : (k : ℕ) (a : Action) (s : Status) → status_at old.statuses k ≡ s → is_active (mark old.actions id good k s) ≡ true → action_at old.actions k ≡ Some a → is (action_id a) ≡ None
+  fresh_marked k a Waiting e h at = absurd (cc)
+  fresh_marked k a Blocked e h at = absurd (cc)
+  fresh_marked k a (Done g) e h at = absurd (cc)
+  fresh_marked k a Ready e h at = fresh_by k a Ready e refl (by_mark old.actions id good k Ready refl) h at
+  fresh_marked k a (Running hand) e h at = fresh_by k a (Running hand) e refl (by_mark old.actions id good k (Running hand) refl) h at
+
+  pub half_marked : Half jobs is marked
+  half_marked =
+      record {
+        sound = λ k w.
+            subst (λ x. IsSound is marked (slice_get jobs k) (status_at marked.statuses k) x) (sym (same_actions k))
+            (subst (SoundAt k) (sym (marks.each k)) (sound_marked k (status_at old.statuses k) refl (ap is_waiting (sym (marks.each k)) ∙ w)));
+        bare = λ k w. same_actions k ∙ waits_unformed was old (slice_get jobs k) (status_at old.statuses k) (action_at old.actions k) (waited k (status_at old.statuses k) (ap is_waiting (sym (marks.each k)) ∙ w)) (keeps.sound k);
+        fresh = λ k a h at. fresh_marked k a (status_at old.statuses k) refl (ap is_active (sym (marks.each k)) ∙ h) (sym (same_actions k) ∙ at);
+      }
 
 -- ---- histories
 
-pub step_sound : (opening : Opening) (old : State) (event : Event) (new : State) → BoardStep opening old event new → IsSound opening old → IsSound opening new
-step_sound opening old (Take hand j) new (a, free, is) sound =
-    subst (IsSound opening) (sym is) (stood_sound opening old j (Running hand) (inside_of old.statuses j Ready free.ready refl) (sym (ap at_rest free.ready)) sound)
-step_sound opening old (Finish hand j) new (a, e, fin) sound = finish_sound opening old hand j a e new fin sound
-step_sound opening old (Back hand j) new (a, run, is) sound =
-    subst (IsSound opening) (sym is) (stood_sound opening old j Ready (inside_of old.statuses j (Running hand) run.runs refl) (sym (ap at_rest run.runs)) sound)
-step_sound opening old (Idle hand) new (idle, is) sound = subst (IsSound opening) (sym is) sound
+abbrev pub KeepsIn : Opening → State → Type 0
+KeepsIn op now = Keeps op.jobs (held op now) now.standings
 
-pub step_agrees : (opening : Opening) (old : State) (event : Event) (new : State) → BoardStep opening old event new → Agrees (status_at old.statuses) (status_at new.statuses)
-step_agrees opening old (Take hand j) new (a, free, is) = subst (λ (s : State). Agrees (status_at old.statuses) (status_at s.statuses)) (sym is) (set_agrees old.statuses j (Running hand) (ap is_open free.ready))
-step_agrees opening old (Finish hand j) new (a, e, fin) = finish_agrees opening old hand j a e new fin
-step_agrees opening old (Back hand j) new (a, run, is) = subst (λ (s : State). Agrees (status_at old.statuses) (status_at s.statuses)) (sym is) (set_agrees old.statuses j Ready (ap is_open run.runs))
-step_agrees opening old (Idle hand) new (idle, is) = subst (λ (s : State). Agrees (status_at old.statuses) (status_at s.statuses)) (sym is) (λ k h. refl)
+-- for the id of a job that runs nothing is held
+pub running_unheld : (op : Opening) (now : State) (hand j : ℕ) (a : Action) → KeepsIn op now → IsRunBy now.standings hand j a → held op now (action_id a) ≡ None
+running_unheld op now hand j a keeps run = keeps.fresh j a (ap is_active run.runs) run.its
 
-pub replays_sound : (opening : Opening) (events : List Event) (old new : State) → Replays opening old events new → IsSound opening old → IsSound opening new
-replays_sound opening [] old new r sound = subst (IsSound opening) (sym r) sound
-replays_sound opening (event ∷ events) old new (mid, s, r) sound = replays_sound opening events mid new r (step_sound opening old event mid s sound)
+pub finish_grows : (op : Opening) (old : State) (hand j : ℕ) (a e : Action) (new : State) → KeepsIn op old → Finishes op old hand j a e new → Grows (held op old) (held op new) (action_id a) e
+finish_grows op old hand j a e new keeps fin =
+    grows op old new (action_id a) e (subst (λ i. new.added ≡ taken lesser old.added i e) fin.fits fin.joins) (running_unheld op old hand j a keeps fin.run)
 
-all_wait : (jobs : List Job) (j : ℕ) → j < length jobs → is_waiting (status_at (map (λ job. Waiting) jobs) j) ≡ true
-all_wait [] j lt = absurd (omega arith)
-all_wait (x ∷ xs) zero lt = refl
-all_wait (x ∷ xs) (suc j) lt = all_wait xs j (omega arith)
+pub finish_half : (op : Opening) (old : State) (hand j : ℕ) (a e : Action) (new : State) → KeepsIn op old → (fin : Finishes op old hand j a e new) → Half op.jobs (held op new) fin.marked
+finish_half op old hand j a e new keeps fin = half_marked op.jobs (held op old) (held op new) (action_id a) e fin.good (finish_grows op old hand j a e new keeps fin) fin.goodness old.standings fin.marked fin.marks keeps
 
-no_job : (h : List ℕ → Option Action) (f : ℕ → Status) (o : Option Job) (s : Status) → o ≡ None → s ≡ Blocked → Stands h f o s
-no_job h f None s e b = b
-no_job h f (Some job) s e b = absurd (cc)
+pub step_keeps : (op : Opening) (old : State) (event : Event) (new : State) → BoardStep op old event new → KeepsIn op old → KeepsIn op new
+step_keeps op old (Take hand job) new s keeps = subst (KeepsIn op) (sym s.2) (stood_keeps op.jobs (held op old) old.standings job (Running hand) (ap is_active s.1.ready) refl keeps)
+step_keeps op old (Back hand job) new s keeps = subst (KeepsIn op) (sym s.2) (stood_keeps op.jobs (held op old) old.standings job Ready (ap is_active s.1.runs) refl keeps)
+step_keeps op old (Idle hand) new s keeps = subst (KeepsIn op) (sym s.1) keeps
+step_keeps op old (Finish hand job) new s keeps = carried_keeps op.jobs (held op new) s.2.marked new.standings (finish_half op old hand job s.0 s.1 new keeps s.2) s.2.carried
 
-pub first_sound : (opening : Opening) (first : State) → IsFirst opening first → IsSound opening first
-first_sound opening first begins =
-    let jobs : List Job = opening.jobs in
-    let len : length first.statuses ≡ length jobs = begins.carried.same_length ∙ length-map jobs (λ (job : Job). Waiting) in
-    record {
-      same_length = len;
-      stands = λ k. elim (cases_lt k (length jobs)) [
-        | inl lt ↦ (let now = begins.carried.waiting k (all_wait jobs k lt) in
-            subst (λ s. Stands (held opening first) (status_at first.statuses) (slice_get jobs k) s) (sym (same_at_rest (status_at first.statuses k) (stands_rests (held opening first) (status_at first.statuses) (slice_get jobs k) (status_at first.statuses k) now))) now)
-        | inr le ↦ no_job (held opening first) (status_at first.statuses) (slice_get jobs k) (at_rest (status_at first.statuses k)) (slice_get_past jobs k le) (ap at_rest (past_end first.statuses k (omega (arith, len, le))))
-      ];
-    }
+-- what is settled stays so
+abbrev pub Settles : Standings → Standings → Type 0
+Settles old new = (k : ℕ) → is_open (status_at old.statuses k) ≡ false → (status_at new.statuses k ≡ status_at old.statuses k) × (action_at new.actions k ≡ action_at old.actions k)
 
-pub history_sound : (opening : Opening) (events : List Event) (now : State) → IsHistory opening events now → IsSound opening now
-history_sound opening events now h = replays_sound opening events h.first now h.replays (first_sound opening h.first h.begins)
+pub step_settled : (op : Opening) (old : State) (event : Event) (new : State) → KeepsIn op old → BoardStep op old event new → Settles old.standings new.standings
+step_settled op old (Take hand job) new keeps s =
+    subst (λ (z : State). Settles old.standings z.standings) (sym s.2) (stood_later op.jobs (held op old) old.standings job (Running hand) (ap is_active s.1.ready) refl keeps).settled
+step_settled op old (Back hand job) new keeps s =
+    subst (λ (z : State). Settles old.standings z.standings) (sym s.2) (stood_later op.jobs (held op old) old.standings job Ready (ap is_active s.1.runs) refl keeps).settled
+step_settled op old (Idle hand) new keeps s = subst (λ (z : State). Settles old.standings z.standings) (sym s.1) (λ k shut. (refl, refl))
+step_settled op old (Finish hand job) new keeps s = λ k shut. (
+    let fin = s.2 in
+    let one = (marked_later op.jobs (held op old) (held op new) (action_id s.0) s.1 fin.good (finish_grows op old hand job s.0 s.1 new keeps fin) fin.goodness old.standings fin.marked fin.marks keeps).settled k shut in
+    let two = fin.carried.others k (shut_waits_not (status_at fin.marked.statuses k) (ap is_open one.0 ∙ shut)) in
+    (two.0 ∙ one.0, two.1 ∙ one.1))
+
+pub replays_keep : (op : Opening) (events : List Event) (old new : State) → Replays op old events new → KeepsIn op old → KeepsIn op new
+replays_keep op [] old new r keeps = subst (KeepsIn op) (sym r) keeps
+replays_keep op (event ∷ events) old new r keeps = replays_keep op events r.0 new r.2 (step_keeps op old event r.0 r.1 keeps)
+
+-- ---- the opening
+
+bare_at : (jobs : List Job) (k : ℕ) → action_at (unopened jobs).actions k ≡ None
+bare_at [] k = refl
+bare_at (job ∷ jobs) zero = refl
+bare_at (job ∷ jobs) (suc k) = bare_at jobs k
+
+idle_at : (jobs : List Job) (k : ℕ) → is_active (status_at (unopened jobs).statuses k) ≡ false
+idle_at [] k = refl
+idle_at (job ∷ jobs) zero = refl
+idle_at (job ∷ jobs) (suc k) = idle_at jobs k
+
+past_at : (h : Held) (now : Standings) (jobs : List Job) (k : ℕ) → is_waiting (status_at (unopened jobs).statuses k) ≡ false → IsSound h now (slice_get jobs k) (status_at (unopened jobs).statuses k) (action_at (unopened jobs).actions k)
+past_at h now [] k w = (refl, refl)
+past_at h now (job ∷ jobs) zero w = absurd (cc)
+past_at h now (job ∷ jobs) (suc k) w = past_at h now jobs k w
+
+half_unopened : (jobs : List Job) (h : Held) → Half jobs h (unopened jobs)
+half_unopened jobs h =
+    record { sound = λ k w. past_at h (unopened jobs) jobs k w; bare = λ k w. bare_at jobs k; fresh = λ k a active its. let c : true ≡ false = sym active ∙ idle_at jobs k in absurd (cc) }
+
+pub first_keeps : (op : Opening) (first : State) → IsFirst op first → KeepsIn op first
+first_keeps op first f = carried_keeps op.jobs (held op first) (unopened op.jobs) first.standings (half_unopened op.jobs (held op first)) f.carried
+
+pub history_keeps : (op : Opening) (events : List Event) (now : State) → IsHistory op events now → KeepsIn op now
+history_keeps op events now h = replays_keep op events h.first now h.replays (first_keeps op h.first h.begins)

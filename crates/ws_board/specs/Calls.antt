@@ -1,7 +1,6 @@
 -- What the calls of a board promise.
 use Rattle.std.specs.Prelude.{◌≡◌, ℕ, true, List, [], ◌∷◌, ◌++◌, Option, Some, None}
 use Rattle.std.specs.List.{count_by, list_any}
-use Rattle.std.specs.FinMap.{empty}
 use Rattle.ws_action.specs.Actions.{Action, action_id}
 use Rattle.ws_board.specs.declared.work.Status.{Status}
 use Rattle.ws_board.specs.declared.work.Status.TheVariants.{Waiting, Ready, Running, Blocked, Done}
@@ -10,12 +9,12 @@ use Rattle.ws_board.specs.declared.work.Event.TheVariants.{Take, Idle}
 use Rattle.ws_board.specs.declared.work.Taken.{Taken}
 use Rattle.ws_board.specs.declared.work.Taken.TheVariants as taken
 use Rattle.ws_board.specs.Work.{Task, Seen}
-use Rattle.ws_board.specs.Machine.{is_running, is_back_of, status_at, action_at, held, NoneFree, IsRunBy, BoardStep}
+use Rattle.ws_board.specs.Machine.{Held, is_running, is_back_of, status_at, action_at, held, NoneFree, IsRunBy, BoardStep, IsFirst}
 
--- nothing happened yet
+-- Jobs were carried on from the opening, and nothing happened yet.
 pub record IsFresh (seen : Seen) : Type 0 where
-  pub nothing_added : seen.state.added ≡ empty
-  pub nothing_runs : count_by is_running seen.state.statuses ≡ 0
+  pub first : IsFirst seen.opening seen.state
+  pub nothing_runs : count_by is_running seen.state.standings.statuses ≡ 0
   pub nothing_happened : seen.history ≡ []
 
 -- the event was a step of the machine and was added to the history, and the opening stays
@@ -30,7 +29,7 @@ SomeRuns statuses = (k : ℕ) × (is_running (status_at statuses k) ≡ true)
 
 -- A job was given, which the hand then runs, and is told whether it was given back before.
 pub record Gives (hand : ℕ) (task : Task) (old new : Seen) : Type 0 where
-  pub runs : IsRunBy new.opening.jobs new.state.statuses hand task.job task.action
+  pub runs : IsRunBy new.state.standings hand task.job task.action
   pub happens : Happens old (Take hand task.job) new
   pub was_back : task.was_back ≡ list_any (is_back_of task.job) old.history
 
@@ -38,10 +37,10 @@ pub record Gives (hand : ℕ) (task : Task) (old new : Seen) : Type 0 where
 abbrev pub TakeStep : ℕ → Taken → Seen → Seen → Type 0
 TakeStep hand (taken.Job task) old new = Gives hand task old new
 TakeStep hand taken.Idle old new = Happens old (Idle hand) new
-TakeStep hand taken.Later old new = NoneFree old.opening.jobs old.state.statuses × SomeRuns old.state.statuses × (new ≡ old)
+TakeStep hand taken.Later old new = NoneFree old.state.standings × SomeRuns old.state.standings.statuses × (new ≡ old)
 
 -- the entry that is held for a job that is done
-abbrev pub result_of : (List ℕ → Option Action) → Status → Option Action → Option Action
+abbrev pub result_of : Held → Status → Option Action → Option Action
 result_of at (Done good) (Some action) = at (action_id action)
 result_of at (Done good) None = None
 result_of at Waiting action = None
@@ -50,4 +49,4 @@ result_of at (Running hand) action = None
 result_of at Blocked action = None
 
 abbrev pub result_at : Seen → ℕ → Option Action
-result_at seen k = result_of (held seen.opening seen.state) (status_at seen.state.statuses k) (action_at seen.opening.jobs k)
+result_at seen k = result_of (held seen.opening seen.state) (status_at seen.state.standings.statuses k) (action_at seen.state.standings.actions k)

@@ -1,22 +1,59 @@
 -- On the way to where nothing changes.
-use Rattle.std.specs.Prelude.{◌≡◌, ℕ, true, false, List, length, Option, ◌⊎◌}
+use Rattle.std.specs.Prelude.{◌≡◌, ℕ, Bool, true, false, List, length, Option, Some, None, ◌⊎◌, if◌then◌else◌, option_copied}
 use Rattle.std.specs.List.{slice_get}
-use Rattle.ws_action.specs.Actions.{Action}
+use Rattle.std.specs.Option.{option_or}
+use Rattle.std.specs.Str.{bytes_eq}
+use Rattle.std.specs.FinMap.{get}
+use Rattle.ws_action.specs.Actions.{Action, action_id}
+use Rattle.ws_board.specs.declared.rule.Standings.{Standings as RustStandings}
+use Rattle.ws_board.specs.declared.carrying.Holds.{Holds}
 use Rattle.ws_board.specs.declared.work.Status.{Status}
 use Rattle.ws_board.specs.declared.work.Status.TheVariants.{Waiting}
-use Rattle.ws_board.specs.Work.{Job}
-use Rattle.ws_board.specs.Machine.{is_waiting, status_at, Stands}
+use Rattle.ws_map.specs.Kept.{taken}
+use Rattle.ws_cache.specs.Joined.{lesser}
+use Rattle.ws_board.specs.Work.{Job, Task, Standings, Entries, Seen}
+use Rattle.ws_board.specs.Machine.{Held, is_waiting, status_at, action_at, Stands, Finishes}
 
--- what waited at first still waits, or stands as its imports say
-pub record IsUnder (jobs : List Job) (held : List ℕ → Option Action) (first now : List Status) : Type 0 where
-  pub same_length : length now ≡ length first
-  pub others : (j : ℕ) → is_waiting (status_at first j) ≡ false → status_at now j ≡ status_at first j
-  pub waiting : (j : ℕ) → is_waiting (status_at first j) ≡ true → (status_at now j ≡ Waiting) ⊎ Stands held (status_at now) (slice_get jobs j) (status_at now j)
+-- what waited at first still waits, or stands as its imports say; and what waits has no action
+pub record IsUnder (jobs : List Job) (held : Held) (first now : Standings) : Type 0 where
+  pub same_length : (length now.statuses ≡ length first.statuses) × (length now.actions ≡ length first.actions)
+  pub others : (j : ℕ) → is_waiting (status_at first.statuses j) ≡ false → (status_at now.statuses j ≡ status_at first.statuses j) × (action_at now.actions j ≡ action_at first.actions j)
+  pub waiting : (j : ℕ) → is_waiting (status_at first.statuses j) ≡ true → (status_at now.statuses j ≡ Waiting) ⊎ Stands held now (slice_get jobs j) (status_at now.statuses j) (action_at now.actions j)
+  pub bare : (j : ℕ) → status_at now.statuses j ≡ Waiting → action_at now.actions j ≡ None
 
 -- if this job waits, its imports say so
-abbrev pub RestsAt : List Job → (List ℕ → Option Action) → List Status → ℕ → Type 0
-RestsAt jobs held now j = status_at now j ≡ Waiting → Stands held (status_at now) (slice_get jobs j) Waiting
+abbrev pub RestsAt : List Job → Held → Standings → ℕ → Type 0
+RestsAt jobs held now j = status_at now.statuses j ≡ Waiting → Stands held now (slice_get jobs j) Waiting None
 
 -- nothing changes
-abbrev pub AllRest : List Job → (List ℕ → Option Action) → List Status → Type 0
+abbrev pub AllRest : List Job → Held → Standings → Type 0
 AllRest jobs held now = (j : ℕ) → RestsAt jobs held now j
+
+-- ---- what the code keeps
+
+abbrev pub standings_with : List Status → List (Option Action) → Standings
+standings_with statuses actions = record { statuses = statuses; actions = actions }
+
+abbrev pub standings_of : RustStandings → Standings
+standings_of now = standings_with now.statuses.items now.actions.items
+
+-- each job stands somehow, and has an action or none
+pub record AreOf (jobs : List Job) (now : Standings) : Type 0 where
+  pub statuses : length now.statuses ≡ length jobs
+  pub actions : length now.actions ≡ length jobs
+
+-- what is held for an id while an entry is about to be added
+abbrev pub newest_at : Option Action → Held
+newest_at None id = None
+newest_at (Some entry) id = if bytes_eq (action_id entry) id then Some entry else None
+
+abbrev pub held_with : Entries → Entries → Option Action → Held
+held_with cache added newest id = option_or (get cache id) (option_or (get added id) (newest_at newest id))
+
+abbrev pub held_by : Holds → Held
+held_by holds = held_with holds.opened.now holds.added.now (option_copied holds.newest)
+
+-- the jobs stand so when the hand has finished the task with that entry
+abbrev pub IsFinished : Seen → ℕ → Task → Action → Standings → Type 0
+IsFinished old hand task entry now =
+    Finishes old.opening old.state hand task.job task.action entry (record { standings = now; added = taken lesser old.state.added (action_id entry) entry })

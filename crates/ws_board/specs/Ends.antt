@@ -1,17 +1,21 @@
 -- What becomes of jobs, from the jobs alone: no ids, no cache, no hands, no order.
-use Rattle.std.specs.Prelude.{◌≡◌, ℕ, ◌<◌, Bool, true, false, ◌&&◌, List, [], ◌∷◌, ◌++◌, map, length, Option, Some, None, is_some}
-use Rattle.std.specs.List.{slice_index_or, list_all, AllZip, Contains, IsDistinct, count_by}
+use Rattle.std.specs.Prelude.{◌≡◌, ℕ, ◌<◌, Bool, true, List, [], ◌∷◌, ◌++◌, map, length, Option, Some, None, ◌⊎◌}
+use Rattle.std.specs.List.{All, AllZip, slice_get, slice_index_or, Contains, IsDistinct, count_by}
 use Rattle.std.specs.Str.{bytes_eq}
 use Rattle.std.specs.FinMap.{get}
 use Rattle.ws_map.specs.Kept.{joined}
-use Rattle.ws_action.specs.Actions.{Action, action_id}
-use Rattle.ws_action.specs.Clash.{NoClash, AllSized, hashed_actions}
-use Rattle.ws_cache.specs.Compiles.{Compiled, Compiles}
+use Rattle.go_import.specs.Names.{importable_by}
+use Rattle.go_export.specs.Summaries.{Summary}
+use Rattle.ws_action.specs.Actions.{Action, MakeAction, action_id}
+use Rattle.ws_action.specs.Clash.{NoClash, AllSized, Includes, hashed_actions}
+use Rattle.ws_cache.specs.Compiles.{Compiled, Compiles, Good, IsResult}
 use Rattle.ws_cache.specs.Count.{compiled_count}
 use Rattle.ws_cache.specs.Held.{CacheStandsFor}
 use Rattle.ws_cache.specs.Joined.{lesser}
-use Rattle.ws_board.specs.Work.{Job, Seen}
-use Rattle.ws_board.specs.Machine.{is_good_result, action_at, imports_at, is_finish}
+use Rattle.ws_board.specs.declared.work.Status.{Status}
+use Rattle.ws_board.specs.declared.work.Status.TheVariants.{Waiting, Ready, Running, Blocked as Stays, Done}
+use Rattle.ws_board.specs.Work.{Work, Job, Seen, acted}
+use Rattle.ws_board.specs.Machine.{is_good_result, status_at, action_at, is_finish}
 use Rattle.ws_board.specs.Calls.{result_at}
 
 -- a job is blocked, or its action came to what compiling it gives
@@ -19,21 +23,28 @@ pub data End : Type 0 where
   Blocked : End
   Came : Action → Compiled → End
 
-abbrev pub is_good : End → Bool
-is_good Blocked = false
-is_good (Came action result) = is_good_result result
+-- the summary of a good package
+abbrev pub summary_in : End → Option Summary
+summary_in (Came action (Good summary object)) = Some summary
+summary_in _ = None
 
 -- where there is no job, that of one that is blocked
 abbrev pub end_at : List End → ℕ → End
 end_at ends k = slice_index_or ends k Blocked
 
-abbrev pub are_good : List End → List ℕ → Bool
-are_good ends imports = list_all (λ k. is_good (end_at ends k)) imports
+-- Where the jobs end so, the job has this action: its imports are good, and its work makes it with their summaries.
+pub record HasAction (ends : List End) (job : Job) (action : Action) : Type 0 where
+  pub work : Work
+  pub its : job.work ≡ Some work
+  pub summaries : List Summary
+  pub have : AllZip (λ k summary. summary_in (end_at ends k) ≡ Some summary) job.imports summaries
+  pub make : MakeAction work.files summaries
+  pub is : action ≡ acted work summaries
 
--- Where the jobs end so, this job ends so: it is blocked if it has no action, or an import isn't good; else it comes to what compiling gives.
+-- Where the jobs end so, this job ends so: it is blocked where it has no action, and else it comes to what its files come to by its imports' summaries.
 abbrev pub IsEnd : List End → Job → End → Type 0
-IsEnd ends job Blocked = (is_some job.action && are_good ends job.imports) ≡ false
-IsEnd ends job (Came action result) = (job.action ≡ Some action) × (are_good ends job.imports ≡ true) × Compiles action result
+IsEnd ends job Blocked = (action : Action) → ¬ (HasAction ends job action)
+IsEnd ends job (Came action result) = (has : HasAction ends job action) × IsResult has.work.path has.work.files (map importable_by has.summaries) result
 
 abbrev pub AreEnds : List Job → List End → Type 0
 AreEnds jobs ends = AllZip (IsEnd ends) jobs ends
@@ -51,32 +62,43 @@ somes (Some x ∷ xs) = x ∷ somes xs
 abbrev pub came : List End → List Action
 came ends = somes (map came_of ends)
 
--- the actions of the jobs
-abbrev pub actions_of : List Job → List Action
-actions_of jobs = somes (map (λ job. job.action) jobs)
+abbrev pub work_in : Option Job → Option Work
+work_in None = None
+work_in (Some job) = job.work
 
--- imports lead down, among jobs that have an action
+abbrev pub work_at : List Job → ℕ → Option Work
+work_at jobs k = work_in (slice_get jobs k)
+
+abbrev pub imports_in : Option Job → List ℕ
+imports_in None = []
+imports_in (Some job) = job.imports
+
+abbrev pub imports_at : List Job → ℕ → List ℕ
+imports_at jobs k = imports_in (slice_get jobs k)
+
+-- imports lead down, among jobs that have work
 abbrev pub IsRanked : (ℕ → ℕ) → List Job → Type 0
-IsRanked rank jobs = (j k : ℕ) (a b : Action) → action_at jobs j ≡ Some a → Contains (imports_at jobs j) k → action_at jobs k ≡ Some b → rank k < rank j
+IsRanked rank jobs = (j k : ℕ) (v w : Work) → work_at jobs j ≡ Some v → Contains (imports_at jobs j) k → work_at jobs k ≡ Some w → rank k < rank j
 
--- the numbers in the actions' texts fit, and no two of the texts clash
-pub record AreClear (actions : List Action) : Type 0 where
-  pub sized : AllSized actions
-  pub clear : NoClash (hashed_actions actions)
+-- the numbers in the entries' texts fit, and no two of the texts of the entries and of what came clash
+pub record AreClear (entries came : List Action) : Type 0 where
+  pub sized : AllSized entries
+  pub clear : NoClash (hashed_actions (entries ++ came))
 
--- What a board came to over a cache that stands for E: where its jobs end so, each answer is the job's end, both caches stand for what came as well,
--- and as many were finished as actions were new.
+-- What a board came to over a cache that stands for E, where its jobs end so: each answer is the job's end, and compiling its action gives that; both
+-- caches stand for what came as well, and as many were finished as actions were new.
 pub record ComesTo (seen : Seen) (E : List Action) (ends : List End) : Type 0 where
-  pub are : AreEnds seen.opening.jobs ends
   pub told : (k : ℕ) → result_at seen k ≡ came_of (end_at ends k)
+  pub compiled : (k : ℕ) (action : Action) (result : Compiled) → end_at ends k ≡ Came action result → Compiles action result
+  pub sized : AllSized (came ends)
   pub stands : CacheStandsFor (joined lesser seen.opening.cache seen.state.added) (E ++ came ends)
   pub count : count_by is_finish seen.history ≡ compiled_count E (came ends)
 
--- Over any such E, with imports that lead down and where the texts of E, of other entries N and of the jobs' actions don't clash, it came to the jobs' ends.
+-- Over any such E, where imports lead down, the jobs end so, and the texts of E, of other entries N and of what comes don't clash, it came to these ends.
 abbrev pub ComesToEnds : Seen → List Action → Type 0
 ComesToEnds seen N =
-    (E : List Action) (rank : ℕ → ℕ) → CacheStandsFor seen.opening.cache E → IsRanked rank seen.opening.jobs
-    → AreClear (E ++ (N ++ actions_of seen.opening.jobs)) → (ends : List End) × ComesTo seen E ends
+    (E : List Action) (rank : ℕ → ℕ) (ends : List End) → CacheStandsFor seen.opening.cache E → IsRanked rank seen.opening.jobs → AreEnds seen.opening.jobs ends
+    → AreClear (E ++ N) (came ends) → ComesTo seen E ends
 
 -- The entries that were finished, whatever the ids: the new entries are these, each finish added one, and each has an id that neither the opening's
 -- cache has nor another one of them.
@@ -85,3 +107,34 @@ pub record AreFinished (seen : Seen) (entries : List Action) : Type 0 where
   pub count : count_by is_finish seen.history ≡ length entries
   pub apart : (entry : Action) → Contains entries entry → get seen.opening.cache (action_id entry) ≡ None
   pub distinct : IsDistinct bytes_eq (map action_id entries)
+
+-- The entries that were added are those of jobs' own actions: wherever no other texts clash, each is one that comes.
+pub record AddsOwn (seen : Seen) : Type 0 where
+  pub entries : List Action
+  pub stands : CacheStandsFor seen.state.added entries
+  pub sized : AllSized entries
+  pub among : (E : List Action) (rank : ℕ → ℕ) (ends : List End) → CacheStandsFor seen.opening.cache E → IsRanked rank seen.opening.jobs → AreEnds seen.opening.jobs ends
+      → AreClear E (came ends) → Includes (came ends) entries
+
+-- ---- boards that are opened and never run
+
+-- all imports are done and good
+abbrev pub AllGood : List Status → List ℕ → Type 0
+AllGood statuses = All (λ k. status_at statuses k ≡ Done true)
+
+-- How a job stands that has this end, where E is held: with all imports done and good it has its action, is ready where that isn't held, and done where
+-- it is, with what compiling it gives; else it has none.
+abbrev pub IsShown : List Action → List Status → List ℕ → End → Status → Option Action → Type 0
+IsShown E statuses imports end Waiting action = (action ≡ None) × ¬ (AllGood statuses imports)
+IsShown E statuses imports end Stays action = (action ≡ None) × (end ≡ Blocked)
+IsShown E statuses imports end (Running hand) action = ⊥
+IsShown E statuses imports end Ready action =
+    AllGood statuses imports × ((its : Action) × (result : Compiled) × (action ≡ Some its) × (end ≡ Came its result) × ¬ (Contains E its))
+IsShown E statuses imports end (Done good) action =
+    AllGood statuses imports × ((its : Action) × (result : Compiled) × (action ≡ Some its) × (end ≡ Came its result) × Contains E its × (good ≡ is_good_result result) × Compiles its result)
+
+-- Over any such E, where imports lead down, the jobs end so, and the texts of E and of what comes don't clash, each job stands so.
+abbrev pub ShowsEnds : Seen → Type 0
+ShowsEnds seen =
+    (E : List Action) (rank : ℕ → ℕ) (ends : List End) → CacheStandsFor seen.opening.cache E → IsRanked rank seen.opening.jobs → AreEnds seen.opening.jobs ends
+    → AreClear E (came ends) → (k : ℕ) → IsShown E seen.state.standings.statuses (imports_at seen.opening.jobs k) (end_at ends k) (status_at seen.state.standings.statuses k) (action_at seen.state.standings.actions k)

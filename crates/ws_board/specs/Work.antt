@@ -3,17 +3,29 @@ use Rattle.std.specs.Prelude.{◌≡◌, ℕ, Bool, List, Option, Some, None, �
 use Rattle.std.specs.Coded.{Coded, code_by, coded×, coded⊎, coded_ℕ, coded_bool, coded_list, coded_option}
 use Rattle.std.specs.FinMap.{FinMap, code}
 use Rattle.std.proofs.Common.{inl, inr}
-use Rattle.ws_action.specs.Actions.{Action, action_code}
+use Rattle.go_ast.specs.Parse.{Parsed}
+use Rattle.go_export.specs.Summaries.{Summary}
+use Rattle.ws_action.specs.Actions.{Action, action_of, action_code}
 use Rattle.ws_cache.specs.Held.{id_cmp}
 use Rattle.ws_board.specs.declared.work.Status.{Status}
 use Rattle.ws_board.specs.declared.work.Status.TheVariants.{Waiting, Ready, Running, Blocked, Done}
 use Rattle.ws_board.specs.declared.work.Event.{Event}
 use Rattle.ws_board.specs.declared.work.Event.TheVariants.{Take, Finish, Back, Idle}
 
--- what is to be compiled, if anything is, and the numbers of the jobs that it imports
+-- what is to be compiled: the number of the edition, the package's directory and its files
+pub record Work : Type 0 where
+  pub edition : ℕ
+  pub path : List ℕ
+  pub files : List Parsed
+
+-- what is to be compiled, if anything is, and the numbers of the jobs that it imports, in the order of their paths
 pub record Job : Type 0 where
-  pub action : Option Action
+  pub work : Option Work
   pub imports : List ℕ
+
+-- the action of work, where its imports have these summaries
+abbrev pub acted : Work → List Summary → Action
+acted work summaries = action_of work.edition work.path work.files summaries
 
 -- a job that was given: its number, its action, and whether it was given back before
 pub record Task : Type 0 where
@@ -30,9 +42,14 @@ pub record Opening : Type 0 where
   pub jobs : List Job
   pub cache : Entries
 
--- where each job stands, and the entries that were added to those of the opening
-pub record State : Type 0 where
+-- where each job stands, and its action, once it is formed
+pub record Standings : Type 0 where
   pub statuses : List Status
+  pub actions : List (Option Action)
+
+-- the same, and the entries that were added to those of the opening
+pub record State : Type 0 where
+  pub standings : Standings
   pub added : Entries
 
 -- the opening, how things are now, and what happened, the first event first
@@ -94,8 +111,17 @@ status_code = code_by StatusTold (coded⊎ (coded_option (coded_option coded_ℕ
 abbrev pub event_code : Coded Event
 event_code = code_by EventTold (coded⊎ (coded× coded_ℕ coded_ℕ) (coded⊎ (coded× coded_ℕ coded_ℕ) (coded⊎ (coded× coded_ℕ coded_ℕ) coded_ℕ))) event_out event_in event_same
 
+abbrev pub parsed_code : Coded Parsed
+parsed_code = code_by (List ℕ × List ℕ) (coded× (coded_list coded_ℕ) (coded_list coded_ℕ)) (λ f. (f.name, f.text)) (λ p. record { name = p.0; text = p.1 }) (λ _. refl)
+
+abbrev pub work_code : Coded Work
+work_code = code_by (ℕ × (List ℕ × List Parsed)) (coded× coded_ℕ (coded× (coded_list coded_ℕ) (coded_list parsed_code))) (λ w. (w.edition, (w.path, w.files))) (λ p. record { edition = p.0; path = p.1.0; files = p.1.1 }) (λ _. refl)
+
 abbrev pub job_code : Coded Job
-job_code = code_by (Option Action × List ℕ) (coded× (coded_option action_code) (coded_list coded_ℕ)) (λ j. (j.action, j.imports)) (λ p. record { action = p.0; imports = p.1 }) (λ _. refl)
+job_code = code_by (Option Work × List ℕ) (coded× (coded_option work_code) (coded_list coded_ℕ)) (λ j. (j.work, j.imports)) (λ p. record { work = p.0; imports = p.1 }) (λ _. refl)
+
+abbrev pub standings_code : Coded Standings
+standings_code = code_by (List Status × List (Option Action)) (coded× (coded_list status_code) (coded_list (coded_option action_code))) (λ s. (s.statuses, s.actions)) (λ p. record { statuses = p.0; actions = p.1 }) (λ _. refl)
 
 abbrev pub task_code : Coded Task
 task_code = code_by (ℕ × (Action × Bool)) (coded× coded_ℕ (coded× action_code coded_bool)) (λ t. (t.job, (t.action, t.was_back))) (λ p. record { job = p.0; action = p.1.0; was_back = p.1.1 }) (λ _. refl)
@@ -103,11 +129,14 @@ task_code = code_by (ℕ × (Action × Bool)) (coded× coded_ℕ (coded× action
 abbrev pub entries_code : Coded Entries
 entries_code = code (coded_list coded_ℕ) action_code
 
+abbrev pub state_code : Coded State
+state_code = code_by (Standings × Entries) (coded× standings_code entries_code) (λ s. (s.standings, s.added)) (λ p. record { standings = p.0; added = p.1 }) (λ _. refl)
+
 abbrev pub SeenTold : Type 0
-SeenTold = (List Job × Entries) × ((List Status × Entries) × List Event)
+SeenTold = (List Job × Entries) × (State × List Event)
 
 abbrev pub seen_in : SeenTold → Seen
-seen_in p = record { opening = record { jobs = p.0.0; cache = p.0.1 }; state = record { statuses = p.1.0.0; added = p.1.0.1 }; history = p.1.1 }
+seen_in p = record { opening = record { jobs = p.0.0; cache = p.0.1 }; state = p.1.0; history = p.1.1 }
 
 abbrev pub seen_code : Coded Seen
-seen_code = code_by SeenTold (coded× (coded× (coded_list job_code) entries_code) (coded× (coded× (coded_list status_code) entries_code) (coded_list event_code))) (λ s. ((s.opening.jobs, s.opening.cache), ((s.state.statuses, s.state.added), s.history))) seen_in (λ _. refl)
+seen_code = code_by SeenTold (coded× (coded× (coded_list job_code) entries_code) (coded× state_code (coded_list event_code))) (λ s. ((s.opening.jobs, s.opening.cache), (s.state, s.history))) seen_in (λ _. refl)

@@ -3,10 +3,12 @@ ghost use Rattle.std.specs.Prelude.{◌≡◌, IfSome, IfNone, None, Some};
 ghost use Rattle.std.specs.List.{count_by};
 ghost use Rattle.ws_action.specs.Actions.{Action as AnAction};
 ghost use Rattle.ws_cache.specs.Compiles.{Compiles, compiled_of};
-ghost use Rattle.ws_board.specs.Machine.{is_finish};
-ghost use Rattle.ws_board.specs.Calls.{result_at};
+ghost use Rattle.ws_board.specs.Machine.{is_finish, status_at, action_at};
+ghost use Rattle.ws_board.specs.Calls.{result_of, result_at};
+ghost use Rattle.ws_board.specs.Carrying.{held_by, standings_of};
 
-use crate::rule::{action_at, held, status_at};
+use crate::carrying::{Holds, held};
+use crate::rule::{Standings, action_at, status_at};
 use crate::work::{Event, Job, Status};
 use std::marker::Model;
 use ws_cache::{Cache, Outcome};
@@ -16,35 +18,51 @@ use ws_cache::{Cache, Outcome};
 pub struct Built {
     jobs: Vec<Job>,
     opened: Cache,
-    statuses: Vec<Status>,
+    standings: Standings,
     added: Cache,
     history: Vec<Event>,
 }
 
 impl Model for Built {
     ghost use Rattle.ws_board.specs.Work as work;
+    ghost use Rattle.ws_board.specs.Carrying.{standings_of};
 
     ghost Value = { work.Seen };
 
     ghost coded = { work.seen_code };
 
-    ghost view = { λ a. record { opening = record { jobs = a.jobs.items; cache = a.opened }; state = record { statuses = a.statuses.items; added = a.added }; history = a.history.items } };
+    ghost view = { λ a. record { opening = record { jobs = a.jobs.items; cache = a.opened }; state = record { standings = standings_of a.standings; added = a.added }; history = a.history.items } };
+}
+
+/// What compiling the action of the job with that number gives, if the job is done.
+pub(super) fn result_by<'a>(holds: Holds<'a>, now: &Standings, job: usize) -> Option<&'a Outcome>
+    ensures some { let at = result_of (held_by holds.entry) (status_at now.now.statuses.items job) (action_at now.now.actions.items job) in IfSome result (λ outcome. (entry : AnAction) × (at ≡ Some entry) × Compiles entry (compiled_of outcome.now)) }
+    ensures none { IfNone result (result_of (held_by holds.entry) (status_at now.now.statuses.items job) (action_at now.now.actions.items job) ≡ None) }
+{
+    match status_at(&now.statuses, job) {
+        Status::Done(_) => {
+            let action = action_at(&now.actions, job)?;
+            let entry = held(holds, &action.id())?;
+            Some(entry.outcome())
+        }
+        Status::Waiting | Status::Ready | Status::Running(_) | Status::Blocked => None,
+    }
 }
 
 impl Built {
     pub(super) fn new(
         jobs: Vec<Job>,
         opened: Cache,
-        statuses: Vec<Status>,
+        standings: Standings,
         added: Cache,
         history: Vec<Event>,
     ) -> Built
-        ensures { result ≡ record { opening = record { jobs = jobs.items; cache = opened }; state = record { statuses = statuses.items; added = added }; history = history.items } }
+        ensures { result ≡ record { opening = record { jobs = jobs.items; cache = opened }; state = record { standings = standings_of standings; added = added }; history = history.items } }
     {
         Built {
             jobs,
             opened,
-            statuses,
+            standings,
             added,
             history,
         }
@@ -56,14 +74,12 @@ impl Built {
         ensures some { IfSome result (λ outcome. (entry : AnAction) × (result_at self.now job ≡ Some entry) × Compiles entry (compiled_of outcome.now)) }
         ensures none { IfNone result (result_at self.now job ≡ None) }
     {
-        match status_at(&self.statuses, job) {
-            Status::Done(_) => {
-                let action = action_at(&self.jobs, job)?;
-                let entry = held(&self.opened, &self.added, &action.id())?;
-                Some(entry.outcome())
-            }
-            Status::Waiting | Status::Ready | Status::Running(_) | Status::Blocked => None,
-        }
+        let holds = Holds {
+            opened: &self.opened,
+            added: &self.added,
+            newest: None,
+        };
+        result_by(holds, &self.standings, job)
     }
 
     /// How many jobs were finished.

@@ -1,15 +1,20 @@
-//! How jobs stand: what their imports make of them, and which may be given.
-ghost use Rattle.std.specs.Prelude.{◌≡◌, ◌<◌, ◌+◌, ◌≤◌, ℕ, List, length, map, replicate, true, false, Some, IfOk, IfSome, IfNone, vec_len, option_copied};
+//! How jobs stand, and which may be given.
+ghost use Rattle.std.specs.Prelude.{◌≡◌, ◌<◌, ℕ, List, length, true, false, Some, IfOk, IfSome, IfNone, option_copied, slice_set};
 ghost use Rattle.std.specs.Bool.{OnTrue, OnFalse};
-ghost use Rattle.std.specs.List.{list_any, count_by};
-ghost use Rattle.ws_board.specs.declared.work.Status.{Status as AStatus};
-ghost use Rattle.ws_board.specs.Machine.{is_waiting, is_running, is_open, is_bad, status_at, action_at, has_id, held_in, IsGoodness, IsPlaced, Stands, Carried, is_run_of, IsFree, IsTaken, NoneFree, mark, IsMarked, IsRunBy};
+ghost use Rattle.ws_board.specs.Machine.{is_running, status_at, action_at, has_id, is_run_of, IsFree, IsTaken, NoneFree, IsGoodness, mark, IsMarked};
+ghost use Rattle.ws_board.specs.Carrying.{standings_of, standings_with};
 ghost use Rattle.ws_board.specs.Calls.{SomeRuns};
-ghost use Rattle.ws_board.specs.Carrying.{IsUnder, RestsAt, AllRest};
 
-use crate::work::{Identified, Job, Status};
+use crate::work::{Identified, Status};
 use std::alloc::{AllocError, Global};
-use ws_cache::{Cache, Entry, Outcome};
+use ws_cache::{Entry, Outcome};
+
+/// Where jobs stand, and their actions, as far as they are formed.
+#[derive(Drop)]
+pub(super) struct Standings {
+    pub(super) statuses: Vec<Status>,
+    pub(super) actions: Vec<Option<Identified>>,
+}
 
 /// Where the job with that number stands; where there is none, as one that is blocked.
 pub(super) fn status_at(statuses: &[Status], k: usize) -> Status
@@ -21,42 +26,31 @@ pub(super) fn status_at(statuses: &[Status], k: usize) -> Status
     }
 }
 
-/// The action of the job with that number, if there is one.
-pub(super) fn action_at(jobs: &[Job], k: usize) -> Option<&Identified>
-    ensures { option_copied result ≡ action_at jobs.now k }
+/// The action of the job with that number, if it is formed.
+pub(super) fn action_at(actions: &[Option<Identified>], k: usize) -> Option<&Identified>
+    ensures { option_copied result ≡ action_at actions.now k }
 {
-    jobs.get(k)?.action()
+    match actions.get(k) {
+        Some(action) => action.as_ref(),
+        None => None,
+    }
 }
 
-fn has_id(jobs: &[Job], id: &[u8; 32], k: usize) -> bool
-    ensures { result ≡ has_id jobs.now id.now k }
+fn has_id(actions: &[Option<Identified>], id: &[u8; 32], k: usize) -> bool
+    ensures { result ≡ has_id actions.now id.now k }
 {
-    match action_at(jobs, k) {
+    match action_at(actions, k) {
         Some(action) => action.id() == *id,
         None => false,
     }
 }
 
-fn any_open(statuses: &[Status], imports: &[usize]) -> bool
-    ensures { result ≡ list_any (λ k. is_open (status_at statuses.now k)) imports.now }
+/// The job with that number now stands so.
+pub(super) fn stand(statuses: &mut Vec<Status>, k: usize, status: Status)
+    requires { k < length statuses.old.items }
+    ensures { statuses.new.items ≡ slice_set statuses.old.items k status }
 {
-    imports.iter().any(|k| status_at(statuses, *k).is_open())
-}
-
-fn any_bad(statuses: &[Status], imports: &[usize]) -> bool
-    ensures { result ≡ list_any (λ k. is_bad (status_at statuses.now k)) imports.now }
-{
-    imports.iter().any(|k| status_at(statuses, *k).is_bad())
-}
-
-/// The entry that one of the caches has for the id; the opening's is asked first.
-pub(super) fn held<'a>(opened: &'a Cache, added: &'a Cache, id: &[u8; 32]) -> Option<&'a Entry>
-    ensures { option_copied result ≡ held_in opened.now added.now id.now }
-{
-    match opened.get(id) {
-        Some(entry) => Some(entry),
-        None => added.get(id),
-    }
+    statuses[k] = status;
 }
 
 /// Whether the entry's package is good.
@@ -64,122 +58,65 @@ pub(super) fn is_good(entry: &Entry) -> bool
     ensures { IsGoodness entry.now result }
 {
     match entry.outcome() {
-        Outcome::Good(_) => true,
+        Outcome::Good(_, _) => true,
         Outcome::Faulty(_) => false,
     }
 }
 
-fn placed(opened: &Cache, added: &Cache, id: &[u8; 32]) -> Status
-    ensures { IsPlaced (held_in opened.now added.now id.now) result }
+fn copy_statuses(alloc: Global, statuses: &[Status]) -> Result<Vec<Status>, AllocError>
+    ensures { IfOk result (λ copies. copies.items ≡ statuses.now) }
 {
-    match held(opened, added, id) {
-        Some(entry) => Status::Done(is_good(entry)),
-        None => Status::Ready,
+    let mut copies = Vec::with_capacity(alloc, statuses.len())?;
+    for status in statuses {
+        copies.push(*status)?;
+    }
+    Ok(copies)
+}
+
+fn share_action(action: &Option<Identified>) -> Result<Option<Identified>, AllocError>
+    ensures { IfOk result (λ same. same ≡ action.now) }
+{
+    match action {
+        Some(action) => Ok(Some(action.share()?)),
+        None => Ok(None),
     }
 }
 
-/// What a job's imports make of it, as they stand.
-fn stands(job: &Job, opened: &Cache, added: &Cache, statuses: &[Status]) -> Status
-    ensures { Stands (held_in opened.now added.now) (status_at statuses.now) (Some job.now) result }
-{
-    let Some(action) = job.action() else {
-        return Status::Blocked;
-    };
-    if any_open(statuses, job.imports()) {
-        return Status::Waiting;
-    }
-    if any_bad(statuses, job.imports()) {
-        return Status::Blocked;
-    }
-    placed(opened, added, &action.id())
-}
-
-// Carries job j on, if it waits and its imports say what becomes of it.
-fn advance(jobs: &[Job], opened: &Cache, added: &Cache, statuses: &mut [Status], j: usize) -> bool
-    requires inside { j < length statuses.old }
-    requires same { length jobs.now ≡ length statuses.old }
-    ensures keeps { (first : List AStatus) → IsUnder jobs.now (held_in opened.now added.now) first statuses.old → IsUnder jobs.now (held_in opened.now added.now) first statuses.new }
-    ensures moved { OnTrue result (count_by is_waiting statuses.new < count_by is_waiting statuses.old) }
-    ensures still { OnFalse result (statuses.new ≡ statuses.old) }
-    ensures rests { OnFalse result (RestsAt jobs.now (held_in opened.now added.now) statuses.old j) }
-{
-    if !status_at(statuses, j).is_waiting() {
-        return false;
-    }
-    let now = stands(&jobs[j], opened, added, statuses);
-    if now.is_waiting() {
-        return false;
-    }
-    statuses[j] = now;
-    true
-}
-
-// Carries each waiting job on once.
-fn pass(jobs: &[Job], opened: &Cache, added: &Cache, statuses: &mut [Status]) -> bool
-    requires same { length jobs.now ≡ length statuses.old }
-    ensures keeps { (first : List AStatus) → IsUnder jobs.now (held_in opened.now added.now) first statuses.old → IsUnder jobs.now (held_in opened.now added.now) first statuses.new }
-    ensures moved { OnTrue result (count_by is_waiting statuses.new < count_by is_waiting statuses.old) }
-    ensures still { OnFalse result (AllRest jobs.now (held_in opened.now added.now) statuses.new) }
-    ensures same { OnFalse result (statuses.new ≡ statuses.old) }
-{
-    let mut moved = false;
-    for j in 0..statuses.len() {
-        if advance(jobs, opened, added, statuses, j) {
-            moved = true;
-        }
-    }
-    moved
-}
-
-// Carries all waiting jobs on, until nothing changes.
-fn carry_all(jobs: &[Job], opened: &Cache, added: &Cache, statuses: &mut [Status])
-    requires same { length jobs.now ≡ length statuses.old }
-    ensures { Carried jobs.now (held_in opened.now added.now) statuses.old statuses.new }
-{
-    let mut moved = true;
-    while moved {
-        moved = pass(jobs, opened, added, statuses);
-    }
-}
-
-/// Carries all waiting jobs on, until nothing changes.
-pub(super) fn carry(jobs: &[Job], opened: &Cache, added: &Cache, statuses: &mut Vec<Status>)
-    requires same { length jobs.now ≡ length statuses.old.items }
-    ensures { Carried jobs.now (held_in opened.now added.now) statuses.old.items statuses.new.items }
-{
-    carry_all(jobs, opened, added, statuses.as_mut_slice());
-}
-
-/// That many statuses of jobs that wait.
-fn all_waiting(alloc: Global, count: usize) -> Result<Vec<Status>, AllocError>
-    ensures { IfOk result (λ statuses. statuses.items ≡ replicate count AStatus.Waiting) }
-{
-    let mut statuses = Vec::with_capacity(alloc, count)?;
-    for _ in 0..count {
-        statuses.push(Status::Waiting)?;
-    }
-    Ok(statuses)
-}
-
-/// Where the jobs stand at the opening.
-pub(super) fn opened_statuses(
+fn share_actions(
     alloc: Global,
-    jobs: &[Job],
-    opened: &Cache,
-    added: &Cache,
-) -> Result<Vec<Status>, AllocError>
-    ensures carried { IfOk result (λ statuses. Carried jobs.now (held_in opened.now added.now) (map (λ job. AStatus.Waiting) jobs.now) statuses.items) }
-    ensures rests { IfOk result (λ statuses. count_by is_running statuses.items ≡ 0) }
+    actions: &[Option<Identified>],
+) -> Result<Vec<Option<Identified>>, AllocError>
+    ensures { IfOk result (λ copies. copies.items ≡ actions.now) }
 {
-    let mut statuses = all_waiting(alloc, jobs.len())?;
-    carry(jobs, opened, added, &mut statuses);
-    Ok(statuses)
+    let mut copies = Vec::with_capacity(alloc, actions.len())?;
+    for action in actions {
+        copies.push(share_action(action)?)?;
+    }
+    Ok(copies)
 }
 
-fn marked(jobs: &[Job], id: &[u8; 32], good: bool, k: usize, status: Status) -> Status
-    ensures { result ≡ mark jobs.now id.now good k status }
+impl Standings {
+    /// Another of equal contents, which shares the actions. An `Err` only where memory ran out.
+    pub(super) fn copy(&self, alloc: Global) -> Result<Standings, AllocError>
+        ensures { IfOk result (λ copy. standings_of copy ≡ standings_of self.now) }
+    {
+        Ok(Standings {
+            statuses: copy_statuses(alloc, &self.statuses)?,
+            actions: share_actions(alloc, &self.actions)?,
+        })
+    }
+}
+
+fn marked(
+    actions: &[Option<Identified>],
+    id: &[u8; 32],
+    good: bool,
+    k: usize,
+    status: Status,
+) -> Status
+    ensures { result ≡ mark actions.now id.now good k status }
 {
-    if status.is_active() && has_id(jobs, id, k) {
+    if status.is_active() && has_id(actions, id, k) {
         Status::Done(good)
     } else {
         status
@@ -187,35 +124,35 @@ fn marked(jobs: &[Job], id: &[u8; 32], good: bool, k: usize, status: Status) -> 
 }
 
 // All jobs with the id that are ready or run are done.
-fn mark_all(jobs: &[Job], id: &[u8; 32], good: bool, statuses: &mut [Status])
-    ensures { IsMarked jobs.now id.now good statuses.old statuses.new }
+fn mark_all(actions: &[Option<Identified>], id: &[u8; 32], good: bool, statuses: &mut [Status])
+    ensures { IsMarked id.now good (standings_with statuses.old actions.now) (standings_with statuses.new actions.now) }
 {
     for k in 0..statuses.len() {
-        let now = marked(jobs, id, good, k, status_at(statuses, k));
+        let now = marked(actions, id, good, k, status_at(statuses, k));
         statuses[k] = now;
     }
 }
 
 /// All jobs with the id that are ready or run are done.
-pub(super) fn mark(jobs: &[Job], id: &[u8; 32], good: bool, statuses: &mut Vec<Status>)
-    ensures { IsMarked jobs.now id.now good statuses.old.items statuses.new.items }
+pub(super) fn mark(id: &[u8; 32], good: bool, now: &mut Standings)
+    ensures { IsMarked id.now good (standings_of now.old) (standings_of now.new) }
 {
-    mark_all(jobs, id, good, statuses.as_mut_slice());
+    mark_all(&now.actions, id, good, now.statuses.as_mut_slice());
 }
 
-fn is_run_of(jobs: &[Job], statuses: &[Status], id: &[u8; 32], k: usize) -> bool
-    ensures { result ≡ is_run_of jobs.now statuses.now id.now k }
+fn is_run_of(now: &Standings, id: &[u8; 32], k: usize) -> bool
+    ensures { result ≡ is_run_of (standings_of now.now) id.now k }
 {
-    status_at(statuses, k).is_running() && has_id(jobs, id, k)
+    status_at(&now.statuses, k).is_running() && has_id(&now.actions, id, k)
 }
 
 /// Whether a hand runs the id.
-fn is_run(jobs: &[Job], statuses: &[Status], id: &[u8; 32]) -> bool
-    ensures some { OnTrue result ((k : ℕ) × (is_run_of jobs.now statuses.now id.now k ≡ true)) }
-    ensures none { OnFalse result ((k : ℕ) → is_run_of jobs.now statuses.now id.now k ≡ false) }
+fn is_run(now: &Standings, id: &[u8; 32]) -> bool
+    ensures some { OnTrue result ((k : ℕ) × (is_run_of (standings_of now.now) id.now k ≡ true)) }
+    ensures none { OnFalse result ((k : ℕ) → is_run_of (standings_of now.now) id.now k ≡ false) }
 {
-    for k in 0..statuses.len() {
-        if is_run_of(jobs, statuses, id, k) {
+    for k in 0..now.statuses.len() {
+        if is_run_of(now, id, k) {
             return true;
         }
     }
@@ -223,27 +160,27 @@ fn is_run(jobs: &[Job], statuses: &[Status], id: &[u8; 32]) -> bool
 }
 
 /// The job's action, if the job may be given.
-fn free_action<'a>(jobs: &'a [Job], statuses: &[Status], k: usize) -> Option<&'a Identified>
-    ensures free { IfSome result (λ action. IsFree jobs.now statuses.now k action.now) }
-    ensures run { IfNone result (IsTaken jobs.now statuses.now k) }
+fn free_action(now: &Standings, k: usize) -> Option<&Identified>
+    ensures free { IfSome result (λ action. IsFree (standings_of now.now) k action.now) }
+    ensures run { IfNone result (IsTaken (standings_of now.now) k) }
 {
-    if !status_at(statuses, k).is_ready() {
+    if !status_at(&now.statuses, k).is_ready() {
         return None;
     }
-    let action = action_at(jobs, k)?;
-    if is_run(jobs, statuses, &action.id()) {
+    let action = action_at(&now.actions, k)?;
+    if is_run(now, &action.id()) {
         return None;
     }
     Some(action)
 }
 
 /// The first job that may be given, with its action.
-pub(super) fn free_job<'a>(jobs: &'a [Job], statuses: &[Status]) -> Option<(usize, &'a Identified)>
-    ensures free { IfSome result (λ free. IsFree jobs.now statuses.now free.0 free.1.now) }
-    ensures none { IfNone result (NoneFree jobs.now statuses.now) }
+pub(super) fn free_job(now: &Standings) -> Option<(usize, &Identified)>
+    ensures free { IfSome result (λ free. IsFree (standings_of now.now) free.0 free.1.now) }
+    ensures none { IfNone result (NoneFree (standings_of now.now)) }
 {
-    for k in 0..statuses.len() {
-        if let Some(action) = free_action(jobs, statuses, k) {
+    for k in 0..now.statuses.len() {
+        if let Some(action) = free_action(now, k) {
             return Some((k, action));
         }
     }

@@ -1,12 +1,18 @@
 //! What a board works with: jobs, hands, tasks and events.
-ghost use Rattle.std.specs.Prelude.{◌≡◌, ℕ, IfOk, IsTrue, ◌↔◌, option_copied};
-ghost use Rattle.ws_action.specs.Actions.{action_id};
-ghost use Rattle.ws_board.specs.Machine.{is_waiting, is_ready, is_running, is_active, is_open, is_bad};
+ghost use Rattle.std.specs.Prelude.{◌≡◌, ℕ, IfOk, IfSome, IfNone, IsTrue, ◌↔◌, map, option_copied, string_bytes};
+ghost use Rattle.std.specs.Arc.{arc_value};
+ghost use Rattle.go_text.specs.Editions.{edition_number};
+ghost use Rattle.ws_action.specs.Actions.{action_id, MakeAction, IsSized};
+ghost use Rattle.ws_board.specs.Work.{acted};
+ghost use Rattle.ws_board.specs.Machine.{is_waiting, is_ready, is_running, is_active, is_open};
 
-use std::alloc::AllocError;
+use go_export::summary::Summary;
+use go_text::edition::Edition;
+use std::alloc::{AllocError, Global};
 use std::cmp::Ordering;
 use std::marker::Model;
-use ws_action::Action;
+use std::sync::Arc;
+use ws_action::{Action, Files};
 use ws_cache::Entry;
 
 /// Where a job stands.
@@ -17,7 +23,8 @@ pub enum Status {
     Ready,
     /// The hand with that number runs it.
     Running(u64),
-    /// It has no action, or an import is blocked or has a faulty result.
+    /// Its imports are done or blocked, and it has no action: an import isn't good, or there is
+    /// nothing to compile, or what is held for its imports doesn't fit its files.
     Blocked,
     /// Whether its result is good.
     Done(bool),
@@ -71,17 +78,6 @@ impl Status {
         match self {
             Status::Waiting | Status::Ready | Status::Running(_) => true,
             Status::Blocked | Status::Done(_) => false,
-        }
-    }
-
-    /// Whether the job is blocked, or done with a faulty result.
-    pub fn is_bad(self) -> bool
-        ensures { result ≡ is_bad self }
-    {
-        match self {
-            Status::Blocked => true,
-            Status::Done(good) => !good,
-            Status::Waiting | Status::Ready | Status::Running(_) => false,
         }
     }
 }
@@ -138,39 +134,42 @@ fn same_action(action: &Action, other: &Action) -> bool
     }
 }
 
-/// An action with its id.
+/// An action with its id, which copies share.
 #[derive(Drop)]
 pub(super) struct Identified {
-    action: Action,
+    action: Arc<Action>,
     id: [u8; 32],
 }
 
 impl Model for Identified {
     ghost use Rattle.std.specs.Prelude.{◌≡◌};
+    ghost use Rattle.std.specs.Arc.{arc_value};
     ghost use Rattle.ws_action.specs.Actions as actions;
 
     ghost Value = { actions.Action };
 
     ghost coded = { actions.action_code };
 
-    ghost view = { λ a. a.action };
+    ghost view = { λ a. arc_value a.action };
 
-    ghost invariant = { λ a. a.id ≡ actions.action_id a.action };
+    ghost invariant = { λ a. a.id ≡ actions.action_id (arc_value a.action) };
 }
 
 impl Identified {
-    fn new(action: Action) -> Result<Identified, AllocError>
+    pub(super) fn new(alloc: Global, action: Action) -> Result<Identified, AllocError>
         ensures { IfOk result (λ identified. identified ≡ action) }
     {
         let id = action.id()?;
+        let action = Arc::new(alloc, action)?;
         Ok(Identified { action, id })
     }
 
-    pub(super) fn copy(&self) -> Result<Identified, AllocError>
-        ensures { IfOk result (λ copy. copy ≡ self.now) }
+    pub(super) fn share(&self) -> Result<Identified, AllocError>
+        ensures { IfOk result (λ same. same ≡ self.now) }
     {
+        let action = Arc::try_clone(&self.action)?;
         Ok(Identified {
-            action: self.action.copy()?,
+            action,
             id: self.id,
         })
     }
@@ -182,40 +181,92 @@ impl Identified {
     }
 }
 
-/// What is to be compiled, if anything is, and the numbers of the jobs that it imports.
+/// What is to be compiled once its imports are good: a package's directory and its files, by some
+/// edition.
+#[derive(Drop)]
+pub struct Work {
+    edition: Edition,
+    path: String,
+    files: Arc<Files>,
+}
+
+impl Model for Work {
+    ghost use Rattle.std.specs.Prelude.{string_bytes};
+    ghost use Rattle.std.specs.Arc.{arc_value};
+    ghost use Rattle.go_text.specs.Editions.{edition_number};
+    ghost use Rattle.ws_board.specs.Work as work;
+
+    ghost Value = { work.Work };
+
+    ghost coded = { work.work_code };
+
+    ghost view = { λ a. record { edition = edition_number a.edition; path = string_bytes a.path; files = arc_value a.files } };
+}
+
+impl Work {
+    /// The files of a package's directory, to be compiled by that edition.
+    pub fn new(edition: Edition, path: String, files: Arc<Files>) -> Work
+        ensures { result ≡ record { edition = edition_number edition; path = string_bytes path; files = arc_value files } }
+    {
+        Work {
+            edition,
+            path,
+            files,
+        }
+    }
+
+    /// The action of the work, where its imports have these summaries. None: they make none. An
+    /// `Err` only where memory ran out.
+    pub(super) fn acted(
+        &self,
+        alloc: Global,
+        imports: Vec<Arc<Summary>>,
+    ) -> Result<Option<Action>, AllocError>
+        ensures is { let summaries = map arc_value imports.items in IfOk result (λ made. IfSome made (λ action. action ≡ acted self.now summaries)) }
+        ensures make { IfOk result (λ made. IfSome made (λ action. MakeAction self.now.files (map arc_value imports.items))) }
+        ensures sized { IfOk result (λ made. IfSome made (λ action. IsSized action)) }
+        ensures none { IfOk result (λ made. IfNone made (¬ (MakeAction self.now.files (map arc_value imports.items)))) }
+    {
+        let path = self.path.clone()?;
+        let files = Arc::try_clone(&self.files)?;
+        match Action::new(alloc, self.edition, path, files, imports) {
+            Ok(action) => Ok(Some(action)),
+            Err(_) => Ok(None),
+        }
+    }
+}
+
+/// What is to be compiled, if anything is, and the numbers of the jobs that it imports, in the
+/// order of their paths.
 #[derive(Drop)]
 pub struct Job {
-    action: Option<Identified>,
+    work: Option<Work>,
     imports: Vec<usize>,
 }
 
 impl Model for Job {
-    ghost use Rattle.ws_board.specs.Work as work;
+    ghost use Rattle.ws_board.specs.Work as works;
 
-    ghost Value = { work.Job };
+    ghost Value = { works.Job };
 
-    ghost coded = { work.job_code };
+    ghost coded = { works.job_code };
 
-    ghost view = { λ a. record { action = a.action; imports = a.imports.items } };
+    ghost view = { λ a. record { work = a.work; imports = a.imports.items } };
 }
 
 impl Job {
-    /// The job of an action, and of the numbers of the jobs that it imports. One without an action
-    /// is blocked from the start, and so is what imports it. An `Err` only where memory ran out.
-    pub fn new(action: Option<Action>, imports: Vec<usize>) -> Result<Job, AllocError>
-        ensures { IfOk result (λ job. job ≡ record { action = action; imports = imports.items }) }
+    /// The job of some work, and of the numbers of the jobs that it imports. One without work is
+    /// blocked from the start, and so is what imports it.
+    pub fn new(work: Option<Work>, imports: Vec<usize>) -> Job
+        ensures { result ≡ record { work = work; imports = imports.items } }
     {
-        let action = match action {
-            Some(action) => Some(Identified::new(action)?),
-            None => None,
-        };
-        Ok(Job { action, imports })
+        Job { work, imports }
     }
 
-    pub(super) fn action(&self) -> Option<&Identified>
-        ensures { option_copied result ≡ self.now.action }
+    pub(super) fn work(&self) -> Option<&Work>
+        ensures { option_copied result ≡ self.now.work }
     {
-        self.action.as_ref()
+        self.work.as_ref()
     }
 
     pub(super) fn imports(&self) -> &[usize]

@@ -2,3 +2,4 @@ pub mod Crossing
 pub mod Joined
 pub mod Laws
 pub mod Outcomes
+pub mod SomeResult

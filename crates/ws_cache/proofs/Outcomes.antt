@@ -1,104 +1,96 @@
--- Compiling an action gives one outcome.
-use Rattle.std.proofs.Common.{◌≡◌, ℕ, Some, None, Option, List, [], ◌∷◌, refl, sym, ap, subst, ◌∙◌, inl, inr}
-use Rattle.std.specs.Prelude.{map}
+-- Files come to one thing, and so does compiling an action; what is held for an action is what its files come to.
+use Rattle.std.proofs.Common.{◌≡◌, ℕ, Some, None, Option, List, map, sym, ap, subst, ◌∙◌, inl, inr}
+use Rattle.std.specs.List.{All, slice_get}
 use Rattle.go_text.specs.Faults.{Fault}
-use Rattle.go_export.specs.Summaries.{Summary, summary_text}
-use Rattle.go_export.proofs.Summaries.{one_summary}
-use Rattle.go_export.specs.Typed.{Typed}
-use Rattle.go_check.specs.Packages as answers
-use Rattle.go_check.specs.Packages.{Answer}
-use Rattle.go_check.specs.Sources.{IsAnswerOf, IsLeftOutOf}
-use Rattle.go_check.proofs.LeftOut.{one_left_out, good_not_left_out}
-use Rattle.go_check.proofs.Trees.{one_answer_of}
+use Rattle.go_text.specs.declared.fault.FaultKind.{FaultKind}
+use Rattle.go_text.specs.declared.place.Place.{Place}
+use Rattle.go_ast.specs.Parse.{Parsed}
+use Rattle.go_typed.specs.Trees.{Package}
 use Rattle.go_gen.specs.Translation.{object_of}
-use Rattle.ws_action.specs.Actions.{Action, import_of}
-use Rattle.ws_cache.specs.Compiles.{Compiled, Good, Faulty, IsTypedOf, IsFaultOf, Compiles}
+use Rattle.go_package.specs.Imports.{Importable}
+use Rattle.go_import.specs.Names.{importable_by}
+use Rattle.go_export.specs.Summaries.{Summary, summary_of}
+use Rattle.go_export.specs.Writable.{IsWritten}
+use Rattle.go_check.specs.Checked.{AreTyped}
+use Rattle.go_check.proofs.One as front
+use Rattle.go_check.proofs.One.{one_trees}
+use Rattle.ws_action.specs.Actions.{Action, action_of, parsed_of, source_of}
+use Rattle.ws_action.proofs.Imports.{same_imports, parsed_again}
+use Rattle.ws_cache.specs.LeftOut.{left_out}
+use Rattle.ws_cache.specs.Compiles.{AreGood, AreLeftOut, AreFaulty, Compiled, Good, Faulty, IsResult, Compiles}
 
--- ---- the summaries of an action's imports are one list
+told : {A : Type 0} → A → Option A → A
+told other (Some x) = x
+told other None = other
 
-head_of : {X : Type 0} → X → List X → X
-head_of other [] = other
-head_of other (x ∷ xs) = x
+abbrev fault_by : List ℕ → Place → FaultKind → Fault
+fault_by file place kind = record { file = file; place = place; kind = kind }
 
-tail_of : {X : Type 0} → List X → List X
-tail_of [] = []
-tail_of (x ∷ xs) = xs
+same_fault : (a b : Fault) → a.file ≡ b.file → a.place ≡ b.place → a.kind ≡ b.kind → a ≡ b
+same_fault a b file place kind =
+    ap (λ x. fault_by x a.place a.kind) file ∙ ap (λ x. fault_by b.file x a.kind) place ∙ ap (λ x. fault_by b.file b.place x) kind
 
-pub one_summaries : (a b : List Summary) → map import_of a ≡ map import_of b → a ≡ b
-unfolding head_of tail_of
-one_summaries [] [] e = refl
-one_summaries [] (t ∷ b) e = cc
-one_summaries (s ∷ a) [] e = cc
-one_summaries (s ∷ a) (t ∷ b) e =
-    let heads : import_of s ≡ import_of t = ap (head_of (import_of s)) e in
-    let first : s ≡ t = one_summary s t (ap (λ p. p.0) heads) (ap (λ p. p.1) heads) in
-    let rest : a ≡ b = one_summaries a b (ap tail_of e) in
-    ap (λ x. x ∷ a) first ∙ ap (λ xs. t ∷ xs) rest
+-- ---- of files
 
--- ---- answers of one action
+module _ (path : List ℕ) (files : List Parsed) (imports : List Importable) where
+  pub one_good : (a b : Package) → AreGood path files imports a → AreGood path files imports b → a ≡ b
+  one_good a b g h = front.one_typed path files imports a b g.are h.are
 
-typed_in : Typed → Answer → Typed
-typed_in other (answers.Good typed) = typed
-typed_in other (answers.Faulty fault) = other
-typed_in other answers.PassedOver = other
+  -- typed files have the same forms that aren't translated
+  same_left_out : (a b : Package) (g : AreTyped path files imports a) (h : AreTyped path files imports b) → left_out g.trees ≡ left_out h.trees
+  same_left_out a b g h = ap left_out (one_trees files g.trees h.trees g.parse h.parse)
 
--- source files are one typed package
-pub one_typed : (path : List ℕ) (files : List (List ℕ × List ℕ)) (summaries : List Summary) (a b : Typed) → IsAnswerOf path files summaries (answers.Good a) → IsAnswerOf path files summaries (answers.Good b) → a ≡ b
-unfolding typed_in
-one_typed path files summaries a b g h = ap (typed_in a) (one_answer_of path files summaries (answers.Good a) (answers.Good b) g h)
+  left_out_or_good : (fault : Fault) (typed : Package) → AreLeftOut path files imports fault → AreGood path files imports typed → ⊥
+  left_out_or_good fault typed g h =
+      let e : Some (g.number, fault.place) ≡ None = sym g.first ∙ same_left_out g.typed typed g.are h.are ∙ h.whole in
+      absurd (cc (e))
 
-fault_in : Fault → Answer → Fault
-fault_in other (answers.Good typed) = other
-fault_in other (answers.Faulty fault) = fault
-fault_in other answers.PassedOver = other
+  pub not_both : (fault : Fault) (typed : Package) → AreFaulty path files imports fault → AreGood path files imports typed → ⊥
+  not_both fault typed (inl g) h = front.not_both path files imports typed fault h.are g
+  not_both fault typed (inr g) h = left_out_or_good fault typed g h
 
-one_fault : (path : List ℕ) (files : List (List ℕ × List ℕ)) (summaries : List Summary) (a b : Fault) → IsAnswerOf path files summaries (answers.Faulty a) → IsAnswerOf path files summaries (answers.Faulty b) → a ≡ b
-unfolding fault_in
-one_fault path files summaries a b g h = ap (fault_in a) (one_answer_of path files summaries (answers.Faulty a) (answers.Faulty b) g h)
+  one_left_out : (a b : Fault) → AreLeftOut path files imports a → AreLeftOut path files imports b → a ≡ b
+  unfolding told
+  one_left_out a b g h =
+      let e : Some (g.number, a.place) ≡ Some (h.number, b.place) = sym g.first ∙ same_left_out g.typed h.typed g.are h.are ∙ h.first in
+      let parts : (g.number, a.place) ≡ (h.number, b.place) = ap (told (g.number, a.place)) e in
+      let number : g.number ≡ h.number = ap (λ (x : ℕ × Place). x.0) parts in
+      let place : a.place ≡ b.place = ap (λ (x : ℕ × Place). x.1) parts in
+      let file : a.file ≡ b.file = ap (told a.file) (sym g.name ∙ ap (slice_get (map (λ (f : Parsed). f.name) files)) number ∙ h.name) in
+      same_fault a b file place (g.kind ∙ sym h.kind)
 
-not_both : (path : List ℕ) (files : List (List ℕ × List ℕ)) (summaries : List Summary) (fault : Fault) (typed : Typed) → IsAnswerOf path files summaries (answers.Faulty fault) → IsAnswerOf path files summaries (answers.Good typed) → ⊥
-not_both path files summaries fault typed g h = let e = one_answer_of path files summaries (answers.Faulty fault) (answers.Good typed) g h in cc
+  pub one_faulty : (a b : Fault) → AreFaulty path files imports a → AreFaulty path files imports b → a ≡ b
+  one_faulty a b (inl g) (inl h) = front.one_fault path files imports a b g h
+  one_faulty a b (inl g) (inr h) = absurd (front.not_both path files imports h.typed a h.are g)
+  one_faulty a b (inr g) (inl h) = absurd (front.not_both path files imports g.typed b g.are h)
+  one_faulty a b (inr g) (inr h) = one_left_out a b g h
 
--- a form is left out, or none is
-not_left_out : (files : List (List ℕ × List ℕ)) (summaries : List Summary) (fault : Fault) → IsLeftOutOf files summaries (Some fault) → IsLeftOutOf files summaries None → ⊥
-not_left_out files summaries fault g h = let e : Some fault ≡ None = one_left_out files summaries (Some fault) None g h in cc
+  pub one_result : (a b : Compiled) → IsResult path files imports a → IsResult path files imports b → a ≡ b
+  one_result (Faulty f) (Faulty g) h k = ap Faulty (one_faulty f g h k)
+  one_result (Faulty f) (Good s o) h k = absurd (not_both f k.0 h k.1)
+  one_result (Good s o) (Faulty g) h k = absurd (not_both g h.0 k h.1)
+  one_result (Good s o) (Good t p) h k =
+      let same : h.0 ≡ k.0 = one_good h.0 k.0 h.1 k.1 in
+      let summaries : s ≡ t = h.2 ∙ ap summary_of same ∙ sym k.2 in
+      let objects : o ≡ p = h.3 ∙ ap object_of same ∙ sym k.3 in
+      ap (λ x. Good x o) summaries ∙ ap (λ x. Good t x) objects
 
--- ---- of an action
+-- ---- of actions
 
-summaries_same : (action : Action) (a b : List Summary) → map import_of a ≡ action.imports → map import_of b ≡ action.imports → b ≡ a
-summaries_same action a b e f = one_summaries b a (f ∙ sym e)
+moved : (path : List ℕ) (files : List Parsed) (a b : List Summary) (result : Compiled) → a ≡ b → IsResult path files (map importable_by a) result → IsResult path files (map importable_by b) result
+moved path files a b result same h = subst (λ (ss : List Summary). IsResult path files (map importable_by ss) result) same h
 
-pub one_typed_of : (action : Action) (a b : Typed) → IsTypedOf action a → IsTypedOf action b → a ≡ b
-one_typed_of action a b g h =
-    let same = summaries_same action g.summaries h.summaries g.imports h.imports in
-    one_typed action.path action.files g.summaries a b g.checked (subst (λ s. IsAnswerOf action.path action.files s (answers.Good b)) same h.checked)
-
-one_fault_with : (action : Action) (summaries : List Summary) (a b : Fault) (g : IsFaultOf action a) (h : IsFaultOf action b) → g.summaries ≡ summaries → h.summaries ≡ summaries → a ≡ b
-one_fault_with action summaries a b g h e f = elim g.is [
-  | inl x ↦ elim h.is [
-    | inl y ↦ let s : Some a ≡ Some b = one_left_out action.files summaries (Some a) (Some b) (subst (λ z. IsLeftOutOf action.files z (Some a)) e x) (subst (λ z. IsLeftOutOf action.files z (Some b)) f y) in cc
-    | inr y ↦ absurd (not_left_out action.files summaries a (subst (λ z. IsLeftOutOf action.files z (Some a)) e x) (subst (λ z. IsLeftOutOf action.files z None) f y.0))
-  ]
-  | inr x ↦ elim h.is [
-    | inl y ↦ absurd (not_left_out action.files summaries b (subst (λ z. IsLeftOutOf action.files z (Some b)) f y) (subst (λ z. IsLeftOutOf action.files z None) e x.0))
-    | inr y ↦ one_fault action.path action.files summaries a b (subst (λ z. IsAnswerOf action.path action.files z (answers.Faulty a)) e x.1) (subst (λ z. IsAnswerOf action.path action.files z (answers.Faulty b)) f y.1)
-  ]
-]
-
-pub one_fault_of : (action : Action) (a b : Fault) → IsFaultOf action a → IsFaultOf action b → a ≡ b
-one_fault_of action a b g h = one_fault_with action g.summaries a b g h refl (summaries_same action g.summaries h.summaries g.imports h.imports)
-
-pub fault_or_typed : (action : Action) (fault : Fault) (typed : Typed) → IsFaultOf action fault → IsTypedOf action typed → ⊥
-fault_or_typed action fault typed g h =
-    let same = summaries_same action g.summaries h.summaries g.imports h.imports in
-    let good = subst (λ s. IsAnswerOf action.path action.files s (answers.Good typed)) same h.checked in
-    elim g.is [
-      | inl x ↦ not_left_out action.files g.summaries fault x (good_not_left_out action.path action.files g.summaries typed good)
-      | inr x ↦ not_both action.path action.files g.summaries fault typed x.1 good
-    ]
-
+-- compiling an action gives one thing
 pub one_outcome : (action : Action) (a b : Compiled) → Compiles action a → Compiles action b → a ≡ b
-one_outcome action (Faulty f) (Faulty g) h k = ap Faulty (one_fault_of action f g h k)
-one_outcome action (Faulty f) (Good o) h k = absurd (fault_or_typed action f k.0 h k.1)
-one_outcome action (Good o) (Faulty g) h k = absurd (fault_or_typed action g h.0 k h.1)
-one_outcome action (Good o) (Good p) h k = ap Good (h.2 ∙ ap object_of (one_typed_of action h.0 k.0 h.1 k.1) ∙ sym k.2)
+one_outcome action a b g h =
+    let same = same_imports h.summaries g.summaries (h.imports).written (g.imports).written ((h.imports).texts ∙ sym (g.imports).texts) in
+    one_result action.path (map parsed_of action.files) (map importable_by g.summaries) a b g.is
+    (moved action.path (map parsed_of action.files) h.summaries g.summaries b same h.is)
+
+-- whatever summaries an action was compiled against, it came to what its files come to by these, if it has their texts
+pub held_is_result : (edition : ℕ) (path : List ℕ) (files : List Parsed) (summaries : List Summary) → All IsWritten summaries → (a b : Compiled) →
+    Compiles (action_of edition path files summaries) a → IsResult path files (map importable_by summaries) b → a ≡ b
+held_is_result edition path files summaries written a b g h =
+    let same = same_imports g.summaries summaries (g.imports).written written (g.imports).texts in
+    let its = moved path (map parsed_of (map source_of files)) g.summaries summaries a same g.is in
+    one_result path files (map importable_by summaries) a b (subst (λ (fs : List Parsed). IsResult path fs (map importable_by summaries) a) (parsed_again files) its) h

@@ -1,45 +1,67 @@
--- What compiling a package gives.
-use Rattle.std.specs.Prelude.{◌≡◌, ◌⊎◌, Some, None, List, map}
+-- What the files of a package come to when they are compiled, and what compiling an action gives.
+use Rattle.std.specs.Prelude.{◌≡◌, ◌⊎◌, ℕ, List, map, Some, None}
 use Rattle.std.specs.Arc.{arc_value}
+use Rattle.std.specs.List.{All, slice_get}
 use Rattle.go_text.specs.Faults.{Fault}
+use Rattle.go_text.specs.declared.fault.FaultKind.TheVariants.{LeftOut}
+use Rattle.go_ast.specs.Parse.{Parsed}
 use Rattle.go_code.specs.Packages.{Object}
-use Rattle.go_export.specs.Summaries.{Summary}
-use Rattle.go_export.specs.Typed.{Typed}
-use Rattle.go_check.specs.Packages as answers
-use Rattle.go_check.specs.Sources.{IsAnswerOf, IsLeftOutOf}
+use Rattle.go_typed.specs.Trees.{Package}
+use Rattle.go_package.specs.Imports.{Importable}
+use Rattle.go_check.specs.Checked.{AreTyped, HaveFault}
 use Rattle.go_gen.specs.Translation.{object_of}
-use Rattle.ws_action.specs.Actions.{Action, import_of}
+use Rattle.go_import.specs.Names.{importable_by}
+use Rattle.go_export.specs.Summaries.{Summary, summary_of}
+use Rattle.go_export.specs.Writable.{IsWritten}
+use Rattle.ws_action.specs.Actions.{Action, parsed_of, import_of}
+use Rattle.ws_cache.specs.LeftOut.{left_out}
 use Rattle.ws_cache.specs.declared.Outcome.{Outcome}
 use Rattle.ws_cache.specs.declared.Outcome.TheVariants as outcome
 
--- ---- what an action's files come to, where the texts of its imports are those of some summaries
+-- ---- files at a path, which may import fmt and these packages
 
--- they are this typed package
-pub record IsTypedOf (action : Action) (typed : Typed) : Type 0 where
-  pub summaries : List Summary
-  pub imports : map import_of summaries ≡ action.imports
-  pub checked : IsAnswerOf action.path action.files summaries (answers.Good typed)
+-- they are this typed package, and have no form that isn't translated yet
+pub record AreGood (path : List ℕ) (files : List Parsed) (imports : List Importable) (typed : Package) : Type 0 where
+  pub are : AreTyped path files imports typed
+  pub whole : left_out are.trees ≡ None
 
--- they have this fault: that of their first form that is left out; or none is, and it is the one that is answered
-pub record IsFaultOf (action : Action) (fault : Fault) : Type 0 where
-  pub summaries : List Summary
-  pub imports : map import_of summaries ≡ action.imports
-  pub is : IsLeftOutOf action.files summaries (Some fault)
-      ⊎ (IsLeftOutOf action.files summaries None × IsAnswerOf action.path action.files summaries (answers.Faulty fault))
+-- they are a typed package, and this is the first form that isn't translated yet
+pub record AreLeftOut (path : List ℕ) (files : List Parsed) (imports : List Importable) (fault : Fault) : Type 0 where
+  pub typed : Package
+  pub are : AreTyped path files imports typed
+  pub number : ℕ
+  pub name : slice_get (map (λ f. f.name) files) number ≡ Some fault.file
+  pub first : left_out are.trees ≡ Some (number, fault.place)
+  pub kind : fault.kind ≡ LeftOut
 
--- ---- what is kept of that
+-- this is reported of them: their package's first fault, or else what isn't translated yet
+abbrev pub AreFaulty : List ℕ → List Parsed → List Importable → Fault → Type 0
+AreFaulty path files imports fault = HaveFault path files imports fault ⊎ AreLeftOut path files imports fault
 
--- the object of a good package, or the fault to report
+-- what is kept: what importers know of a good package, and its object; or the fault to report
 pub data Compiled : Type 0 where
-  Good : Object → Compiled
+  Good : Summary → Object → Compiled
   Faulty : Fault → Compiled
 
--- which of them an outcome is
 abbrev pub compiled_of : Outcome → Compiled
-compiled_of (outcome.Good object) = Good (arc_value object)
+compiled_of (outcome.Good summary object) = Good (arc_value summary) (arc_value object)
 compiled_of (outcome.Faulty fault) = Faulty fault
 
--- Compiling the action gives this, by its path, its files and its imports alone: their fault, or the object of the typed package that they are.
-abbrev pub Compiles : Action → Compiled → Type 0
-Compiles action (Faulty fault) = IsFaultOf action fault
-Compiles action (Good object) = (typed : Typed) × IsTypedOf action typed × (object ≡ object_of typed)
+-- the files come to this
+abbrev pub IsResult : List ℕ → List Parsed → List Importable → Compiled → Type 0
+IsResult path files imports (Good summary object) =
+    (typed : Package) × AreGood path files imports typed × (summary ≡ summary_of typed) × (object ≡ object_of typed)
+IsResult path files imports (Faulty fault) = AreFaulty path files imports fault
+
+-- ---- actions
+
+-- the texts of the action's imports are those of these summaries, which their texts tell
+pub record AreImportsOf (action : Action) (summaries : List Summary) : Type 0 where
+  pub texts : map import_of summaries ≡ action.imports
+  pub written : All IsWritten summaries
+
+-- Compiling the action gives this, by its path, its files and its imports alone.
+pub record Compiles (action : Action) (result : Compiled) : Type 0 where
+  pub summaries : List Summary
+  pub imports : AreImportsOf action summaries
+  pub is : IsResult action.path (map parsed_of action.files) (map importable_by summaries) result

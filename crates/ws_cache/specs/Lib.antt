@@ -3,3 +3,4 @@ pub mod Count
 pub mod Held
 pub mod Joined
 pub mod Laws
+pub mod LeftOut

@@ -1,58 +1,81 @@
 //! Compiled packages by the id of what they were compiled from.
 #![tactic(auto)]
 
-ghost use Rattle.std.specs.Prelude.{◌≡◌, ℕ, ◌++◌, ◌∷◌, [], List, OnOk, OnErr, IfOk, IfErr, Some, is_some, if◌then◌else◌, option_copied};
+ghost use Rattle.std.specs.Prelude.{◌≡◌, ℕ, ◌++◌, ◌∷◌, [], List, OnOk, OnErr, IfOk, IfErr, Some, is_some, if◌then◌else◌, option_copied, ◌⊎◌, map as map_list};
+ghost use Rattle.std.specs.Arc.{arc_value};
 ghost use Rattle.std.specs.FinMap as map;
-ghost use Rattle.std.specs.List.{Contains};
+ghost use Rattle.std.specs.List.{All, Contains};
+ghost use Rattle.go_text.specs.Faults.{Fault as AFault};
+ghost use Rattle.go_ast.specs.Trees.{File};
+ghost use Rattle.go_ast.specs.Parse.{Parsed};
+ghost use Rattle.go_typed.specs.Trees.{Package};
+ghost use Rattle.go_export.specs.Summaries.{Summary as ASummary};
+ghost use Rattle.go_export.specs.Writable.{IsWritten};
+ghost use Rattle.go_package.specs.Imports.{Importable};
+ghost use Rattle.go_import.specs.Names.{importable_by};
+ghost use Rattle.go_check.specs.Checked.{AreTrees};
 ghost use Rattle.ws_map.specs.Kept.{SameMembers, taken, joined as joined_by};
-ghost use Rattle.ws_action.specs.Actions.{Action as AnAction, action_id};
+ghost use Rattle.ws_action.specs.Actions.{Action as AnAction, action_of, action_id};
 ghost use Rattle.ws_action.specs.Clash.{NoClash, Includes, hashed_actions, AllSized};
-ghost use Rattle.ws_cache.specs.Compiles.{Compiled, Compiles, compiled_of};
+ghost use Rattle.ws_cache.specs.Compiles.{AreGood, AreFaulty, Compiled, IsResult, Compiles, compiled_of};
 ghost use Rattle.ws_cache.specs.Count.{compiled_count, new_actions_count};
 ghost use Rattle.ws_cache.specs.Held.{IsHeld, CacheStandsFor, id_cmp};
 ghost use Rattle.ws_cache.specs.Joined.{lesser};
 
 use go_code::object::Object;
+use go_export::summary::Summary;
 use go_text::fault::Fault;
 use std::alloc::{AllocError, Global};
 use std::cmp::Ordering;
 use std::marker::Model;
 use std::sync::Arc;
-use ws_action::Action;
+use ws_action::{Action, Origin};
 use ws_map::{Ranked, SharedMap};
 use ws_version::Join;
 
 /// What compiling a package gives.
 #[derive(Drop)]
 pub enum Outcome {
-    /// The package is good, and translated to this object.
-    Good(Arc<Object>),
+    /// The package is good: what its importers know of it, and the object that it is translated to.
+    Good(Arc<Summary>, Arc<Object>),
     /// The package has the fault, which is the first to report.
     Faulty(Fault),
 }
 
 impl Outcome {
-    /// Another of equal contents, which shares the object. An `Err` only where memory ran out.
+    /// Another of equal contents, which shares the summary and the object. An `Err` only where memory ran out.
     pub fn copy(&self) -> Result<Outcome, AllocError>
         ensures { IfOk result (λ copy. compiled_of copy ≡ compiled_of self.now) }
     {
         match self {
-            Outcome::Good(object) => Ok(Outcome::Good(object.clone()?)),
+            Outcome::Good(summary, object) => {
+                Ok(Outcome::Good(summary.clone()?, object.clone()?))
+            }
             Outcome::Faulty(fault) => Ok(Outcome::Faulty(fault.copy()?)),
         }
     }
 }
 
-/// An action with what compiling it gives, and its id.
+/// What an action is without its trees.
+fn origin_of(action: &Action) -> Result<Arc<Origin>, AllocError>
+    ensures { IfOk result (λ origin. arc_value origin ≡ action.now) }
+{
+    let origin = Origin::of(action)?;
+    Ok(Arc::new(action.allocator(), origin)?)
+}
+
+/// What an action was, with what compiling it gives, and its id. It holds texts, which copies and
+/// registers share, and no trees.
 #[derive(Drop)]
 pub struct Entry {
-    action: Action,
+    origin: Arc<Origin>,
     id: [u8; 32],
     outcome: Outcome,
 }
 
 impl Model for Entry {
     ghost use Rattle.std.specs.Prelude.{◌≡◌};
+    ghost use Rattle.std.specs.Arc.{arc_value};
     ghost use Rattle.ws_action.specs.Actions as actions;
     ghost use Rattle.ws_cache.specs.Compiles as compiles;
 
@@ -60,9 +83,9 @@ impl Model for Entry {
 
     ghost coded = { actions.action_code };
 
-    ghost view = { λ a. a.action };
+    ghost view = { λ a. arc_value a.origin };
 
-    ghost invariant = { λ a. (a.id ≡ actions.action_id a.action) × compiles.Compiles a.action (compiles.compiled_of a.outcome) };
+    ghost invariant = { λ a. (a.id ≡ actions.action_id (arc_value a.origin)) × compiles.Compiles (arc_value a.origin) (compiles.compiled_of a.outcome) };
 }
 
 impl Entry {
@@ -73,9 +96,12 @@ impl Entry {
         ensures ok { IfOk result (λ entry. entry ≡ action) }
         ensures err { IfErr result (λ back. back ≡ action) }
     {
+        let Ok(origin) = origin_of(&action) else {
+            return Err(action);
+        };
         match action.id() {
             Ok(id) => Ok(Entry {
-                action,
+                origin,
                 id,
                 outcome,
             }),
@@ -91,10 +117,10 @@ impl Entry {
     }
 
     /// What was compiled.
-    pub fn action(&self) -> &Action
+    pub fn origin(&self) -> &Origin
         ensures { result.now ≡ self.now }
     {
-        &self.action
+        &self.origin
     }
 
     /// What compiling the action gives.
@@ -104,12 +130,12 @@ impl Entry {
         &self.outcome
     }
 
-    /// Another of equal contents, which shares the texts. An `Err` only where memory ran out.
+    /// Another of equal contents, which shares them. An `Err` only where memory ran out.
     pub fn copy(&self) -> Result<Entry, AllocError>
         ensures { IfOk result (λ copy. copy ≡ self.now) }
     {
         Ok(Entry {
-            action: self.action.copy()?,
+            origin: Arc::try_clone(&self.origin)?,
             id: self.id,
             outcome: self.outcome.copy()?,
         })
@@ -138,7 +164,7 @@ impl Ranked for Entry {
 
     /// Of two entries that of the lesser action stays.
     fn is_below(&self, other: &Entry) -> bool {
-        match other.action.cmp_action(&self.action) {
+        match other.origin.cmp_origin(&self.origin) {
             Ordering::Less => true,
             _ => false,
         }
@@ -233,6 +259,19 @@ impl Join for Cache {
 /// Compiling an action gives one outcome.
 pub fn law_one_outcome()
     ensures { (action : AnAction) (a b : Compiled) → Compiles action a → Compiles action b → a ≡ b }
+{}
+
+/// Files at a path, which may import some packages, come to one thing; where they parse they come to
+/// something.
+pub fn law_one_result()
+    ensures one { (path : List ℕ) (files : List Parsed) (imports : List Importable) (a b : Compiled) → IsResult path files imports a → IsResult path files imports b → a ≡ b }
+    ensures some { (path : List ℕ) (files : List Parsed) (imports : List Importable) (trees : List File) → AreTrees files trees → ((fault : AFault) × AreFaulty path files imports fault) ⊎ ((typed : Package) × AreGood path files imports typed) }
+{}
+
+/// What is held for an action is what its files come to by the summaries that it was formed of,
+/// whatever summaries with the same texts it was compiled against.
+pub fn law_held_is_result()
+    ensures { (edition : ℕ) (path : List ℕ) (files : List Parsed) (summaries : List ASummary) → All IsWritten summaries → (a b : Compiled) → Compiles (action_of edition path files summaries) a → IsResult path files (map_list importable_by summaries) b → a ≡ b }
 {}
 
 /// Caches that stand for the same actions are one, however each came about.

@@ -1,24 +1,19 @@
 -- What holds whenever the lock is free stays so with each event.
-use Rattle.std.proofs.Common.{◌≡◌, ◌∙◌, ℕ, List, [], ◌∷◌, ◌++◌, Option, Some, None, sym, ap, subst, refl, inl, inr}
-use Rattle.std.specs.List.{Contains}
-use Rattle.std.proofs.lemmas.List.Elements.{Contains-push_cases}
-use Rattle.ws_map.specs.Kept.{taken}
-use Rattle.ws_action.specs.Actions.{Action, action_id}
-use Rattle.ws_action.proofs.Members.{none_in_empty}
-use Rattle.ws_cache.specs.Held.{CacheStandsFor}
-use Rattle.ws_cache.specs.Joined.{lesser}
-use Rattle.ws_cache.proofs.Joined.{empty_stands, taken_stands}
+use Rattle.std.proofs.Common.{◌≡◌, ◌∙◌, ℕ, zero, suc, true, false, List, [], ◌∷◌, ◌++◌, map, Option, Some, None, sym, ap, subst, refl}
+use Rattle.std.specs.List.{slice_get}
+use Rattle.ws_action.specs.Actions.{Action}
+use Rattle.ws_board.specs.declared.work.Status.{Status}
 use Rattle.ws_board.specs.declared.work.Event.{Event}
 use Rattle.ws_board.specs.declared.work.Event.TheVariants.{Take, Finish, Back, Idle}
 use Rattle.ws_board.specs.declared.work.Taken.{Taken}
 use Rattle.ws_board.specs.declared.work.Taken.TheVariants as told
-use Rattle.ws_board.specs.Work.{Entries, Opening, State, Seen}
-use Rattle.ws_board.specs.Machine.{action_at, IsRunBy}
+use Rattle.ws_board.specs.Work.{Work, Job, Opening, Standings, State, Seen}
+use Rattle.ws_board.specs.Machine.{Held, Verdict, Wait, Stop, Act, is_waiting, status_at, action_at, held, unopened, IsVerdict, Follows, Stands, Carried}
 use Rattle.ws_board.specs.Calls.{IsFresh, Happens, TakeStep}
-use Rattle.ws_board.specs.Ends.{actions_of}
-use Rattle.ws_board.proofs.Endings.{actions_has}
+use Rattle.ws_board.specs.Ends.{work_in, work_at, AddsOwn}
+use Rattle.ws_board.proofs.Own.{own_first, own_take, own_back, own_idle}
 use Rattle.ws_shared.specs.Counts.{Counts, none_made, counted, counts_of}
-use Rattle.ws_shared.specs.Hands.{HandSeen, after, with_taken, job_of, ToldOrLater, AddsOwn, IsKept}
+use Rattle.ws_shared.specs.Hands.{HandSeen, IsActionOf, AreActionsOf, with_taken, job_of, ToldOrLater, IsKept}
 
 -- ---- counts
 
@@ -45,60 +40,88 @@ counts_more : (history : List Event) (e : Event) → counts_of (history ++ e ∷
 counts_more [] e = refl
 counts_more (x ∷ xs) e = ap (λ (made : Counts). counted made x) (counts_more xs e) ∙ counted_swap (counts_of xs) e x
 
--- ---- entries
+-- ---- actions
 
-own_same : (old new : Seen) → new.opening ≡ old.opening → new.state.added ≡ old.state.added → AddsOwn old → AddsOwn new
-own_same old new opened added own = record {
-  entries = own.entries;
-  stands = subst (λ (m : Entries). CacheStandsFor m own.entries) (sym added) own.stands;
-  among = λ x c. subst (λ (o : Opening). Contains (actions_of o.jobs) x) (sym opened) (own.among x c);
-}
+-- where a job is carried on with an action, this is of its work
+follows_formed : (held : Held) (now : Standings) (work : Option Work) (imports : List ℕ) (verdict : Verdict) (status : Status) (formed : Option Action) (action : Action) →
+    IsVerdict held now work imports verdict → Follows held verdict status formed → formed ≡ Some action → IsActionOf work action
+follows_formed held now work imports Wait status formed action v f e = (let wrong : None ≡ Some action = sym f.1 ∙ e in absurd (cc (wrong)))
+follows_formed held now work imports Stop status formed action v f e = (let wrong : None ≡ Some action = sym f.1 ∙ e in absurd (cc (wrong)))
+follows_formed held now None imports (Act its) status formed action v f e = absurd (cc (v))
+follows_formed held now (Some work) imports (Act its) status formed action v f e =
+    let some : Some its ≡ Some action = sym f.1 ∙ e in
+    let same : its ≡ action = cc (some) in
+    record { its = work; is_its = refl; summaries = (v.may).summaries; is = sym same ∙ (v.may).is }
 
-own_more : (old new : Seen) (job : ℕ) (entry : Action) → action_at old.opening.jobs job ≡ Some entry → new.opening ≡ old.opening
-    → new.state.added ≡ taken lesser old.state.added (action_id entry) entry → AddsOwn old → AddsOwn new
-own_more old new job entry its opened added own = record {
-  entries = own.entries ++ entry ∷ [];
-  stands = taken_stands old.state.added new.state.added own.entries entry added own.stands;
-  among = λ x c. subst (λ (o : Opening). Contains (actions_of o.jobs) x) (sym opened) (elim (Contains-push_cases own.entries entry x c) [
-    | inl l ↦ own.among x l
-    | inr e ↦ subst (Contains (actions_of old.opening.jobs)) e (actions_has old.opening.jobs job entry its)
-  ]);
-}
+stands_formed : (held : Held) (now : Standings) (job : Option Job) (status : Status) (formed : Option Action) (action : Action) →
+    Stands held now job status formed → formed ≡ Some action → IsActionOf (work_in job) action
+stands_formed held now None status formed action h e = (let wrong : None ≡ Some action = sym h.1 ∙ e in absurd (cc (wrong)))
+stands_formed held now (Some job) status formed action h e = follows_formed held now job.work job.imports h.0 status formed action h.1 h.2 e
+
+carried_formed : (jobs : List Job) (held : Held) (old new : Standings) → Carried jobs held old new → AreActionsOf jobs old.actions → AreActionsOf jobs new.actions
+carried_formed jobs held old new c before = λ job action e.
+    elim (is_waiting (status_at old.statuses job)) as (λ b. is_waiting (status_at old.statuses job) ≡ b → IsActionOf (work_at jobs job) action) [
+      | true ↦ λ w. stands_formed held new (slice_get jobs job) (status_at new.statuses job) (action_at new.actions job) action (c.waiting job w) e
+      | false ↦ λ w. before job action (sym (c.others job w).1 ∙ e)
+    ] refl
+
+none_formed : (jobs : List Job) (k : ℕ) → action_at (map (λ job. None) jobs) k ≡ None
+none_formed [] k = refl
+none_formed (j ∷ js) zero = refl
+none_formed (j ∷ js) (suc k) = none_formed js k
+
+unopened_formed : (jobs : List Job) → AreActionsOf jobs (unopened jobs).actions
+unopened_formed jobs = λ job action e. (let wrong : None ≡ Some action = sym (none_formed jobs job) ∙ e in absurd (cc (wrong)))
 
 -- ---- what is kept
+
+moved : (a b : Opening) (actions : List (Option Action)) → a ≡ b → AreActionsOf a.jobs actions → AreActionsOf b.jobs actions
+moved a b actions same = subst (λ (o : Opening). AreActionsOf o.jobs actions) same
 
 pub kept_first : (opening : Opening) (books : Counts) (board : Seen) → board.opening ≡ opening → IsFresh board → books ≡ none_made → IsKept opening books board
 kept_first opening books board opened fresh none = record {
   opened = opened;
   counts = none ∙ sym (ap counts_of fresh.nothing_happened);
-  own = record { entries = []; stands = empty_stands board.state.added fresh.nothing_added; among = λ x c. absurd (none_in_empty x c) };
+  formed = moved board.opening opening board.state.standings.actions opened
+      (carried_formed board.opening.jobs (held board.opening board.state) (unopened board.opening.jobs) board.state.standings (fresh.first).carried (unopened_formed board.opening.jobs));
+  own = own_first board fresh;
 }
 
-kept_event : (opening : Opening) (books : Counts) (old new : Seen) (e : Event) → Happens old e new → AddsOwn new → IsKept opening books old → IsKept opening (counted books e) new
-kept_event opening books old new e h own kept = record {
+kept_event : (opening : Opening) (books : Counts) (old new : Seen) (e : Event) → Happens old e new → AreActionsOf opening.jobs new.state.standings.actions → AddsOwn new → IsKept opening books old → IsKept opening (counted books e) new
+kept_event opening books old new e h formed own kept = record {
   opened = h.opening ∙ kept.opened;
   counts = ap (λ (made : Counts). counted made e) kept.counts ∙ sym (counts_more old.history e) ∙ sym (ap counts_of h.history);
+  formed = formed;
   own = own;
 }
+
+same_formed : (opening : Opening) (old new : State) → new.standings.actions ≡ old.standings.actions → AreActionsOf opening.jobs old.standings.actions → AreActionsOf opening.jobs new.standings.actions
+same_formed opening old new same = subst (AreActionsOf opening.jobs) (sym same)
 
 pub kept_take : (opening : Opening) (books : Counts) (old new : Seen) (hand : ℕ) (t : Taken) → TakeStep hand t old new → IsKept opening books old → IsKept opening (with_taken hand t books) new
 kept_take opening books old new hand (told.Job task) s kept =
     let h = s.happens in
-    kept_event opening books old new (Take hand task.job) h (own_same old new h.opening (ap (λ (z : State). z.added) h.step.2) kept.own) kept
-kept_take opening books old new hand told.Idle h kept = kept_event opening books old new (Idle hand) h (own_same old new h.opening (ap (λ (z : State). z.added) h.step.1) kept.own) kept
+    kept_event opening books old new (Take hand task.job) h (same_formed opening old.state new.state (ap (λ (z : State). z.standings.actions) h.step.2) kept.formed) (own_take old new hand task.job h kept.own) kept
+kept_take opening books old new hand told.Idle h kept =
+    kept_event opening books old new (Idle hand) h (same_formed opening old.state new.state (ap (λ (z : State). z.standings.actions) h.step.1) kept.formed) (own_idle old new hand h kept.own) kept
 kept_take opening books old new hand told.Later s kept = subst (IsKept opening books) (sym s.2) kept
 
 pub kept_back : (opening : Opening) (books : Counts) (old new : Seen) (hand job : ℕ) → Happens old (Back hand job) new → IsKept opening books old → IsKept opening (counted books (Back hand job)) new
-kept_back opening books old new hand job h kept = kept_event opening books old new (Back hand job) h (own_same old new h.opening (ap (λ (z : State). z.added) h.step.2) kept.own) kept
+kept_back opening books old new hand job h kept =
+    kept_event opening books old new (Back hand job) h (same_formed opening old.state new.state (ap (λ (z : State). z.standings.actions) h.step.2) kept.formed) (own_back old new hand job h kept.own) kept
 
-pub kept_finish : (opening : Opening) (books : Counts) (old new : Seen) (hand job : ℕ) (entry : Action) → IsRunBy old.opening.jobs old.state.statuses hand job entry → Happens old (Finish hand job) new
-    → new.state.added ≡ taken lesser old.state.added (action_id entry) entry → IsKept opening books old → IsKept opening (counted books (Finish hand job)) new
-kept_finish opening books old new hand job entry run h added kept = kept_event opening books old new (Finish hand job) h (own_more old new job entry run.its h.opening added kept.own) kept
+pub kept_finish : (opening : Opening) (books : Counts) (old new : Seen) (hand job : ℕ) → Happens old (Finish hand job) new → (AddsOwn old → AddsOwn new) → IsKept opening books old → IsKept opening (counted books (Finish hand job)) new
+kept_finish opening books old new hand job h own kept =
+    let f = h.step.2 in
+    let before = moved opening old.opening old.state.standings.actions (sym kept.opened) kept.formed in
+    let marked : AreActionsOf old.opening.jobs f.marked.actions = subst (AreActionsOf old.opening.jobs) (sym (f.marks).actions) before in
+    let formed = carried_formed old.opening.jobs (held old.opening new.state) f.marked new.state.standings f.carried marked in
+    kept_event opening books old new (Finish hand job) h (moved old.opening opening new.state.standings.actions kept.opened formed) (own kept.own) kept
 
 -- ---- what a hand is told
 
-pub told_by : (opening : Opening) (t : Taken) (b d : Seen) (old new : HandSeen) → TakeStep old.number t b d → d.opening ≡ opening → old.runs ≡ None
+pub told_by : (opening : Opening) (t : Taken) (b d : Seen) (old new : HandSeen) → TakeStep old.number t b d → AreActionsOf opening.jobs d.state.standings.actions → old.runs ≡ None
     → new ≡ record { number = old.number; runs = job_of t; made = with_taken old.number t old.made } → ToldOrLater opening t old new
-told_by opening (told.Job task) b d old new s opened none e = (subst (λ (o : Opening). action_at o.jobs task.job ≡ Some task.action) opened s.runs.its, e)
-told_by opening told.Idle b d old new s opened none e = e
-told_by opening told.Later b d old new s opened none e = e ∙ ap (λ (r : Option ℕ). let h : HandSeen = record { number = old.number; runs = r; made = old.made } in h) (sym none)
+told_by opening (told.Job task) b d old new s formed none e = (formed task.job task.action (s.runs).its, e)
+told_by opening told.Idle b d old new s formed none e = e
+told_by opening told.Later b d old new s formed none e = e ∙ ap (λ (r : Option ℕ). let h : HandSeen = record { number = old.number; runs = r; made = old.made } in h) (sym none)

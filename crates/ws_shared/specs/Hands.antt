@@ -2,16 +2,15 @@
 use Rattle.std.specs.Prelude.{◌≡◌, ℕ, zero, suc, List, [], ◌∷◌, ◌++◌, Option, Some, None, refl}
 use Rattle.std.specs.List.{sum_by}
 use Rattle.std.specs.Coded.{Coded, code_by, coded×, coded_ℕ, coded_option}
+use Rattle.go_export.specs.Summaries.{Summary}
 use Rattle.ws_action.specs.Actions.{Action}
-use Rattle.ws_action.specs.Clash.{Includes}
-use Rattle.ws_cache.specs.Held.{CacheStandsFor}
 use Rattle.ws_board.specs.declared.work.Event.{Event}
 use Rattle.ws_board.specs.declared.work.Event.TheVariants.{Take, Idle}
 use Rattle.ws_board.specs.declared.work.Taken.{Taken}
 use Rattle.ws_board.specs.declared.work.Taken.TheVariants as taken
-use Rattle.ws_board.specs.Work.{Task, Opening, Seen}
+use Rattle.ws_board.specs.Work.{Work, Job, acted, Task, Opening, Seen}
 use Rattle.ws_board.specs.Machine.{action_at}
-use Rattle.ws_board.specs.Ends.{actions_of}
+use Rattle.ws_board.specs.Ends.{work_at, AddsOwn}
 use Rattle.ws_shared.specs.Counts.{Counts, none_made, counted, counts_of, counts_code}
 
 -- a hand: its number, the number of the job that it runs, if it runs one, and how many events of each kind it made
@@ -38,9 +37,20 @@ made_by hands = record {
   idles = sum_by (λ hand. hand.made.idles) hands;
 }
 
+-- the action is made of this work, with summaries of its imports
+pub record IsActionOf (work : Option Work) (action : Action) : Type 0 where
+  pub its : Work
+  pub is_its : work ≡ Some its
+  pub summaries : List Summary
+  pub is : action ≡ acted its summaries
+
+-- so is each that is formed, of its job's work
+abbrev pub AreActionsOf : List Job → List (Option Action) → Type 0
+AreActionsOf jobs actions = (job : ℕ) (action : Action) → action_at actions job ≡ Some action → IsActionOf (work_at jobs job) action
+
 -- A hand was given a task of one of the opening's jobs, which it now runs, or was told that nothing is left to do.
 abbrev pub Told : Opening → Option Task → HandSeen → HandSeen → Type 0
-Told opening (Some task) old new = (action_at opening.jobs task.job ≡ Some task.action) × (new ≡ after old (Some task.job) (Take old.number task.job))
+Told opening (Some task) old new = IsActionOf (work_at opening.jobs task.job) task.action × (new ≡ after old (Some task.job) (Take old.number task.job))
 Told opening None old new = new ≡ after old None (Idle old.number)
 
 -- the same, or that it has to wait
@@ -61,16 +71,11 @@ with_taken hand (taken.Job task) made = counted made (Take hand task.job)
 with_taken hand taken.Idle made = counted made (Idle hand)
 with_taken hand taken.Later made = made
 
--- the entries that were added are of actions of the jobs
-pub record AddsOwn (seen : Seen) : Type 0 where
-  pub entries : List Action
-  pub stands : CacheStandsFor seen.state.added entries
-  pub among : Includes (actions_of seen.opening.jobs) entries
-
 -- what holds of the board and its books whenever the lock is free
 pub record IsKept (opening : Opening) (books : Counts) (seen : Seen) : Type 0 where
   pub opened : seen.opening ≡ opening
   pub counts : books ≡ counts_of seen.history
+  pub formed : AreActionsOf opening.jobs seen.state.standings.actions
   pub own : AddsOwn seen
 
 abbrev pub hand_code : Coded HandSeen

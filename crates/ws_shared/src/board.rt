@@ -3,7 +3,8 @@ ghost use Rattle.std.specs.Prelude.{◌≡◌, ◌<◌, All, None, IfOk, IfErr, 
 ghost use Rattle.std.specs.Bool.{OnTrue, OnFalse};
 ghost use Rattle.ws_board.specs.declared.work.Event.TheVariants as event;
 ghost use Rattle.ws_shared.specs.Counts.{counts_of};
-ghost use Rattle.ws_shared.specs.Hands.{after, new_hands, made_by, Told, AddsOwn};
+ghost use Rattle.ws_board.specs.Ends.{AddsOwn};
+ghost use Rattle.ws_shared.specs.Hands.{after, new_hands, made_by, Told};
 
 use crate::hand::{SharedHand, hands_of, merged};
 use crate::locked::Locked;

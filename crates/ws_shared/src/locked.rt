@@ -4,7 +4,8 @@ ghost use Rattle.std.specs.Bool.{OnTrue, OnFalse};
 ghost use Rattle.ws_board.specs.declared.work.Event.TheVariants as event;
 ghost use Rattle.ws_board.specs.Calls.{IsFresh, TakeStep};
 ghost use Rattle.ws_shared.specs.Counts.{none_made, noted, counts_of};
-ghost use Rattle.ws_shared.specs.Hands.{with_taken, AddsOwn};
+ghost use Rattle.ws_board.specs.Ends.{AddsOwn};
+ghost use Rattle.ws_shared.specs.Hands.{with_taken, AreActionsOf};
 
 use crate::tally::{Books, Desk, Tally};
 use std::alloc::AllocError;
@@ -13,7 +14,8 @@ use ws_board::{Board, Event, Hand, Taken, Task};
 use ws_cache::Entry;
 
 /// A board, and the books of its events: the board was opened as its type says, its history has as
-/// many events of each kind as the books, and what was added to its cache are entries of its jobs.
+/// many events of each kind as the books, each action is of its job's work, and what was added to its
+/// cache are entries of its jobs.
 #[derive(Drop)]
 pub(super) struct Locked<L: Desk> {
     board: Board,
@@ -61,7 +63,7 @@ impl<L: Desk> Locked<L> {
     pub(super) fn take(&mut self, hand: &Hand, mine: &mut Tally<L>) -> Result<Taken, AllocError>
         requires { 0 < mine.old.parts }
         ensures step { IfOk result (λ taken. TakeStep hand.now taken self.old self.new) }
-        ensures opening { self.new.opening ≡ L.opening }
+        ensures formed { AreActionsOf L.opening.jobs self.new.state.standings.actions }
         ensures mine { IfOk result (λ taken. mine.new ≡ record { parts = mine.old.parts; made = with_taken hand.now taken mine.old.made }) }
         ensures err { OnErr result (mine.new ≡ mine.old) }
     {

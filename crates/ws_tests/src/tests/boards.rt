@@ -1,25 +1,53 @@
 //! What hands are told in turn, and what jobs come to.
-use crate::tests::fixture::action;
+use crate::tests::fixture::files;
+use go_text::edition::Edition;
 use std::alloc::{AllocError, Global};
 use std::process::Abort;
+use std::sync::Arc;
 use std::test::Fail;
-use ws_board::{Board, Built, Event, Hand, Job, Taken, Task};
+use ws_action::Action;
+use ws_board::{Board, Built, Event, Hand, Job, Taken, Task, Work};
 use ws_cache::{Cache, Entry, Outcome};
 use ws_compile::compile;
 
-/// Jobs by the text of their package's file, of which none stands for no action, and the numbers
-/// of the jobs that they import.
-fn jobs(alloc: Global, rows: &[(&str, &[usize])]) -> Result<Vec<Job>, Fail> {
+/// Jobs by the names of their packages, of which none stands for nothing to compile, and the
+/// numbers of the jobs that they import.
+type Rows<'a> = &'a [(&'a str, &'a [usize])];
+
+/// The text of a row's file, which imports what the row does.
+fn text_of(alloc: Global, rows: Rows<'_>, name: &str, imports: &[usize]) -> Result<String, Fail> {
+    let mut text = String::from_str(alloc, "package ")?;
+    text.push_str(name)?;
+    text.push_str("\n")?;
+    for number in imports {
+        if let Some((path, _)) = rows.get(*number) {
+            text.push_str("import _ \"")?;
+            text.push_str(path)?;
+            text.push_str("\"\n")?;
+        }
+    }
+    Ok(text)
+}
+
+/// The work of a row, whose package stands in a directory of its name.
+fn work_of(alloc: Global, rows: Rows<'_>, name: &str, imports: &[usize]) -> Result<Work, Fail> {
+    let text = text_of(alloc, rows, name, imports)?;
+    let files = files(alloc, &[("x.go", text.as_str())])?;
+    let path = String::from_str(alloc, name)?;
+    Ok(Work::new(Edition::One, path, files))
+}
+
+fn jobs(alloc: Global, rows: Rows<'_>) -> Result<Vec<Job>, Fail> {
     let mut jobs = Vec::new(alloc);
-    for (text, imports) in rows {
-        let action = if text.is_empty() {
+    for (name, imports) in rows {
+        let work = if name.is_empty() {
             None
         } else {
-            Some(action(alloc, &[("x.go", *text)])?)
+            Some(work_of(alloc, rows, name, imports)?)
         };
         let mut numbers = Vec::new(alloc);
         numbers.extend_from_slice(imports)?;
-        jobs.push(Job::new(action, numbers)?)?;
+        jobs.push(Job::new(work, numbers))?;
     }
     Ok(jobs)
 }
@@ -97,7 +125,7 @@ fn drives(rt: &impl Abort, board: Board) -> Result<Built, AllocError> {
 /// What a job came to, in a word.
 fn told(built: &Built, job: usize) -> &'static str {
     match built.result(job) {
-        Some(Outcome::Good(_)) => "good",
+        Some(Outcome::Good(_, _)) => "good",
         Some(Outcome::Faulty(_)) => "faulty",
         None => "blocked",
     }
@@ -117,7 +145,7 @@ fn taken(alloc: Global, built: &Built) -> Result<Vec<usize>, AllocError> {
 #[test]
 fn one_job(rt: HostRuntime) -> Result<(), Fail> {
     let (first, second) = (Hand::new(1), Hand::new(2));
-    let jobs = jobs(rt.alloc(), &[("package p\n", &[])])?;
+    let jobs = jobs(rt.alloc(), &[("p", &[])])?;
     let mut board = Board::open(rt.alloc(), jobs, Cache::new(rt.alloc()))?;
     assert!(rt; asks(&rt, &mut board, &first) == Ok("a job"));
     assert!(rt; finishes(&rt, &mut board, &second, &first) == Ok("done"));
@@ -136,61 +164,57 @@ fn one_job(rt: HostRuntime) -> Result<(), Fail> {
     Ok(())
 }
 
-const A: &str = "package p // a";
-
-const B: &str = "package p // b";
-
-const C: &str = "package p // c";
-
-const D: &str = "package p // d";
-
-const WRONG: &str = "package main";
-
 /// The jobs, which of them are taken, in order, and what each comes to.
-type Row<'a> = (&'a [(&'a str, &'a [usize])], &'a [usize], &'a [&'a str]);
+type Row<'a> = (Rows<'a>, &'a [usize], &'a [&'a str]);
 
 const ROWS: &[Row<'static>] = &[
     // A chain, the last of which comes first.
     (
-        &[(A, &[1]), (B, &[2]), (C, &[])],
+        &[("a", &[1]), ("b", &[2]), ("c", &[])],
         &[2, 1, 0],
         &["good", "good", "good"],
     ),
     // A diamond.
     (
-        &[(A, &[1, 2]), (B, &[3]), (C, &[3]), (D, &[])],
+        &[("a", &[1, 2]), ("b", &[3]), ("c", &[3]), ("d", &[])],
         &[3, 1, 2, 0],
         &["good", "good", "good", "good"],
     ),
     // Two jobs with one id: one is compiled, and both are done.
     (
-        &[(A, &[]), (A, &[]), (B, &[1])],
+        &[("a", &[]), ("a", &[]), ("b", &[1])],
         &[0, 2],
         &["good", "good", "good"],
     ),
-    // Of two with one id one waits, and is done as soon as it is ready.
+    // Of two with one id, whose imports are other jobs with one id, one is compiled.
     (
-        &[(A, &[]), (A, &[2]), (B, &[])],
-        &[0, 2],
-        &["good", "good", "good"],
+        &[("a", &[2]), ("a", &[3]), ("b", &[]), ("b", &[])],
+        &[2, 0],
+        &["good", "good", "good", "good"],
     ),
-    // A faulty import blocks.
+    // A faulty import blocks: it is named main, and has no function main.
     (
-        &[(A, &[1]), (WRONG, &[]), (B, &[0])],
+        &[("a", &[1]), ("main", &[]), ("b", &[0])],
         &[1],
         &["blocked", "faulty", "blocked"],
     ),
-    // So does one without an action, though another import is good.
+    // So does one without work, though another import is good.
     (
-        &[(A, &[1, 2]), ("", &[]), (C, &[])],
+        &[("a", &[1, 2]), ("", &[]), ("c", &[])],
         &[2],
         &["blocked", "blocked", "good"],
     ),
-    // Without an action jobs may import one another; numbers past the end are blocked.
+    // Without work jobs may import one another; numbers past the end are blocked.
     (
-        &[("", &[1]), ("", &[0]), (A, &[7])],
+        &[("", &[1]), ("", &[0]), ("a", &[7])],
         &[],
         &["blocked", "blocked", "blocked"],
+    ),
+    // What is held for an import doesn't fit the files: they import another directory.
+    (
+        &[("a", &[1, 2]), ("c", &[]), ("b", &[])],
+        &[1, 2],
+        &["blocked", "good", "good"],
     ),
 ];
 
@@ -209,23 +233,42 @@ fn jobs_wait_for_their_imports(rt: HostRuntime) -> Result<(), Fail> {
     Ok(())
 }
 
-/// The entry of a package with a file of that text.
-fn entry(alloc: Global, text: &str) -> Result<Entry, Fail> {
-    compile(action(alloc, &[("x.go", text)])?)
+/// The entry of a row's package, whose imports have these entries' summaries.
+fn entry(
+    alloc: Global,
+    rows: Rows<'_>,
+    name: &str,
+    imports: &[usize],
+    entries: &[&Entry],
+) -> Result<Entry, Fail> {
+    let text = text_of(alloc, rows, name, imports)?;
+    let files = files(alloc, &[("x.go", text.as_str())])?;
+    let mut summaries = Vec::new(alloc);
+    for entry in entries {
+        if let Outcome::Good(summary, _) = entry.outcome() {
+            summaries.push(Arc::try_clone(summary)?)?;
+        }
+    }
+    let path = String::from_str(alloc, name)?;
+    compile(Action::new(alloc, Edition::One, path, files, summaries)?)
         .ok()
         .ok_or_else(|| Fail::from("out of memory"))
 }
 
 #[test]
 fn what_the_cache_has_is_done_at_once(rt: HostRuntime) -> Result<(), Fail> {
+    let rows: Rows<'static> = &[("b", &[1]), ("a", &[])];
     let mut cache = Cache::new(rt.alloc());
-    let (first, second) = (entry(rt.alloc(), A)?, entry(rt.alloc(), B)?);
+    let first = entry(rt.alloc(), rows, "a", &[], &[])?;
+    let second = entry(rt.alloc(), rows, "b", &[1], &[&first])?;
     let (held, new) = (first.id(), second.id());
     if cache.put(first).is_err() {
         return Err(Fail::from("out of memory"));
     }
-    let jobs = jobs(rt.alloc(), &[(B, &[1]), (A, &[])])?;
-    let built = drives(&rt, Board::open(rt.alloc(), jobs, cache)?)?;
+    let built = drives(
+        &rt,
+        Board::open(rt.alloc(), jobs(rt.alloc(), rows)?, cache)?,
+    )?;
     assert!(rt; told(&built, 0) == "good" && told(&built, 1) == "good");
     assert!(rt;
         built.history() == [Event::Take(1, 0), Event::Finish(1, 0), Event::Idle(1)].as_slice()

@@ -48,9 +48,9 @@ fn entries_are_found(rt: HostRuntime) -> Result<(), Fail> {
 #[test]
 fn entries_hold_what_they_are_made_of(rt: HostRuntime) -> Result<(), Fail> {
     let entry = entry(rt.alloc(), &[("x.go", "package p\n")])?;
-    assert!(rt; entry.action().path() == "p");
+    assert!(rt; entry.origin().path() == "p");
     let outcome = entry.outcome().copy()?;
-    assert!(rt; matches!(outcome, Outcome::Good(_)));
+    assert!(rt; matches!(outcome, Outcome::Good(_, _)));
     Ok(())
 }
 

@@ -7,6 +7,7 @@ use std::process::Abort;
 use std::sync::Wait;
 use std::test::Fail;
 use std::thread::Threads;
+use ws_path::FilePath;
 use ws_pool::Plain;
 use ws_register::EditError;
 use ws_replica::{BuildError, Replica, Target, build, image};
@@ -27,7 +28,8 @@ pub fn take(
     };
     let counter = u64::from(number);
     let held = Held::new(Version { counter, number }, text);
-    replica.apply(Write::new(String::from_str(alloc, path)?, held))?;
+    let path = FilePath::new(String::from_str(alloc, path)?).ok_or("no path")?;
+    replica.apply(Write::new(path, held))?;
     Ok(())
 }
 

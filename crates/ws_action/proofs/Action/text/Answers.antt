@@ -15,9 +15,9 @@ in_parts a t u v w x first second third fourth fifth =
 
 pub returns : goal.returns
 returns c =
-    let before = c.push_parts.new.text.items in
+    let before = c.push.new.text.items in
     let own = c.self.inside.imports.items in
-    let fifth : c.push_parts-2.new.text.items ≡ before ++ list_text (map (λ s. import_of (arc_value s)) own) = search rules in
-    subst (λ a. c.push_parts-2.new.text.items ≡ action_text a) c.self.view_is
-    (in_parts _ c.push_field.new.text.items c.push_field-2.new.text.items c.push_field-3.new.text.items before c.push_parts-2.new.text.items
+    let fifth : c.push_parts.new.text.items ≡ before ++ list_text (map (λ s. import_of (arc_value s)) own) = search rules in
+    subst (λ a. c.push_parts.new.text.items ≡ action_text a) c.self.view_is
+    (in_parts _ c.push_field.new.text.items c.push_field-2.new.text.items c.push_field-3.new.text.items before c.push_parts.new.text.items
     (search rules) (search rules) (search rules) (search rules) (fifth ∙ ap (λ ns. before ++ list_text ns) (named_imports own)))

@@ -1,9 +1,7 @@
 use Rattle.std.proofs.Common.{[], sym, subst}
 use Rattle.ws_board.specs.Work.{Seen}
 use Rattle.ws_board.specs.Ends.{ComesToEnds}
-use Rattle.ws_pool.proofs.OwnEnds.{own_ends}
 use Rattle.ws_pool.proofs.workers.run_jobs.Goals as goal
 
 pub returns-clause-ends : goal.returns-clause-ends
-returns-clause-ends g c =
-    subst (λ (b : Seen). ComesToEnds b []) (sym c.built.ensures.same) (own_ends c.close-board.result c.close-board.ensures.own c.built.ensures.ends)
+returns-clause-ends g c = subst (λ (b : Seen). ComesToEnds b []) (sym c.built.ensures.same) (c.built.ensures.own c.close-board.ensures.own)
