@@ -1,7 +1,7 @@
 -- What a build of several targets says, and what the replicas then hold.
 use Rattle.std.proofs.Common.{◌≡◌, ℕ, zero, suc, Bool, true, false, ◌||◌, ◌==◌, List, [], ◌∷◌, ◌++◌, map, Option, Some, None, refl, sym, ap, subst, ◌∙◌, inl, inr}
 use Rattle.std.specs.Prelude.{if◌then◌else◌, option_map}
-use Rattle.std.specs.List.{slice_get, Contains, AllZip, flat_map}
+use Rattle.std.specs.List.{slice_get, Contains, flat_map}
 use Rattle.std.specs.FinMap.{FinMap}
 use Rattle.std.proofs.lemmas.Bool.{eqb-true}
 use Rattle.std.proofs.lemmas.Option.{slice_get-map}
@@ -17,14 +17,13 @@ use Rattle.ws_cache.specs.Held.{id_cmp, IsHeld, CacheStandsFor}
 use Rattle.ws_cache.specs.Joined.{lesser}
 use Rattle.ws_cache.proofs.Joined.{one_cache}
 use Rattle.ws_report.specs.declared.Report.{Report}
-use Rattle.ws_replica.specs.Builds.{took_at, held_by, builds, StandsAfter, AreBuilt, AreBuiltFrom, AllTookSized}
+use Rattle.ws_replica.specs.Builds.{took_at, held_by, builds, StandsAfter, AreBuilds, AreBuilt, AreBuiltFrom, AllTookSized}
 use Rattle.ws_replica.specs.Holdings.{Replica, ReplicaStandsFor, Took, AllStandFor}
 use Rattle.ws_replica.specs.Jobs.{Reached, IsRun}
-use Rattle.ws_replica.specs.Reports.{TargetBuild, IsTargetBuild, all_sought, all_compiled}
+use Rattle.ws_replica.specs.Reports.{TargetBuild, all_actions}
 use Rattle.ws_replica.specs.Targets.{AreReached, IsOpening, HaveCache, TakeResults}
-use Rattle.ws_replica.proofs.BuiltPlans.{append_sized}
 use Rattle.ws_replica.proofs.Numbered.{some_same}
-use Rattle.ws_replica.proofs.TargetPieces.{pieces_of, builds_of, reached_of_all, builds_are, sought_sized, run_says, run_counts, run_holds}
+use Rattle.ws_replica.proofs.TargetPieces.{pieces_of, builds_of, reached_of_all, builds_are, run_says, run_counts, run_sized, run_holds}
 
 -- ---- sets of actions
 
@@ -87,19 +86,20 @@ pub are_built_from : (edition : ℕ) (old : List Replica) (took : List Took) (ta
 are_built_from edition old took targets stand sized all reached opening opens reports added run =
     let pieces = pieces_of edition old took stand targets all reached in
     let bs : List TargetBuild = builds_of edition took pieces.list in
-    let sought : AllSized (all_sought bs) = sought_sized edition took pieces.list in
     let its_run : IsRun opening (reached_of_all edition took pieces.list) reports added = subst (λ rs. IsRun opening rs reports added) (sym pieces.all_are) run in
     let E : List Action = held_by took targets in
     let stands : CacheStandsFor opening E = opens took stand in
     record {
       all = bs;
-      are = subst (λ ts. AllZip (λ t b. IsTargetBuild edition (took_at took t.0).writes t.1 b) ts bs) pieces.targets_are (builds_are edition took pieces.list);
-      sized = sought;
+      are = subst (λ ts. AreBuilds took ts bs) pieces.targets_are (builds_are edition took pieces.list);
       right = λ no_clash.
-          let clear : AreClear (E ++ all_sought bs) = record { sized = append_sized E (all_sought bs) (held_sized took targets sized) sought; clear = no_clash } in
+          let clear : AreClear E (all_actions edition bs) = record { sized = held_sized took targets sized; clear = no_clash } in
           record {
-            reports = run_says edition took pieces.list opening E stands reports added its_run clear;
-            counts = run_counts edition took pieces.list opening E stands reports added its_run clear;
+            told = record {
+              reports = run_says edition took pieces.list opening E stands reports added its_run clear;
+              counts = run_counts edition took pieces.list opening E stands reports added its_run clear;
+            };
+            sized = run_sized edition took pieces.list opening E stands reports added its_run clear;
             stands = run_holds edition took pieces.list opening E stands reports added its_run clear;
           };
     }
@@ -143,12 +143,11 @@ module _ (edition : ℕ) (old new : List Replica) (took : List Took) (targets : 
       record {
         all = from.all;
         are = from.are;
-        sized = from.sized;
         right = λ no_clash.
             let right = from.right no_clash in
             record {
-              reports = right.reports;
-              counts = right.counts;
-              stand = stand_after (joined lesser opening added) (all_compiled from.all) right.stands have;
+              told = right.told;
+              sized = right.sized;
+              stand = stand_after (joined lesser opening added) (all_actions edition from.all) right.stands have;
             };
       }

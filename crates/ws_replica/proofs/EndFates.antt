@@ -1,203 +1,266 @@
--- What the ends of a plan's jobs say of its directories.
-use Rattle.std.proofs.Common.{◌≡◌, ℕ, zero, suc, ◌+◌, ◌<◌, length, Bool, true, false, ◌&&◌, List, [], ◌∷◌, map, Option, None, Some, refl, sym, ap, subst, ◌∙◌, arith}
-use Rattle.std.specs.Prelude.{is_some}
-use Rattle.std.specs.List.{slice_get, list_all, AllZip, Contains}
+-- The ends of a plan's jobs, by the fates of its directories.
+use Rattle.std.proofs.Common.{◌≡◌, ℕ, zero, suc, ◌+◌, ◌<◌, List, [], ◌∷◌, ◌++◌, length, map, Option, None, Some, refl, sym, ap, subst, ◌∙◌, arith}
+use Rattle.std.specs.List.{AllZip, Contains, cons_option, filter_map, slice_get, zip}
 use Rattle.go_text.specs.Faults.{Fault}
 use Rattle.go_ast.specs.Parse.{Parsed}
-use Rattle.go_export.specs.Summaries.{Summary}
-use Rattle.ws_action.specs.Actions.{Action}
+use Rattle.go_typed.specs.Trees.{Package}
+use Rattle.go_gen.specs.Translation.{object_of}
+use Rattle.go_check.proofs.BySummaries.{seen_same}
+use Rattle.go_export.specs.Summaries.{Summary, summary_of}
+use Rattle.ws_action.specs.Actions.{Action, MakeAction, action_of}
 use Rattle.ws_action.proofs.Members.{at_head, later}
-use Rattle.ws_cache.specs.Compiles.{Good}
+use Rattle.ws_board.specs.Work.{Work, Job}
+use Rattle.ws_board.specs.Ends.{End, summary_in, end_at, HasAction, IsEnd, came_of, came, somes, work_at, imports_at, IsRanked}
+use Rattle.ws_board.specs.Ends as ends
+use Rattle.ws_cache.specs.Compiles.{Compiled, Compiles, AreGood, AreFaulty}
 use Rattle.ws_cache.specs.Compiles as compiled
 use Rattle.ws_cache.proofs.Outcomes.{one_outcome}
-use Rattle.ws_board.specs.Work.{Job}
-use Rattle.ws_board.specs.Machine.{action_at, imports_at}
-use Rattle.ws_board.specs.Ends.{End, is_good, end_at, are_good, IsEnd, AreEnds, came_of, came, somes, actions_of, IsRanked}
-use Rattle.ws_board.specs.Ends as ends
 use Rattle.ws_graph.specs.Plan.{Planned, NoFiles, Faulty, Sound}
-use Rattle.ws_graph.specs.BuildPlan.{Sources, Directory, IsPlannedAs, AreRanks}
+use Rattle.ws_graph.specs.BuildPlan.{Directory, AreRanks}
 use Rattle.ws_report.specs.Reports.{Verdict}
-use Rattle.ws_replica.specs.ActionPlans.{is_sound, is_sound_at, IsActionOf, AreActionsOf}
-use Rattle.ws_replica.specs.Reports.{Fate, Stopped, Blocked, Came, is_good_at, IsFate, AreFatesOf, compiled_actions, told_of, report_of}
-use Rattle.ws_replica.specs.Jobs.{Place, fault_in, verdict_of, fault_of, action_by, reached_by, IsToldOf, IsTold, AreTold}
-use Rattle.ws_replica.proofs.Compiling.{comes_to}
-use Rattle.ws_replica.proofs.Numbered.{all_on, all_each, each_all}
+use Rattle.ws_replica.specs.Reports.{Fate, Stopped, Blocked, Wrong, Good, fate_at, ArePackages, IsReady, IsFate, AreFates, told_of, packages_in, action_by, action_in}
+use Rattle.ws_replica.specs.Jobs.{Place, fault_in, verdict_of, fault_of, work_of, reached_by, job_after, IsToldOf, IsTold, AreTold}
+use Rattle.ws_replica.proofs.Numbered.{some_same}
 use Rattle.ws_replica.proofs.SeveralPlans.{job_of}
-use Rattle.ws_replica.proofs.SomeBuild.{AllPlanned}
 
--- the jobs of directories with these actions
-abbrev pub jobs_of : List Directory → List (Option Action) → List Job
-jobs_of [] actions = []
-jobs_of (d ∷ ds) [] = []
-jobs_of (d ∷ ds) (a ∷ actions) = record { action = a; imports = d.imports } ∷ jobs_of ds actions
+-- ---- ends
 
-pub same_jobs : (edition : ℕ) (summaries : List (Option Summary)) (ds : List Directory) → map job_of (map (reached_by edition summaries) ds) ≡ jobs_of ds (map (action_by edition summaries) ds)
-same_jobs edition summaries [] = refl
-same_jobs edition summaries (d ∷ ds) = ap (λ js. job_of (reached_by edition summaries d) ∷ js) (same_jobs edition summaries ds)
+abbrev pub end_in : Option Action → Fate → End
+end_in None fate = ends.Blocked
+end_in (Some a) (Stopped fault) = ends.Blocked
+end_in (Some a) Blocked = ends.Blocked
+end_in (Some a) (Wrong fault) = ends.Came a (compiled.Faulty fault)
+end_in (Some a) (Good p) = ends.Came a (compiled.Good (summary_of p) (object_of p))
+
+-- the end of the job of a directory with this fate
+abbrev pub end_of : ℕ → List Fate → Directory → Fate → End
+end_of edition fates d fate = end_in (action_in edition fates d fate) fate
+
+abbrev pub ends_by : ℕ → List Fate → List Directory → List Fate → List End
+ends_by edition fates [] others = []
+ends_by edition fates (d ∷ ds) [] = []
+ends_by edition fates (d ∷ ds) (f ∷ others) = end_of edition fates d f ∷ ends_by edition fates ds others
+
+abbrev pub package_of : Fate → Option Package
+package_of (Stopped fault) = None
+package_of Blocked = None
+package_of (Wrong fault) = None
+package_of (Good p) = Some p
+
+abbrev pub summary_at : Fate → Option Summary
+summary_at (Stopped fault) = None
+summary_at Blocked = None
+summary_at (Wrong fault) = None
+summary_at (Good p) = Some (summary_of p)
+
+-- an action that came is the directory's
+came_in : (a : Option Action) (f : Fate) → ((fault : Fault) → f ≡ Stopped fault → a ≡ None) → (f ≡ Blocked → a ≡ None) → came_of (end_in a f) ≡ a
+came_in None f g h = refl
+came_in (Some a) (Stopped fault) g h = sym (g fault refl)
+came_in (Some a) Blocked g h = sym (h refl)
+came_in (Some a) (Wrong fault) g h = refl
+came_in (Some a) (Good p) g h = refl
+
+pub came_here : (edition : ℕ) (fates : List Fate) (d : Directory) (f : Fate) → came_of (end_of edition fates d f) ≡ action_in edition fates d f
+came_here edition fates d (Stopped fault) = refl
+came_here edition fates d Blocked = refl
+came_here edition fates d (Wrong fault) = came_in (action_by edition fates d d.planned) (Wrong fault) (λ x e. cc (e)) (λ e. cc (e))
+came_here edition fates d (Good p) = came_in (action_by edition fates d d.planned) (Good p) (λ x e. cc (e)) (λ e. cc (e))
+
+somes_next : (a b : Option Action) (xs : List (Option Action)) (ys : List Action) → a ≡ b → somes xs ≡ ys → somes (a ∷ xs) ≡ somes (b ∷ []) ++ ys
+somes_next a None xs ys e h = ap (λ o. somes (o ∷ xs)) e ∙ h
+somes_next a (Some x) xs ys e h = ap (λ o. somes (o ∷ xs)) e ∙ ap (λ zs. x ∷ zs) h
+
+kept_next : {X : Type 0} (h : X → Option Action) (x : X) (xs : List X) (b : Option Action) → h x ≡ b → filter_map h (x ∷ xs) ≡ somes (b ∷ []) ++ filter_map h xs
+kept_next h x xs None e = ap (λ o. cons_option o (filter_map h xs)) e
+kept_next h x xs (Some b) e = ap (λ o. cons_option o (filter_map h xs)) e
+
+-- what came is what was compiled
+pub came_are : (edition : ℕ) (fates : List Fate) (ds : List Directory) (fs : List Fate) → came (ends_by edition fates ds fs) ≡ filter_map (λ (row : Directory × Fate). action_in edition fates row.0 row.1) (zip ds fs)
+came_are edition fates [] fs = refl
+came_are edition fates (d ∷ ds) [] = refl
+came_are edition fates (d ∷ ds) (f ∷ fs) =
+    somes_next (came_of (end_of edition fates d f)) (action_in edition fates d f) (map came_of (ends_by edition fates ds fs)) (filter_map (λ (row : Directory × Fate). action_in edition fates row.0 row.1) (zip ds fs)) (came_here edition fates d f) (came_are edition fates ds fs)
+    ∙ sym (kept_next (λ (row : Directory × Fate). action_in edition fates row.0 row.1) (d, f) (zip ds fs) (action_in edition fates d f) refl)
+
+-- ---- imports
+
+imported_are : (fates : List Fate) (ks : List ℕ) (ps : List Package) → ArePackages fates ks ps → packages_in (map (fate_at fates) ks) ≡ ps
+imported_are fates [] [] h = refl
+imported_are fates [] (p ∷ ps) h = absurd h
+imported_are fates (k ∷ ks) [] h = absurd h
+imported_are fates (k ∷ ks) (p ∷ ps) h =
+    ap (λ f. packages_in (f ∷ map (fate_at fates) ks)) h.0 ∙ ap (λ xs. p ∷ xs) (imported_are fates ks ps h.1)
+
+-- the action of a directory whose imports are these
+pub action_is : (edition : ℕ) (fates : List Fate) (d : Directory) (files : List Parsed) (ps : List Package) → IsReady fates d files ps → action_by edition fates d d.planned ≡ Some (action_of edition d.path files (map summary_of ps))
+action_is edition fates d files ps ready =
+    ap (action_by edition fates d) ready.sound ∙ ap (λ xs. Some (action_of edition d.path files (map summary_of xs))) (imported_are fates d.imports ps ready.good)
+
+summary_here : (edition : ℕ) (fates : List Fate) (d : Directory) (f : Fate) → IsFate fates d f → summary_in (end_of edition fates d f) ≡ summary_at f
+summary_here edition fates d (Stopped fault) h = refl
+summary_here edition fates d Blocked h = refl
+summary_here edition fates d (Wrong fault) h = ap (λ a. summary_in (end_in a (Wrong fault))) (action_is edition fates d h.0 h.1 h.2)
+summary_here edition fates d (Good p) h = ap (λ a. summary_in (end_in a (Good p))) (action_is edition fates d h.0 h.1 h.2)
+
+pub summaries_at : (edition : ℕ) (all : List Fate) (ds : List Directory) (fs : List Fate) → AllZip (IsFate all) ds fs → (k : ℕ) → summary_in (end_at (ends_by edition all ds fs) k) ≡ summary_at (fate_at fs k)
+summaries_at edition all [] [] h k = refl
+summaries_at edition all [] (f ∷ fs) h k = absurd h
+summaries_at edition all (d ∷ ds) [] h k = absurd h
+summaries_at edition all (d ∷ ds) (f ∷ fs) h zero = summary_here edition all d f h.0
+summaries_at edition all (d ∷ ds) (f ∷ fs) h (suc k) = summaries_at edition all ds fs h.1 k
+
+-- the fate of an import that has a summary is good
+pub good_by : (f : Fate) (s : Summary) → summary_at f ≡ Some s → (p : Package) × (f ≡ Good p) × (s ≡ summary_of p)
+good_by (Stopped fault) s e = cc
+good_by Blocked s e = cc
+good_by (Wrong fault) s e = cc
+good_by (Good p) s e = (p, refl, sym (some_same (summary_of p) s e))
+
+-- ---- the ends of a plan's jobs, among those of others, behind n of them
+
+module _ (edition : ℕ) (ds : List Directory) (fates : List Fate) (are : AreFates ds fates) (whole : List End) (n : ℕ)
+    (within : (k : ℕ) → k < length ds → end_at whole (n + k) ≡ end_at (ends_by edition fates ds fates) k) where
+  abbrev Inside : Directory → Type 0
+  Inside d = (k : ℕ) → Contains d.imports k → k < length ds
+
+  abbrev Have : List ℕ → List Summary → Type 0
+  Have ks ss = AllZip (λ k summary. summary_in (end_at whole k) ≡ Some summary) ks ss
+
+  has_here : (k : ℕ) → k < length ds → summary_in (end_at whole (n + k)) ≡ summary_at (fate_at fates k)
+  has_here k lt = ap summary_in (within k lt) ∙ summaries_at edition fates ds fates are k
+
+  pub have_all : (ks : List ℕ) → ((k : ℕ) → Contains ks k → k < length ds) → (ps : List Package) → ArePackages fates ks ps → Have (map (λ k. n + k) ks) (map summary_of ps)
+  have_all [] inside [] h = tt
+  have_all [] inside (p ∷ ps) h = absurd h
+  have_all (k ∷ ks) inside [] h = absurd h
+  have_all (k ∷ ks) inside (p ∷ ps) h =
+      (has_here k (inside k (at_head ks k k refl)) ∙ ap summary_at h.0, have_all ks (λ j c. inside j (later k ks j c)) ps h.1)
+
+  pub all_had : (ks : List ℕ) → ((k : ℕ) → Contains ks k → k < length ds) → (ss : List Summary) → Have (map (λ k. n + k) ks) ss → (ps : List Package) × ArePackages fates ks ps × (ss ≡ map summary_of ps)
+  all_had [] inside [] h = ([], tt, refl)
+  all_had [] inside (s ∷ ss) h = absurd h
+  all_had (k ∷ ks) inside [] h = absurd h
+  all_had (k ∷ ks) inside (s ∷ ss) h =
+      let here = good_by (fate_at fates k) s (sym (has_here k (inside k (at_head ks k k refl))) ∙ h.0) in
+      let rest = all_had ks (λ j c. inside j (later k ks j c)) ss h.1 in
+      (here.0 ∷ rest.0, (here.1, rest.1), ap (λ x. x ∷ ss) here.2 ∙ ap (λ xs. summary_of here.0 ∷ xs) rest.2)
+
+  abbrev Makes : Directory → Type 0
+  Makes d = (files : List Parsed) (ps : List Package) → IsReady fates d files ps → MakeAction files (map summary_of ps)
+
+  abbrev work_by : Directory → List Parsed → Work
+  work_by d files = record { edition = edition; path = d.path; files = files }
+
+  abbrev job_by : Directory → Job
+  job_by d = job_after n (reached_by edition d)
+
+  has_action : (d : Directory) → Inside d → Makes d → (files : List Parsed) (ps : List Package) → IsReady fates d files ps → HasAction whole (job_by d) (action_of edition d.path files (map summary_of ps))
+  has_action d inside makes files ps ready = record {
+    work = work_by d files;
+    its = ap (work_of edition d.path) ready.sound;
+    summaries = map summary_of ps;
+    have = have_all d.imports inside ps ready.good;
+    make = makes files ps ready;
+    is = refl;
+  }
+
+  no_work : (d : Directory) (fault : Fault) → d.planned ≡ Faulty fault → (a : Action) → ¬ (HasAction whole (job_by d) a)
+  no_work d fault e a has = let none : None ≡ Some has.work = sym (ap (work_of edition d.path) e) ∙ has.its in cc (none)
+
+  no_imports : (d : Directory) → Inside d → ((ps : List Package) → ¬ (ArePackages fates d.imports ps)) → (a : Action) → ¬ (HasAction whole (job_by d) a)
+  no_imports d inside none a has = let had = all_had d.imports inside has.summaries has.have in none had.0 had.1
+
+  is_end : (d : Directory) → Inside d → Makes d → (f : Fate) → IsFate fates d f → IsEnd whole (job_by d) (end_of edition fates d f)
+  unfolding has_action
+  is_end d inside makes (Stopped fault) h = no_work d fault h
+  is_end d inside makes Blocked h = no_imports d inside h.2
+  is_end d inside makes (Wrong fault) h =
+      subst (λ a. IsEnd whole (job_by d) (end_in a (Wrong fault))) (sym (action_is edition fates d h.0 h.1 h.2))
+      (has_action d inside makes h.0 h.1 h.2, subst (λ is. AreFaulty d.path h.0 is fault) (sym (seen_same h.1)) h.3)
+  is_end d inside makes (Good p) h =
+      subst (λ a. IsEnd whole (job_by d) (end_in a (Good p))) (sym (action_is edition fates d h.0 h.1 h.2))
+      (has_action d inside makes h.0 h.1 h.2, (p, subst (λ is. AreGood d.path h.0 is p) (sym (seen_same h.1)) h.3, refl, refl))
+
+  pub are_ends : (xs : List Directory) (fs : List Fate) → ((d : Directory) → Contains xs d → Inside d × Makes d) → AllZip (IsFate fates) xs fs → AllZip (IsEnd whole) (map (job_after n) (map (reached_by edition) xs)) (ends_by edition fates xs fs)
+  are_ends [] [] each h = tt
+  are_ends [] (f ∷ fs) each h = absurd h
+  are_ends (d ∷ xs) [] each h = absurd h
+  are_ends (d ∷ xs) (f ∷ fs) each h =
+      let here = each d (at_head xs d d refl) in
+      (is_end d here.0 here.1 f h.0, are_ends xs fs (λ x c. each x (later d xs x c)) h.1)
+
+-- ---- what is told
+
+told_wrong : (a : Action) (f : Fault) (verdict : Verdict) → IsToldOf (Some a) verdict → Compiles a (compiled.Faulty f) → verdict ≡ told_of (Wrong f)
+told_wrong a f verdict told its = told.2 ∙ ap (λ z. verdict_of (fault_in z)) (one_outcome a told.0 (compiled.Faulty f) told.1 its)
+
+told_good : (a : Action) (p : Package) (verdict : Verdict) → IsToldOf (Some a) verdict → Compiles a (compiled.Good (summary_of p) (object_of p)) → verdict ≡ told_of (Good p)
+told_good a p verdict told its = told.2 ∙ ap (λ z. verdict_of (fault_in z)) (one_outcome a told.0 (compiled.Good (summary_of p) (object_of p)) told.1 its)
+
+abbrev pub IsCompiled : End → Type 0
+IsCompiled end = (a : Action) (r : Compiled) → end ≡ ends.Came a r → Compiles a r
+
+told_here : (edition : ℕ) (fates : List Fate) (d : Directory) (f : Fate) → IsFate fates d f → (result : Option Action) → result ≡ came_of (end_of edition fates d f) → IsCompiled (end_of edition fates d f) → (verdict : Verdict) → IsTold (fault_of d.planned) result verdict → verdict ≡ told_of f
+told_here edition fates d (Stopped fault) h result same its verdict told = subst (λ p. IsTold (fault_of p) result verdict) h told
+told_here edition fates d Blocked h result same its verdict told = subst (λ r. IsToldOf r verdict) same (subst (λ p. IsTold (fault_of p) result verdict) h.1 told)
+told_here edition fates d (Wrong fault) h result same its verdict told =
+    let a = action_of edition d.path h.0 (map summary_of h.1) in
+    let is : end_of edition fates d (Wrong fault) ≡ ends.Came a (compiled.Faulty fault) = ap (λ o. end_in o (Wrong fault)) (action_is edition fates d h.0 h.1 h.2) in
+    let of : IsToldOf result verdict = subst (λ p. IsTold (fault_of p) result verdict) (h.2).sound told in
+    told_wrong a fault verdict (subst (λ r. IsToldOf r verdict) (same ∙ ap came_of is) of) (its a (compiled.Faulty fault) is)
+told_here edition fates d (Good p) h result same its verdict told =
+    let a = action_of edition d.path h.0 (map summary_of h.1) in
+    let is : end_of edition fates d (Good p) ≡ ends.Came a (compiled.Good (summary_of p) (object_of p)) = ap (λ o. end_in o (Good p)) (action_is edition fates d h.0 h.1 h.2) in
+    let of : IsToldOf result verdict = subst (λ p. IsTold (fault_of p) result verdict) (h.2).sound told in
+    told_good a p verdict (subst (λ r. IsToldOf r verdict) (same ∙ ap came_of is) of) (its a (compiled.Good (summary_of p) (object_of p)) is)
+
+one_row : (r : List ℕ × Verdict) (path : List ℕ) (verdict : Verdict) → r.0 ≡ path → r.1 ≡ verdict → ◌≡◌ {A = List ℕ × Verdict} r (path, verdict)
+one_row r path verdict g h = ap (λ p. let z : List ℕ × Verdict = (p, r.1) in z) g ∙ ap (λ v. let z : List ℕ × Verdict = (path, v) in z) h
 
 -- a directory's place
 abbrev pub place_in : Directory → Place
 place_in d = record { path = d.path; fault = fault_of d.planned }
 
--- the fate of a directory whose job ends so
-abbrev fate_by : Planned → End → Fate
-fate_by NoFiles end = Blocked
-fate_by (Faulty fault) end = Stopped fault
-fate_by (Sound parsed) ends.Blocked = Blocked
-fate_by (Sound parsed) (ends.Came action result) = Came action (fault_in result)
+abbrev pub told_rows : List Directory → List Fate → List (List ℕ × Verdict)
+told_rows ds fs = map (λ (row : Directory × Fate). (row.0.path, told_of row.1)) (zip ds fs)
 
-abbrev pub fates_by : List Directory → List End → List Fate
-fates_by [] others = []
-fates_by (d ∷ ds) [] = []
-fates_by (d ∷ ds) (e ∷ others) = fate_by d.planned e ∷ fates_by ds others
+pub told_report : (edition : ℕ) (fates : List Fate) (result : ℕ → Option Action) (k : ℕ) (ds : List Directory) (fs : List Fate) (rows : List (List ℕ × Verdict)) → AllZip (IsFate fates) ds fs
+    → ((j : ℕ) → j < length ds → (result (k + j) ≡ came_of (end_at (ends_by edition fates ds fs) j)) × IsCompiled (end_at (ends_by edition fates ds fs) j)) → AreTold result k (map place_in ds) rows → rows ≡ told_rows ds fs
+told_report edition fates result k [] [] [] h same told = refl
+told_report edition fates result k [] [] (row ∷ rows) h same told = absurd told
+told_report edition fates result k [] (f ∷ fs) rows h same told = absurd h
+told_report edition fates result k (d ∷ ds) [] rows h same told = absurd h
+told_report edition fates result k (d ∷ ds) (f ∷ fs) [] h same told = absurd told
+told_report edition fates result k (d ∷ ds) (f ∷ fs) (row ∷ rows) h same told =
+    let first = same 0 (omega arith) in
+    let here : result k ≡ came_of (end_of edition fates d f) = subst (λ m. result m ≡ came_of (end_of edition fates d f)) (let z : k + 0 ≡ k = omega arith in z) first.0 in
+    let verdict : row.1 ≡ told_of f = told_here edition fates d f h.0 (result k) here first.1 row.1 told.1 in
+    let rest = told_report edition fates result (suc k) ds fs rows h.1
+    (λ j lt. (let it = same (suc j) (omega arith) in (subst (λ m. result m ≡ came_of (end_at (ends_by edition fates ds fs) j)) (let z : k + suc j ≡ suc k + j = omega arith in z) it.0, it.1))) told.2 in
+    ap (λ z. z ∷ rows) (one_row row d.path (told_of f) told.0 verdict) ∙ ap (λ zs. (d.path, told_of f) ∷ zs) rest
 
-faulty_or_sound : (d : Directory) (parsed : List Parsed) (fault : Fault) → d.planned ≡ Faulty fault → d.planned ≡ Sound parsed → ⊥
-faulty_or_sound d parsed fault g h = let e : Faulty fault ≡ Sound parsed = sym g ∙ h in cc
+-- ---- ranks
 
--- ---- fates
+pub ends_length : (edition : ℕ) (fates : List Fate) (ds : List Directory) (fs : List Fate) → AllZip (IsFate fates) ds fs → length (ends_by edition fates ds fs) ≡ length ds
+ends_length edition fates [] [] h = refl
+ends_length edition fates [] (f ∷ fs) h = absurd h
+ends_length edition fates (d ∷ ds) [] h = absurd h
+ends_length edition fates (d ∷ ds) (f ∷ fs) h = ap suc (ends_length edition fates ds fs h.1)
 
-module _ (edition : ℕ) (sources : Sources) (all : List Directory) (planned : AllPlanned sources all) (whole : List End) where
-  abbrev Within : List Directory → Type 0
-  Within ds = (d : Directory) → Contains ds d → Contains all d
+sound_by : (edition : ℕ) (d : Directory) (p : Planned) (w : Work) → d.planned ≡ p → work_of edition d.path p ≡ Some w → (files : List Parsed) × (d.planned ≡ Sound files)
+sound_by edition d NoFiles w same f = cc (f)
+sound_by edition d (Faulty fault) w same f = cc (f)
+sound_by edition d (Sound files) w same f = (files, same)
 
-  within_tail : (d : Directory) (ds : List Directory) → Within (d ∷ ds) → Within ds
-  within_tail d ds within x c = within x (later d ds x c)
+-- the job of a number that has work is a sound directory's
+job_at : (edition : ℕ) (ds : List Directory) (k : ℕ) (w : Work) → work_at (map job_of (map (reached_by edition) ds)) k ≡ Some w
+    → (d : Directory) × (slice_get ds k ≡ Some d) × ((files : List Parsed) × (d.planned ≡ Sound files)) × (imports_at (map job_of (map (reached_by edition) ds)) k ≡ d.imports)
+job_at edition [] k w e = cc
+job_at edition (d ∷ ds) zero w e = (d, refl, sound_by edition d d.planned w refl e, refl)
+job_at edition (d ∷ ds) (suc k) w e = job_at edition ds k w e
 
-  -- a job's end is good exactly if the directory's fate is
-  same_good_by : (d : Directory) (p : Planned) → d.planned ≡ p → IsPlannedAs sources d.path p → (a : Option Action) → IsActionOf edition all d a → (e : End) → IsEnd whole (record { action = a; imports = d.imports }) e → is_good_at (fate_by p e ∷ []) 0 ≡ is_good e
-  same_good_by d NoFiles is h a its e end = absurd h
-  same_good_by d (Faulty fault) is h a its ends.Blocked end = refl
-  same_good_by d (Faulty fault) is h a its (ends.Came b r) end =
-      let action : IsActionOf edition all d (Some b) = subst (IsActionOf edition all d) end.0 its in
-      absurd (faulty_or_sound d action.0 fault is action.1)
-  same_good_by d (Sound parsed) is h a its ends.Blocked end = refl
-  same_good_by d (Sound parsed) is h a its (ends.Came b (Good object)) end = refl
-  same_good_by d (Sound parsed) is h a its (ends.Came b (compiled.Faulty fault)) end = refl
-
-  pub same_good : (ds : List Directory) (actions : List (Option Action)) (es : List End) → Within ds → AreActionsOf edition all ds actions → AllZip (IsEnd whole) (jobs_of ds actions) es → (k : ℕ) → is_good_at (fates_by ds es) k ≡ is_good (end_at es k)
-  same_good [] [] [] within are h k = refl
-  same_good [] [] (e ∷ es) within are h k = absurd h
-  same_good [] (a ∷ actions) es within are h k = absurd are
-  same_good (d ∷ ds) [] es within are h k = absurd are
-  same_good (d ∷ ds) (a ∷ actions) [] within are h k = absurd h
-  same_good (d ∷ ds) (a ∷ actions) (e ∷ es) within are h zero = same_good_by d d.planned refl (planned d (within d (at_head ds d d refl))) a are.0 e h.0
-  same_good (d ∷ ds) (a ∷ actions) (e ∷ es) within are h (suc k) = same_good ds actions es (within_tail d ds within) are.1 h.1 k
-
-  -- what is good is sound
-  good_sound_by : (p : Planned) (e : End) → is_good_at (fate_by p e ∷ []) 0 ≡ true → is_sound p ≡ true
-  good_sound_by NoFiles e h = cc
-  good_sound_by (Faulty fault) e h = cc
-  good_sound_by (Sound parsed) e h = refl
-
-  good_sound : (ds : List Directory) (es : List End) (k : ℕ) → is_good_at (fates_by ds es) k ≡ true → is_sound_at ds k ≡ true
-  good_sound [] es k h = cc
-  good_sound (d ∷ ds) [] k h = cc
-  good_sound (d ∷ ds) (e ∷ es) zero h = good_sound_by d.planned e h
-  good_sound (d ∷ ds) (e ∷ es) (suc k) h = good_sound ds es k h
-
-  not_true : (b : Bool) → (b ≡ true → ⊥) → b ≡ false
-  not_true true h = absurd (h refl)
-  not_true false h = refl
-
-  module _ (fates : List Fate) (good : (k : ℕ) → is_good_at fates k ≡ is_good (end_at whole k)) (sound : (k : ℕ) → is_good_at fates k ≡ true → is_sound_at all k ≡ true) where
-    all_good : (ks : List ℕ) → list_all (is_good_at fates) ks ≡ are_good whole ks
-    all_good ks = all_on (is_good_at fates) (λ k. is_good (end_at whole k)) ks (λ k c. good k)
-
-    -- a directory that is sound, but imports one that isn't, has no good imports
-    bad : (d : Directory) (parsed : List Parsed) → d.planned ≡ Sound parsed → (a : Option Action) → IsActionOf edition all d a → (is_some a && are_good whole d.imports) ≡ false → list_all (is_good_at fates) d.imports ≡ false
-    bad d parsed is (Some a) its h = all_good d.imports ∙ h
-    bad d parsed is None its h = not_true (list_all (is_good_at fates) d.imports) (λ g.
-        let each : list_all (is_sound_at all) d.imports ≡ true = each_all (is_sound_at all) d.imports (λ k c. sound k (all_each (is_good_at fates) d.imports g k c)) in
-        let e : false ≡ true = sym its ∙ ap (λ p. is_sound p && list_all (is_sound_at all) d.imports) is ∙ each in
-        cc)
-
-    is_fate : (d : Directory) (p : Planned) → d.planned ≡ p → IsPlannedAs sources d.path p → (a : Option Action) → IsActionOf edition all d a → (e : End) → IsEnd whole (record { action = a; imports = d.imports }) e → IsFate fates d a (fate_by p e)
-    is_fate d NoFiles is h a its e end = absurd h
-    is_fate d (Faulty fault) is h a its e end = is
-    is_fate d (Sound parsed) is h a its ends.Blocked end = (parsed, is, bad d parsed is a its end)
-    is_fate d (Sound parsed) is h a its (ends.Came b r) end = (end.0, all_good d.imports ∙ end.1, comes_to b r end.2)
-
-    pub are_fates_of : (ds : List Directory) (actions : List (Option Action)) (es : List End) → Within ds → AreActionsOf edition all ds actions → AllZip (IsEnd whole) (jobs_of ds actions) es → AreFatesOf fates ds actions (fates_by ds es)
-    are_fates_of [] [] [] within are h = tt
-    are_fates_of [] [] (e ∷ es) within are h = absurd h
-    are_fates_of [] (a ∷ actions) es within are h = absurd are
-    are_fates_of (d ∷ ds) [] es within are h = absurd are
-    are_fates_of (d ∷ ds) (a ∷ actions) [] within are h = absurd h
-    are_fates_of (d ∷ ds) (a ∷ actions) (e ∷ es) within are h =
-        (is_fate d d.planned refl (planned d (within d (at_head ds d d refl))) a are.0 e h.0, are_fates_of ds actions es (within_tail d ds within) are.1 h.1)
-
-  pub are_fates : (actions : List (Option Action)) → AreActionsOf edition all all actions → AreEnds (jobs_of all actions) whole → AreFatesOf (fates_by all whole) all actions (fates_by all whole)
-  are_fates actions are h =
-      are_fates_of (fates_by all whole) (same_good all actions whole (λ d c. c) are h) (good_sound all whole) all actions whole (λ d c. c) are h
-
-  -- what came is what was compiled
-  came_by : (d : Directory) (p : Planned) → d.planned ≡ p → IsPlannedAs sources d.path p → (a : Option Action) → IsActionOf edition all d a → (e : End) → IsEnd whole (record { action = a; imports = d.imports }) e → (fates : List Fate) (es : List End) → compiled_actions fates ≡ came es → compiled_actions (fate_by p e ∷ fates) ≡ came (e ∷ es)
-  came_by d NoFiles is h a its e end fates es same = absurd h
-  came_by d (Faulty fault) is h a its ends.Blocked end fates es same = same
-  came_by d (Faulty fault) is h a its (ends.Came b r) end fates es same =
-      let action : IsActionOf edition all d (Some b) = subst (IsActionOf edition all d) end.0 its in
-      absurd (faulty_or_sound d action.0 fault is action.1)
-  came_by d (Sound parsed) is h a its ends.Blocked end fates es same = same
-  came_by d (Sound parsed) is h a its (ends.Came b r) end fates es same = ap (λ z. b ∷ z) same
-
-  pub came_compiled : (ds : List Directory) (actions : List (Option Action)) (es : List End) → Within ds → AreActionsOf edition all ds actions → AllZip (IsEnd whole) (jobs_of ds actions) es → compiled_actions (fates_by ds es) ≡ came es
-  came_compiled [] [] [] within are h = refl
-  came_compiled [] [] (e ∷ es) within are h = absurd h
-  came_compiled [] (a ∷ actions) es within are h = absurd are
-  came_compiled (d ∷ ds) [] es within are h = absurd are
-  came_compiled (d ∷ ds) (a ∷ actions) [] within are h = absurd h
-  came_compiled (d ∷ ds) (a ∷ actions) (e ∷ es) within are h =
-      came_by d d.planned refl (planned d (within d (at_head ds d d refl))) a are.0 e h.0 (fates_by ds es) es (came_compiled ds actions es (within_tail d ds within) are.1 h.1)
-
-  -- ---- the report
-
-  told_came : (b : Action) (f : Option Fault) → verdict_of f ≡ told_of (Came b f)
-  told_came b None = refl
-  told_came b (Some fault) = refl
-
-  told_by : (d : Directory) (p : Planned) → IsPlannedAs sources d.path p → (a : Option Action) (e : End) → IsEnd whole (record { action = a; imports = d.imports }) e → (result : Option Action) → result ≡ came_of e → (verdict : Verdict) → IsTold (fault_of p) result verdict → verdict ≡ told_of (fate_by p e)
-  told_by d NoFiles h a e end result same verdict told = absurd h
-  told_by d (Faulty fault) h a e end result same verdict told = told
-  told_by d (Sound parsed) h a ends.Blocked end result same verdict told = subst (λ r. IsToldOf r verdict) same told
-  told_by d (Sound parsed) h a (ends.Came b r) end result same verdict told =
-      let of : IsToldOf (Some b) verdict = subst (λ r. IsToldOf r verdict) same told in
-      of.2 ∙ ap (λ z. verdict_of (fault_in z)) (one_outcome b of.0 r of.1 end.2) ∙ told_came b (fault_in r)
-
-  one_row : (r : List ℕ × Verdict) (path : List ℕ) (verdict : Verdict) → r.0 ≡ path → r.1 ≡ verdict → ◌≡◌ {A = List ℕ × Verdict} r (path, verdict)
-  one_row r path verdict g h = ap (λ p. let z : List ℕ × Verdict = (p, r.1) in z) g ∙ ap (λ v. let z : List ℕ × Verdict = (path, v) in z) h
-
-  pub told_report : (result : ℕ → Option Action) (k : ℕ) (ds : List Directory) (actions : List (Option Action)) (es : List End) (rows : List (List ℕ × Verdict)) → Within ds → AreActionsOf edition all ds actions → AllZip (IsEnd whole) (jobs_of ds actions) es → ((j : ℕ) → j < length es → result (k + j) ≡ came_of (end_at es j)) → AreTold result k (map place_in ds) rows → rows ≡ report_of ds (fates_by ds es)
-  told_report result k [] [] [] [] within are h same told = refl
-  told_report result k [] [] [] (row ∷ rows) within are h same told = absurd told
-  told_report result k [] [] (e ∷ es) rows within are h same told = absurd h
-  told_report result k [] (a ∷ actions) es rows within are h same told = absurd are
-  told_report result k (d ∷ ds) [] es rows within are h same told = absurd are
-  told_report result k (d ∷ ds) (a ∷ actions) [] rows within are h same told = absurd h
-  told_report result k (d ∷ ds) (a ∷ actions) (e ∷ es) [] within are h same told = absurd told
-  told_report result k (d ∷ ds) (a ∷ actions) (e ∷ es) (row ∷ rows) within are h same told =
-      let here : result k ≡ came_of e = subst (λ m. result m ≡ came_of e) (let z : k + 0 ≡ k = omega arith in z) (same 0 (omega arith)) in
-      let verdict : row.1 ≡ told_of (fate_by d.planned e) = told_by d d.planned (planned d (within d (at_head ds d d refl))) a e h.0 (result k) here row.1 told.1 in
-      let rest = told_report result (suc k) ds actions es rows (within_tail d ds within) are.1 h.1
-      (λ j lt. subst (λ m. result m ≡ came_of (end_at es j)) (let z : k + suc j ≡ suc k + j = omega arith in z) (same (suc j) (omega arith))) told.2 in
-      ap (λ z. z ∷ rows) (one_row row d.path (told_of (fate_by d.planned e)) told.0 verdict) ∙ ap (λ zs. (d.path, told_of (fate_by d.planned e)) ∷ zs) rest
-
--- ---- ranks and actions
-
--- the job of a number is its directory's
-job_at : (edition : ℕ) (all ds : List Directory) (actions : List (Option Action)) → AreActionsOf edition all ds actions → (k : ℕ) (a : Action) → action_at (jobs_of ds actions) k ≡ Some a → (d : Directory) × (slice_get ds k ≡ Some d) × IsActionOf edition all d (Some a) × (imports_at (jobs_of ds actions) k ≡ d.imports)
-job_at edition all [] actions are k a e = cc
-job_at edition all (d ∷ ds) [] are k a e = cc
-job_at edition all (d ∷ ds) (b ∷ actions) are zero a e = (d, refl, subst (IsActionOf edition all d) e are.0, refl)
-job_at edition all (d ∷ ds) (b ∷ actions) are (suc k) a e = job_at edition all ds actions are.1 k a e
-
-pub jobs_ranked : (edition : ℕ) (ds : List Directory) (actions : List (Option Action)) → AreActionsOf edition ds ds actions → (rank : ℕ → ℕ) → AreRanks ds rank → IsRanked rank (jobs_of ds actions)
-jobs_ranked edition ds actions are rank lower j k a b has among also =
-    let at = job_at edition ds ds actions are j a has in
+pub jobs_ranked : (edition : ℕ) (ds : List Directory) (rank : ℕ → ℕ) → AreRanks ds rank → IsRanked rank (map job_of (map (reached_by edition) ds))
+jobs_ranked edition ds rank lower j k v w has among also =
+    let at = job_at edition ds j v has in
     lower j k at.0 at.2.0 at.1 at.2.1 (subst (λ ks. Contains ks k) at.3 among)
-
-pub jobs_actions : (edition : ℕ) (all ds : List Directory) (actions : List (Option Action)) → AreActionsOf edition all ds actions → actions_of (jobs_of ds actions) ≡ somes actions
-jobs_actions edition all [] [] are = refl
-jobs_actions edition all [] (a ∷ actions) are = absurd are
-jobs_actions edition all (d ∷ ds) [] are = absurd are
-jobs_actions edition all (d ∷ ds) (None ∷ actions) are = jobs_actions edition all ds actions are.1
-jobs_actions edition all (d ∷ ds) (Some a ∷ actions) are = ap (λ z. a ∷ z) (jobs_actions edition all ds actions are.1)

@@ -1,75 +1,127 @@
--- What a cache has for the directories of a plan, and their ids, where no two texts clash.
-use Rattle.std.proofs.Common.{◌≡◌, ℕ, Bool, true, false, List, [], ◌∷◌, ◌++◌, map, zip, Option, Some, None, refl, sym, ap, subst, ◌∙◌, inl, inr}
-use Rattle.std.specs.Prelude.{◌↔◌}
-use Rattle.std.specs.List.{slice_get, All, AllZip, Contains}
-use Rattle.std.specs.FinMap.{FinMap, get}
-use Rattle.go_export.specs.Summaries.{Summary}
+-- The rows of a board that nobody works at are the ids of its directories.
+use Rattle.std.proofs.Common.{◌≡◌, ℕ, zero, suc, ◌+◌, ◌<◌, Bool, true, List, [], ◌∷◌, ◌++◌, length, map, Option, None, Some, refl, sym, ap, subst, ◌∙◌, arith}
+use Rattle.std.specs.List.{All, AllZip, Contains, slice_get, zip}
+use Rattle.std.specs.FinMap.{FinMap}
+use Rattle.std.proofs.lemmas.List.Elements.{All-nil, All-cons, All-head, All-tail}
 use Rattle.ws_version.specs.Writes.{Write}
+use Rattle.ws_register.specs.Sources.{HasFiles}
 use Rattle.ws_action.specs.Actions.{Action, action_id}
 use Rattle.ws_action.specs.Clash.{NoClash, AllSized, hashed_actions}
 use Rattle.ws_action.proofs.Members.{at_head, later}
-use Rattle.ws_board.specs.Ends.{somes}
-use Rattle.ws_board.specs.Machine.{IsGoodness}
-use Rattle.ws_cache.specs.Compiles.{Good, Faulty}
-use Rattle.ws_cache.specs.Held.{id_cmp, IsHeld, CacheStandsFor}
-use Rattle.ws_cache.proofs.Joined.{cache_stands}
-use Rattle.ws_cache.proofs.Outcomes.{fault_or_typed}
+use Rattle.ws_board.specs.declared.work.Status.{Status}
+use Rattle.ws_board.specs.declared.work.Status.TheVariants.{Waiting, Ready, Running, Blocked as Stays, Done}
+use Rattle.ws_board.specs.Machine.{status_at, action_at}
+use Rattle.ws_board.specs.Work.{Seen, State}
+use Rattle.ws_board.specs.Ends.{End, came_of, AllGood, IsShown}
+use Rattle.ws_cache.specs.Held.{id_cmp, CacheStandsFor}
 use Rattle.ws_graph.specs.BuildPlan.{Directory, IsBuildPlanOf}
 use Rattle.ws_report.specs.declared.Standing.{Standing}
-use Rattle.ws_replica.specs.ActionPlans.{AreActionsOf}
-use Rattle.ws_replica.specs.Candidates.{Candidate, IsFoundBy, IsFound, IsCandidate, narrowed, row_by}
-use Rattle.ws_replica.specs.Holdings.{Replica, ReplicaStandsFor}
-use Rattle.ws_replica.specs.Ids.{AreIdRows, AreIds}
-use Rattle.ws_replica.specs.Jobs.{Reached, AreSummed, action_by, reached_by}
-use Rattle.ws_replica.specs.Reports.{ComesTo}
-use Rattle.ws_replica.proofs.BuiltPlans.{IsActionSized, actions_same, all_sized, append_sized, plan_by, planned_by, acts_are}
-use Rattle.ws_replica.proofs.HeldImages.{mapped_at, found_is}
-use Rattle.ws_replica.proofs.IdRows.{IsOwnOf, IsOwn, IsOwnRow, rows_right}
-use Rattle.ws_replica.proofs.Numbered.{member_at}
+use Rattle.ws_report.specs.declared.Standing.TheVariants.{NoId, Absent, Held}
+use Rattle.ws_replica.specs.Ids.{standing_at, IsHeldGood, IsStanding, IsIdRow, AreIdRows}
+use Rattle.ws_replica.specs.Jobs.{Place, reached_by}
+use Rattle.ws_replica.specs.Opened.{IsOpened, standing_by, standing_in, rows_from}
+use Rattle.ws_replica.specs.Reports.{Fate, IsFate, AreFates, TargetBuild, actions_of, action_in}
+use Rattle.ws_replica.proofs.EndFates.{end_of, came_here, place_in}
+use Rattle.ws_replica.proofs.Numbered.{at_member}
+use Rattle.ws_replica.proofs.OpenedBoards.{shown, is_done, done_good}
+use Rattle.ws_replica.proofs.TargetPieces.{plan_inside}
 
-good_is : (a : Action) (good : Bool) → IsGoodness a good → ((good ≡ true) ↔ ComesTo a None)
-good_is a good (Good object, compiles, is) = (λ e. (compiles.0, compiles.1), λ c. is)
-good_is a good (Faulty fault, compiles, is) = (λ e. (let f : true ≡ false = sym e ∙ is in cc), λ c. absurd (fault_or_typed a fault c.0 compiles c.1))
+-- ---- how an action stands
 
-module _ (edition : ℕ) (W : List Write) (E : List Action) (target : List ℕ) (ds : List Directory) (summaries : List (Option Summary)) (of : IsBuildPlanOf W target ds) (are : AreActionsOf edition ds ds (map (action_by edition summaries) ds)) (cache : FinMap id_cmp Action) (stands : CacheStandsFor cache E) (sized : AllSized (E ++ somes (map (action_by edition summaries) ds))) (clear : NoClash (hashed_actions (E ++ somes (map (action_by edition summaries) ds)))) where
-  none_held : (id : List ℕ) (found : Option Action) → IsHeld E id found → found ≡ None → (a : Action) → Contains E a → action_id a ≡ id → ⊥
-  none_held id None h e = h
-  none_held id (Some b) h e = cc
+none_stands : (E : List Action) (Imports : Type 0) (a : Option Action) → (Imports → ⊥) → IsStanding E Imports a NoId
+none_stands E Imports None bad = refl
+none_stands E Imports (Some a) bad = bad
 
-  own_of : (k : ℕ) (a : Action) → slice_get (map (action_by edition summaries) ds) k ≡ Some (Some a) → (s : Standing) (g : Bool) (found : Option Action) → get cache (action_id a) ≡ found → IsFoundBy a found s g → IsOwnOf E a s g
-  own_of k a at s g None e h =
-      inl (λ c. none_held (action_id a) (get cache (action_id a)) (cache_stands cache E stands (action_id a)) e a c refl, h.0, h.1)
-  own_of k a at s g (Some held) e h =
-      let is = found_is edition W E target ds summaries of are cache stands sized clear k a at held e in
-      inr (is.1, h.0, subst (λ (x : Action). (g ≡ true) ↔ ComesTo x None) is.0 (good_is held g h.1))
+right_by : (E : List Action) (Imports : Type 0) (statuses : List Status) (ks : List ℕ) (end : End) (its : Option Action) → came_of end ≡ its → (AllGood statuses ks → Imports) → (Imports → AllGood statuses ks)
+    → (s : Status) (a : Option Action) → IsShown E statuses ks end s a → IsStanding E Imports its (standing_by s a)
+right_by E Imports statuses ks end its same to from Waiting a h = none_stands E Imports its (λ i. h.1 (from i))
+right_by E Imports statuses ks end its same to from Stays a h =
+    subst (λ o. IsStanding E Imports o NoId) (sym (ap came_of h.1) ∙ same) refl
+right_by E Imports statuses ks end its same to from (Running hand) a h = absurd h
+right_by E Imports statuses ks end its same to from Ready a h =
+    let w = h.1 in
+    subst (λ o. IsStanding E Imports its (standing_by Ready o)) (sym w.2)
+    (subst (λ o. IsStanding E Imports o (Absent (action_id w.0))) (sym (ap came_of w.3) ∙ same) (to h.0, w.4, refl))
+right_by E Imports statuses ks end its same to from (Done good) a h =
+    let w = h.1 in
+    subst (λ o. IsStanding E Imports its (standing_by (Done good) o)) (sym w.2)
+    (subst (λ o. IsStanding E Imports o (Held (action_id w.0))) (sym (ap came_of w.3) ∙ same) (to h.0, w.4, refl))
 
-  own_by : (k : ℕ) (o : Option Action) → slice_get (map (action_by edition summaries) ds) k ≡ Some o → (s : Standing) (g : Bool) → IsFound cache o s g → IsOwn E o s g
-  own_by k None at s g h = h
-  own_by k (Some a) at s g h = own_of k a at s g (get cache (action_id a)) refl h
+-- what stands as held is done
+held_done : (s : Status) (a : Option Action) (id : List ℕ) → standing_by s a ≡ Held id → (good : Bool) × (s ≡ Done good)
+held_done Waiting a id e = cc (e)
+held_done Stays a id e = cc (e)
+held_done (Running hand) a id e = cc (e)
+held_done Ready None id e = cc (e)
+held_done Ready (Some a) id e = cc (e)
+held_done (Done good) None id e = cc (e)
+held_done (Done good) (Some a) id e = (good, refl)
 
-  owns : (xs : List Directory) (cs : List Candidate) → ((d : Directory) → Contains xs d → Contains ds d) → AllZip (IsCandidate cache) (map (reached_by edition summaries) xs) cs → AllZip (IsOwnRow E) (zip xs (map (action_by edition summaries) xs)) cs
-  owns [] [] in_ h = tt
-  owns [] (c ∷ cs) in_ h = absurd h
-  owns (x ∷ xs) [] in_ h = absurd h
-  owns (x ∷ xs) (c ∷ cs) in_ h =
-      let at = member_at ds x (in_ x (at_head xs x x refl)) in (
-        record {
-          path = h.0.path;
-          imports = h.0.imports;
-          own = own_by at.0 (action_by edition summaries x) (mapped_at (action_by edition summaries) ds at.0 x at.1) c.standing c.good h.0.found;
-        },
-        owns xs cs (λ d c. in_ d (later x xs d c)) h.1,
+-- the row of a number
+row_at : (state : State) (n : ℕ) (places : List Place) (k : ℕ) → k < length places → standing_at (rows_from state n places) k ≡ standing_in state (n + k)
+row_at state n [] k lt = absurd (omega (arith, lt))
+row_at state n (p ∷ places) zero lt = ap (standing_in state) (let z : n ≡ n + 0 = omega arith in z)
+row_at state n (p ∷ places) (suc k) lt = row_at state (suc n) places k (omega (arith, lt)) ∙ ap (standing_in state) (let z : suc n + k ≡ n + suc k = omega arith in z)
+
+module _ (edition : ℕ) (W : List Write) (paths : HasFiles W) (target : List ℕ) (build : TargetBuild) (of : IsBuildPlanOf W target build.directories) (are : AreFates build.directories build.fates) (E : List Action) (sized : AllSized E)
+    (clear : NoClash (hashed_actions (E ++ actions_of edition build))) (cache : FinMap id_cmp Action) (stands : CacheStandsFor cache E) (seen : Seen) (opened : IsOpened (map (reached_by edition) build.directories) cache seen) where
+  abbrev ds : List Directory
+  ds = build.directories
+
+  abbrev rows : List (List ℕ × Standing)
+  rows = rows_from seen.state 0 (map place_in ds)
+
+  places_length : (xs : List Directory) → length (map place_in xs) ≡ length xs
+  places_length [] = refl
+  places_length (x ∷ xs) = ap suc (places_length xs)
+
+  row_is : (k : ℕ) → k < length ds → standing_at rows k ≡ standing_in seen.state k
+  row_is k lt = row_at seen.state 0 (map place_in ds) k (let l = places_length ds in omega (arith, l, lt)) ∙ ap (standing_in seen.state) (let z : 0 + k ≡ k = omega arith in z)
+
+  held_good : (k : ℕ) → k < length ds → status_at seen.state.standings.statuses (0 + k) ≡ Done true → IsHeldGood build rows k
+  held_good k lt e =
+      let done = is_done edition W paths target build of are E sized clear cache stands seen opened k (subst (λ j. status_at seen.state.standings.statuses j ≡ Done true) (let z : 0 + k ≡ k = omega arith in z) e) in (
+        done.typed,
+        action_id done.its,
+        done.good,
+        row_is k lt ∙ ap (λ s. standing_by s (action_at seen.state.standings.actions k)) done.status ∙ ap (standing_by (Done true)) done.has,
       )
 
-pub are_ids : (edition : ℕ) (W : List Write) (E : List Action) (target : List ℕ) (ds : List Directory) (summaries : List (Option Summary)) (reached : List Reached) (old : Replica) (cs : List Candidate) (marks : List Bool) (rows : List (List ℕ × Standing)) → IsBuildPlanOf W target ds → AreSummed ds summaries → reached ≡ map (reached_by edition summaries) ds → All IsActionSized reached → ReplicaStandsFor old W E → AllSized E → AllZip (IsCandidate old.cache) reached cs → marks ≡ narrowed cs marks → rows ≡ map (row_by marks) cs → AreIds edition W E target rows
-are_ids edition W E target ds summaries reached old cs marks rows of summed same fit stands sized candidates stays are =
-    let its : AllSized (somes (map (action_by edition summaries) ds)) = subst (λ as_. AllSized (somes as_)) (ap (map (λ (r : Reached). r.action)) same ∙ actions_same edition summaries ds) (all_sized reached fit) in
-    let plan = plan_by edition W E target ds summaries of summed in
-    record {
-      plan = plan;
-      planned = planned_by edition W E target ds summaries of summed;
-      right = λ clear.
-          let own = owns edition W E target ds summaries of (acts_are edition W E target ds summaries of summed) old.cache stands.cache
-          (append_sized E (somes (map (action_by edition summaries) ds)) sized its) clear ds cs (λ d c. c) (subst (λ rs. AllZip (IsCandidate old.cache) rs cs) same candidates) in
-          subst (AreIdRows E plan) (sym are) (rows_right E plan cs marks own stays);
-    }
+  good_held : (k : ℕ) → k < length ds → IsHeldGood build rows k → status_at seen.state.standings.statuses (0 + k) ≡ Done true
+  good_held k lt (typed, id, good, held) =
+      let done = held_done (status_at seen.state.standings.statuses k) (action_at seen.state.standings.actions k) id (sym (row_is k lt) ∙ held) in
+      subst (λ j. status_at seen.state.standings.statuses j ≡ Done true) (let z : k ≡ 0 + k = omega arith in z)
+      (done_good edition W paths target build of are E sized clear cache stands seen opened k typed done.0 good done.1)
+
+  all_held : (ks : List ℕ) → ((k : ℕ) → Contains ks k → k < length ds) → AllGood seen.state.standings.statuses (map (λ j. 0 + j) ks) → All (IsHeldGood build rows) ks
+  all_held [] inside h = All-nil (IsHeldGood build rows)
+  all_held (k ∷ ks) inside h = All-cons (IsHeldGood build rows) k ks
+      (held_good k (inside k (at_head ks k k refl)) (All-head (λ j. status_at seen.state.standings.statuses j ≡ Done true) (0 + k) (map (λ j. 0 + j) ks) h))
+      (all_held ks (λ j c. inside j (later k ks j c)) (All-tail (λ j. status_at seen.state.standings.statuses j ≡ Done true) (0 + k) (map (λ j. 0 + j) ks) h))
+
+  all_good : (ks : List ℕ) → ((k : ℕ) → Contains ks k → k < length ds) → All (IsHeldGood build rows) ks → AllGood seen.state.standings.statuses (map (λ j. 0 + j) ks)
+  all_good [] inside h = All-nil (λ j. status_at seen.state.standings.statuses j ≡ Done true)
+  all_good (k ∷ ks) inside h = All-cons (λ j. status_at seen.state.standings.statuses j ≡ Done true) (0 + k) (map (λ j. 0 + j) ks)
+      (good_held k (inside k (at_head ks k k refl)) (All-head (IsHeldGood build rows) k ks h))
+      (all_good ks (λ j c. inside j (later k ks j c)) (All-tail (IsHeldGood build rows) k ks h))
+
+  row_right : (k : ℕ) (d : Directory) (f : Fate) → Contains ds d → slice_get ds k ≡ Some d → slice_get build.fates k ≡ Some f → IsStanding E (All (IsHeldGood build rows) d.imports) (action_in edition build.fates d f) (standing_in seen.state k)
+  row_right k d f among at its =
+      let inside = plan_inside W target ds of d among in
+      right_by E (All (IsHeldGood build rows) d.imports) seen.state.standings.statuses (map (λ j. 0 + j) d.imports) (end_of edition build.fates d f) (action_in edition build.fates d f) (came_here edition build.fates d f)
+      (all_held d.imports inside) (all_good d.imports inside) (status_at seen.state.standings.statuses k) (action_at seen.state.standings.actions k)
+      (shown edition W paths target build of are E sized clear cache stands seen opened k d f at its)
+
+  rows_right : (n : ℕ) (xs : List Directory) (fs : List Fate) → AllZip (IsFate build.fates) xs fs → ((j : ℕ) (d : Directory) (f : Fate) → slice_get xs j ≡ Some d → slice_get fs j ≡ Some f → IsStanding E (All (IsHeldGood build rows) d.imports) (action_in edition build.fates d f) (standing_in seen.state (n + j)))
+      → AllZip (IsIdRow edition E build rows) (zip xs fs) (rows_from seen.state n (map place_in xs))
+  rows_right n [] fs h each = tt
+  rows_right n (d ∷ xs) [] h each = absurd h
+  rows_right n (d ∷ xs) (f ∷ fs) h each = (
+    (refl, subst (λ j. IsStanding E (All (IsHeldGood build rows) d.imports) (action_in edition build.fates d f) (standing_in seen.state j)) (let z : n + 0 ≡ n = omega arith in z) (each 0 d f refl refl)),
+    rows_right (suc n) xs fs h.1 (λ j e g at its. subst (λ m. IsStanding E (All (IsHeldGood build rows) e.imports) (action_in edition build.fates e g) (standing_in seen.state m)) (let z : n + suc j ≡ suc n + j = omega arith in z) (each (suc j) e g at its)),
+  )
+
+  pub are_id_rows : AreIdRows edition E build rows
+  are_id_rows = rows_right 0 ds build.fates are (λ j d f at its.
+      subst (λ m. IsStanding E (All (IsHeldGood build rows) d.imports) (action_in edition build.fates d f) (standing_in seen.state m)) (let z : j ≡ 0 + j = omega arith in z)
+      (row_right j d f (at_member ds j d at) at its))

@@ -1,224 +1,372 @@
--- The image of what a cache holds, and what it is where no two texts clash.
-use Rattle.std.proofs.Common.{◌≡◌, ℕ, zero, suc, true, List, [], ◌∷◌, ◌++◌, map, Option, Some, None, refl, sym, ap, subst, ◌∙◌}
-use Rattle.std.specs.Prelude.{IfSome, option_map}
-use Rattle.std.specs.List.{slice_get, Contains}
+-- The objects of a board that nobody works at are those of the target's packages.
+use Rattle.std.proofs.Common.{◌≡◌, ℕ, zero, suc, ◌+◌, ◌<◌, Bool, true, false, List, [], ◌∷◌, ◌++◌, length, map, Option, None, Some, refl, sym, ap, subst, ◌∙◌, inl, inr, arith}
+use Rattle.std.specs.Option.{option_or}
+use Rattle.std.specs.List.{All, Contains, cons_option, filter_map, slice_get, zip}
 use Rattle.std.specs.FinMap.{FinMap, get}
-use Rattle.std.proofs.lemmas.List.Elements.{Contains-append_left, Contains-append_right}
+use Rattle.std.proofs.lemmas.List.{length-map}
+use Rattle.std.proofs.lemmas.List.Elements.{All-nil, All-cons, All-head, All-tail, Contains-append_left}
 use Rattle.std.proofs.lemmas.Grind.{flat_map-append}
-use Rattle.std.proofs.lemmas.Option.{slice_get-map}
-use Rattle.go_export.specs.Typed.{Typed}
-use Rattle.go_export.specs.WellTyped.{IsWellTyped}
-use Rattle.go_export.specs.Summaries.{Summary}
-use Rattle.go_check.specs.Meaning.{IsProgram}
+use Rattle.std.proofs.lemmas.Option.{slice_get_within}
+use Rattle.go_text.specs.Faults.{Fault}
 use Rattle.go_code.specs.Images.{Image}
 use Rattle.go_code.specs.Packages.{Object}
+use Rattle.go_typed.specs.Trees.{Package}
+use Rattle.go_gen.specs.Translation.{object_of}
+use Rattle.go_init.specs.Packages.{package_order}
+use Rattle.go_init.proofs.Orders.{below, ranked}
+use Rattle.go_link.specs.declared.link.LinkError.{LinkError}
+use Rattle.go_link.specs.Links.{in_order, link_refusal, linked}
+use Rattle.go_translation_laws.proofs.LinkedNames.{program_linked}
+use Rattle.go_translation_laws.proofs.Refusals.{linked_program}
 use Rattle.ws_version.specs.Writes.{Write}
+use Rattle.ws_register.specs.Sources.{HasFiles}
 use Rattle.ws_action.specs.Actions.{Action, action_id}
-use Rattle.ws_action.specs.Clash.{NoClash, AllSized, hashed, hashed_actions}
+use Rattle.ws_action.specs.Clash.{NoClash, AllSized, Includes, hashed, hashed_actions}
 use Rattle.ws_action.proofs.Members.{at_head, later}
 use Rattle.ws_action.proofs.OneAction.{one_action}
-use Rattle.ws_board.specs.Ends.{somes}
-use Rattle.ws_cache.specs.Compiles.{Good, Compiles, IsTypedOf}
-use Rattle.go_gen.specs.Translation.{object_of}
+use Rattle.ws_board.specs.declared.work.Status.{Status}
+use Rattle.ws_board.specs.declared.work.Status.TheVariants.{Waiting, Ready, Running, Blocked as Stays, Done}
+use Rattle.ws_board.specs.Machine.{Held, held, is_good_result, status_at, action_at}
+use Rattle.ws_board.specs.Calls.{result_of, result_at}
+use Rattle.ws_board.specs.Work.{Seen, Opening}
+use Rattle.ws_board.specs.Ends.{End, came_of, AllGood, IsShown}
+use Rattle.ws_board.specs.Ends as ends
+use Rattle.ws_cache.specs.Compiles.{Compiled, Compiles}
+use Rattle.ws_cache.specs.Compiles as compiled
 use Rattle.ws_cache.specs.Held.{id_cmp, IsHeld, CacheStandsFor}
 use Rattle.ws_cache.proofs.Joined.{cache_stands}
-use Rattle.ws_cache.proofs.Laws.{found_itself}
-use Rattle.ws_graph.specs.BuildPlan.{Directory, IsBuildPlanOf}
-use Rattle.ws_replica.specs.ActionPlans.{ActionPlan, is_sound_at, IsActionOf, AreActionsOf}
-use Rattle.ws_replica.specs.Reports.{Fate, Came, is_good_at, IsFate, AreFatesOf, AreFates}
-use Rattle.ws_replica.specs.Programs.{MeansProgram, AllHeld, IsTargetOf, IsHeldProgram, IsImageOf}
-use Rattle.ws_replica.specs.Jobs.{Reached, action_by, reached_by}
-use Rattle.ws_replica.specs.Images.{IsLinked, IsObjectHeld, IsAt, AreObjectsHeld, IsHeldImage, HasNoImage, lacks, absent, no_object, no_program, IsImageHeld}
-use Rattle.ws_cache.proofs.Outcomes.{one_typed_of}
-use Rattle.ws_replica.proofs.Compiling.{typed_well}
-use Rattle.ws_replica.proofs.Numbered.{some_same, at_member, member_at, all_each, each_all}
-use Rattle.ws_replica.proofs.OneBuild.{fate_at, sound_all}
-use Rattle.ws_replica.proofs.OneProgram.{one_target, target_at, came_at}
+use Rattle.ws_cache.proofs.Outcomes.{one_outcome}
+use Rattle.ws_graph.specs.BuildPlan.{Directory, IsBuildPlanOf, AreRanks}
+use Rattle.ws_graph.proofs.RankedPlan.{ranked_build_plan}
+use Rattle.ws_replica.specs.Jobs.{reached_by}
+use Rattle.ws_replica.specs.Opened.{IsOpened, IsObjectAt, LacksObjectAt, AreObjects, SomeLacks}
+use Rattle.ws_replica.specs.Programs.{IsGood, IsHeldProgram, IsImageOf}
+use Rattle.ws_replica.specs.Reports.{Fate, Stopped, Blocked, Wrong, Good, ArePackages, IsFate, AreFates, TargetBuild, actions_of, action_in}
+use Rattle.ws_replica.proofs.EndFates.{end_of, end_in, came_here, action_is}
+use Rattle.ws_replica.proofs.Numbered.{some_same, at_member}
+use Rattle.ws_replica.proofs.Numbered as numbered
+use Rattle.ws_replica.proofs.OneBuild.{fate_of, at_fate, agree_refl, one_packages}
+use Rattle.ws_replica.proofs.OpenedBoards.{shown}
+use Rattle.ws_replica.proofs.SeveralPlans.{zip_length}
+use Rattle.ws_replica.proofs.TargetPieces.{plan_inside}
+use Rattle.ws_replica.proofs.WellTyped.{well_typed}
 
--- an image that is held means a well-typed program
-pub held_means : (cache : FinMap id_cmp Action) (reached : List Reached) (target : List ℕ) (image : Image) → IsHeldImage cache reached target image → (typed : Typed) × IsWellTyped typed × IsProgram (typed ∷ []) × MeansProgram image typed
-held_means cache reached target image h = means h.one.action h.held
-  where
-    means : (a : Option Action) → IsObjectHeld cache a (Some h.object) → (typed : Typed) × IsWellTyped typed × IsProgram (typed ∷ []) × MeansProgram image typed
-    means None held = let e : Some h.object ≡ None = held in cc
-    means (Some a) (held, found, (typed, of, is)) = let meant = h.linked typed is in (typed, typed_well held typed of, meant.0, meant.1)
+-- ---- the object of an end is that of the fate's package
 
-pub some_means : (cache : FinMap id_cmp Action) (reached : List Reached) (target : List ℕ) (image : Option Image) → IsImageHeld cache reached target image → IfSome image (λ image. (typed : Typed) × IsWellTyped typed × IsProgram (typed ∷ []) × MeansProgram image typed)
-some_means cache reached target None h = tt
-some_means cache reached target (Some image) h = held_means cache reached target image h
+abbrev object_in : End → Option Object
+object_in ends.Blocked = None
+object_in (ends.Came a (compiled.Good s o)) = Some o
+object_in (ends.Came a (compiled.Faulty f)) = None
 
--- ---- members of a plan's lists
+object_here : (edition : ℕ) (fates : List Fate) (d : Directory) (f : Fate) → IsFate fates d f → (a : Action) (r : Compiled) (o : Object) → end_of edition fates d f ≡ ends.Came a r → object_in (ends.Came a r) ≡ Some o → (p : Package) × (f ≡ Good p) × (o ≡ object_of p)
+object_here edition fates d (Stopped fault) h a r o e is = cc (e)
+object_here edition fates d Blocked h a r o e is = cc (e)
+object_here edition fates d (Wrong fault) h a r o e is =
+    let its = ap (λ (x : Option Action). object_in (end_in x (Wrong fault))) (action_is edition fates d h.0 h.1 h.2) in
+    let none : None ≡ Some o = sym its ∙ ap object_in e ∙ is in cc (none)
+object_here edition fates d (Good p) h a r o e is =
+    let its = ap (λ (x : Option Action). object_in (end_in x (Good p))) (action_is edition fates d h.0 h.1 h.2) in
+    (p, refl, sym (some_same (object_of p) o (sym its ∙ ap object_in e ∙ is)))
 
-directory_of : (edition : ℕ) (summaries : List (Option Summary)) (one : Reached) (ds : List Directory) (k : ℕ) (o : Option Directory) → slice_get ds k ≡ o → option_map (reached_by edition summaries) o ≡ Some one → (d : Directory) × (slice_get ds k ≡ Some d) × (reached_by edition summaries d ≡ one)
-directory_of edition summaries one ds k None at e = cc
-directory_of edition summaries one ds k (Some d) at e = (d, at, some_same (reached_by edition summaries d) one e)
+-- ---- lists
 
--- what is reached is some directory's
-reached_at : (edition : ℕ) (summaries : List (Option Summary)) (ds : List Directory) (one : Reached) → Contains (map (reached_by edition summaries) ds) one → (k : ℕ) × (d : Directory) × (slice_get ds k ≡ Some d) × (reached_by edition summaries d ≡ one)
-reached_at edition summaries ds one c =
-    let at = member_at (map (reached_by edition summaries) ds) one c in
-    let d = directory_of edition summaries one ds at.0 (slice_get ds at.0) refl (sym (slice_get-map (reached_by edition summaries) ds at.0) ∙ at.1) in
-    (at.0, d.0, d.1, d.2)
+all_from : {X : Type 0} (P : X → Type 0) (xs : List X) → ((k : ℕ) (x : X) → slice_get xs k ≡ Some x → P x) → All P xs
+all_from P [] h = All-nil P
+all_from P (x ∷ xs) h = All-cons P x xs (h 0 x refl) (all_from P xs (λ k y at. h (suc k) y at))
 
-pub mapped_at : {A B : Type 0} (f : A → B) (xs : List A) (k : ℕ) (x : A) → slice_get xs k ≡ Some x → slice_get (map f xs) k ≡ Some (f x)
-mapped_at f xs k x at = slice_get-map f xs k ∙ ap (option_map f) at
+pub all_at : {X : Type 0} (P : X → Type 0) (xs : List X) → All P xs → (k : ℕ) (x : X) → slice_get xs k ≡ Some x → P x
+all_at P [] h k x at = cc (at)
+all_at P (y ∷ xs) h zero x at = subst P (some_same y x at) (All-head P y xs h)
+all_at P (y ∷ xs) h (suc k) x at = all_at P xs (All-tail P y xs h) k x at
 
-some_member : (xs : List (Option Action)) (k : ℕ) (a : Action) → slice_get xs k ≡ Some (Some a) → Contains (somes xs) a
-some_member [] k a e = cc
-some_member (None ∷ xs) zero a e = let f : None ≡ Some a = some_same None (Some a) e in cc
-some_member (None ∷ xs) (suc k) a e = some_member xs k a e
-some_member (Some x ∷ xs) zero a e = let f : Some x ≡ Some a = some_same (Some x) (Some a) e in at_head (somes xs) x a (some_same x a f)
-some_member (Some x ∷ xs) (suc k) a e = later x (somes xs) a (some_member xs k a e)
+pub there : {X : Type 0} (xs : List X) (k : ℕ) → k < length xs → (x : X) × (slice_get xs k ≡ Some x)
+there [] k lt = absurd (omega (arith, lt))
+there (x ∷ xs) zero lt = (x, refl)
+there (x ∷ xs) (suc k) lt = there xs k (omega (arith, lt))
 
-some_at_option : (xs : List (Option Action)) (k : ℕ) (o : Option Action) (a : Action) → slice_get xs k ≡ Some o → o ≡ Some a → slice_get xs k ≡ Some (Some a)
-some_at_option xs k o a at e = at ∙ ap Some e
+kept_cases : (P : Action → Type 0) (o : Option Action) (xs : List Action) → ((a : Action) → o ≡ Some a → P a) → All P xs → All P (cons_option o xs)
+kept_cases P None xs h rest = rest
+kept_cases P (Some a) xs h rest = All-cons P a xs (h a refl) rest
 
--- ---- where no two texts clash
+kept_all : {X : Type 0} (P : Action → Type 0) (g : X → Option Action) (xs : List X) → ((k : ℕ) (x : X) (a : Action) → slice_get xs k ≡ Some x → g x ≡ Some a → P a) → All P (filter_map g xs)
+kept_all P g [] h = All-nil P
+kept_all P g (x ∷ xs) h = kept_cases P (g x) (filter_map g xs) (λ a e. h 0 x a refl e) (kept_all P g xs (λ k y a at e. h (suc k) y a at e))
 
-module _ (edition : ℕ) (W : List Write) (E : List Action) (target : List ℕ) (ds : List Directory) (summaries : List (Option Summary)) where
+kept_head : (P : Action → Type 0) (o : Option Action) (xs : List Action) → All P (cons_option o xs) → ((a : Action) → o ≡ Some a → P a) × All P xs
+kept_head P None xs h = (λ a e. cc (e), h)
+kept_head P (Some b) xs h = (λ a e. subst P (some_same b a e) (All-head P b xs h), All-tail P b xs h)
+
+kept_at : {X : Type 0} (P : Action → Type 0) (g : X → Option Action) (xs : List X) → All P (filter_map g xs) → (k : ℕ) (x : X) (a : Action) → slice_get xs k ≡ Some x → g x ≡ Some a → P a
+kept_at P g [] h k x a at e = cc (at)
+kept_at P g (y ∷ xs) h zero x a at e = (kept_head P (g y) (filter_map g xs) h).0 a (ap g (some_same y x at) ∙ e)
+kept_at P g (y ∷ xs) h (suc k) x a at e = kept_at P g xs (kept_head P (g y) (filter_map g xs) h).1 k x a at e
+
+zip_at : {A B : Type 0} (xs : List A) (ys : List B) (k : ℕ) (x : A) (y : B) → slice_get xs k ≡ Some x → slice_get ys k ≡ Some y → slice_get {X = A × B} (zip xs ys) k ≡ Some (x, y)
+zip_at [] ys k x y g h = cc (g)
+zip_at (a ∷ xs) [] k x y g h = cc (h)
+zip_at (a ∷ xs) (b ∷ ys) zero x y g h = ap (λ z. Some (z, b)) (some_same a x g) ∙ ap (λ z. Some (x, z)) (some_same b y h)
+zip_at (a ∷ xs) (b ∷ ys) (suc k) x y g h = zip_at xs ys k x y g h
+
+of_zip : {A B : Type 0} (xs : List A) (ys : List B) (k : ℕ) (p : A × B) → slice_get {X = A × B} (zip xs ys) k ≡ Some p → (slice_get xs k ≡ Some p.0) × (slice_get ys k ≡ Some p.1)
+of_zip [] ys k p e = cc (e)
+of_zip {A} {B} (a ∷ xs) [] k p e = cc (e)
+of_zip {A} {B} (a ∷ xs) (b ∷ ys) zero p e = (let same = some_same {X = A × B} (a, b) p e in (ap (λ (z : A × B). Some z.0) same, ap (λ (z : A × B). Some z.1) same))
+of_zip (a ∷ xs) (b ∷ ys) (suc k) p e = of_zip xs ys k p e
+
+-- ---- what is held
+
+held_by : (E F : List Action) (clear : NoClash (hashed_actions (E ++ F))) (sized : AllSized E) (its entry : Action) (o rest : Option Action) → Contains E its → IsHeld E (action_id its) o → option_or o rest ≡ Some entry → entry ≡ its
+held_by E F clear sized its entry None rest c h e = absurd (h its c refl)
+held_by E F clear sized its entry (Some a) rest c h e =
+    let first : Includes (hashed_actions (E ++ F)) (hashed_actions E) = λ s d. subst (λ T. Contains T s) (sym (flat_map-append hashed E F)) (Contains-append_left (hashed_actions E) (hashed_actions F) s d) in
+    sym (some_same a entry e) ∙ one_action (hashed_actions (E ++ F)) E clear first sized a its h.among c h.known
+
+is_there : (E : List Action) (its : Action) (o rest : Option Action) → Contains E its → IsHeld E (action_id its) o → (entry : Action) × (option_or o rest ≡ Some entry)
+is_there E its None rest c h = absurd (h its c refl)
+is_there E its (Some a) rest c h = (a, refl)
+
+result_done : (at : Held) (s : Status) (good : Bool) (o : Option Action) (a : Action) → s ≡ Done good → o ≡ Some a → result_of at s o ≡ at (action_id a)
+result_done at s good o a e h = ap (λ z. result_of at z o) e ∙ ap (result_of at (Done good)) h
+
+-- ---- the target's program
+
+module _ (edition : ℕ) (W : List Write) (paths : HasFiles W) (target : List ℕ) (build : TargetBuild) (of : IsBuildPlanOf W target build.directories) (are : AreFates build.directories build.fates) (E : List Action) (sized : AllSized E)
+    (clear : NoClash (hashed_actions (E ++ actions_of edition build))) (cache : FinMap id_cmp Action) (stands : CacheStandsFor cache E) (seen : Seen) (opened : IsOpened (map (reached_by edition) build.directories) cache seen) where
+  abbrev ds : List Directory
+  ds = build.directories
+
+  abbrev fates : List Fate
+  fates = build.fates
+
+  abbrev statuses : List Status
+  statuses = seen.state.standings.statuses
+
   abbrev actions : List (Option Action)
-  actions = map (action_by edition summaries) ds
+  actions = seen.state.standings.actions
 
-  abbrev reached : List Reached
-  reached = map (reached_by edition summaries) ds
+  abbrev rows : List (List ℕ)
+  rows = map (λ (d : Directory). d.imports) ds
 
-  abbrev plan : ActionPlan
-  plan = record { directories = ds; actions = actions }
+  its_shown : (k : ℕ) (d : Directory) (f : Fate) → slice_get ds k ≡ Some d → slice_get fates k ≡ Some f → IsShown E statuses (map (λ j. 0 + j) d.imports) (end_of edition fates d f) (status_at statuses k) (action_at actions k)
+  its_shown = shown edition W paths target build of are E sized clear cache stands seen opened
 
-  module _ (of : IsBuildPlanOf W target ds) (are : AreActionsOf edition ds ds actions) (cache : FinMap id_cmp Action) (stands : CacheStandsFor cache E) (sized : AllSized (E ++ somes actions)) (clear : NoClash (hashed_actions (E ++ somes actions))) where
-    held_by : (id : List ℕ) (held : Option Action) → IsHeld E id held → (b : Action) → held ≡ Some b → Contains E b × (action_id b ≡ id)
-    held_by id None h b e = cc
-    held_by id (Some a) h b e = let same : a ≡ b = some_same a b e in (subst (λ (x : Action). Contains E x) same h.among, subst (λ (x : Action). action_id x ≡ id) same h.known)
+  cache_holds : (id : List ℕ) → IsHeld E id (get seen.opening.cache id)
+  cache_holds = cache_stands seen.opening.cache E (subst (λ (m : FinMap id_cmp Action). CacheStandsFor m E) (sym (ap (λ (o : Opening). o.cache) opened.opening)) stands)
 
-    -- what is found by the id of an action of the plan is that action
-    pub found_is : (k : ℕ) (a : Action) → slice_get actions k ≡ Some (Some a) → (held : Action) → get cache (action_id a) ≡ Some held → (held ≡ a) × Contains E a
-    found_is k a at held found =
-        let h = held_by (action_id a) (get cache (action_id a)) (cache_stands cache E stands (action_id a)) held found in
-        let same : held ≡ a = one_action (hashed_actions (E ++ somes actions)) (E ++ somes actions) clear (λ s c. c) sized held a
-        (Contains-append_left E (somes actions) held h.0) (Contains-append_right E (somes actions) a (some_member actions k a at)) h.1 in
-        (same, subst (λ (x : Action). Contains E x) same h.0)
+  -- how a job stands that is done
+  record Shows (k : ℕ) (d : Directory) (f : Fate) : Type 0 where
+    its : Action
+    result : Compiled
+    good : Bool
+    status : status_at statuses k ≡ Done good
+    has : action_at actions k ≡ Some its
+    end : end_of edition fates d f ≡ ends.Came its result
+    among : Contains E its
+    goodness : good ≡ is_good_result result
+    compiles : Compiles its result
 
-    found_held : (a : Action) → Contains E a → get cache (action_id a) ≡ Some a
-    found_held a c = found_itself (hashed_actions (E ++ somes actions)) E clear
-        (λ s c. subst (λ z. Contains z s) (sym (flat_map-append hashed E (somes actions))) (Contains-append_left (hashed_actions E) (hashed_actions (somes actions)) s c))
-        (λ a c. sized a (Contains-append_left E (somes actions) a c)) cache stands a c
+  -- the result of a job that has one
+  shows_by : (k : ℕ) (d : Directory) (f : Fate) (s : Status) (a : Option Action) → status_at statuses k ≡ s → action_at actions k ≡ a → IsShown E statuses (map (λ j. 0 + j) d.imports) (end_of edition fates d f) s a
+      → (entry : Action) → result_of (held seen.opening seen.state) s a ≡ Some entry → Shows k d f
+  shows_by k d f Waiting a same also h entry e = cc (e)
+  shows_by k d f Stays a same also h entry e = cc (e)
+  shows_by k d f (Running hand) a same also h entry e = absurd h
+  shows_by k d f Ready a same also h entry e = cc (e)
+  shows_by k d f (Done good) a same also h entry e =
+      let w = h.1 in
+      record { its = w.0; result = w.1; good = good; status = same; has = also ∙ w.2; end = w.3; among = w.4; goodness = w.5; compiles = w.6 }
 
-    -- a good object is held for each directory of a program that is held
-    lacks_by : (a : Option Action) (b : Action) → a ≡ Some b → Contains E b → (typed : Typed) → IsTypedOf b typed → IsObjectHeld cache a None → ⊥
-    lacks_by None b e c typed is none = cc
-    lacks_by (Some a) b e c typed is none =
-        let same : b ≡ a = some_same b a (sym e) in
-        none a (found_held a (subst (λ (x : Action). Contains E x) same c)) (object_of typed) (typed, subst (λ (x : Action). IsTypedOf x typed) same is, refl)
+  -- what is held of a job that is done is its action's
+  entry_is : (k : ℕ) (d : Directory) (f : Fate) (s : Shows k d f) (entry : Action) → result_at seen k ≡ Some entry → entry ≡ s.its
+  entry_is k d f s entry e =
+      let at : result_at seen k ≡ held seen.opening seen.state (action_id s.its) = result_done (held seen.opening seen.state) (status_at statuses k) s.good (action_at actions k) s.its s.status s.has in
+      held_by E (actions_of edition build) clear sized s.its entry (get seen.opening.cache (action_id s.its)) (get seen.state.added (action_id s.its)) s.among (cache_holds (action_id s.its)) (sym at ∙ e)
 
-    lacks_none : (one : Reached) → Contains reached one → IsObjectHeld cache one.action None → (typed : Typed) → IsHeldProgram E plan target typed → ⊥
-    lacks_none one c none typed h =
-        let at = reached_at edition summaries ds one c in
-        let fate = fate_at h.fates ds actions h.fates h.are at.0 at.1 at.2 in
-        let came = came_at E h.fates h.compiled at.0 fate.fate fate.at in
-        let is : IsFate h.fates at.1 fate.action (Came came.0 None) = subst (IsFate h.fates at.1 fate.action) came.1 fate.is in
-        let same : action_by edition summaries at.1 ≡ Some came.0 = some_same (action_by edition summaries at.1) fate.action (sym (mapped_at (action_by edition summaries) ds at.0 at.1 at.2) ∙ fate.has) ∙ is.0 in
-        lacks_by one.action came.0 (ap (λ (r : Reached). r.action) (sym at.3) ∙ same) came.2 is.2.0 is.2.1 none
+  shows : (k : ℕ) (d : Directory) (f : Fate) → slice_get ds k ≡ Some d → slice_get fates k ≡ Some f → (entry : Action) → result_at seen k ≡ Some entry → Shows k d f
+  shows k d f at its entry e = shows_by k d f (status_at statuses k) (action_at actions k) refl refl (its_shown k d f at its) entry e
 
-    -- the target's action, and what is found by its id
-    pub record Found (one : Reached) (object : Object) : Type 0 where
-      pub action : Action
-      pub its : IsTargetOf plan target action
-      pub among : Contains E action
-      pub compiles : Compiles action (Good object)
+  -- ---- where all objects are there
 
-    found_by : (k : ℕ) (d : Directory) → slice_get ds k ≡ Some d → (a : Option Action) → action_by edition summaries d ≡ a → (object : Object) → IsObjectHeld cache a (Some object) → (b : Action) × (slice_get actions k ≡ Some (Some b)) × Contains E b × Compiles b (Good object)
-    found_by k d at None e object held = let f : Some object ≡ None = held in cc
-    found_by k d at (Some a) e object (held, found, compiles) =
-        let has : slice_get actions k ≡ Some (Some a) = mapped_at (action_by edition summaries) ds k d at ∙ ap Some e in
-        let is = found_is k a has held found in
-        (a, has, is.1, subst (λ (x : Action). Compiles x (Good object)) is.0 compiles)
+  -- what the object of a number says of its directory
+  record Has (k : ℕ) (object : Object) : Type 0 where
+    directory : Directory
+    at : slice_get ds k ≡ Some directory
+    typed : Package
+    fate : slice_get fates k ≡ Some (Good typed)
+    is : object ≡ object_of typed
+    its : Action
+    came : action_in edition fates directory (Good typed) ≡ Some its
+    among : Contains E its
 
-    found_at : (one : Reached) → IsAt reached target one → (object : Object) → IsObjectHeld cache one.action (Some object) → Found one object
-    found_at one (c, named) object held =
-        let at = reached_at edition summaries ds one c in
-        let same : one.action ≡ action_by edition summaries at.1 = ap (λ (r : Reached). r.action) (sym at.3) in
-        let b = found_by at.0 at.1 at.2 (action_by edition summaries at.1) refl object (subst (λ a. IsObjectHeld cache a (Some object)) same held) in
-        let path : at.1.path ≡ target = ap (λ (r : Reached). r.place.path) at.3 ∙ named in
-        record { action = b.0; its = record { number = at.0; directory = at.1; at = at.2; named = path; has = b.1 }; among = b.2; compiles = b.3 }
+  has_by : (k : ℕ) (object : Object) (d : Directory) → slice_get ds k ≡ Some d → IsObjectAt seen k object → Has k object
+  has_by k object d at here =
+      let f = fate_of fates ds fates are k d at in
+      let s = shows k d f.fate at f.at here.entry here.has in
+      let same : here.entry ≡ s.its = entry_is k d f.fate s here.entry here.has in
+      let result : s.result ≡ compiled.Good here.summary object =
+      one_outcome s.its s.result (compiled.Good here.summary object) s.compiles (subst (λ (x : Action). Compiles x (compiled.Good here.summary object)) same here.compiles) in
+      let end : end_of edition fates d f.fate ≡ ends.Came s.its (compiled.Good here.summary object) = s.end ∙ ap (ends.Came s.its) result in
+      let good = object_here edition fates d f.fate f.is s.its (compiled.Good here.summary object) object end refl in
+      record {
+        directory = d;
+        at = at;
+        typed = good.0;
+        fate = f.at ∙ ap Some good.1;
+        is = good.2;
+        its = s.its;
+        came = subst (λ (x : Fate). action_in edition fates d x ≡ Some s.its) good.1 (sym (came_here edition fates d f.fate) ∙ ap came_of s.end);
+        among = s.among;
+      }
 
-    none_linked : (one : Reached) → IsAt reached target one → (object : Object) → IsObjectHeld cache one.action (Some object) → IsLinked object None → (typed : Typed) → IsHeldProgram E plan target typed → ⊥
-    none_linked one at object held linked typed h =
-        let found = found_at one at object held in
-        let same : found.action ≡ h.action = one_target plan target of.2.ascending found.action h.action found.its h.its in
-        let compiles : Compiles h.action (Good object) = subst (λ (x : Action). Compiles x (Good object)) same found.compiles in
-        let one : compiles.0 ≡ typed = one_typed_of h.action compiles.0 typed compiles.1 h.checked in
-        linked compiles.0 compiles.2 (subst (λ (t : Typed). IsProgram (t ∷ [])) (sym one) h.program)
+  module _ (objects : List Object) (have : AreObjects seen (length ds) objects) where
+    has : (k : ℕ) → k < length ds → (object : Object) × (slice_get objects k ≡ Some object) × Has k object
+    has k lt =
+        let o = there objects k (omega (arith, lt, have.size)) in
+        let d = there ds k lt in
+        (o.0, o.1, has_by k o.0 d.0 d.1 (have.each k o.0 o.1))
 
-    target_absent : ((one : Reached) → ¬ (IsAt reached target one)) → ⊥
-    target_absent none =
-        let at = target_at W target ds of in
-        none (reached_by edition summaries at.1) (at_member reached at.0 (reached_by edition summaries at.1) (mapped_at (reached_by edition summaries) ds at.0 at.1 at.2), at.3)
+    fates_length : length fates ≡ length ds
+    fates_length = sym (zip_length (IsFate fates) ds fates are)
 
-    -- ---- the fates where all is held
+    all_good : All IsGood fates
+    all_good = all_from IsGood fates (λ k f at.
+        let h = (has k (let lt = slice_get_within fates k f at in omega (arith, lt, fates_length))).2 in
+        (h.typed, some_same f (Good h.typed) (sym at ∙ h.fate)))
 
-    abbrev GoodOne : Option Action → Type 0
-    GoodOne a = (b : Action) × (object : Object) × (a ≡ Some b) × Contains E b × Compiles b (Good object)
+    all_compiled : All (Contains E) (actions_of edition build)
+    all_compiled = kept_all (Contains E) (λ (row : Directory × Fate). action_in edition fates row.0 row.1) (zip ds fates) (λ k row a at e.
+        let two = of_zip ds fates k row at in
+        let h = (has k (slice_get_within ds k row.0 two.0)).2 in
+        let directory : row.0 ≡ h.directory = some_same row.0 h.directory (sym two.0 ∙ h.at) in
+        let fate : row.1 ≡ Good h.typed = some_same row.1 (Good h.typed) (sym two.1 ∙ h.fate) in
+        let its : action_in edition fates row.0 row.1 ≡ Some h.its = ap (λ d. action_in edition fates d row.1) directory ∙ ap (action_in edition fates h.directory) fate ∙ h.came in
+        subst (Contains E) (some_same h.its a (sym its ∙ e)) h.among)
 
-    pub record GoodFates (xs : List Directory) (ys : List (Option Action)) : Type 0 where
-      pub fates : List Fate
-      pub held : AllHeld E fates
-      pub good : (k : ℕ) → is_sound_at xs k ≡ true → is_good_at fates k ≡ true
-      pub come : (all : List Fate) → ((k : ℕ) → is_sound_at ds k ≡ true → is_good_at all k ≡ true) → AreFatesOf all xs ys fates
-
-    good_nil : (k : ℕ) → is_sound_at [] k ≡ true → is_good_at [] k ≡ true
-    good_nil k e = cc
-
-    good_cons : (d : Directory) (xs : List Directory) (b : Action) (object : Object) (fates : List Fate) → ((k : ℕ) → is_sound_at xs k ≡ true → is_good_at fates k ≡ true) → (k : ℕ) → is_sound_at (d ∷ xs) k ≡ true → is_good_at (Came b None ∷ fates) k ≡ true
-    good_cons d xs b object fates h zero e = refl
-    good_cons d xs b object fates h (suc k) e = h k e
-
-    good_fates : (xs : List Directory) (ys : List (Option Action)) → AreActionsOf edition ds xs ys → ((k : ℕ) (a : Option Action) → slice_get ys k ≡ Some a → GoodOne a) → GoodFates xs ys
-    good_fates [] [] h each = record { fates = []; held = tt; good = good_nil; come = λ all g. tt }
-    good_fates [] (y ∷ ys) h each = absurd h
-    good_fates (x ∷ xs) [] h each = absurd h
-    good_fates (x ∷ xs) (y ∷ ys) h each =
-        let here = each 0 y refl in
-        let rest = good_fates xs ys h.1 (λ k a e. each (suc k) a e) in
-        let its : IsActionOf edition ds x (Some here.0) = subst (IsActionOf edition ds x) here.2 h.0 in
-        record {
-          fates = Came here.0 None ∷ rest.fates;
-          held = (here.3, rest.held);
-          good = good_cons x xs here.0 here.1 rest.fates rest.good;
-          come = λ all g. (
-            (here.2, each_all (is_good_at all) x.imports (λ j c. g j (all_each (is_sound_at ds) x.imports (sound_all ds x.imports its.2 its.3) j c)), (here.4.0, here.4.1)),
-            rest.come all g,
-          );
-        }
-
-    each_good : AreObjectsHeld cache reached → (k : ℕ) (a : Option Action) → slice_get actions k ≡ Some a → GoodOne a
-    each_good all k a e = good_by k (slice_get ds k) refl (sym (slice_get-map (action_by edition summaries) ds k) ∙ e)
-      where
-        good_by : (k : ℕ) (o : Option Directory) → slice_get ds k ≡ o → option_map (action_by edition summaries) o ≡ Some a → GoodOne a
-        good_by k None at e = cc
-        good_by k (Some d) at e =
-            let same : action_by edition summaries d ≡ a = some_same (action_by edition summaries d) a e in
-            let one = all (reached_by edition summaries d) (at_member reached k (reached_by edition summaries d) (mapped_at (reached_by edition summaries) ds k d at)) in
-            let b = found_by k d at (action_by edition summaries d) refl one.0 one.1 in
-            let has : a ≡ Some b.0 = sym same ∙ some_same (action_by edition summaries d) (Some b.0) (sym (mapped_at (action_by edition summaries) ds k d at) ∙ b.1) in
-            (b.0, one.0, has, b.2, b.3)
-
-    image_of : (image : Image) → IsHeldImage cache reached target image → IsImageOf E (Some plan) target (Some image)
-    image_of image h =
-        let good = good_fates ds actions are (each_good h.all) in
-        let fates_are : AreFates (Some plan) good.fates = good.come good.fates good.good in
-        let found = found_at h.one h.at h.object h.held in
-        let meant = h.linked found.compiles.0 found.compiles.2 in (
-          found.compiles.0,
-          record { fates = good.fates; are = fates_are; compiled = good.held; action = found.action; its = found.its; checked = found.compiles.1; program = meant.0 },
-          meant.1,
+    packages_by : (ks : List ℕ) → All (λ k. k < length ds) ks → (ps : List Package) × ArePackages fates ks ps × (filter_map (slice_get objects) ks ≡ map object_of ps)
+    packages_by [] h = ([], tt, refl)
+    packages_by (k ∷ ks) h =
+        let o = has k (All-head (λ j. j < length ds) k ks h) in
+        let rest = packages_by ks (All-tail (λ j. j < length ds) k ks h) in (
+          o.2.typed ∷ rest.0,
+          (at_fate fates k (Good o.2.typed) o.2.fate, rest.1),
+          ap (λ x. cons_option x (filter_map (slice_get objects) ks)) (o.1 ∙ ap Some o.2.is) ∙ ap (λ xs. object_of o.2.typed ∷ xs) rest.2,
         )
 
-    no_image_of : HasNoImage cache reached target → (typed : Typed) → IsHeldProgram E plan target typed → ⊥
-    no_image_of (lacks (one, c, none)) typed h = lacks_none one c none typed h
-    no_image_of (absent none) typed h = target_absent none
-    no_image_of (no_object one (c, named) none) typed h = lacks_none one c none typed h
-    no_image_of (no_program one at object held linked) typed h = none_linked one at object held linked typed h
+    rows_length : length rows ≡ length ds
+    rows_length = length-map ds (λ (d : Directory). d.imports)
 
-    pub right_image : (image : Option Image) → IsImageHeld cache reached target image → IsImageOf E (Some plan) target image
-    right_image None h = no_image_of h
-    right_image (Some image) h = image_of image h
+    ordered : (ps : List Package) × ArePackages fates (package_order rows) ps × (in_order objects (package_order rows) ≡ map object_of ps)
+    ordered = packages_by (package_order rows) (subst (λ n. All (λ k. k < n) (package_order rows)) rows_length (below rows))
+
+    pub some_image : (image : Image) → link_refusal (in_order objects (package_order rows)) ≡ None → image ≡ linked (in_order objects (package_order rows)) → IsImageOf edition E build (Some image)
+    some_image image allowed is =
+        let ps = ordered in
+        (ps.0, record { good = all_good; compiled = all_compiled; in_order = ps.1; program = linked_program ps.0 (ap link_refusal (sym ps.2) ∙ allowed) }, is ∙ ap linked ps.2)
+
+    pub refused_image : (e : LinkError) → link_refusal (in_order objects (package_order rows)) ≡ Some e → IsImageOf edition E build None
+    refused_image e refused packages h =
+        let ps = ordered in
+        let same : ps.0 ≡ packages = one_packages fates fates (package_order rows) ps.0 packages (agree_refl fates (package_order rows)) ps.1 h.in_order in
+        let allowed : link_refusal (map object_of packages) ≡ None = program_linked packages (well_typed W paths target build of are h.good packages h.in_order h.program) h.program in
+        let no : None ≡ Some e = sym allowed ∙ ap (λ xs. link_refusal (map object_of xs)) (sym same) ∙ ap link_refusal (sym ps.2) ∙ refused in
+        cc (no)
+
+  -- ---- where one isn't there
+
+  module _ (packages : List Package) (program : IsHeldProgram edition E build packages) where
+    held_at : (k : ℕ) (d : Directory) (f : Fate) (a : Action) → slice_get ds k ≡ Some d → slice_get fates k ≡ Some f → action_in edition fates d f ≡ Some a → Contains E a
+    held_at k d f a at its e = kept_at (Contains E) (λ (row : Directory × Fate). action_in edition fates row.0 row.1) (zip ds fates) program.compiled k (d, f) a (zip_at ds fates k d f at its) e
+
+    good_at : (k : ℕ) (f : Fate) → slice_get fates k ≡ Some f → (p : Package) × (f ≡ Good p)
+    good_at k f its = all_at IsGood fates program.good k f its
+
+    ranks : (rank : ℕ → ℕ) × AreRanks ds rank
+    ranks = ranked_build_plan W target ds of
+
+    abbrev Finished : ℕ → Type 0
+    Finished k = (d : Directory) → slice_get ds k ≡ Some d → status_at statuses k ≡ Done true
+
+    -- a good directory's job, whose imports are done, is done
+    finished_by : (k : ℕ) (d : Directory) (f : Fate) (p : Package) → slice_get ds k ≡ Some d → slice_get fates k ≡ Some f → f ≡ Good p → IsFate fates d f → AllGood statuses (map (λ j. 0 + j) d.imports)
+        → (s : Status) (a : Option Action) → IsShown E statuses (map (λ j. 0 + j) d.imports) (end_of edition fates d f) s a → s ≡ Done true
+    finished_by k d f p at its good is imports Waiting a h = absurd (h.1 imports)
+    finished_by k d f p at its good is imports Stays a h = absurd (none_blocked d f p good is h.1)
+      where
+        none_blocked : (d : Directory) (f : Fate) (p : Package) → f ≡ Good p → IsFate fates d f → end_of edition fates d f ≡ ends.Blocked → ⊥
+        none_blocked d f p good is e =
+            let there = subst (IsFate fates d) good is in
+            let came : end_of edition fates d (Good p) ≡ end_in (Some _) (Good p) = ap (λ (x : Option Action). end_in x (Good p)) (action_is edition fates d there.0 there.1 there.2) in
+            let no = sym came ∙ ap (end_of edition fates d) (sym good) ∙ e in
+            cc (no)
+    finished_by k d f p at its good is imports (Running hand) a h = absurd h
+    finished_by k d f p at its good is imports Ready a h =
+        let w = h.1 in absurd (w.4 (held_at k d f w.0 at its (sym (came_here edition fates d f) ∙ ap came_of w.3)))
+    finished_by k d f p at its good is imports (Done on) a h =
+        let w = h.1 in
+        ap Done (w.5 ∙ good_of d f p good is w.0 w.1 w.3)
+      where
+        good_of : (d : Directory) (f : Fate) (p : Package) → f ≡ Good p → IsFate fates d f → (x : Action) (r : Compiled) → end_of edition fates d f ≡ ends.Came x r → is_good_result r ≡ true
+        good_of d f p good is x (compiled.Good s o) e = refl
+        good_of d f p good is x (compiled.Faulty fault) e =
+            let there = subst (IsFate fates d) good is in
+            let came = ap (λ (y : Option Action). object_in (end_in y (Good p))) (action_is edition fates d there.0 there.1 there.2) in
+            let no : Some (object_of p) ≡ None = sym came ∙ ap (λ g. object_in (end_of edition fates d g)) (sym good) ∙ ap object_in e in
+            cc (no)
+
+    imports_done : (ks : List ℕ) → ((j : ℕ) → Contains ks j → status_at statuses j ≡ Done true) → AllGood statuses (map (λ j. 0 + j) ks)
+    imports_done [] h = All-nil (λ j. status_at statuses j ≡ Done true)
+    imports_done (k ∷ ks) h = All-cons (λ j. status_at statuses j ≡ Done true) (0 + k) (map (λ j. 0 + j) ks)
+        (subst (λ j. status_at statuses j ≡ Done true) (let z : k ≡ 0 + k = omega arith in z) (h k (at_head ks k k refl)))
+        (imports_done ks (λ j c. h j (later k ks j c)))
+
+    finished_step : (k : ℕ) → ((j : ℕ) → ranks.0 j < ranks.0 k → Finished j) → Finished k
+    finished_step k below d at =
+        let f = fate_of fates ds fates are k d at in
+        let good = good_at k f.fate f.at in
+        let is : IsFate fates d (Good good.0) = subst (IsFate fates d) good.1 f.is in
+        finished_by k d f.fate good.0 at f.at good.1 f.is
+        (imports_done d.imports (λ j c.
+        let other = there ds j (plan_inside W target ds of d (at_member ds k d at) j c) in
+        below j (ranks.1 k j d is.0 at (is.2).sound c) other.0 other.1))
+        (status_at statuses k) (action_at actions k) (its_shown k d f.fate at f.at)
+
+    all_finished : (k : ℕ) → Finished k
+    all_finished = numbered.ranked ranks.0 Finished finished_step
+
+    shows_if : (k : ℕ) (d : Directory) (f : Fate) (s : Status) (a : Option Action) → status_at statuses k ≡ s → action_at actions k ≡ a → IsShown E statuses (map (λ j. 0 + j) d.imports) (end_of edition fates d f) s a → s ≡ Done true → Shows k d f
+    shows_if k d f Waiting a same also h e = cc (e)
+    shows_if k d f Stays a same also h e = cc (e)
+    shows_if k d f (Running hand) a same also h e = absurd h
+    shows_if k d f Ready a same also h e = cc (e)
+    shows_if k d f (Done good) a same also h e =
+        let w = h.1 in
+        record { its = w.0; result = w.1; good = good; status = same; has = also ∙ w.2; end = w.3; among = w.4; goodness = w.5; compiles = w.6 }
+
+    same_done : (a b : Bool) → Done a ≡ Done b → a ≡ b
+    same_done a b e = cc (e)
+
+    faulty_or_good : (a : Action) (r : Compiled) (entry : Action) (fault : Fault) → is_good_result r ≡ true → Compiles a r → entry ≡ a → Compiles entry (compiled.Faulty fault) → ⊥
+    faulty_or_good a r entry fault good h same k =
+        let one : r ≡ compiled.Faulty fault = one_outcome a r (compiled.Faulty fault) h (subst (λ (x : Action). Compiles x (compiled.Faulty fault)) same k) in
+        let no : false ≡ true = sym (ap is_good_result one) ∙ good in
+        cc (no)
+
+    lacks_by : (k : ℕ) (d : Directory) (f : Fate) → status_at statuses k ≡ Done true → Shows k d f → LacksObjectAt seen k → ⊥
+    lacks_by k d f done s lack =
+        let good : is_good_result s.result ≡ true = sym s.goodness ∙ same_done s.good true (sym s.status ∙ done) in
+        let at : result_at seen k ≡ held seen.opening seen.state (action_id s.its) = result_done (held seen.opening seen.state) (status_at statuses k) s.good (action_at actions k) s.its s.status s.has in
+        let entry = is_there E s.its (get seen.opening.cache (action_id s.its)) (get seen.state.added (action_id s.its)) s.among (cache_holds (action_id s.its)) in
+        elim lack [
+          | inl none ↦ (let no : None ≡ Some entry.0 = sym none ∙ at ∙ entry.1 in cc (no))
+          | inr (other, fault, has, faulty) ↦ faulty_or_good s.its s.result other fault good s.compiles (entry_is k d f s other has) faulty
+        ]
+
+    pub none_lacks : SomeLacks seen (length ds) → ⊥
+    none_lacks (k, lt, lack) =
+        let d = there ds k lt in
+        let f = fate_of fates ds fates are k d.0 d.1 in
+        let done = all_finished k d.0 d.1 in
+        lacks_by k d.0 f.fate done (shows_if k d.0 f.fate (status_at statuses k) (action_at actions k) refl refl (its_shown k d.0 f.fate d.1 f.at) done) lack
+
+  pub lacking_image : SomeLacks seen (length ds) → IsImageOf edition E build None
+  lacking_image lack packages h = none_lacks packages h lack

@@ -1,17 +1,15 @@
--- The jobs of several plans in one list: each plan's jobs end as they would alone, and imports lead down.
-use Rattle.std.proofs.Common.{◌≡◌, ℕ, zero, suc, ◌+◌, ◌<◌, ◌≤◌, ◌&&◌, List, [], ◌∷◌, ◌++◌, map, length, Option, None, Some, is_some, refl, sym, ap, subst, ◌∙◌, inl, inr, arith}
+-- The jobs of several plans in one list: imports lead down, and each end is found behind those of the plans before.
+use Rattle.std.proofs.Common.{◌≡◌, ℕ, zero, suc, ◌+◌, ◌<◌, ◌≤◌, List, [], ◌∷◌, ◌++◌, map, length, Option, None, Some, refl, sym, ap, subst, ◌∙◌, inl, inr, arith}
 use Rattle.std.specs.List.{slice_get, Contains, AllZip}
-use Rattle.std.proofs.lemmas.List.{map-append, get_or-append-add, get_or_append_left}
-use Rattle.ws_action.specs.Actions.{Action}
+use Rattle.std.proofs.lemmas.List.{get_or-append-add, get_or_append_left}
 use Rattle.ws_action.proofs.Members.{at_head, later, none_in_empty, head_or_later}
-use Rattle.ws_board.specs.Work.{Job}
-use Rattle.ws_board.specs.Machine.{action_at, action_in, imports_at, imports_in}
-use Rattle.ws_board.specs.Ends.{End, Blocked, Came, is_good, end_at, are_good, IsEnd, somes, actions_of, IsRanked}
+use Rattle.ws_board.specs.Work.{Job, Work}
+use Rattle.ws_board.specs.Ends.{End, Blocked, end_at, somes, work_in, work_at, imports_in, imports_at, IsRanked}
 use Rattle.ws_replica.specs.Jobs.{Reached, job_after}
 
 -- the job of what was reached, if it is of the only plan
 abbrev pub job_of : Reached → Job
-job_of r = record { action = r.action; imports = r.imports }
+job_of r = record { work = r.work; imports = r.imports }
 
 -- imports are numbers of the plan's own directories
 abbrev pub AreWithin : ℕ → List Reached → Type 0
@@ -24,63 +22,25 @@ somes_append [] ys = refl
 somes_append (None ∷ xs) ys = somes_append xs ys
 somes_append (Some x ∷ xs) ys = ap (λ zs. x ∷ zs) (somes_append xs ys)
 
--- a list that goes with two, one after another, in two parts
-pub record Parts {A B : Type 0} (R : A → B → Type 0) (xs ys : List A) (zs : List B) : Type 0 where
-  pub front : List B
-  pub back : List B
-  pub whole : zs ≡ front ++ back
-  pub first : AllZip R xs front
-  pub second : AllZip R ys back
-
-pub parts : {A B : Type 0} (R : A → B → Type 0) (xs ys : List A) (zs : List B) → AllZip R (xs ++ ys) zs → Parts R xs ys zs
-parts R [] ys zs h = record { front = []; back = zs; whole = refl; first = tt; second = h }
-parts R (x ∷ xs) ys [] h = absurd h
-parts R (x ∷ xs) ys (z ∷ zs) h =
-    let rest = parts R xs ys zs h.1 in
-    record { front = z ∷ rest.front; back = rest.back; whole = ap (λ t. z ∷ t) rest.whole; first = (h.0, rest.first); second = rest.second }
-
 pub zip_length : {A B : Type 0} (R : A → B → Type 0) (xs : List A) (ys : List B) → AllZip R xs ys → length xs ≡ length ys
 zip_length R [] [] h = refl
 zip_length R [] (y ∷ ys) h = absurd h
 zip_length R (x ∷ xs) [] h = absurd h
 zip_length R (x ∷ xs) (y ∷ ys) h = let rest = zip_length R xs ys h.1 in omega (arith, rest)
 
+-- lists that go with others, one after another
+pub zip_append : {A B : Type 0} (R : A → B → Type 0) (xs ys : List A) (us vs : List B) → AllZip R xs us → AllZip R ys vs → AllZip R (xs ++ ys) (us ++ vs)
+zip_append R [] ys [] vs g h = h
+zip_append R [] ys (u ∷ us) vs g h = absurd g
+zip_append R (x ∷ xs) ys [] vs g h = absurd g
+zip_append R (x ∷ xs) ys (u ∷ us) vs g h = (g.0, zip_append R xs ys us vs g.1 h)
+
 -- ---- ends
 
-module _ (whole front part back : List End) (n : ℕ) (is : whole ≡ front ++ (part ++ back)) (long : length front ≡ n) where
-  pub end_within : (k : ℕ) → k < length part → end_at whole (n + k) ≡ end_at part k
-  end_within k lt =
-      ap (λ es. end_at es (n + k)) is ∙ ap (λ m. end_at (front ++ (part ++ back)) (m + k)) (sym long)
-      ∙ get_or-append-add front (part ++ back) k Blocked ∙ get_or_append_left part back Blocked k lt
-
-  good_within : (ks : List ℕ) → ((k : ℕ) → Contains ks k → k < length part) → are_good whole (map (λ k. n + k) ks) ≡ are_good part ks
-  good_within [] h = refl
-  good_within (k ∷ ks) h =
-      ap (λ e. is_good e && are_good whole (map (λ k. n + k) ks)) (end_within k (h k (at_head ks k k refl)))
-      ∙ ap (λ b. is_good (end_at part k) && b) (good_within ks (λ j c. h j (later k ks j c)))
-
-  end_of : (r : Reached) → ((k : ℕ) → Contains r.imports k → k < length part) → (e : End) → IsEnd whole (job_after n r) e → IsEnd part (job_of r) e
-  end_of r h Blocked end = ap (λ b. is_some r.action && b) (sym (good_within r.imports h)) ∙ end
-  end_of r h (Came a c) end = (end.0, sym (good_within r.imports h) ∙ end.1, end.2)
-
-  pub ends_of : (rs : List Reached) → AreWithin (length part) rs → (es : List End) → AllZip (IsEnd whole) (map (job_after n) rs) es → AllZip (IsEnd part) (map job_of rs) es
-  ends_of [] within [] h = tt
-  ends_of [] within (e ∷ es) h = absurd h
-  ends_of (r ∷ rs) within [] h = absurd h
-  ends_of (r ∷ rs) within (e ∷ es) h =
-      (end_of r (within r (at_head rs r r refl)) e h.0, ends_of rs (λ x c. within x (later r rs x c)) es h.1)
-
--- ---- actions
-
-actions_same : (n : ℕ) (rs : List Reached) → map (λ (job : Job). job.action) (map (job_after n) rs) ≡ map (λ (job : Job). job.action) (map job_of rs)
-actions_same n [] = refl
-actions_same n (r ∷ rs) = ap (λ as_. r.action ∷ as_) (actions_same n rs)
-
-pub actions_after : (n : ℕ) (rs : List Reached) → actions_of (map (job_after n) rs) ≡ actions_of (map job_of rs)
-actions_after n rs = ap somes (actions_same n rs)
-
-pub actions_append : (xs ys : List Job) → actions_of (xs ++ ys) ≡ actions_of xs ++ actions_of ys
-actions_append xs ys = ap somes (map-append (λ (job : Job). job.action) xs ys) ∙ somes_append (map (λ (job : Job). job.action) xs) (map (λ (job : Job). job.action) ys)
+pub end_within : (whole front part back : List End) (n : ℕ) → whole ≡ front ++ (part ++ back) → length front ≡ n → (k : ℕ) → k < length part → end_at whole (n + k) ≡ end_at part k
+end_within whole front part back n is long k lt =
+    ap (λ es. end_at es (n + k)) is ∙ ap (λ m. end_at (front ++ (part ++ back)) (m + k)) (sym long)
+    ∙ get_or-append-add front (part ++ back) k Blocked ∙ get_or_append_left part back Blocked k lt
 
 -- ---- ranks
 
@@ -90,7 +50,7 @@ AreFrom n jobs = (j k : ℕ) → Contains (imports_at jobs j) k → n ≤ k
 
 -- imports lead down, where they are numbers of these jobs after n others
 abbrev pub IsRankedFrom : ℕ → (ℕ → ℕ) → List Job → Type 0
-IsRankedFrom n rank jobs = (j k : ℕ) (a b : Action) → action_at jobs j ≡ Some a → Contains (imports_at jobs j) (n + k) → action_at jobs k ≡ Some b → rank k < rank j
+IsRankedFrom n rank jobs = (j k : ℕ) (v w : Work) → work_at jobs j ≡ Some v → Contains (imports_at jobs j) (n + k) → work_at jobs k ≡ Some w → rank k < rank j
 
 moved_from : (n : ℕ) (ks : List ℕ) (i : ℕ) → Contains (map (λ k. n + k) ks) i → n ≤ i
 moved_from n [] i c = absurd (none_in_empty i c)
@@ -99,17 +59,17 @@ moved_from n (k ∷ ks) i c = elim (head_or_later (n + k) (map (λ k. n + k) ks)
   | inr l ↦ moved_from n ks i l
 ]
 
-moved_back : (n : ℕ) (ks : List ℕ) (i : ℕ) → Contains (map (λ k. n + k) ks) (n + i) → Contains ks i
+pub moved_back : (n : ℕ) (ks : List ℕ) (i : ℕ) → Contains (map (λ k. n + k) ks) (n + i) → Contains ks i
 moved_back n [] i c = absurd (none_in_empty (n + i) c)
 moved_back n (k ∷ ks) i c = elim (head_or_later (n + k) (map (λ k. n + k) ks) (n + i) c) [
   | inl e ↦ at_head ks k i (let z : k ≡ i = omega (arith, e) in z)
   | inr l ↦ later k ks i (moved_back n ks i l)
 ]
 
-after_action : (n : ℕ) (rs : List Reached) (j : ℕ) → action_at (map (job_after n) rs) j ≡ action_at (map job_of rs) j
-after_action n [] j = refl
-after_action n (r ∷ rs) zero = refl
-after_action n (r ∷ rs) (suc j) = after_action n rs j
+after_work : (n : ℕ) (rs : List Reached) (j : ℕ) → work_at (map (job_after n) rs) j ≡ work_at (map job_of rs) j
+after_work n [] j = refl
+after_work n (r ∷ rs) zero = refl
+after_work n (r ∷ rs) (suc j) = after_work n rs j
 
 after_imports : (n : ℕ) (rs : List Reached) (j : ℕ) → imports_at (map (job_after n) rs) j ≡ map (λ k. n + k) (imports_at (map job_of rs) j)
 after_imports n [] j = refl
@@ -120,8 +80,8 @@ pub after_from : (n : ℕ) (rs : List Reached) → AreFrom n (map (job_after n) 
 after_from n rs j k c = moved_from n (imports_at (map job_of rs) j) k (subst (λ ks. Contains ks k) (after_imports n rs j) c)
 
 pub after_ranked : (n : ℕ) (rs : List Reached) (rank : ℕ → ℕ) → IsRanked rank (map job_of rs) → IsRankedFrom n rank (map (job_after n) rs)
-after_ranked n rs rank down j k a b has among also =
-    down j k a b (sym (after_action n rs j) ∙ has) (moved_back n (imports_at (map job_of rs) j) k (subst (λ ks. Contains ks (n + k)) (after_imports n rs j) among)) (sym (after_action n rs k) ∙ also)
+after_ranked n rs rank down j k v w has among also =
+    down j k v w (sym (after_work n rs j) ∙ has) (moved_back n (imports_at (map job_of rs) j) k (subst (λ ks. Contains ks (n + k)) (after_imports n rs j) among)) (sym (after_work n rs k) ∙ also)
 
 imports_within : (rs : List Reached) (m j k : ℕ) → AreWithin m rs → Contains (imports_at (map job_of rs) j) k → k < m
 imports_within [] m j k within c = absurd (none_in_empty k c)
@@ -167,30 +127,30 @@ module _ (n : ℕ) (xs ys : List Job) (f g : ℕ → ℕ) (below : (j k : ℕ) �
   both_ranks = over (length xs) f g
 
   -- an import of the first list
-  by_first : (j k : ℕ) (a b : Action) → j < length xs → slice_get (xs ++ ys) j ≡ slice_get xs j → action_at (xs ++ ys) j ≡ Some a → Contains (imports_at (xs ++ ys) j) (n + k) → action_at (xs ++ ys) k ≡ Some b → IsIn xs ys k → both_ranks k < both_ranks j
-  by_first j k a b lt e has among also (in_first small s) =
-      let down = first j k a b (ap action_in (sym e) ∙ has) (subst (λ o. Contains (imports_in o) (n + k)) e among) (ap action_in (sym s) ∙ also) in
+  by_first : (j k : ℕ) (v w : Work) → j < length xs → slice_get (xs ++ ys) j ≡ slice_get xs j → work_at (xs ++ ys) j ≡ Some v → Contains (imports_at (xs ++ ys) j) (n + k) → work_at (xs ++ ys) k ≡ Some w → IsIn xs ys k → both_ranks k < both_ranks j
+  by_first j k v w lt e has among also (in_first small s) =
+      let down = first j k v w (ap work_in (sym e) ∙ has) (subst (λ o. Contains (imports_in o) (n + k)) e among) (ap work_in (sym s) ∙ also) in
       omega (arith, over_first (length xs) f g j lt, over_first (length xs) f g k small, down)
-  by_first j k a b lt e has among also (in_second i is s) =
+  by_first j k v w lt e has among also (in_second i is s) =
       absurd (let small = below j k (subst (λ o. Contains (imports_in o) (n + k)) e among) in omega (arith, small, is))
 
   -- an import of the second
-  by_second : (j k : ℕ) (a b : Action) (i : ℕ) → j ≡ length xs + i → slice_get (xs ++ ys) j ≡ slice_get ys i → action_at (xs ++ ys) j ≡ Some a → Contains (imports_at (xs ++ ys) j) (n + k) → action_at (xs ++ ys) k ≡ Some b → IsIn xs ys k → both_ranks k < both_ranks j
-  by_second j k a b i at e has among also (in_first small s) =
+  by_second : (j k : ℕ) (v w : Work) (i : ℕ) → j ≡ length xs + i → slice_get (xs ++ ys) j ≡ slice_get ys i → work_at (xs ++ ys) j ≡ Some v → Contains (imports_at (xs ++ ys) j) (n + k) → work_at (xs ++ ys) k ≡ Some w → IsIn xs ys k → both_ranks k < both_ranks j
+  by_second j k v w i at e has among also (in_first small s) =
       absurd (let high = from i (n + k) (subst (λ o. Contains (imports_in o) (n + k)) e among) in omega (arith, high, small))
-  by_second j k a b i at e has among also (in_second h is s) =
+  by_second j k v w i at e has among also (in_second h is s) =
       let c : Contains (imports_at ys i) ((n + length xs) + h) = subst (Contains (imports_at ys i)) (let z : n + k ≡ (n + length xs) + h = omega (arith, is) in z) (subst (λ o. Contains (imports_in o) (n + k)) e among) in
-      let down = second i h a b (ap action_in (sym e) ∙ has) c (ap action_in (sym s) ∙ also) in
+      let down = second i h v w (ap work_in (sym e) ∙ has) c (ap work_in (sym s) ∙ also) in
       let here = ap both_ranks at ∙ over_rest (length xs) f g i in
       let there = ap both_ranks is ∙ over_rest (length xs) f g h in
       omega (arith, here, there, down)
 
-  by_place : (j k : ℕ) (a b : Action) → action_at (xs ++ ys) j ≡ Some a → Contains (imports_at (xs ++ ys) j) (n + k) → action_at (xs ++ ys) k ≡ Some b → IsIn xs ys j → both_ranks k < both_ranks j
-  by_place j k a b has among also (in_first lt e) = by_first j k a b lt e has among also (is_in xs ys k)
-  by_place j k a b has among also (in_second i at e) = by_second j k a b i at e has among also (is_in xs ys k)
+  by_place : (j k : ℕ) (v w : Work) → work_at (xs ++ ys) j ≡ Some v → Contains (imports_at (xs ++ ys) j) (n + k) → work_at (xs ++ ys) k ≡ Some w → IsIn xs ys j → both_ranks k < both_ranks j
+  by_place j k v w has among also (in_first lt e) = by_first j k v w lt e has among also (is_in xs ys k)
+  by_place j k v w has among also (in_second i at e) = by_second j k v w i at e has among also (is_in xs ys k)
 
   pub ranked_append : (rank : ℕ → ℕ) × IsRankedFrom n rank (xs ++ ys)
-  ranked_append = (both_ranks, λ j k a b has among also. by_place j k a b has among also (is_in xs ys j))
+  ranked_append = (both_ranks, λ j k v w has among also. by_place j k v w has among also (is_in xs ys j))
 
 from_place : (n : ℕ) (xs ys : List Job) → AreFrom n xs → AreFrom n ys → (j k : ℕ) → Contains (imports_at (xs ++ ys) j) k → IsIn xs ys j → n ≤ k
 from_place n xs ys g h j k c (in_first lt e) = g j k (subst (λ o. Contains (imports_in o) k) e c)
@@ -201,4 +161,4 @@ from_append n xs ys g h j k c = from_place n xs ys g h j k c (is_in xs ys j)
 
 -- where no others come before, imports lead down
 pub ranked_whole : (rank : ℕ → ℕ) (jobs : List Job) → IsRankedFrom 0 rank jobs → IsRanked rank jobs
-ranked_whole rank jobs down j k a b has among also = down j k a b has (subst (Contains (imports_at jobs j)) (let z : k ≡ 0 + k = omega arith in z) among) also
+ranked_whole rank jobs down j k v w has among also = down j k v w has (subst (Contains (imports_at jobs j)) (let z : k ≡ 0 + k = omega arith in z) among) also

@@ -1,239 +1,192 @@
--- Each set of writes has a plan of each target, whose directories come to something.
-use Rattle.std.proofs.Common.{◌≡◌, ℕ, zero, suc, ◌+◌, ◌<◌, ◌≤◌, Bool, true, false, ◌&&◌, List, [], ◌∷◌, length, Option, None, Some, refl, sym, ap, subst, ◌∙◌, arith, inl, inr}
-use Rattle.std.specs.List.{slice_get, list_all, Contains}
+-- Of each set of writes each target has a plan, whose directories come to something.
+use Rattle.std.proofs.Common.{◌≡◌, ◌⊎◌, ℕ, zero, suc, ◌+◌, ◌<◌, ◌≤◌, Some, None, Option, List, [], ◌∷◌, length, map, refl, sym, ap, subst, ◌∙◌, inl, inr, arith}
+use Rattle.std.specs.List.{AllZip, Contains, slice_get}
+use Rattle.std.proofs.lemmas.Bool.{cases_lt, cases_eq}
 use Rattle.std.proofs.lemmas.Option.{slice_get_within}
 use Rattle.go_ast.specs.Parse.{Parsed}
+use Rattle.go_ast.specs.Trees.{File}
+use Rattle.go_check.specs.Checked.{AreTrees}
+use Rattle.go_typed.specs.Trees.{Package}
+use Rattle.go_import.specs.Names.{importable_of}
 use Rattle.ws_version.specs.Writes.{Write}
-use Rattle.go_text.specs.Faults.{Fault}
-use Rattle.ws_action.specs.Actions.{Action, action_of}
-use Rattle.ws_action.proofs.Members.{at_head, later}
+use Rattle.ws_cache.proofs.SomeResult.{some_result}
 use Rattle.ws_graph.specs.Packages.{package_files}
-use Rattle.ws_graph.specs.Plan.{Planned, NoFiles, Faulty, Sound, IsSound}
+use Rattle.ws_graph.specs.Plan.{Planned, NoFiles, Faulty, Sound, AllParsed, IsSound}
 use Rattle.ws_graph.specs.BuildPlan.{Sources, Directory, IsPlannedAs, AreRanks}
-use Rattle.go_export.specs.Summaries.{Summary}
-use Rattle.ws_replica.specs.ActionPlans.{ActionPlan, is_sound, is_sound_in, is_sound_at, IsSummaryOf, AreSummaries, IsActionOf, AreActionsOf, IsPlanFor}
-use Rattle.ws_replica.specs.Reports.{Fate, Stopped, Blocked, Came, ComesTo, is_good, is_good_at, IsFate, AreFatesOf, AreFates}
 use Rattle.ws_graph.proofs.SomeBuildPlan.{some_build_plan_of}
 use Rattle.ws_graph.proofs.RankedPlan.{ranked_build_plan}
-use Rattle.ws_replica.proofs.Numbered.{some_same, at_member, past_none, all_on, and_left, and_right, all_each, each_all, ranked}
-use Rattle.ws_replica.proofs.OneBuild.{action_at, good_one, good_at}
-use Rattle.ws_replica.proofs.Compiling.{some_coming}
+use Rattle.ws_replica.specs.Reports.{Fate, Stopped, Blocked, Wrong, Good, fate_at, ArePackages, IsFate, AreFates, TargetBuild, IsTargetBuild}
+use Rattle.ws_replica.proofs.Numbered.{at_member, past_none}
+use Rattle.ws_replica.proofs.OneBuild.{Agree, agree_at, agree_sym, packages_move, at_fate}
 
--- ---- plans
-
--- the files of a sound directory
-pub sound_has : (sources : Sources) (path : List ℕ) (p : Planned) → IsPlannedAs sources path p → is_sound p ≡ true → (parsed : List Parsed) × (p ≡ Sound parsed) × IsSound (package_files path sources) parsed
-sound_has sources path NoFiles h e = absurd h
-sound_has sources path (Faulty fault) h e = cc
-sound_has sources path (Sound parsed) h e = (parsed, refl, h.0)
+-- ---- files that parse
 
 abbrev pub AllPlanned : Sources → List Directory → Type 0
 AllPlanned sources ds = (d : Directory) → Contains ds d → IsPlannedAs sources d.path d.planned
 
-module _ (edition : ℕ) (sources : Sources) (ds : List Directory) (planned : AllPlanned sources ds) where
-  pub some_summary : (d : Directory) → Contains ds d → is_sound d.planned ≡ true → (s : Summary) × IsSummaryOf d s
-  some_summary d among sound =
-      let has = sound_has sources d.path d.planned (planned d among) sound in
-      let files = has.2 in (
-        record { path = d.path; «package» = files.clause.text },
-        record { first = files.first; rest = files.rest; clause = files.clause; sound = has.1 ∙ ap Sound files.is; package_is = files.package_is; is = refl },
-      )
+trees_of : (files : List Parsed) → AllParsed files → (trees : List File) × AreTrees files trees
+trees_of [] h = ([], tt)
+trees_of (f ∷ fs) h = let rest = trees_of fs h.1 in (h.0.0 ∷ rest.0, (h.0.1, rest.1))
 
-  summary_at : (k : ℕ) (o : Option Directory) → slice_get ds k ≡ o → is_sound_in o ≡ true → (s : Summary) × ((d : Directory) × (slice_get ds k ≡ Some d) × IsSummaryOf d s)
-  summary_at k None at sound = cc
-  summary_at k (Some d) at sound = let s = some_summary d (at_member ds k d at) sound in (s.0, (d, at, s.1))
+pub sound_is : (sources : Sources) (path : List ℕ) (p : Planned) (files : List Parsed) → IsPlannedAs sources path p → p ≡ Sound files → IsSound (package_files path sources) files
+sound_is sources path NoFiles files h e = absurd h
+sound_is sources path (Faulty fault) files h e = cc
+sound_is sources path (Sound others) files h e = subst (λ fs. IsSound (package_files path sources) fs) (let same : others ≡ files = cc (e) in same) h.0
 
-  some_summaries : (ks : List ℕ) → list_all (is_sound_at ds) ks ≡ true → (summaries : List Summary) × AreSummaries ds ks summaries
-  some_summaries [] sound = ([], tt)
-  some_summaries (k ∷ ks) sound =
-      let here = summary_at k (slice_get ds k) refl (and_left (is_sound_at ds k) (list_all (is_sound_at ds) ks) sound) in
-      let rest = some_summaries ks (and_right (is_sound_at ds k) (list_all (is_sound_at ds) ks) sound) in
-      (here.0 ∷ rest.0, (here.1, rest.1))
+-- ---- what becomes of a directory, by what becomes of others
 
-  some_action : (d : Directory) → Contains ds d → (b : Bool) → (is_sound d.planned && list_all (is_sound_at ds) d.imports) ≡ b → (a : Option Action) × IsActionOf edition ds d a
-  some_action d among false e = (None, e)
-  some_action d among true e =
-      let has = sound_has sources d.path d.planned (planned d among) (and_left (is_sound d.planned) (list_all (is_sound_at ds) d.imports) e) in
-      let summaries = some_summaries d.imports (and_right (is_sound d.planned) (list_all (is_sound_at ds) d.imports) e) in
-      (Some (action_of edition d.path has.0 summaries.0), (has.0, has.1, summaries.0, summaries.1, refl))
+pub good_or_not : (a : Fate) → ((p : Package) × (a ≡ Good p)) ⊎ ((p : Package) → a ≡ Good p → ⊥)
+good_or_not (Good p) = inl (p, refl)
+good_or_not (Stopped x) = inr (λ p e. cc (e))
+good_or_not Blocked = inr (λ p e. cc (e))
+good_or_not (Wrong x) = inr (λ p e. cc (e))
 
-  pub some_actions : (xs : List Directory) → ((d : Directory) → Contains xs d → Contains ds d) → (actions : List (Option Action)) × AreActionsOf edition ds xs actions
-  some_actions [] among = ([], tt)
-  some_actions (x ∷ xs) among =
-      let here = some_action x (among x (at_head xs x x refl)) (is_sound x.planned && list_all (is_sound_at ds) x.imports) refl in
-      let rest = some_actions xs (λ d c. among d (later x xs d c)) in
-      (here.0 ∷ rest.0, (here.1, rest.1))
+not_here : (fates : List Fate) (k : ℕ) (ks : List ℕ) → ((p : Package) → fate_at fates k ≡ Good p → ⊥) → (ps : List Package) → ArePackages fates (k ∷ ks) ps → ⊥
+not_here fates k ks bad [] h = h
+not_here fates k ks bad (p ∷ ps) h = bad p h.0
 
-pub some_plan_for : (edition : ℕ) (W : List Write) (target : List ℕ) → (plan : Option ActionPlan) × IsPlanFor edition W target plan
-some_plan_for edition W target = elim (some_build_plan_of W target) [
-  | inl none ↦ (None, none)
-  | inr (ds, of) ↦
-      let actions = some_actions edition of.0 ds of.2.planned ds (λ d c. c) in
-      (Some (record { directories = ds; actions = actions.0 }), (of, actions.1))
+not_behind : (fates : List Fate) (k : ℕ) (ks : List ℕ) → ((ps : List Package) → ArePackages fates ks ps → ⊥) → (ps : List Package) → ArePackages fates (k ∷ ks) ps → ⊥
+not_behind fates k ks none [] h = h
+not_behind fates k ks none (p ∷ ps) h = none ps h.1
+
+pub some_packages : (fates : List Fate) (ks : List ℕ) → ((ps : List Package) × ArePackages fates ks ps) ⊎ ((ps : List Package) → ArePackages fates ks ps → ⊥)
+some_packages fates [] = inl ([], tt)
+some_packages fates (k ∷ ks) = elim (good_or_not (fate_at fates k)) [
+  | inr bad ↦ inr (not_here fates k ks bad)
+  | inl (p, e) ↦ elim (some_packages fates ks) [ inl (ps, h) ↦ inl (p ∷ ps, (e, h)) | inr none ↦ inr (not_behind fates k ks none) ]
 ]
 
--- ---- fates
+-- ---- lists
 
--- what compiling the action gives, if there is one
-abbrev IsResult : Option (Option Action) → Option (Option Fault) → Type 0
-IsResult has result = (a : Action) → has ≡ Some (Some a) → (c : Option Fault) × (result ≡ Some c) × ComesTo a c
+-- one of each, and of each more
+abbrev Chosen : {A B : Type 0} → (ℕ → A → B → Type 0) → List A → List B → Type 0
+Chosen {A} {B} P xs ys = (k : ℕ) (x : A) → slice_get xs k ≡ Some x → (y : B) × (slice_get ys k ≡ Some y) × P k x y
 
-abbrev fated_by : Planned → Option (Option Action) → Option (Option Fault) → Bool → Fate
-fated_by NoFiles has result good = Blocked
-fated_by (Faulty fault) has result good = Stopped fault
-fated_by (Sound parsed) has result false = Blocked
-fated_by (Sound parsed) None result true = Blocked
-fated_by (Sound parsed) (Some None) result true = Blocked
-fated_by (Sound parsed) (Some (Some a)) None true = Blocked
-fated_by (Sound parsed) (Some (Some a)) (Some c) true = Came a c
+one_more : {A B : Type 0} (P : ℕ → A → B → Type 0) (x : A) (xs : List A) (y : B) (ys : List B) → P 0 x y → Chosen (λ k. P (suc k)) xs ys → Chosen P (x ∷ xs) (y ∷ ys)
+one_more P x xs y ys here rest zero z at = (let same : x ≡ z = cc (at) in (y, refl, subst (λ a. P 0 a y) same here))
+one_more P x xs y ys here rest (suc k) z at = rest k z at
 
--- what becomes of a directory, where this becomes of its imports
-abbrev fated : Option Directory → Option (Option Action) → Option (Option Fault) → (ℕ → Fate) → Fate
-fated None has result at = Blocked
-fated (Some d) has result at = fated_by d.planned has result (list_all (λ j. is_good (at j)) d.imports)
+choice : {A B : Type 0} (P : ℕ → A → B → Type 0) (xs : List A) → ((k : ℕ) (x : A) → slice_get xs k ≡ Some x → (y : B) × P k x y) → (ys : List B) × (length ys ≡ length xs) × Chosen P xs ys
+choice P [] h = ([], refl, λ k x at. cc (at))
+choice P (x ∷ xs) h =
+    let here = h 0 x refl in
+    let rest = choice (λ k. P (suc k)) xs (λ k z at. h (suc k) z at) in
+    (here.0 ∷ rest.0, ap suc rest.1, one_more P x xs here.0 rest.0 here.1 rest.2)
 
--- from the number k on, so many
-listed : (ℕ → Fate) → ℕ → ℕ → List Fate
-listed f k zero = []
-listed f k (suc n) = f k ∷ listed f (suc k) n
+pub zip_all : {A B : Type 0} (R : A → B → Type 0) (xs : List A) (ys : List B) → length ys ≡ length xs → ((k : ℕ) (x : A) → slice_get xs k ≡ Some x → (y : B) × (slice_get ys k ≡ Some y) × R x y) → AllZip R xs ys
+zip_all R [] [] size h = tt
+zip_all R [] (y ∷ ys) size h = absurd (omega (arith, size))
+zip_all R (x ∷ xs) [] size h = absurd (omega (arith, size))
+zip_all R (x ∷ xs) (y ∷ ys) size h =
+    let first = h 0 x refl in
+    let same : first.0 ≡ y = (let e : Some y ≡ Some first.0 = first.1 in cc (e)) in
+    (subst (λ z. R x z) same first.2, zip_all R xs ys (omega (arith, size)) (λ k z at. h (suc k) z at))
 
-actions_past : (edition : ℕ) (all ds : List Directory) (actions : List (Option Action)) → AreActionsOf edition all ds actions → (k : ℕ) → slice_get ds k ≡ None → slice_get actions k ≡ None
-actions_past edition all [] [] h k e = refl
-actions_past edition all [] (a ∷ actions) h k e = absurd h
-actions_past edition all (d ∷ ds) [] h k e = absurd h
-actions_past edition all (d ∷ ds) (a ∷ actions) h zero e = cc
-actions_past edition all (d ∷ ds) (a ∷ actions) h (suc k) e = actions_past edition all ds actions h.1 k e
+fate_there : (fates : List Fate) (k : ℕ) → k < length fates → slice_get fates k ≡ Some (fate_at fates k)
+fate_there [] k lt = absurd (omega (arith, lt))
+fate_there (x ∷ xs) zero lt = refl
+fate_there (x ∷ xs) (suc k) lt = fate_there xs k (omega (arith, lt))
 
--- a directory whose fate is good is sound
-good_sound_by : (p : Planned) (has : Option (Option Action)) (result : Option (Option Fault)) (good : Bool) → is_good (fated_by p has result good) ≡ true → is_sound p ≡ true
-good_sound_by NoFiles has result good e = cc
-good_sound_by (Faulty fault) has result good e = cc
-good_sound_by (Sound parsed) has result good e = refl
+fate_beyond : (fates : List Fate) (k : ℕ) → length fates ≤ k → fate_at fates k ≡ Blocked
+fate_beyond [] k le = refl
+fate_beyond (x ∷ xs) zero le = absurd (omega (arith, le))
+fate_beyond (x ∷ xs) (suc k) le = fate_beyond xs k (omega (arith, le))
 
-good_sound : (o : Option Directory) (has : Option (Option Action)) (result : Option (Option Fault)) (at : ℕ → Fate) → is_good (fated o has result at) ≡ true → is_sound_in o ≡ true
-good_sound None has result at e = cc
-good_sound (Some d) has result at e = good_sound_by d.planned has result (list_all (λ j. is_good (at j)) d.imports) e
+-- all have ranks below it
+highest : (rank : ℕ → ℕ) (l : ℕ) → (n : ℕ) × ((k : ℕ) → k < l → rank k < n)
+highest rank zero = (0, λ k lt. absurd (omega (arith, lt)))
+highest rank (suc l) =
+    let before = highest rank l in
+    (suc (before.0 + rank l), λ k lt. elim (cases_eq k l) [ inl e ↦ (let same = ap rank e in omega (arith, same)) | inr ne ↦ (let below = before.1 k (omega (arith, lt, ne)) in omega (arith, below)) ])
 
-module _ (edition : ℕ) (sources : Sources) (ds : List Directory) (planned : AllPlanned sources ds) (actions : List (Option Action)) (are : AreActionsOf edition ds ds actions) where
-  pub result_of : (d : Directory) (a : Action) → Contains ds d → IsActionOf edition ds d (Some a) → (c : Option Fault) × ComesTo a c
-  result_of d a among (parsed, sound, summaries, have, is) =
-      let has = sound_has sources d.path d.planned (planned d among) (ap is_sound sound) in
-      let c = some_coming edition d.path has.0 summaries has.2.parses.parses in
-      let same : has.0 ≡ parsed = (let e : Sound has.0 ≡ Sound parsed = sym has.1 ∙ sound in cc) in
-      (c.0, subst (λ (z : Action). ComesTo z c.0) (ap (λ ps. action_of edition d.path ps summaries) same ∙ sym is) c.1)
+-- ---- fates, of one rank after another
 
-  result_by : (k : ℕ) (o : Option Directory) → slice_get ds k ≡ o → (has : Option (Option Action)) → slice_get actions k ≡ has → (c : Option (Option Fault)) × IsResult has c
-  result_by k o at None has = (None, λ a e. cc)
-  result_by k o at (Some None) has = (None, λ a e. cc)
-  result_by k None at (Some (Some a)) has = let e : None ≡ Some (Some a) = sym (actions_past edition ds ds actions are k at) ∙ has in cc
-  result_by k (Some d) at (Some (Some a)) has =
-      let c = result_of d a (at_member ds k d at) (action_at edition ds ds actions are k d (Some a) at has) in
-      (Some c.0, λ b e. (let same : a ≡ b = cc in (c.0, refl, subst (λ (z : Action). ComesTo z c.0) same c.1)))
+fate_moves : (f g : List Fate) (d : Directory) → ((files : List Parsed) → d.planned ≡ Sound files → Agree f g d.imports) → (a : Fate) → IsFate f d a → IsFate g d a
+fate_moves f g d agree (Stopped fault) h = h
+fate_moves f g d agree Blocked h = (h.0, h.1, λ ps k. h.2 ps (packages_move g f d.imports ps (agree_sym f g d.imports (agree h.0 h.1)) k))
+fate_moves f g d agree (Wrong fault) h = (h.0, h.1, record { sound = (h.2).sound; good = packages_move f g d.imports h.1 (agree h.0 (h.2).sound) (h.2).good }, h.3)
+fate_moves f g d agree (Good t) h = (h.0, h.1, record { sound = (h.2).sound; good = packages_move f g d.imports h.1 (agree h.0 (h.2).sound) (h.2).good }, h.3)
 
-  result : (k : ℕ) → (c : Option (Option Fault)) × IsResult (slice_get actions k) c
-  result k = result_by k (slice_get ds k) refl (slice_get actions k) refl
+module _ (sources : Sources) (ds : List Directory) (planned : AllPlanned sources ds) where
+  some_fate_of : (fates : List Fate) (d : Directory) (p : Planned) → d.planned ≡ p → IsPlannedAs sources d.path p → (a : Fate) × IsFate fates d a
+  some_fate_of fates d NoFiles e is = absurd is
+  some_fate_of fates d (Faulty fault) e is = (Stopped fault, e)
+  some_fate_of fates d (Sound files) e is = elim (some_packages fates d.imports) [
+    | inr none ↦ (Blocked, (files, e, none))
+    | inl (ps, good) ↦ (
+        let trees = trees_of files is.0.parses.parses in
+        elim (some_result d.path files (map importable_of ps) trees.0 trees.1) [
+          | inl (fault, have) ↦ (Wrong fault, (files, ps, record { sound = e; good = good }, have))
+          | inr (t, typed) ↦ (Good t, (files, ps, record { sound = e; good = good }, typed))
+        ])
+  ]
 
-  -- the fate of a number, by imports to this depth
-  fate_to : ℕ → ℕ → Fate
-  fate_to zero k = Blocked
-  fate_to (suc n) k = fated (slice_get ds k) (slice_get actions k) (result k).0 (fate_to n)
+  some_fate : (fates : List Fate) (k : ℕ) (d : Directory) → slice_get ds k ≡ Some d → (a : Fate) × IsFate fates d a
+  some_fate fates k d at = some_fate_of fates d d.planned refl (planned d (at_member ds k d at))
 
-  module _ (rank : ℕ → ℕ) (lower : AreRanks ds rank) where
-    fate : ℕ → Fate
-    fate k = fate_to (suc (rank k)) k
+  module _ (rank : ℕ → ℕ) (ranks : AreRanks ds rank) where
+    -- those of a rank below n
+    record Round (n : ℕ) : Type 0 where
+      fates : List Fate
+      size : length fates ≡ length ds
+      are : (k : ℕ) (d : Directory) → slice_get ds k ≡ Some d → rank k < n → IsFate fates d (fate_at fates k)
 
-    same_fated_by : (k : ℕ) (d : Directory) (p : Planned) → d.planned ≡ p → (f g : ℕ → Fate) → ((parsed : List Parsed) → d.planned ≡ Sound parsed → (j : ℕ) → Contains d.imports j → f j ≡ g j) → (c : Option (Option Fault)) → fated_by p (slice_get actions k) c (list_all (λ j. is_good (f j)) d.imports) ≡ fated_by p (slice_get actions k) c (list_all (λ j. is_good (g j)) d.imports)
-    same_fated_by k d NoFiles e f g h c = refl
-    same_fated_by k d (Faulty fault) e f g h c = refl
-    same_fated_by k d (Sound parsed) e f g h c = ap (fated_by (Sound parsed) (slice_get actions k) c) (all_on (λ j. is_good (f j)) (λ j. is_good (g j)) d.imports (λ j among. ap is_good (h parsed e j among)))
+    first_round : Round 0
+    first_round =
+        let all = choice (λ k (d : Directory) (a : Fate). Unit {0}) ds (λ k d at. (Blocked, tt)) in
+        record { fates = all.0; size = all.1; are = λ k d at lt. absurd (omega (arith, lt)) }
 
-    same_fated : (k : ℕ) (o : Option Directory) → slice_get ds k ≡ o → (f g : ℕ → Fate) → ((j : ℕ) → rank j < rank k → f j ≡ g j) → fated o (slice_get actions k) (result k).0 f ≡ fated o (slice_get actions k) (result k).0 g
-    same_fated k None at f g h = refl
-    same_fated k (Some d) at f g h = same_fated_by k d d.planned refl f g (λ parsed sound j among. h j (lower k j d parsed at sound among)) (result k).0
+    abbrev Next : (n : ℕ) → List Fate → ℕ → Directory → Fate → Type 0
+    Next n f k d a = (rank k < n → a ≡ fate_at f k) × ((rank k < n → ⊥) → IsFate f d a)
 
-    -- any depth above the rank will do
-    stable_step : (k : ℕ) → ((j : ℕ) → rank j < rank k → (n : ℕ) → rank j < n → fate_to n j ≡ fate j) → (n : ℕ) → rank k < n → fate_to n k ≡ fate k
-    unfolding fate_to fate
-    stable_step k below zero lt = absurd (omega arith)
-    stable_step k below (suc n) lt = same_fated k (slice_get ds k) refl (fate_to n) (fate_to (rank k)) (λ j less. below j less n (omega arith) ∙ sym (below j less (rank k) less))
+    next_at : (n : ℕ) (r : Round n) (k : ℕ) (d : Directory) → slice_get ds k ≡ Some d → (a : Fate) × Next n r.fates k d a
+    next_at n r k d at = elim (cases_lt (rank k) n) [
+      | inl lt ↦ (fate_at r.fates k, (λ l. refl, λ never. absurd (never lt)))
+      | inr past ↦ (let a = some_fate r.fates k d at in (a.0, (λ lt. absurd (omega (arith, lt, past)), λ never. a.1)))
+    ]
 
-    stable : (k n : ℕ) → rank k < n → fate_to n k ≡ fate k
-    stable k = ranked rank (λ k. (n : ℕ) → rank k < n → fate_to n k ≡ fate k) stable_step k
+    next_round : (n : ℕ) → Round n → Round (suc n)
+    next_round n r =
+        let f = r.fates in
+        let all = choice (Next n f) ds (next_at n r) in
+        let g = all.0 in
+        let kept : (j : ℕ) → rank j < n → fate_at f j ≡ fate_at g j = λ j lt. elim (slice_get ds j) as (λ o. slice_get ds j ≡ o → fate_at f j ≡ fate_at g j) [
+          | None ↦ λ none. (let past = past_none ds j none in fate_beyond f j (omega (arith, past, r.size)) ∙ sym (fate_beyond g j (omega (arith, past, all.1))))
+          | Some d ↦ λ at. (let a = all.2 j d at in sym (at_fate g j a.0 a.1 ∙ (a.2).0 lt))
+        ] refl in
+        record {
+          fates = g;
+          size = all.1;
+          are = λ k d at lt.
+              let agree : (files : List Parsed) → d.planned ≡ Sound files → Agree f g d.imports = λ files e.
+              agree_at f g d.imports (λ j c. kept j (let below = ranks k j d files at e c in omega (arith, below, lt))) in
+              elim (cases_lt (rank k) n) [
+                | inl below ↦ subst (λ a. IsFate g d a) (kept k below) (fate_moves f g d agree (fate_at f k) (r.are k d at below))
+                | inr past ↦ (
+                    let a = all.2 k d at in
+                    subst (λ b. IsFate g d b) (sym (at_fate g k a.0 a.1)) (fate_moves f g d agree a.0 ((a.2).1 (λ below. absurd (omega (arith, below, past))))))
+              ];
+        }
 
-    fate_is : (k : ℕ) → fate k ≡ fated (slice_get ds k) (slice_get actions k) (result k).0 fate
-    unfolding fate_to fate
-    fate_is k = same_fated k (slice_get ds k) refl (fate_to (rank k)) fate (λ j less. stable j (rank k) less)
+    rounds : (n : ℕ) → Round n
+    rounds zero = first_round
+    rounds (suc n) = next_round n (rounds n)
 
-    fates : List Fate
-    fates = listed fate 0 (length ds)
+    pub some_fates : (fates : List Fate) × AreFates ds fates
+    some_fates =
+        let top = highest rank (length ds) in
+        let last = rounds top.0 in (
+          last.fates,
+          zip_all (IsFate last.fates) ds last.fates last.size (λ k d at.
+              let inside = slice_get_within ds k d at in
+              (fate_at last.fates k, fate_there last.fates k (omega (arith, inside, last.size)), last.are k d at (top.1 k inside))),
+        )
 
-    listed_within : (f : ℕ → Fate) (k n j : ℕ) → j < n → slice_get (listed f k n) j ≡ Some (f (k + j))
-    unfolding listed
-    listed_within f k zero j lt = absurd (omega arith)
-    listed_within f k (suc n) zero lt = ap (λ m. Some (f m)) (let e : k ≡ k + 0 = omega arith in e)
-    listed_within f k (suc n) (suc j) lt = listed_within f (suc k) n j (omega arith) ∙ ap (λ m. Some (f m)) (let e : suc k + j ≡ k + suc j = omega arith in e)
-
-    listed_past : (f : ℕ → Fate) (k n j : ℕ) → n ≤ j → slice_get (listed f k n) j ≡ None
-    unfolding listed
-    listed_past f k zero j le = refl
-    listed_past f k (suc n) zero le = absurd (omega arith)
-    listed_past f k (suc n) (suc j) le = listed_past f (suc k) n j (omega arith)
-
-    good_by : (j : ℕ) (o : Option Directory) → slice_get ds j ≡ o → is_good_at fates j ≡ is_good (fate j)
-    unfolding fates
-    good_by j (Some d) at =
-        good_at (listed fate 0 (length ds)) j ∙ ap good_one (listed_within fate 0 (length ds) j (slice_get_within ds j d at)) ∙ ap (λ m. is_good (fate m)) (let e : 0 + j ≡ j = omega arith in e)
-    good_by j None at =
-        good_at (listed fate 0 (length ds)) j ∙ ap good_one (listed_past fate 0 (length ds) j (past_none ds j at))
-        ∙ sym (ap is_good (fate_is j ∙ ap (λ o. fated o (slice_get actions j) (result j).0 fate) at))
-
-    good : (j : ℕ) → is_good_at fates j ≡ is_good (fate j)
-    good j = good_by j (slice_get ds j) refl
-
-    -- imports that are good are sound
-    sound_imports : (ks : List ℕ) → list_all (is_good_at fates) ks ≡ true → list_all (is_sound_at ds) ks ≡ true
-    sound_imports ks h = each_all (is_sound_at ds) ks (λ j c.
-        good_sound (slice_get ds j) (slice_get actions j) (result j).0 fate (sym (ap is_good (fate_is j)) ∙ sym (good j) ∙ all_each (is_good_at fates) ks h j c))
-
-    right_by : (d : Directory) (a : Option Action) → IsActionOf edition ds d a → (p : Planned) → d.planned ≡ p → IsPlannedAs sources d.path p → (c : Option (Option Fault)) → IsResult (Some a) c → (g : Bool) → list_all (is_good_at fates) d.imports ≡ g → IsFate fates d a (fated_by p (Some a) c g)
-    right_by d a its NoFiles e h c gives g all = absurd h
-    right_by d a its (Faulty fault) e h c gives g all = e
-    right_by d a its (Sound parsed) e h c gives false all = (parsed, e, all)
-    right_by d None its (Sound parsed) e h c gives true all =
-        let whole : (is_sound d.planned && list_all (is_sound_at ds) d.imports) ≡ true = ap (λ p. is_sound p && list_all (is_sound_at ds) d.imports) e ∙ sound_imports d.imports all in
-        let f : false ≡ true = sym its ∙ whole in
-        cc
-    right_by d (Some a) its (Sound parsed) e h None gives true all = let c = gives a refl in let f : None ≡ Some c.0 = c.1 in cc
-    right_by d (Some a) its (Sound parsed) e h (Some r) gives true all =
-        let c = gives a refl in
-        let same : r ≡ c.0 = some_same r c.0 c.1 in
-        (refl, all, subst (ComesTo a) (sym same) c.2)
-
-    right : (k : ℕ) (d : Directory) (a : Option Action) → slice_get ds k ≡ Some d → slice_get actions k ≡ Some a → IsFate fates d a (fate k)
-    right k d a at has =
-        let whole : fate k ≡ fated_by d.planned (Some a) (result k).0 (list_all (λ j. is_good (fate j)) d.imports) =
-        fate_is k ∙ ap (λ o. fated o (slice_get actions k) (result k).0 fate) at ∙ ap (λ h. fated_by d.planned h (result k).0 (list_all (λ j. is_good (fate j)) d.imports)) has in
-        subst (IsFate fates d a) (sym whole)
-        (right_by d a (action_at edition ds ds actions are k d a at has) d.planned refl (planned d (at_member ds k d at)) (result k).0
-        (subst (λ h. IsResult h (result k).0) has (result k).1) (list_all (λ j. is_good (fate j)) d.imports)
-        (all_on (is_good_at fates) (λ j. is_good (fate j)) d.imports (λ j c. good j)))
-
-    are_listed : (all : List Fate) (f : ℕ → Fate) (xs : List Directory) (as_ : List (Option Action)) (k : ℕ) → AreActionsOf edition ds xs as_ → ((j : ℕ) (d : Directory) (a : Option Action) → slice_get xs j ≡ Some d → slice_get as_ j ≡ Some a → IsFate all d a (f (k + j))) → AreFatesOf all xs as_ (listed f k (length xs))
-    unfolding listed
-    are_listed all f [] [] k h each = tt
-    are_listed all f [] (a ∷ others) k h each = absurd h
-    are_listed all f (x ∷ xs) [] k h each = absurd h
-    are_listed all f (x ∷ xs) (a ∷ others) k h each = (
-      subst (λ m. IsFate all x a (f m)) (let e : k + 0 ≡ k = omega arith in e) (each 0 x a refl refl),
-      are_listed all f xs others (suc k) h.1 (λ j d b at has. subst (λ m. IsFate all d b (f m)) (let e : k + suc j ≡ suc k + j = omega arith in e) (each (suc j) d b at has)),
-    )
-
-    pub some_fates_by : (all : List Fate) × AreFatesOf all ds actions all
-    unfolding fates
-    some_fates_by = (fates, are_listed fates fate ds actions 0 are (λ j d a at has. subst (λ m. IsFate fates d a (fate m)) (let e : j ≡ 0 + j = omega arith in e) (right j d a at has)))
-
-pub some_fates : (edition : ℕ) (W : List Write) (target : List ℕ) (plan : Option ActionPlan) → IsPlanFor edition W target plan → (fates : List Fate) × AreFates plan fates
-some_fates edition W target None h = ([], refl)
-some_fates edition W target (Some plan) (of, actions) =
-    let rank = ranked_build_plan W target plan.directories of in
-    some_fates_by edition of.0 plan.directories of.2.planned plan.actions actions rank.0 rank.1
+pub some_build : (W : List Write) (target : List ℕ) → (build : Option TargetBuild) × IsTargetBuild W target build
+some_build W target = elim (some_build_plan_of W target) [
+  | inl none ↦ (None, none)
+  | inr (ds, of) ↦ (
+      let ranks = ranked_build_plan W target ds of in
+      let fates = some_fates of.0 ds of.2.planned ranks.0 ranks.1 in
+      (Some (record { directories = ds; fates = fates.0 }), (of, fates.1)))
+]

@@ -1,125 +1,23 @@
--- Steps of loops over what a plan reaches.
-use Rattle.std.proofs.Common.{◌≡◌, ℕ, zero, suc, ◌+◌, ◌<◌, ◌≤◌, Bool, true, false, List, [], ◌∷◌, ◌++◌, map, length, take, drop, get_or, Option, None, Some, refl, sym, ap, subst, ◌∙◌, inl, inr, add-one, arith}
-use Rattle.std.specs.Prelude.{◌⊎◌, option_map, is_some}
-use Rattle.std.specs.List.{slice_get, AllZip, Contains}
-use Rattle.std.specs.Bool.{OnTrue, OnFalse}
-use Rattle.std.specs.FinMap.{FinMap, get}
-use Rattle.std.proofs.Math.Seq.{drop-cons}
-use Rattle.std.proofs.lemmas.List.{take_more, map-append, append-nil, append_assoc}
-use Rattle.std.proofs.lemmas.List.Elements.{Contains-push_cases}
-use Rattle.go_ast.specs.Parse.{Parsed, IsPackage}
-use Rattle.go_ast.specs.Trees.{Name}
-use Rattle.go_code.specs.Images.{Image}
+-- The steps of the loops over a plan's directories.
+use Rattle.std.proofs.Common.{◌≡◌, ℕ, zero, suc, ◌+◌, ◌<◌, ◌≤◌, List, [], ◌∷◌, ◌++◌, length, map, take, get_or, Option, Some, None, refl, sym, ap, subst, ◌∙◌, arith, length-append, append-nil, append_assoc}
+use Rattle.std.specs.List.{slice_get}
+use Rattle.std.specs.Prelude.{Vec, IfNone, IfSome, string_bytes}
+use Rattle.std.specs.Global.{Global}
+use Rattle.ws_reach.specs.Reach.{rows_of}
+use Rattle.std.proofs.lemmas.List.{map-append, take_more}
 use Rattle.go_code.specs.Packages.{Object}
-use Rattle.go_export.specs.Summaries.{Summary}
-use Rattle.go_text.specs.Faults.{Fault}
-use Rattle.ws_action.specs.Actions.{Action, action_id}
-use Rattle.ws_action.proofs.Members.{at_head, later}
-use Rattle.ws_cache.specs.Compiles.{Compiles, Good}
-use Rattle.ws_cache.specs.Compiles as compiled
-use Rattle.ws_cache.specs.Held.{id_cmp}
-use Rattle.ws_cache.proofs.Outcomes.{one_outcome}
+use Rattle.ws_action.specs.Actions.{Action}
+use Rattle.ws_board.specs.Work.{Seen, State}
 use Rattle.ws_graph.specs.declared.planning.Directory.{Directory as RustDirectory}
-use Rattle.ws_graph.specs.declared.planned.Node.{Node}
-use Rattle.ws_graph.specs.declared.planned.Node.TheVariants as node
-use Rattle.ws_graph.specs.Node.{planned_of, directory_of}
-use Rattle.ws_graph.specs.Plan.{Faulty, Sound}
-use Rattle.ws_graph.specs.BuildPlan.{Directory}
-use Rattle.ws_report.specs.Reports.{Verdict}
+use Rattle.ws_graph.specs.Node.{directory_of}
+use Rattle.ws_report.specs.declared.IdLine.{IdLine}
+use Rattle.ws_report.specs.declared.Standing.{Standing}
+use Rattle.ws_report.specs.Reports.{Verdict, id_row}
+use Rattle.ws_replica.specs.declared.reached.Place.{Place as RustPlace}
 use Rattle.ws_replica.specs.declared.reached.Reached.{Reached as RustReached}
-use Rattle.ws_replica.specs.Images.{IsTranslated, IsLinked, IsObjectHeld, AreObjectsHeld, LacksObject, IsAt, no_program, IsImageHeld}
-use Rattle.ws_replica.specs.Jobs.{Place, Reached, reached_of, reached_by, IsSummaryFor, AreSummed, flat, before, gathered, IsTold, AreTold}
+use Rattle.ws_replica.specs.Jobs.{Place, Reached, place_of, reached_of, reached_by, IsTold, AreTold}
+use Rattle.ws_replica.specs.Opened.{standing_in, rows_from, IsObjectAt, AreObjects}
 use Rattle.ws_replica.proofs.Numbered.{some_same}
-
--- ---- lists
-
--- one more of a list, mapped
-mapped_next : {A B : Type 0} (f : A → B) (xs : List A) (i : ℕ) (d : A) → i < length xs → d ≡ get_or xs i d → map f (take (i + 1) xs) ≡ map f (take i xs) ++ f d ∷ []
-mapped_next f xs i d within e =
-    ap (map f) (take_more xs i d within ∙ ap (λ y. take i xs ++ y ∷ []) (sym e)) ∙ map-append f (take i xs) (d ∷ [])
-
-zip_push : {A B : Type 0} (R : A → B → Type 0) (xs : List A) (ys : List B) (x : A) (y : B) → AllZip R xs ys → R x y → AllZip R (xs ++ x ∷ []) (ys ++ y ∷ [])
-zip_push R [] [] x y h here = (here, tt)
-zip_push R [] (b ∷ ys) x y h here = absurd h
-zip_push R (a ∷ xs) [] x y h here = absurd h
-zip_push R (a ∷ xs) (b ∷ ys) x y h here = (h.0, zip_push R xs ys x y h.1 here)
-
--- ---- summaries
-
-pub none_of_faulty : (d : Directory) (fault : Fault) → d.planned ≡ Faulty fault → IsSummaryFor d None
-none_of_faulty d fault e = λ s h. (let f : Faulty fault ≡ Sound (h.first ∷ h.rest) = sym e ∙ h.sound in cc)
-
-none_by : (d : RustDirectory) (n : Node) → d.node ≡ n → ((x : _) → d.node ≡ node.Sound x → ⊥) → IsSummaryFor (directory_of d) None
-none_by d (node.Faulty fault) e other = none_of_faulty (directory_of d) fault (ap planned_of e)
-none_by d (node.Sound parsed) e other = absurd (other parsed e)
-
-pub none_of_other : (d : RustDirectory) → ((x : _) → d.node ≡ node.Sound x → ⊥) → IsSummaryFor (directory_of d) None
-none_of_other d other = none_by d d.node refl other
-
-pub none_of_empty : (d : Directory) (parsed : List Parsed) → d.planned ≡ Sound parsed → slice_get parsed 0 ≡ None → IsSummaryFor d None
-none_of_empty d [] e none = λ s h. (let f : Sound [] ≡ Sound (h.first ∷ h.rest) = sym e ∙ h.sound in cc)
-none_of_empty d (p ∷ parsed) e none = absurd (let f : Some p ≡ None = none in cc)
-
-pub summary_of_first : (d : Directory) (parsed : List Parsed) (first : Parsed) (clause : Name) (s : Summary) → d.planned ≡ Sound parsed → slice_get parsed 0 ≡ Some first → IsPackage first.text clause → s.path ≡ d.path → s.package ≡ clause.text → IsSummaryFor d (Some s)
-summary_of_first d [] first clause s e at is path name = absurd (let f : None ≡ Some first = at in cc)
-summary_of_first d (p ∷ parsed) first clause s e at is path name = record {
-  first = first;
-  rest = parsed;
-  clause = clause;
-  sound = e ∙ ap (λ z. Sound (z ∷ parsed)) (some_same p first at);
-  package_is = is;
-  is = λ i. record { path = path i; «package» = name i };
-}
-
-pub summed_next : {A : Type 0} (v : A → Option Summary) (ds : List RustDirectory) (i : ℕ) (d : RustDirectory) (done pushed : List A) (x : A) → i < length ds → d ≡ get_or ds i d → pushed ≡ done ++ x ∷ [] → AreSummed (map directory_of (take i ds)) (map v done) → IsSummaryFor (directory_of d) (v x) → AreSummed (map directory_of (take (i + 1) ds)) (map v pushed)
-summed_next v ds i d done pushed x within e p h here =
-    let named : map v pushed ≡ map v done ++ v x ∷ [] = ap (map v) p ∙ map-append v done (x ∷ []) in
-    subst (λ zs. AreSummed zs (map v pushed)) (sym (mapped_next directory_of ds i d within e))
-    (subst (λ zs. AreSummed (map directory_of (take i ds) ++ directory_of d ∷ []) zs) (sym named)
-    (zip_push IsSummaryFor (map directory_of (take i ds)) (map v done) (directory_of d) (v x) h here))
-
--- ---- what is gathered
-
-abbrev pub ahead : List Summary → Option (List Summary) → Option (List Summary)
-ahead found None = None
-ahead found (Some rest) = Some (found ++ rest)
-
-left_here : (ks : List ℕ) (i : ℕ) → i < length ks → drop i ks ≡ get_or ks i 0 ∷ drop (i + 1) ks
-left_here ks i inside = rw add-one (drop-cons ks i 0 inside)
-
-gathered_here : (summaries : List (Option Summary)) (ks : List ℕ) (i : ℕ) (o : Option Summary) → i < length ks → o ≡ flat (slice_get summaries (get_or ks i 0)) → gathered summaries (drop i ks) ≡ before o (gathered summaries (drop (i + 1) ks))
-gathered_here summaries ks i o inside at =
-    ap (gathered summaries) (left_here ks i inside) ∙ ap (λ z. before z (gathered summaries (drop (i + 1) ks))) (sym at)
-
-ahead_more : (found : List Summary) (s : Summary) (rest : Option (List Summary)) → ahead (found ++ s ∷ []) rest ≡ ahead found (before (Some s) rest)
-ahead_more found s None = refl
-ahead_more found s (Some rest) = ap Some (append_assoc found (s ∷ []) rest)
-
-pub gathered_next : (summaries : List (Option Summary)) (ks : List ℕ) (i : ℕ) (s : Summary) (found more : List Summary) → i < length ks → Some s ≡ flat (slice_get summaries (get_or ks i 0)) → more ≡ found ++ s ∷ [] → ahead found (gathered summaries (drop i ks)) ≡ gathered summaries ks → ahead more (gathered summaries (drop (i + 1) ks)) ≡ gathered summaries ks
-gathered_next summaries ks i s found more inside at pushed h =
-    ap (λ z. ahead z (gathered summaries (drop (i + 1) ks))) pushed ∙ ahead_more found s (gathered summaries (drop (i + 1) ks))
-    ∙ ap (ahead found) (sym (gathered_here summaries ks i (Some s) inside at)) ∙ h
-
-pub gathered_none : (summaries : List (Option Summary)) (ks : List ℕ) (i : ℕ) (found : List Summary) → i < length ks → None ≡ flat (slice_get summaries (get_or ks i 0)) → ahead found (gathered summaries (drop i ks)) ≡ gathered summaries ks → None ≡ gathered summaries ks
-gathered_none summaries ks i found inside at h =
-    ap (ahead found) (sym (gathered_here summaries ks i None inside at)) ∙ h
-
-past_drop : (ks : List ℕ) (i : ℕ) → length ks ≤ i → drop i ks ≡ []
-past_drop [] zero le = refl
-past_drop [] (suc i) le = refl
-past_drop (k ∷ ks) zero le = absurd (omega arith)
-past_drop (k ∷ ks) (suc i) le = past_drop ks i (omega arith)
-
-pub gathered_whole : (summaries : List (Option Summary)) (ks : List ℕ) (i : ℕ) (found : List Summary) → length ks ≤ i → ahead found (gathered summaries (drop i ks)) ≡ gathered summaries ks → Some found ≡ gathered summaries ks
-gathered_whole summaries ks i found le h =
-    ap Some (sym (append-nil found)) ∙ ap (λ zs. ahead found (gathered summaries zs)) (sym (past_drop ks i le)) ∙ h
-
-ahead_nothing : (rest : Option (List Summary)) → ahead [] rest ≡ rest
-ahead_nothing None = refl
-ahead_nothing (Some rest) = refl
-
-pub gathered_start : (summaries : List (Option Summary)) (ks : List ℕ) (found : List Summary) → found ≡ [] → ahead found (gathered summaries (drop 0 ks)) ≡ gathered summaries ks
-gathered_start summaries ks found e = ap (λ z. ahead z (gathered summaries ks)) e ∙ ahead_nothing (gathered summaries ks)
 
 -- ---- what is told
 
@@ -134,60 +32,49 @@ told_whole result from k rest all rows e h = subst (λ zs. AreTold result from a
 
 -- ---- what was reached
 
-pub reached_next : (number : ℕ) (summaries : List (Option Summary)) (done pushed : List RustReached) (x : RustReached) (d : RustDirectory) (left rest : List RustDirectory) (total : List Reached) → pushed ≡ done ++ x ∷ [] → left ≡ d ∷ rest → reached_of x ≡ reached_by number summaries (directory_of d) → map reached_of done ++ map (reached_by number summaries) (map directory_of left) ≡ total → map reached_of pushed ++ map (reached_by number summaries) (map directory_of rest) ≡ total
-reached_next number summaries done pushed x d left rest total p l one h =
-    let others : List Reached = map (reached_by number summaries) (map directory_of rest) in
+pub reached_next : (number : ℕ) (done pushed : List RustReached) (x : RustReached) (d : RustDirectory) (left rest : List RustDirectory) (total : List Reached) → pushed ≡ done ++ x ∷ [] → left ≡ d ∷ rest → reached_of x ≡ reached_by number (directory_of d) → map reached_of done ++ map (reached_by number) (map directory_of left) ≡ total → map reached_of pushed ++ map (reached_by number) (map directory_of rest) ≡ total
+reached_next number done pushed x d left rest total p l one h =
+    let others : List Reached = map (reached_by number) (map directory_of rest) in
     ap (λ zs. map reached_of zs ++ others) p
     ∙ ap (λ zs. zs ++ others) (map-append reached_of done (x ∷ []))
     ∙ append_assoc (map reached_of done) (reached_of x ∷ []) others
     ∙ ap (λ z. map reached_of done ++ (z ∷ others)) one
-    ∙ ap (λ zs. map reached_of done ++ map (reached_by number summaries) (map directory_of zs)) (sym l) ∙ h
+    ∙ ap (λ zs. map reached_of done ++ map (reached_by number) (map directory_of zs)) (sym l) ∙ h
 
--- ---- what is held
+-- ---- ids
 
-cases_next : {A B : Type 0} (f : A → B) (xs : List A) (i : ℕ) (d : A) → i < length xs → d ≡ get_or xs i d → (one : B) → Contains (map f (take (i + 1) xs)) one → Contains (map f (take i xs)) one ⊎ (f d ≡ one)
-cases_next f xs i d within e one c = elim (Contains-push_cases (map f (take i xs)) (f d) one (subst (λ zs. Contains zs one) (mapped_next f xs i d within e) c)) [ inl l ↦ inl l | inr s ↦ inr s ]
+pub rows_next : (state : State) (lines pushed : List IdLine) (x : IdLine) (p : RustPlace) (left rest : List RustPlace) (total : List (List ℕ × Standing)) → pushed ≡ lines ++ x ∷ [] → left ≡ p ∷ rest → id_row x ≡ (string_bytes p.path, standing_in state (length lines))
+    → map id_row lines ++ rows_from state (length lines) (map place_of left) ≡ total → map id_row pushed ++ rows_from state (length pushed) (map place_of rest) ≡ total
+rows_next state lines pushed x p left rest total push next one h =
+    let size : length pushed ≡ suc (length lines) = ap length push ∙ length-append lines (x ∷ []) ∙ (let z : length lines + 1 ≡ suc (length lines) = omega arith in z) in
+    ap (λ zs. map id_row zs ++ rows_from state (length pushed) (map place_of rest)) push
+    ∙ ap (λ n. map id_row (lines ++ x ∷ []) ++ rows_from state n (map place_of rest)) size
+    ∙ ap (λ zs. zs ++ rows_from state (suc (length lines)) (map place_of rest)) (map-append id_row lines (x ∷ []))
+    ∙ append_assoc (map id_row lines) (id_row x ∷ []) (rows_from state (suc (length lines)) (map place_of rest))
+    ∙ ap (λ z. map id_row lines ++ (z ∷ rows_from state (suc (length lines)) (map place_of rest))) one
+    ∙ ap (λ zs. map id_row lines ++ rows_from state (length lines) (map place_of zs)) (sym next) ∙ h
 
--- an element is among those mapped
-pub mapped_member : {A B : Type 0} (f : A → B) (xs : List A) (i : ℕ) (d : A) → i < length xs → d ≡ get_or xs i d → Contains (map f xs) (f d)
-mapped_member f [] i d within e = absurd (omega arith)
-mapped_member f (x ∷ xs) zero d within e = at_head (map f xs) (f x) (f d) (ap f (sym e))
-mapped_member f (x ∷ xs) (suc i) d within e = later (f x) (map f xs) (f d) (mapped_member f xs i d (omega arith) e)
+pub rows_whole : (state : State) (lines : List IdLine) (rest : List RustPlace) (total : List (List ℕ × Standing)) → rest ≡ [] → map id_row lines ++ rows_from state (length lines) (map place_of rest) ≡ total → map id_row lines ≡ total
+rows_whole state lines rest total none h = sym (append-nil (map id_row lines)) ∙ ap (λ zs. map id_row lines ++ rows_from state (length lines) (map place_of zs)) (sym none) ∙ h
 
-pub held_next : (cache : FinMap id_cmp Action) (reached : List RustReached) (i : ℕ) (d : RustReached) (object : Object) → i < length reached → d ≡ get_or reached i d → AreObjectsHeld cache (map reached_of (take i reached)) → IsObjectHeld cache d.action (Some object) → AreObjectsHeld cache (map reached_of (take (i + 1) reached))
-held_next cache reached i d object within e h here one c = elim (cases_next reached_of reached i d within e one c) [
-  | inl l ↦ h one l
-  | inr same ↦ (object, subst (λ (r : Reached). IsObjectHeld cache r.action (Some object)) same here)
-]
+-- ---- objects
 
-pub lacks_here : (cache : FinMap id_cmp Action) (reached : List RustReached) (i : ℕ) (d : RustReached) → i < length reached → d ≡ get_or reached i d → IsObjectHeld cache d.action None → LacksObject cache (map reached_of reached)
-lacks_here cache reached i d within e none = (reached_of d, mapped_member reached_of reached i d within e, none)
+last_object : (objects : List Object) (o : Object) (k : ℕ) (x : Object) → slice_get (objects ++ o ∷ []) k ≡ Some x → (P : ℕ → Object → Type 0) → ((j : ℕ) (y : Object) → slice_get objects j ≡ Some y → P j y) → P (length objects) o → P k x
+last_object [] o zero x at P each here = subst (P 0) (some_same o x at) here
+last_object [] o (suc k) x at P each here = cc (at)
+last_object (y ∷ objects) o zero x at P each here = each 0 x at
+last_object (y ∷ objects) o (suc k) x at P each here = last_object objects o k x at (λ j z. P (suc j) z) (λ j z e. each (suc j) z e) here
 
-pub at_next : (reached : List RustReached) (target : List ℕ) (i : ℕ) (d : RustReached) → i < length reached → d ≡ get_or reached i d → ((reached_of d).place.path ≡ target → ⊥) → ((one : Reached) → ¬ (IsAt (map reached_of (take i reached)) target one)) → (one : Reached) → ¬ (IsAt (map reached_of (take (i + 1) reached)) target one)
-at_next reached target i d within e other h one (c, named) = elim (cases_next reached_of reached i d within e one c) [
-  | inl l ↦ h one (l, named)
-  | inr same ↦ other (ap (λ (r : Reached). r.place.path) same ∙ named)
-]
+pub objects_next : {A : Type 0} (v : A → Object) (seen : Seen) (n : ℕ) (objects more : List A) (x : A) → more ≡ objects ++ x ∷ [] → IsObjectAt seen n (v x) → AreObjects seen n (map v objects) → AreObjects seen (n + 1) (map v more)
+objects_next v seen n objects more x push here h =
+    let is : map v more ≡ map v objects ++ v x ∷ [] = ap (map v) push ∙ map-append v objects (x ∷ []) in
+    let size = h.size in
+    record {
+      size = ap length is ∙ length-append (map v objects) (v x ∷ []) ∙ ap (λ m. m + 1) size;
+      each = λ k o at. last_object (map v objects) (v x) k o (ap (λ zs. slice_get zs k) (sym is) ∙ at) (λ j y. IsObjectAt seen j y) h.each (subst (λ m. IsObjectAt seen m (v x)) (sym size) here);
+    }
 
--- what is held is translated
-pub held_translated : (cache : FinMap id_cmp Action) (a : Option Action) (object : Object) → IsObjectHeld cache a (Some object) → IsTranslated object
-held_translated cache None object h = let e : Some object ≡ None = h in cc
-held_translated cache (Some a) object (held, found, (typed, of, is)) = (typed, is)
-
--- a faulty package has none
-pub faulty_none : (cache : FinMap id_cmp Action) (a held : Action) (fault : Fault) → get cache (action_id a) ≡ Some held → Compiles held (compiled.Faulty fault) → IsObjectHeld cache (Some a) None
-faulty_none cache a held fault found compiles = λ other at object gives.
-    let same : other ≡ held = some_same other held (sym at ∙ found) in
-    let both : compiled.Faulty fault ≡ Good object = one_outcome held (compiled.Faulty fault) (Good object) compiles (subst (λ (x : Action). Compiles x (Good object)) same gives) in
-    cc
-
-none_if_not : {A : Type 0} (o : Option A) → is_some o ≡ false → o ≡ None
-none_if_not None h = refl
-none_if_not (Some x) h = cc
-
--- where nothing is answered nothing is held
-pub held_none : {A : Type 0} (v : A → Object) (cache : FinMap id_cmp Action) (a : Option Action) (o : Option A) → is_some o ≡ false → IsObjectHeld cache a (option_map v o) → IsObjectHeld cache a None
-held_none v cache a o other h = subst (λ z. IsObjectHeld cache a (option_map v z)) (none_if_not o other) h
+-- ---- lists
 
 pub taken_all : {A : Type 0} (xs : List A) (i : ℕ) → length xs ≤ i → take i xs ≡ xs
 taken_all [] zero le = refl
@@ -195,15 +82,20 @@ taken_all [] (suc i) le = refl
 taken_all (x ∷ xs) zero le = absurd (omega arith)
 taken_all (x ∷ xs) (suc i) le = ap (λ z. x ∷ z) (taken_all xs i (omega arith))
 
--- the image of a target's object, where all is held
-pub image_from : (cache : FinMap id_cmp Action) (reached : List Reached) (target : List ℕ) (one : Reached) (object : Object) (image : Option Image) → AreObjectsHeld cache reached → IsAt reached target one → IsObjectHeld cache one.action (Some object) → IsLinked object image → IsImageHeld cache reached target image
-image_from cache reached target one object None all at held linked = no_program one at object held linked
-image_from cache reached target one object (Some image) all at held linked = record { all = all; one = one; at = at; object = object; held = held; linked = linked }
+-- one more of a list, mapped
+pub mapped_next : {A B : Type 0} (f : A → B) (xs : List A) (i : ℕ) (d : A) → i < length xs → d ≡ get_or xs i d → map f (take (i + 1) xs) ≡ map f (take i xs) ++ f d ∷ []
+mapped_next f xs i d within e =
+    ap (map f) (take_more xs i d within ∙ ap (λ y. take i xs ++ y ∷ []) (sym e)) ∙ map-append f (take i xs) (d ∷ [])
 
-pub on_true : (b : Bool) (P : Type 0) → b ≡ true → OnTrue b P → P
-on_true true P e h = h
-on_true false P e h = cc
+pub imports_next : (reached : List RustReached) (i : ℕ) (d : RustReached) (rows pushed : List (Vec ℕ Global)) (row : Vec ℕ Global) → i < length reached → d ≡ get_or reached i d → pushed ≡ rows ++ row ∷ [] → row.items ≡ d.imports.items
+    → rows_of rows ≡ map (λ (r : Reached). r.imports) (map reached_of (take i reached)) → rows_of pushed ≡ map (λ (r : Reached). r.imports) (map reached_of (take (i + 1) reached))
+imports_next reached i d rows pushed row within e push same h =
+    ap rows_of push ∙ map-append (λ (v : Vec ℕ Global). v.items) rows (row ∷ []) ∙ ap (λ zs. zs ++ row.items ∷ []) h ∙ ap (λ z. map (λ (r : Reached). r.imports) (map reached_of (take i reached)) ++ z ∷ []) same
+    ∙ sym (ap (map (λ (r : Reached). r.imports)) (mapped_next reached_of reached i d within e) ∙ map-append (λ (r : Reached). r.imports) (map reached_of (take i reached)) (reached_of d ∷ []))
 
-pub on_false : (b : Bool) (P : Type 0) → b ≡ false → OnFalse b P → P
-on_false true P e h = cc
-on_false false P e h = h
+pub if_none : {A : Type 0} (o : Option A) (P : Type 0) → ((x : A) → o ≡ Some x → ⊥) → IfNone o P → P
+if_none None P n h = h
+if_none (Some x) P n h = absurd (n x refl)
+
+pub if_some : {A : Type 0} (o : Option A) (P : A → Type 0) (x : A) → o ≡ Some x → IfSome o P → P x
+if_some o P x e h = subst (λ z. IfSome z P) e h

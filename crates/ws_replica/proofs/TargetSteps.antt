@@ -81,8 +81,8 @@ reached_next edition replicas targets i r done pushed x within at push by h =
     (zip_push (IsReached edition replicas) (map target_of (take i targets)) (all_reached_of done) (target_of (target_at targets i)) (map reached_of x.items) h (record { replica = r; at = at; by = by })))
 
 -- a target whose directory has no package files
-pub lacks_here : (edition : ℕ) (replicas : List Replica) (targets : List Target) (i : ℕ) (r : Replica) → i < length targets → slice_get replicas (target_at targets i).replica ≡ Some r → ((W : List Write) → StandsFor held_cmp r.registers W → IsPlanOf W (target_at targets i).directory.now NoFiles) → (took : List Took) → AllStandFor replicas took → LacksPackage edition took (map target_of targets)
-lacks_here edition replicas targets i r within at none took stand =
+pub lacks_here : (replicas : List Replica) (targets : List Target) (i : ℕ) (r : Replica) → i < length targets → slice_get replicas (target_at targets i).replica ≡ Some r → ((W : List Write) → StandsFor held_cmp r.registers W → IsPlanOf W (target_at targets i).directory.now NoFiles) → (took : List Took) → AllStandFor replicas took → LacksPackage took (map target_of targets)
+lacks_here replicas targets i r within at none took stand =
     let t : Target = target_at targets i in
     (t.replica, t.directory.now, target_member targets i within, none (took_at took t.replica).writes (stands_at replicas took stand t.replica r at).registers)
 

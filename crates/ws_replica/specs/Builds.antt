@@ -14,8 +14,7 @@ use Rattle.ws_replica.specs.declared.BuildError.{BuildError}
 use Rattle.ws_replica.specs.declared.building.Target.{Target}
 use Rattle.ws_replica.specs.declared.BuildError.TheVariants as build
 use Rattle.ws_replica.specs.Holdings.{Replica, ReplicaStandsFor, Took}
-use Rattle.ws_replica.specs.ActionPlans.{IsPlanFor}
-use Rattle.ws_replica.specs.Reports.{TargetBuild, IsTargetBuild, all_sought, all_compiled, report_of}
+use Rattle.ws_replica.specs.Reports.{TargetBuild, IsTargetBuild, all_actions, report_of}
 
 -- what is answered where there is no plan
 abbrev pub refusal_of : PlanError → BuildError
@@ -42,37 +41,44 @@ builds targets k = list_any (λ t. t.0 == k) targets
 abbrev pub StandsAfter : List (ℕ × List ℕ) → List Action → ℕ → Took → Replica → Type 0
 StandsAfter targets actions k took replica = ReplicaStandsFor replica took.writes (if builds targets k then took.actions ++ actions else took.actions)
 
--- Where no two texts clash: each report is its target's, each count that of the whole build, and all replicas that build took
--- what they hold together and what was compiled.
-pub record AreRight (took : List Took) (targets : List (ℕ × List ℕ)) (all : List TargetBuild) (given : List Report) (new : List Replica) : Type 0 where
-  pub reports : map (λ (r : Report). rows r.directories.items) given ≡ map (λ (b : TargetBuild). report_of b.plan.directories b.fates) all
-  pub counts : (r : Report) → Contains given r → r.compiled ≡ compiled_count (held_by took targets) (all_compiled all)
-  pub stand : (k : ℕ) (t : Took) (replica : Replica) → slice_get took k ≡ Some t → slice_get new k ≡ Some replica →
-      StandsAfter targets (held_by took targets ++ all_compiled all) k t replica
+-- each report is its target's, and each count that of the whole build
+pub record AreReports (edition : ℕ) (took : List Took) (targets : List (ℕ × List ℕ)) (all : List TargetBuild) (given : List Report) : Type 0 where
+  pub reports : map (λ (r : Report). rows r.directories.items) given ≡ map report_of all
+  pub counts : (r : Report) → Contains given r → r.compiled ≡ compiled_count (held_by took targets) (all_actions edition all)
 
--- What a build that succeeds says of replicas that took this: the plans of the writes, what becomes of their directories, and that
--- the reports and the replicas say so.
+-- Where no two texts clash: so it is told, the numbers in the texts of what was compiled fit, and all replicas that build took what they
+-- hold together and what was compiled.
+pub record AreRight (edition : ℕ) (took : List Took) (targets : List (ℕ × List ℕ)) (all : List TargetBuild) (given : List Report) (new : List Replica) : Type 0 where
+  pub told : AreReports edition took targets all given
+  pub sized : AllSized (all_actions edition all)
+  pub stand : (k : ℕ) (t : Took) (replica : Replica) → slice_get took k ≡ Some t → slice_get new k ≡ Some replica →
+      StandsAfter targets (held_by took targets ++ all_actions edition all) k t replica
+
+-- what becomes of the directories of each target, by the writes that its replica took
+abbrev pub AreBuilds : List Took → List (ℕ × List ℕ) → List TargetBuild → Type 0
+AreBuilds took targets all = AllZip (λ t b. IsTargetBuild (took_at took t.0).writes t.1 (Some b)) targets all
+
+-- What a build that succeeds says of replicas that took this: what becomes of the directories of their writes, and that the reports and the
+-- replicas say so.
 pub record AreBuilt (edition : ℕ) (took : List Took) (targets : List (ℕ × List ℕ)) (reports : List Report) (new : List Replica) : Type 0 where
   pub all : List TargetBuild
-  pub are : AllZip (λ t b. IsTargetBuild edition (took_at took t.0).writes t.1 b) targets all
-  pub sized : AllSized (all_sought all)
-  pub right : NoClash (hashed_actions (held_by took targets ++ all_sought all)) → AreRight took targets all reports new
+  pub are : AreBuilds took targets all
+  pub right : NoClash (hashed_actions (held_by took targets ++ all_actions edition all)) → AreRight edition took targets all reports new
 
 -- The same of a build that changes no replica, and gives a cache with what those that build hold together and what was compiled.
-pub record AreRightFrom (took : List Took) (targets : List (ℕ × List ℕ)) (all : List TargetBuild) (given : List Report) (cache : FinMap id_cmp Action) : Type 0 where
-  pub reports : map (λ (r : Report). rows r.directories.items) given ≡ map (λ (b : TargetBuild). report_of b.plan.directories b.fates) all
-  pub counts : (r : Report) → Contains given r → r.compiled ≡ compiled_count (held_by took targets) (all_compiled all)
-  pub stands : CacheStandsFor cache (held_by took targets ++ all_compiled all)
+pub record AreRightFrom (edition : ℕ) (took : List Took) (targets : List (ℕ × List ℕ)) (all : List TargetBuild) (given : List Report) (cache : FinMap id_cmp Action) : Type 0 where
+  pub told : AreReports edition took targets all given
+  pub sized : AllSized (all_actions edition all)
+  pub stands : CacheStandsFor cache (held_by took targets ++ all_actions edition all)
 
 pub record AreBuiltFrom (edition : ℕ) (took : List Took) (targets : List (ℕ × List ℕ)) (reports : List Report) (cache : FinMap id_cmp Action) : Type 0 where
   pub all : List TargetBuild
-  pub are : AllZip (λ t b. IsTargetBuild edition (took_at took t.0).writes t.1 b) targets all
-  pub sized : AllSized (all_sought all)
-  pub right : NoClash (hashed_actions (held_by took targets ++ all_sought all)) → AreRightFrom took targets all reports cache
+  pub are : AreBuilds took targets all
+  pub right : NoClash (hashed_actions (held_by took targets ++ all_actions edition all)) → AreRightFrom edition took targets all reports cache
 
 -- a target without package files
-abbrev pub LacksPackage : ℕ → List Took → List (ℕ × List ℕ) → Type 0
-LacksPackage edition took targets = (k : ℕ) × (directory : List ℕ) × Contains targets (k, directory) × IsPlanFor edition (took_at took k).writes directory None
+abbrev pub LacksPackage : List Took → List (ℕ × List ℕ) → Type 0
+LacksPackage took targets = (k : ℕ) × (directory : List ℕ) × Contains targets (k, directory) × IsTargetBuild (took_at took k).writes directory None
 
 -- the texts of the entries that each took are sized
 abbrev pub AllTookSized : List Took → Type 0

@@ -1,15 +1,14 @@
 -- The steps from a plan to what is said of its directories.
-use Rattle.std.specs.Prelude.{Vec, ◌≡◌, ℕ, suc, ◌+◌, List, [], ◌∷◌, ◌++◌, length, map, Option, Some, None, IfSome, string_bytes}
-use Rattle.std.specs.List.{slice_get, All, AllZip, count_by}
+use Rattle.std.specs.Prelude.{Vec, ◌≡◌, ℕ, suc, ◌+◌, List, [], ◌∷◌, ◌++◌, length, map, Option, Some, None, string_bytes}
+use Rattle.std.specs.List.{All, count_by}
 use Rattle.std.specs.FinMap.{FinMap}
 use Rattle.std.specs.Global.{Global}
 use Rattle.go_text.specs.Faults.{Fault}
-use Rattle.go_export.specs.Summaries.{Summary}
-use Rattle.ws_action.specs.Actions.{Action, IsSized, action_of}
+use Rattle.ws_action.specs.Actions.{Action}
 use Rattle.ws_cache.specs.Compiles.{Compiled, Compiles}
 use Rattle.ws_cache.specs.Compiles as compiled
 use Rattle.ws_cache.specs.Held.{id_cmp}
-use Rattle.ws_board.specs.Work.{Job, Seen}
+use Rattle.ws_board.specs.Work.{Work, Job, Seen}
 use Rattle.ws_board.specs.Machine.{is_finish}
 use Rattle.ws_board.specs.Calls.{result_at}
 use Rattle.ws_board.specs.Ends.{ComesToEnds}
@@ -17,7 +16,6 @@ use Rattle.ws_graph.specs.Plan.{Planned, NoFiles, Faulty, Sound}
 use Rattle.ws_graph.specs.BuildPlan.{Directory}
 use Rattle.ws_report.specs.declared.Report.{Report}
 use Rattle.ws_report.specs.Reports.{Verdict, Good, Blocked, Wrong, rows}
-use Rattle.ws_replica.specs.ActionPlans.{IsSummaryOf}
 use Rattle.ws_replica.specs.declared.reached.Place.{Place as RustPlace}
 use Rattle.ws_replica.specs.declared.reached.Reached.{Reached as RustReached}
 
@@ -26,10 +24,10 @@ pub record Place : Type 0 where
   pub path : List ℕ
   pub fault : Option Fault
 
--- the same with its action, if it has one, and the numbers of its imports
+-- the same with what is to be compiled of it, if its plan has no fault, and the numbers of its imports
 pub record Reached : Type 0 where
   pub place : Place
-  pub action : Option Action
+  pub work : Option Work
   pub imports : List ℕ
 
 -- of what the code keeps
@@ -37,56 +35,24 @@ abbrev pub place_of : RustPlace → Place
 place_of p = record { path = string_bytes p.path; fault = p.fault }
 
 abbrev pub reached_of : RustReached → Reached
-reached_of r = record { place = place_of r.place; action = r.action; imports = r.imports.items }
-
--- the numbers in its action's text fit, if it has one
-abbrev pub HasSized : RustReached → Type 0
-HasSized r = IfSome r.action IsSized
-
--- the directory's summary, or it has none
-abbrev pub IsSummaryFor : Directory → Option Summary → Type 0
-IsSummaryFor d None = (summary : Summary) → ¬ (IsSummaryOf d summary)
-IsSummaryFor d (Some summary) = IsSummaryOf d summary
-
-abbrev pub AreSummed : List Directory → List (Option Summary) → Type 0
-AreSummed directories summaries = AllZip IsSummaryFor directories summaries
-
-abbrev pub flat : {X : Type 0} → Option (Option X) → Option X
-flat None = None
-flat (Some x) = x
-
-abbrev pub before : Option Summary → Option (List Summary) → Option (List Summary)
-before None rest = None
-before (Some summary) None = None
-before (Some summary) (Some rest) = Some (summary ∷ rest)
-
--- the summaries of these numbers, where each has one
-abbrev pub gathered : List (Option Summary) → List ℕ → Option (List Summary)
-gathered summaries [] = Some []
-gathered summaries (k ∷ ks) = before (flat (slice_get summaries k)) (gathered summaries ks)
-
-abbrev pub made : ℕ → List ℕ → Planned → Option (List Summary) → Option Action
-made edition path NoFiles imports = None
-made edition path (Faulty fault) imports = None
-made edition path (Sound parsed) None = None
-made edition path (Sound parsed) (Some summaries) = Some (action_of edition path parsed summaries)
-
--- the action of a directory, by the summaries of all
-abbrev pub action_by : ℕ → List (Option Summary) → Directory → Option Action
-action_by edition summaries d = made edition d.path d.planned (gathered summaries d.imports)
+reached_of r = record { place = place_of r.place; work = r.work; imports = r.imports.items }
 
 abbrev pub fault_of : Planned → Option Fault
 fault_of NoFiles = None
 fault_of (Faulty fault) = Some fault
-fault_of (Sound parsed) = None
+fault_of (Sound files) = None
 
-abbrev pub reached_by : ℕ → List (Option Summary) → Directory → Reached
-reached_by edition summaries d =
-    record { place = record { path = d.path; fault = fault_of d.planned }; action = action_by edition summaries d; imports = d.imports }
+abbrev pub work_of : ℕ → List ℕ → Planned → Option Work
+work_of edition path NoFiles = None
+work_of edition path (Faulty fault) = None
+work_of edition path (Sound files) = Some (record { edition = edition; path = path; files = files })
+
+abbrev pub reached_by : ℕ → Directory → Reached
+reached_by edition d = record { place = record { path = d.path; fault = fault_of d.planned }; work = work_of edition d.path d.planned; imports = d.imports }
 
 -- the fault in what compiling gives, if there is one
 abbrev pub fault_in : Compiled → Option Fault
-fault_in (compiled.Good object) = None
+fault_in (compiled.Good summary object) = None
 fault_in (compiled.Faulty fault) = Some fault
 
 abbrev pub verdict_of : Option Fault → Verdict
@@ -113,7 +79,7 @@ AreTold result k (place ∷ places) (row ∷ rows) = (row.0 ≡ place.path) × I
 
 -- the job of what was reached, where so many jobs come before those of its plan
 abbrev pub job_after : ℕ → Reached → Job
-job_after n r = record { action = r.action; imports = map (λ k. n + k) r.imports }
+job_after n r = record { work = r.work; imports = map (λ k. n + k) r.imports }
 
 -- the jobs of plans, where so many come before
 abbrev pub jobs_after : ℕ → List (List Reached) → List Job

@@ -1,11 +1,9 @@
-pub mod ActionPlans
 pub mod Holdings
 pub mod Joins
 pub mod Reports
+pub mod Ids
+pub mod Programs
 pub mod Builds
 pub mod Jobs
-pub mod Programs
-pub mod Images
-pub mod Ids
-pub mod Candidates
+pub mod Opened
 pub mod Targets

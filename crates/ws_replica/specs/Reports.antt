@@ -1,84 +1,99 @@
--- What a build says of each directory that it reaches.
-use Rattle.std.specs.Prelude.{◌≡◌, ℕ, Bool, true, false, is_none, List, [], ◌∷◌, Option, Some, None, slice_index_or}
-use Rattle.std.specs.List.{list_all, flat_map}
+-- What a build says of each directory that it reaches: from the sources alone.
+use Rattle.std.specs.Prelude.{◌≡◌, ℕ, List, [], ◌∷◌, map, Option, Some, None, slice_index_or}
+use Rattle.std.specs.List.{AllZip, filter_map, flat_map, zip}
 use Rattle.go_text.specs.Faults.{Fault}
 use Rattle.go_ast.specs.Parse.{Parsed}
-use Rattle.ws_action.specs.Actions.{Action}
-use Rattle.go_export.specs.Typed.{Typed}
-use Rattle.ws_cache.specs.Compiles.{IsTypedOf, IsFaultOf}
-use Rattle.ws_graph.specs.Plan.{Sound, Faulty}
-use Rattle.ws_graph.specs.BuildPlan.{Directory}
-use Rattle.ws_report.specs.Reports.{Verdict, Wrong}
-use Rattle.ws_report.specs.Reports as report
+use Rattle.go_typed.specs.Trees.{Package}
+use Rattle.go_import.specs.Names.{importable_of}
+use Rattle.go_export.specs.Summaries.{summary_of}
+use Rattle.ws_action.specs.Actions.{Action, action_of}
+use Rattle.ws_cache.specs.Compiles.{AreGood, AreFaulty}
+use Rattle.ws_graph.specs.Plan.{Planned, NoFiles, Sound, Faulty, IsPlanOf}
+use Rattle.ws_graph.specs.BuildPlan.{Directory, IsBuildPlanOf}
+use Rattle.ws_report.specs.Reports as told
 use Rattle.ws_version.specs.Writes.{Write}
-use Rattle.ws_replica.specs.ActionPlans.{ActionPlan, IsPlanFor, actions_in}
 
--- what becomes of a directory: the fault of its plan, or nothing where an import isn't good, or its action, which is good or has a fault
+-- the fault of the plan; nothing, where an import isn't good; the fault of its files; or the typed package that they are
 pub data Fate : Type 0 where
   Stopped : Fault → Fate
   Blocked : Fate
-  Came : Action → Option Fault → Fate
+  Wrong : Fault → Fate
+  Good : Package → Fate
 
--- the files of an action have this fault, or are a typed package
-abbrev pub ComesTo : Action → Option Fault → Type 0
-ComesTo action None = (typed : Typed) × IsTypedOf action typed
-ComesTo action (Some fault) = IsFaultOf action fault
+-- where there is no directory, the fate of one that is blocked
+abbrev pub fate_at : List Fate → ℕ → Fate
+fate_at fates k = slice_index_or fates k Blocked
 
-abbrev pub is_good : Fate → Bool
-is_good (Came action fault) = is_none fault
-is_good _ = false
+-- the directories of these numbers are good, and these are their packages
+abbrev pub ArePackages : List Fate → List ℕ → List Package → Type 0
+ArePackages fates = AllZip (λ k p. fate_at fates k ≡ Good p)
 
-abbrev pub is_good_at : List Fate → ℕ → Bool
-is_good_at fates k = is_good (slice_index_or fates k Blocked)
+-- the files of a sound directory, and the packages that it imports, where all are good
+pub record IsReady (fates : List Fate) (d : Directory) (files : List Parsed) (imports : List Package) : Type 0 where
+  pub sound : d.planned ≡ Sound files
+  pub good : ArePackages fates d.imports imports
 
--- of a directory, its action, and the fates of all: no ids, no cache, no order of jobs
-abbrev pub IsFate : List Fate → Directory → Option Action → Fate → Type 0
-IsFate fates d action (Stopped fault) = d.planned ≡ Faulty fault
-IsFate fates d action Blocked = (parsed : List Parsed) × (d.planned ≡ Sound parsed) × (list_all (is_good_at fates) d.imports ≡ false)
-IsFate fates d action (Came its fault) = (action ≡ Some its) × (list_all (is_good_at fates) d.imports ≡ true) × ComesTo its fault
+-- what becomes of a directory, by what becomes of all: no ids, no cache, no summaries, no order of jobs
+abbrev pub IsFate : List Fate → Directory → Fate → Type 0
+IsFate fates d (Stopped fault) = d.planned ≡ Faulty fault
+IsFate fates d Blocked = (files : List Parsed) × (d.planned ≡ Sound files) × ((imports : List Package) → ¬ (ArePackages fates d.imports imports))
+IsFate fates d (Wrong fault) =
+    (files : List Parsed) × (imports : List Package) × IsReady fates d files imports × AreFaulty d.path files (map importable_of imports) fault
+IsFate fates d (Good typed) =
+    (files : List Parsed) × (imports : List Package) × IsReady fates d files imports × AreGood d.path files (map importable_of imports) typed
 
--- the same of each, one after another
-abbrev pub AreFatesOf : List Fate → List Directory → List (Option Action) → List Fate → Type 0
-AreFatesOf all [] [] [] = Unit {0}
-AreFatesOf all (d ∷ ds) (a ∷ actions) (f ∷ fates) = IsFate all d a f × AreFatesOf all ds actions fates
-AreFatesOf all _ _ _ = ⊥
+abbrev pub AreFates : List Directory → List Fate → Type 0
+AreFates directories fates = AllZip (IsFate fates) directories fates
 
--- the fates of a plan's directories; no plan has none
-abbrev pub AreFates : Option ActionPlan → List Fate → Type 0
-AreFates None fates = fates ≡ []
-AreFates (Some plan) fates = AreFatesOf fates plan.directories plan.actions fates
+abbrev pub told_of : Fate → told.Verdict
+told_of (Stopped fault) = told.Wrong fault
+told_of Blocked = told.Blocked
+told_of (Wrong fault) = told.Wrong fault
+told_of (Good typed) = told.Good
 
--- the actions that were compiled
-abbrev pub compiled_actions : List Fate → List Action
-compiled_actions [] = []
-compiled_actions (Came action fault ∷ fates) = action ∷ compiled_actions fates
-compiled_actions (_ ∷ fates) = compiled_actions fates
-
-abbrev pub told_of : Fate → Verdict
-told_of (Stopped fault) = Wrong fault
-told_of Blocked = report.Blocked
-told_of (Came action None) = report.Good
-told_of (Came action (Some fault)) = Wrong fault
-
--- the directories reached, in order, each with what is said of it
-abbrev pub report_of : List Directory → List Fate → List (List ℕ × Verdict)
-report_of (d ∷ ds) (f ∷ fates) = (d.path, told_of f) ∷ report_of ds fates
-report_of _ _ = []
-
--- ---- builds of several targets
-
--- a target's plan, and what becomes of its directories
+-- a target's directories, and what becomes of them
 pub record TargetBuild : Type 0 where
-  pub plan : ActionPlan
+  pub directories : List Directory
   pub fates : List Fate
 
--- that of a directory, from a set of writes alone
-abbrev pub IsTargetBuild : ℕ → List Write → List ℕ → TargetBuild → Type 0
-IsTargetBuild edition writes directory build = IsPlanFor edition writes directory (Some build.plan) × AreFates (Some build.plan) build.fates
+-- those of a directory, from a set of writes alone; none where it has no package files
+abbrev pub IsTargetBuild : List Write → List ℕ → Option TargetBuild → Type 0
+IsTargetBuild writes target None = IsPlanOf writes target NoFiles
+IsTargetBuild writes target (Some build) = IsBuildPlanOf writes target build.directories × AreFates build.directories build.fates
 
--- the actions of all plans, and those that were compiled
-abbrev pub all_sought : List TargetBuild → List Action
-all_sought builds = flat_map (λ b. actions_in (Some b.plan)) builds
+-- the directories reached, in order, each with what is said of it
+abbrev pub report_of : TargetBuild → List (List ℕ × told.Verdict)
+report_of build = map (λ row. (row.0.path, told_of row.1)) (zip build.directories build.fates)
 
-abbrev pub all_compiled : List TargetBuild → List Action
-all_compiled builds = flat_map (λ b. compiled_actions b.fates) builds
+-- ---- actions: what is hashed
+
+abbrev pub packages_in : List Fate → List Package
+packages_in [] = []
+packages_in (Good p ∷ fates) = p ∷ packages_in fates
+packages_in (_ ∷ fates) = packages_in fates
+
+-- the packages that a directory imports, those that are good
+abbrev pub imported : List Fate → Directory → List Package
+imported fates d = packages_in (map (fate_at fates) d.imports)
+
+abbrev pub action_by : ℕ → List Fate → Directory → Planned → Option Action
+action_by edition fates d (Sound files) = Some (action_of edition d.path files (map summary_of (imported fates d)))
+action_by edition fates d planned = None
+
+-- the action that a directory is compiled by, which has one where its imports are good
+abbrev pub action_in : ℕ → List Fate → Directory → Fate → Option Action
+action_in edition fates d (Wrong fault) = action_by edition fates d d.planned
+action_in edition fates d (Good typed) = action_by edition fates d d.planned
+action_in edition fates d fate = None
+
+-- the actions that are compiled of a target
+abbrev pub actions_of : ℕ → TargetBuild → List Action
+actions_of edition build = filter_map (λ row. action_in edition build.fates row.0 row.1) (zip build.directories build.fates)
+
+abbrev pub actions_in : ℕ → Option TargetBuild → List Action
+actions_in edition None = []
+actions_in edition (Some build) = actions_of edition build
+
+-- the actions that are compiled of several
+abbrev pub all_actions : ℕ → List TargetBuild → List Action
+all_actions edition builds = flat_map (actions_of edition) builds

@@ -1,27 +1,25 @@
 -- The steps of a build of several targets.
-use Rattle.std.specs.Prelude.{◌≡◌, ℕ, true, false, List, map, Option, Some, IfSome, slice_set}
-use Rattle.std.specs.List.{slice_get, All, AllZip}
+use Rattle.std.specs.Prelude.{◌≡◌, ℕ, true, false, List, map, Some, slice_set}
+use Rattle.std.specs.List.{slice_get, AllZip}
 use Rattle.std.specs.FinMap.{FinMap}
-use Rattle.go_export.specs.Summaries.{Summary}
 use Rattle.ws_version.specs.Writes.{Write, held_cmp}
 use Rattle.ws_map.specs.Kept.{StandsFor, joined}
 use Rattle.ws_register.specs.Edits.{Contents}
-use Rattle.ws_action.specs.Actions.{Action, IsSized}
+use Rattle.ws_register.specs.Sources.{HasFiles}
+use Rattle.ws_action.specs.Actions.{Action}
 use Rattle.ws_cache.specs.Held.{id_cmp, CacheStandsFor}
 use Rattle.ws_cache.specs.Joined.{lesser}
 use Rattle.ws_graph.specs.BuildPlan.{Directory, IsBuildPlanOf}
 use Rattle.ws_replica.specs.Holdings.{Replica, Took, AllStandFor}
-use Rattle.ws_replica.specs.Jobs.{Reached, AreSummed, reached_by}
+use Rattle.ws_replica.specs.Jobs.{Reached, reached_by}
 use Rattle.ws_replica.specs.Builds.{held_by, builds}
 
--- what is reached of a directory, from the sources of these registers
+-- what is reached of a directory, from the sources of these registers, which are of files
 pub record IsReachedBy (edition : ℕ) (registers : Contents) (directory : List ℕ) (reached : List Reached) : Type 0 where
   pub directories : List Directory
-  pub summaries : List (Option Summary)
   pub planned : (W : List Write) → StandsFor held_cmp registers W → IsBuildPlanOf W directory directories
-  pub summed : AreSummed directories summaries
-  pub same : reached ≡ map (reached_by edition summaries) directories
-  pub sized : All (λ r. IfSome r.action IsSized) reached
+  pub files : (W : List Write) → StandsFor held_cmp registers W → HasFiles W
+  pub same : reached ≡ map (reached_by edition) directories
 
 -- what is reached of a target, by its replica
 pub record IsReached (edition : ℕ) (replicas : List Replica) (target : ℕ × List ℕ) (reached : List Reached) : Type 0 where

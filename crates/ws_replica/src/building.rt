@@ -40,7 +40,7 @@ fn numbers_after(alloc: Global, before: usize, imports: &[usize]) -> Result<Vec<
 }
 
 /// Adds the jobs of a plan to those of the plans before it: the places of its directories.
-fn add_jobs(
+pub(crate) fn add_jobs(
     alloc: Global,
     reached: Vec<Reached>,
     jobs: &mut Vec<Job>,
@@ -53,12 +53,12 @@ fn add_jobs(
     for one in reached {
         let Reached {
             place,
-            action,
+            work,
             imports,
         } = one;
         places.push(place)?;
         let imports = numbers_after(alloc, before, &imports)?;
-        let job = Job::new(action, imports)?;
+        let job = Job::new(work, imports);
         jobs.push(job)?;
     }
     Ok(places)
@@ -118,7 +118,7 @@ pub fn build<R: Threads + Wait + Sync, G: Gate>(
         → AreBuilt (edition_number edition) took (map target_of targets.now) reports.items replicas.new) }
     ensures registers { map (λ r. r.registers) replicas.new ≡ map (λ r. r.registers) replicas.old }
     ensures none { result ≡ Err BuildError.NoPackage → (took : List Took) → AllStandFor replicas.old took
-        → LacksPackage (edition_number edition) took (map target_of targets.now) }
+        → LacksPackage took (map target_of targets.now) }
     ensures err { OnErr result (replicas.new ≡ replicas.old) }
 {
     let all = all_planned(rt, alloc, replicas, targets, edition)?;

@@ -1,20 +1,23 @@
 //! Replicas: what is written and what is compiled, and builds.
 #![tactic(auto)]
 
-ghost use Rattle.std.specs.Prelude.{◌≡◌, ℕ, ◌++◌, ◌∷◌, [], List, Option, IfOk, IfErr, OnOk, OnErr, None, option_copied, string_bytes};
+ghost use Rattle.std.specs.Prelude.{◌≡◌, ℕ, ◌++◌, ◌∷◌, [], List, Option, IfOk, IfErr, OnOk, OnErr, Some, None, option_copied, string_bytes};
 ghost use Rattle.ws_map.specs.Kept.{SameMembers};
 ghost use Rattle.ws_version.specs.Writes.{Write as AWrite, held_cmp};
 ghost use Rattle.ws_map.specs.Kept.{StandsAt, joined};
 ghost use Rattle.ws_register.specs.Edits.{top, greatest_at, edit_refusal, removal_refusal, IsRefusal, edited, removed};
-ghost use Rattle.ws_register.specs.Sources.{IsShown, IsSources};
+ghost use Rattle.ws_register.specs.Sources.{HasFiles, IsShown, IsSources};
 ghost use Rattle.ws_register.specs.Texted.{texted};
+ghost use Rattle.go_code.specs.Images.{Image as AnImage};
+ghost use Rattle.go_typed.specs.Trees.{Package as APackage};
 ghost use Rattle.ws_action.specs.Actions.{Action as AnAction};
+ghost use Rattle.ws_action.specs.Clash.{NoClash, hashed_actions};
 ghost use Rattle.ws_cache.specs.Held.{CacheStandsFor};
 ghost use Rattle.ws_cache.specs.Joined.{lesser};
-ghost use Rattle.ws_replica.specs.Holdings.{ReplicaStandsFor, both};
+ghost use Rattle.ws_replica.specs.Holdings.{Replica as AReplica, ReplicaStandsFor, both};
 ghost use Rattle.ws_replica.specs.declared.BuildError.TheVariants.{Memory};
-ghost use Rattle.ws_replica.specs.ActionPlans.{ActionPlan, IsPlanFor};
-ghost use Rattle.ws_replica.specs.Reports.{Fate, AreFates};
+ghost use Rattle.ws_replica.specs.Reports.{TargetBuild, IsTargetBuild, actions_of};
+ghost use Rattle.ws_replica.specs.Programs.{IsHeldProgram, IsImage};
 ghost use Rattle.ws_replica.specs.Builds.{refusal_of};
 
 pub use building::{Target, build};
@@ -34,6 +37,7 @@ use ws_version::{Held, Join, Write};
 mod building;
 pub mod join;
 mod linking;
+mod opened;
 mod openings;
 mod reached;
 mod snapshot;
@@ -128,6 +132,13 @@ impl Replica {
         ensures stands { (writes : List AWrite) (actions : List AnAction) → ReplicaStandsFor self.now writes actions → result ≡ top writes }
     {
         self.registers.greatest_counter()
+    }
+
+    /// Sees that the sources are source texts at paths of files.
+    pub fn see_files(&self)
+        ensures { (writes : List AWrite) (actions : List AnAction) → ReplicaStandsFor self.now writes actions → HasFiles writes }
+    {
+        self.registers.see_files();
     }
 
     /// The replica with that number writes a text at a path: one more than the greatest counter is
@@ -235,13 +246,31 @@ impl Join for Replica {
     }
 }
 
-/// A set of writes has one plan of a target, whose directories come to one thing each.
+/// Of one set of writes a target has one plan, whose directories come to one thing each.
 pub fn law_one_build()
-    ensures plan { (edition : ℕ) (V W : List AWrite) (target : List ℕ) (p q : Option ActionPlan) → SameMembers V W → IsPlanFor edition V target p → IsPlanFor edition W target q → p ≡ q }
-    ensures fates { (edition : ℕ) (W : List AWrite) (target : List ℕ) (plan : Option ActionPlan) (f g : List Fate) → IsPlanFor edition W target plan → AreFates plan f → AreFates plan g → f ≡ g }
+    ensures { (V W : List AWrite) (target : List ℕ) (a b : Option TargetBuild) → SameMembers V W → IsTargetBuild V target a → IsTargetBuild W target b → a ≡ b }
 {}
 
-/// Each set of writes has a plan of each target, whose directories come to something.
+/// Of each set of writes each target has a plan, whose directories come to something.
 pub fn law_some_build()
-    ensures { (edition : ℕ) (W : List AWrite) (target : List ℕ) → (plan : Option ActionPlan) × IsPlanFor edition W target plan × (fates : List Fate) × AreFates plan fates }
+    ensures { (W : List AWrite) (target : List ℕ) → (build : Option TargetBuild) × IsTargetBuild W target build }
+{}
+
+/// Replicas that took the same writes and the same results hold the same.
+pub fn law_equal_replicas()
+    ensures { (a b : AReplica) (V W : List AWrite) (E F : List AnAction) → SameMembers V W → SameMembers E F
+        → ReplicaStandsFor a V E → ReplicaStandsFor b W F → a ≡ b }
+{}
+
+/// Replicas that took the same writes and the same results have equal images, where no two hashed
+/// texts clash.
+pub fn law_equal_images()
+    ensures { (edition : ℕ) (target : List ℕ) (a b : Option AnImage) (V W : List AWrite) (E F : List AnAction) → SameMembers V W → SameMembers E F
+        → (p : IsImage edition V E target a) → IsImage edition W F target b → NoClash (hashed_actions (E ++ actions_of edition p.build)) → a ≡ b }
+{}
+
+/// The package of the target stands last in its program.
+pub fn law_target_is_last()
+    ensures { (W : List AWrite) (target : List ℕ) (build : TargetBuild) (edition : ℕ) (held : List AnAction) (packages : List APackage) → IsTargetBuild W target (Some build)
+        → IsHeldProgram edition held build packages → (before : List APackage) × (p : APackage) × (packages ≡ before ++ p ∷ []) × (p.path ≡ target) }
 {}

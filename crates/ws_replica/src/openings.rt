@@ -43,6 +43,7 @@ fn planned(
     ensures ok { IfOk result (λ reached. IsReachedBy (edition_number edition) registers.now directory.now (map reached_of reached.items)) }
     ensures none { result ≡ Err BuildError.NoPackage → (W : List AWrite) → StandsFor held_cmp registers.now W → IsPlanOf W directory.now NoFiles }
 {
+    registers.see_files();
     let plan = plan(rt, alloc, registers, directory)?;
     let reached = all_reached(alloc, edition, plan.directories)?;
     Ok(reached)
@@ -60,7 +61,7 @@ pub(crate) fn all_planned(
     requires { All (λ t. t.replica < length replicas.now) targets.now }
     ensures ok { IfOk result (λ all. AreReached (edition_number edition) replicas.now (map target_of targets.now) (all_reached_of all.items)) }
     ensures none { result ≡ Err BuildError.NoPackage → (took : List Took) → AllStandFor replicas.now took
-        → LacksPackage (edition_number edition) took (map target_of targets.now) }
+        → LacksPackage took (map target_of targets.now) }
 {
     let mut all = Vec::new(alloc);
     for target in targets {

@@ -81,7 +81,7 @@ pub fn build_from<R: Threads + Wait + Sync, G: Gate>(
     ensures ok { IfOk result (λ built. (took : List Took) → AllStandFor snapshots.now took → AllTookSized took
         → AreBuiltFrom (edition_number edition) took (map target_of targets.now) built.0.items built.1) }
     ensures none { result ≡ Err BuildError.NoPackage → (took : List Took) → AllStandFor snapshots.now took
-        → LacksPackage (edition_number edition) took (map target_of targets.now) }
+        → LacksPackage took (map target_of targets.now) }
 {
     let replicas = replicas_of(alloc, snapshots)?;
     let all = all_planned(rt, alloc, &replicas, targets, edition)?;

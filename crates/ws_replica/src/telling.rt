@@ -28,7 +28,7 @@ fn verdict_of(outcome: &Outcome) -> Result<Verdict, AllocError>
     ensures { IfOk result (λ verdict. seen verdict ≡ verdict_of (fault_in (compiled_of outcome.now))) }
 {
     match outcome {
-        Outcome::Good(_) => Ok(Verdict::Good),
+        Outcome::Good(_, _) => Ok(Verdict::Good),
         Outcome::Faulty(fault) => Ok(Verdict::Faulty(fault.copy()?)),
     }
 }

@@ -1,34 +1,59 @@
-use Rattle.std.proofs.Common.{◌≡◌, sym, ap, subst, map, rules, List, ℕ}
+use Rattle.std.proofs.Common.{◌≡◌, ◌∙◌, sym, ap, subst, map, length, rules, List, ℕ}
+use Rattle.std.specs.Arc.{arc_value}
 use Rattle.std.specs.FinMap.{FinMap}
+use Rattle.std.proofs.lemmas.List.{length-map}
+use Rattle.std.specs.Global.{Global}
+use Rattle.std.specs.Prelude.{Vec}
 use Rattle.go_text.specs.Editions.{edition_number}
+use Rattle.go_init.specs.Packages.{package_order}
+use Rattle.ws_reach.specs.Reach.{rows_of}
 use Rattle.ws_version.specs.Writes.{held_cmp}
 use Rattle.ws_map.specs.Kept.{StandsFor}
 use Rattle.ws_register.specs.Edits.{Contents}
+use Rattle.ws_register.specs.Sources.{HasFiles}
 use Rattle.ws_action.specs.Actions.{Action}
-use Rattle.ws_cache.specs.Held.{id_cmp}
+use Rattle.ws_cache.specs.Held.{id_cmp, CacheStandsFor}
 use Rattle.ws_graph.specs.BuildPlan.{Directory, IsBuildPlanOf}
 use Rattle.ws_graph.specs.Node.{directory_of}
 use Rattle.ws_replica.specs.Holdings.{Replica}
-use Rattle.ws_replica.specs.Images.{IsImageHeld}
 use Rattle.ws_replica.specs.Jobs.{Reached, reached_of}
-use Rattle.ws_replica.proofs.BuiltPlans.{is_image, all_fit}
-use Rattle.ws_replica.proofs.HeldImages.{some_means}
+use Rattle.ws_replica.specs.Opened.{AreObjects, SomeLacks, IsLinkedTo}
+use Rattle.ws_replica.proofs.OpenedTargets.{linked_image, no_image}
+use Rattle.ws_replica.proofs.Steps.{if_none, if_some}
 use Rattle.ws_replica.proofs.linking.image.Goals as goal
+
+pub returns-in_default-clause-ok : goal.returns-in_default-clause-ok
+returns-in_default-clause-ok g c W E h sized =
+    let old : Replica = c.args.replica.now in
+    let registers : c.replica.inside.registers ≡ old.registers = ap (λ (r : Replica). r.registers) c.replica.view_is in
+    let cache : c.in_ok-cache.cache ≡ old.cache = c.in_ok-cache.ensures ∙ ap (λ (r : Replica). r.cache) c.replica.view_is in
+    let ds : List Directory = map directory_of c.in_ok-plan.plan.directories.items in
+    let of : IsBuildPlanOf W c.args.directory.now ds = c.in_ok-plan.ensures.ok W (subst (λ (m : Contents). StandsFor held_cmp m W) (sym registers) h.registers) in
+    let files : HasFiles W = c.see_files.ensures W (subst (λ (m : Contents). StandsFor held_cmp m W) (sym registers) h.registers) in
+    let reached : List Reached = map reached_of c.in_ok-reached.reached.items in
+    let size : length c.in_ok-rows.rows.items ≡ length reached =
+    sym (length-map c.in_ok-rows.rows.items (λ (v : Vec ℕ Global). v.items)) ∙ ap length (c.in_ok-rows.ensures ∙ ap (λ zs. map (λ (r : Reached). r.imports) (map reached_of zs)) c.deref.ensures.value) ∙ length-map reached (λ (r : Reached). r.imports) in
+    no_image (edition_number c.args.edition) W E c.args.directory.now ds of files sized c.in_ok-cache.cache (subst (λ (m : FinMap id_cmp Action). CacheStandsFor m E) (sym cache) h.cache)
+    reached c.in_ok-reached.ensures c.in_ok-board.board c.in_ok-board.ensures.board c.len.result (search rules)
+    (if_none c.in_ok-objects.field-0 (SomeLacks c.in_ok-board.board c.len.result) c.in_default.not-Some c.in_ok-objects.ensures.none)
 
 pub returns-clause-ok : goal.returns-clause-ok
 returns-clause-ok g c W E h sized =
-    let target : List ℕ = c.args.directory.now in
     let old : Replica = c.args.replica.now in
     let registers : c.replica.inside.registers ≡ old.registers = ap (λ (r : Replica). r.registers) c.replica.view_is in
-    let cache : c.replica.inside.cache ≡ old.cache = ap (λ (r : Replica). r.cache) c.replica.view_is in
+    let cache : c.in_ok-cache.cache ≡ old.cache = c.in_ok-cache.ensures ∙ ap (λ (r : Replica). r.cache) c.replica.view_is in
     let ds : List Directory = map directory_of c.in_ok-plan.plan.directories.items in
-    let of : IsBuildPlanOf W target ds = c.in_ok-plan.ensures.ok W (subst (λ (m : Contents). StandsFor held_cmp m W) (sym registers) h.registers) in
+    let of : IsBuildPlanOf W c.args.directory.now ds = c.in_ok-plan.ensures.ok W (subst (λ (m : Contents). StandsFor held_cmp m W) (sym registers) h.registers) in
+    let files : HasFiles W = c.see_files.ensures W (subst (λ (m : Contents). StandsFor held_cmp m W) (sym registers) h.registers) in
     let reached : List Reached = map reached_of c.in_ok-reached.reached.items in
-    let items : c.deref.result.now ≡ c.in_ok-reached.reached.items = search rules in
-    let held : IsImageHeld old.cache reached target c.in_ok-image.image =
-    subst (λ (m : FinMap id_cmp Action). IsImageHeld m reached target c.in_ok-image.image) cache (subst (λ rs. IsImageHeld c.replica.inside.cache (map reached_of rs) target c.in_ok-image.image) items c.in_ok-image.ensures) in
-    is_image (edition_number c.args.edition) W E target ds c.in_ok-reached.ensures.is.0 reached old c.in_ok-image.image of c.in_ok-reached.ensures.is.1 c.in_ok-reached.ensures.is.2
-    (all_fit c.in_ok-reached.reached.items c.in_ok-reached.ensures.sized) h sized held
-
-pub returns-clause-program : goal.returns-clause-program
-returns-clause-program g c = some_means c.replica.inside.cache (map reached_of c.deref.result.now) c.args.directory.now c.in_ok-image.image c.in_ok-image.ensures
+    let rows : rows_of c.deref-3.result.now ≡ map (λ (r : Reached). r.imports) reached =
+    ap rows_of c.deref-3.ensures.value ∙ c.in_ok-rows.ensures ∙ ap (λ zs. map (λ (r : Reached). r.imports) (map reached_of zs)) c.deref.ensures.value in
+    let size : length c.in_ok-rows.rows.items ≡ length reached =
+    sym (length-map c.in_ok-rows.rows.items (λ (v : Vec ℕ Global). v.items)) ∙ ap length (c.in_ok-rows.ensures ∙ ap (λ zs. map (λ (r : Reached). r.imports) (map reached_of zs)) c.deref.ensures.value) ∙ length-map reached (λ (r : Reached). r.imports) in
+    let have : AreObjects c.in_ok-board.board c.len.result (map arc_value c.in-Some.objects.items) =
+    if_some c.in_ok-objects.field-0 (λ os. AreObjects c.in_ok-board.board c.len.result (map arc_value os.items)) c.in-Some.objects c.in-Some.is c.in_ok-objects.ensures.some in
+    let linked : IsLinkedTo (map arc_value c.in-Some.objects.items) (package_order (map (λ (r : Reached). r.imports) reached)) c.in_ok-image.image =
+    subst (λ os. IsLinkedTo (map arc_value os) (package_order (map (λ (r : Reached). r.imports) reached)) c.in_ok-image.image) c.deref-2.ensures.value
+    (subst (λ zs. IsLinkedTo (map arc_value c.deref-2.result.now) (package_order zs) c.in_ok-image.image) rows c.in_ok-image.ensures) in
+    linked_image (edition_number c.args.edition) W E c.args.directory.now ds of files sized c.in_ok-cache.cache (subst (λ (m : FinMap id_cmp Action). CacheStandsFor m E) (sym cache) h.cache)
+    reached c.in_ok-reached.ensures c.in_ok-board.board c.in_ok-board.ensures.board (map arc_value c.in-Some.objects.items) c.len.result (search rules) have c.in_ok-image.image linked

@@ -1,35 +1,16 @@
-use Rattle.std.proofs.Common.{rules, ◌≡◌, List, [], ◌∷◌, Some, map, ap, subst, ◌∙◌}
-use Rattle.std.specs.Arc.{arc_value}
-use Rattle.go_code.specs.Packages.{Object}
-use Rattle.go_gen.specs.Translation.{object_of}
-use Rattle.go_link.specs.Links.{Links, IsRefusal, link_refusal, in_order}
-use Rattle.go_link.specs.declared.link.LinkError.{LinkError}
-use Rattle.go_link.specs.declared.link.LinkError.TheVariants.{NoMain, NameMissing}
-use Rattle.ws_replica.proofs.LinkedPrograms.{means, no_main_no_program, name_missing_never}
+use Rattle.std.proofs.Common.{◌≡◌, ◌<◌, ◌∙◌, ℕ, length, sym, subst}
+use Rattle.std.specs.List.{All}
+use Rattle.std.proofs.lemmas.List.{length-map}
+use Rattle.std.specs.Global.{Global}
+use Rattle.std.specs.Prelude.{Vec}
+use Rattle.go_init.specs.Packages.{package_order}
+use Rattle.go_init.proofs.Orders.{below}
+use Rattle.ws_reach.specs.Reach.{rows_of}
 use Rattle.ws_replica.proofs.linking.linked.Goals as goal
 
-pub returns-in-Ok : goal.returns-in-Ok
-returns-in-Ok c typed e =
-    let held : c.deref.result.now ≡ c.in_ok-clone.field-0 ∷ [] = search rules in
-    let copied : arc_value c.in_ok-clone.field-0 ≡ arc_value c.args.object.now = search rules in
-    let one : map arc_value c.deref.result.now ≡ object_of typed ∷ [] = ap (map arc_value) held ∙ ap (λ (o : Object). o ∷ []) (copied ∙ e) in
-    means typed c.in-Ok.image (subst (λ (objects : List Object). Links objects (0 ∷ []) c.in-Ok.image) one c.in-Ok.ensures.linked)
-
-pub returns-in-Err-NoMain : goal.returns-in-Err-NoMain
-returns-in-Err-NoMain c typed e =
-    let held : c.deref.result.now ≡ c.in_ok-clone.field-0 ∷ [] = search rules in
-    let copied : arc_value c.in_ok-clone.field-0 ≡ arc_value c.args.object.now = search rules in
-    let one : map arc_value c.deref.result.now ≡ object_of typed ∷ [] = ap (map arc_value) held ∙ ap (λ (o : Object). o ∷ []) (copied ∙ e) in
-    let refused : IsRefusal NoMain (link_refusal (in_order (map arc_value c.deref.result.now) (0 ∷ []))) =
-    subst (λ (error : LinkError). IsRefusal error (link_refusal (in_order (map arc_value c.deref.result.now) (0 ∷ [])))) c.in-Err-NoMain.field-0-is c.in-Err-NoMain.ensures.refused in
-    no_main_no_program typed (subst (λ (objects : List Object). link_refusal (in_order objects (0 ∷ [])) ≡ Some NoMain) one refused)
-
-pub unreachable-requires : goal.unreachable-requires
-unreachable-requires c =
-    let typed = c.requires.0 in
-    let held : c.deref.result.now ≡ c.in_ok-clone.field-0 ∷ [] = search rules in
-    let copied : arc_value c.in_ok-clone.field-0 ≡ arc_value c.args.object.now = search rules in
-    let one : map arc_value c.deref.result.now ≡ object_of typed ∷ [] = ap (map arc_value) held ∙ ap (λ (o : Object). o ∷ []) (copied ∙ c.requires.1) in
-    let refused : IsRefusal NameMissing (link_refusal (in_order (map arc_value c.deref.result.now) (0 ∷ []))) =
-    subst (λ (error : LinkError). IsRefusal error (link_refusal (in_order (map arc_value c.deref.result.now) (0 ∷ [])))) c.in-Err-NameMissing.field-0-is c.in-Err-NameMissing.ensures.refused in
-    name_missing_never typed (subst (λ (objects : List Object). link_refusal (in_order objects (0 ∷ [])) ≡ Some NameMissing) one refused)
+pub link-requires : goal.link-requires
+link-requires c =
+    let rows = c.args.rows.now in
+    let order : c.deref.result.now ≡ package_order (rows_of rows) = c.deref.ensures.value ∙ c.in_ok-order.ensures in
+    let size : length (rows_of rows) ≡ length c.args.objects.now = length-map rows (λ (v : Vec ℕ Global). v.items) ∙ sym c.requires in
+    record { indexes = subst (All (λ k. k < length c.args.objects.now)) (sym order) (subst (λ n. All (λ k. k < n) (package_order (rows_of rows))) size (below (rows_of rows))) }

@@ -12,7 +12,7 @@ use Rattle.ws_replica.proofs.openings.all_planned.Goals as goal
 pub returns-in_err-reached-clause-none : goal.returns-in_err-reached-clause-none
 returns-in_err-reached-clause-none g c is took stand =
     let within : c.loop-target.target-index < length c.args.targets.now = omega arith in
-    lacks_here (edition_number c.args.edition) c.args.replicas.now c.args.targets.now c.loop-target.target-index c.replica_at.result.now within c.replica_at.ensures
+    lacks_here c.args.replicas.now c.args.targets.now c.loop-target.target-index c.replica_at.result.now within c.replica_at.ensures
     (λ W stands. c.in_err-reached.ensures.none (search rules) W (subst (λ (m : Contents). StandsFor held_cmp m W) (sym c.registers-registers.ensures) stands)) took stand
 
 pub loop-target-preserved : goal.loop-target-preserved

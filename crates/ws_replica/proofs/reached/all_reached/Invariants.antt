@@ -1,16 +1,12 @@
 use Rattle.std.proofs.Common.{◌≡◌, ◌++◌, map}
-use Rattle.std.specs.Prelude.{option_map}
-use Rattle.std.specs.Arc.{arc_value}
-use Rattle.std.specs.List.{All}
 use Rattle.std.specs.Vec.Iter.{into_iter_items}
 use Rattle.go_text.specs.Editions.{edition_number}
 use Rattle.ws_graph.specs.Node.{directory_of}
-use Rattle.ws_replica.specs.Jobs.{reached_of, reached_by, HasSized}
+use Rattle.ws_replica.specs.Jobs.{reached_of, reached_by}
 use Rattle.ws_replica.proofs.reached.all_reached.Given as goal
 
 -- those so far, and those of what is left
 abbrev pub invariant-loop-directory : goal.invariant-loop-directory
 invariant-loop-directory l =
-    (map reached_of l.reached.items ++ map (reached_by (edition_number l.edition) (map (option_map arc_value) l.summaries.items)) (map directory_of (into_iter_items l.directory-iterator))
-    ≡ map (reached_by (edition_number l.edition) (map (option_map arc_value) l.summaries.items)) (map directory_of l.fn.directories.items))
-    × All HasSized l.reached.items
+    map reached_of l.reached.items ++ map (reached_by (edition_number l.edition)) (map directory_of (into_iter_items l.directory-iterator))
+    ≡ map (reached_by (edition_number l.edition)) (map directory_of l.fn.directories.items)

@@ -1,0 +1,82 @@
+-- The files of a plan are texts, as the sources are that are held, and so are those that its trees are of.
+use Rattle.std.proofs.Common.{◌≡◌, ◌≤◌, ℕ, Bool, true, false, List, [], ◌∷◌, length, map, None, Some, Option, refl, sym, ap, subst, inl, inr, arith}
+use Rattle.std.specs.Prelude.{nat_lt, pos, if◌then◌else◌}
+use Rattle.std.specs.List.{Contains, list_all}
+use Rattle.std.proofs.lemmas.Bool.{and_from, lt-ltb, cases_lt}
+use Rattle.go_text.specs.Texts.{text_limit}
+use Rattle.go_text.specs.declared.text.TextError.{TextError}
+use Rattle.go_text.specs.declared.text.TextError.TheVariants.{TooLong}
+use Rattle.go_ast.specs.Parse.{Parsed}
+use Rattle.go_ast.specs.Trees.{File}
+use Rattle.go_check.specs.Checked.{AreTrees}
+use Rattle.go_const.specs.declared.kind.IntKind.TheVariants as integers
+use Rattle.go_const.specs.Constants.{fits}
+use Rattle.go_meaning_laws.specs.WellTyped.{is_text}
+use Rattle.go_package_laws.specs.Packages.{AreOfTexts}
+use Rattle.ws_path.specs.Paths.{file_name}
+use Rattle.ws_version.specs.Writes.{Write, IsText, is_byte}
+use Rattle.ws_register.specs.Sources.{is_in, named, IsSources, HasFiles}
+use Rattle.ws_action.specs.Actions.{source_of}
+use Rattle.ws_action.proofs.Members.{none_in_empty, head_or_later, at_head, later}
+use Rattle.ws_graph.specs.Packages.{is_built, package_files}
+use Rattle.ws_graph.specs.Plan.{IsSound}
+use Rattle.ws_graph.proofs.Filed.{files_step}
+
+abbrev Pair : Type 0
+Pair = List ℕ × List ℕ
+
+-- ---- source texts are no longer than an int counts
+
+too_long : (b : Bool) (rest : Option TextError) → b ≡ true → (if b then Some TooLong else rest) ≡ None → ⊥
+too_long true rest e f = cc (f)
+too_long false rest e f = cc (e)
+
+pub text_is : (text : List ℕ) → IsText text → is_text text ≡ true
+text_is text h =
+    let short : length text ≤ text_limit = elim (cases_lt text_limit (length text)) [
+      | inl lt ↦ absurd (too_long (nat_lt text_limit (length text)) _ (lt-ltb text_limit (length text) lt) h.valid)
+      | inr le ↦ omega (arith, le)
+    ] in
+    and_from (list_all is_byte text) (fits (Some integers.Int) (pos (length text))) h.bytes (lt-ltb (length text) 9223372036854775808 (omega (arith, short)))
+
+-- ---- the files of a directory are sources
+
+abbrev OfSource : List Pair → Pair → Type 0
+OfSource ss n = (s : Pair) × Contains ss s × (n.1 ≡ s.1)
+
+next : (s : Pair) (ss : List Pair) (n : Pair) → OfSource ss n → OfSource (s ∷ ss) n
+next s ss n (t, c, e) = (t, later {A = Pair} s ss t c, e)
+
+file_step : (dir : List ℕ) (s : Pair) (ss : List Pair) (b c : Bool) → is_in dir s.0 ≡ b → is_built (file_name s.0) ≡ c → (n : Pair) → Contains (package_files dir (s ∷ ss)) n → (Contains (package_files dir ss) n → OfSource ss n) → OfSource (s ∷ ss) n
+file_step dir s ss true true e f n c rest = elim (head_or_later {A = Pair} (named s) (package_files dir ss) n (subst (λ xs. Contains xs n) (files_step dir s ss true true e f) c)) [
+  | inl same ↦ (s, at_head {A = Pair} ss s s refl, sym (ap (λ (x : Pair). x.1) same))
+  | inr l ↦ next s ss n (rest l)
+]
+file_step dir s ss true false e f n c rest = next s ss n (rest (subst (λ xs. Contains xs n) (files_step dir s ss true false e f) c))
+file_step dir s ss false b e f n c rest = next s ss n (rest (subst (λ xs. Contains xs n) (files_step dir s ss false b e f) c))
+
+of_source : (dir : List ℕ) (ss : List Pair) (n : Pair) → Contains (package_files dir ss) n → OfSource ss n
+of_source dir [] n c = absurd (none_in_empty {A = Pair} n c)
+of_source dir (s ∷ ss) n c = file_step dir s ss (is_in dir s.0) (is_built (file_name s.0)) refl refl n c (λ d. of_source dir ss n d)
+
+contains_source : (files : List Parsed) (file : Parsed) → Contains files file → Contains (map source_of files) (source_of file)
+contains_source [] file c = absurd (none_in_empty file c)
+contains_source (f ∷ files) file c = elim (head_or_later f files file c) [
+  | inl same ↦ at_head {A = Pair} (map source_of files) (source_of f) (source_of file) (ap source_of same)
+  | inr l ↦ later {A = Pair} (source_of f) (map source_of files) (source_of file) (contains_source files file l)
+]
+
+-- each file of a sound directory has a text
+pub files_are_text : (W : List Write) → HasFiles W → (sources : List Pair) → IsSources W sources → (path : List ℕ) (files : List Parsed) → IsSound (package_files path sources) files → (file : Parsed) → Contains files file → is_text file.text ≡ true
+files_are_text W has sources of path files sound file c =
+    let there : Contains (package_files path sources) (source_of file) = subst (λ (xs : List Pair). Contains xs (source_of file)) sound.parses.sources (contains_source files file c) in
+    let s = of_source path sources (source_of file) there in
+    text_is file.text (subst IsText (sym s.2) (has sources of s.0 s.1).text)
+
+-- so the trees of its files are of texts
+pub trees_are_of_texts : (files : List Parsed) (trees : List File) → AreTrees files trees → ((file : Parsed) → Contains files file → is_text file.text ≡ true) → AreOfTexts trees
+trees_are_of_texts [] [] are texts = tt
+trees_are_of_texts [] (tree ∷ trees) are texts = absurd are
+trees_are_of_texts (file ∷ files) [] are texts = absurd are
+trees_are_of_texts (file ∷ files) (tree ∷ trees) are texts =
+    ((file.text, are.0, texts file (at_head files file file refl)), trees_are_of_texts files trees are.1 (λ f c. texts f (later file files f c)))
