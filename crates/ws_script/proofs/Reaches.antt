@@ -2,16 +2,19 @@
 use Rattle.std.proofs.Common.{◌≡◌, ℕ, zero, suc, List, [], ◌∷◌, ◌++◌, drop, take, refl, ap, sym, subst, ◌∙◌, inl, inr, append_assoc, append-nil, Option}
 use Rattle.std.proofs.lemmas.List.{take-append-drop}
 use Rattle.ws_command.specs.Commands.{Command, command_of, text_of, text_lines}
-use Rattle.ws_session.specs.World.{World, After, Prints}
+use Rattle.ws_session.specs.World.{World, opening, After, Prints}
 use Rattle.ws_command.specs.Lines.{lines_of}
 use Rattle.ws_script.specs.Requests.{IsFirst}
 use Rattle.ws_session.specs.Text.{TextFrom, IsBeginning, ReachedFrom}
+use Rattle.ws_session.proofs.Filed.{IsFiled, filed_after}
 use Rattle.ws_session.proofs.SomeText.{some_after, some_text_from}
 
 -- From the first world's lines on, all that is said from here on follows this front, and each world that is reached from here is reached.
+-- What the replicas here took is of files.
 pub record LeadsTo (first : World) (all : List (List ℕ)) (world : World) (left : List (List ℕ)) (front : List ℕ) : Type 0 where
   pub text : (later : List ℕ) → TextFrom 0 left world later → TextFrom 0 all first (front ++ later)
   pub reached : (other : World) → ReachedFrom 0 left world other → ReachedFrom 0 all first other
+  pub filed : IsFiled world
 
 -- what a line's command prints, on the lines behind it
 abbrev pub LinePrints : List ℕ → List (List ℕ) → World → List ℕ → Type 0
@@ -41,8 +44,8 @@ reached_itself [] world = refl
 reached_itself (line ∷ lines) world = inl refl
 
 -- nothing is said before the first command
-pub at_first : (first : World) (all : List (List ℕ)) → LeadsTo first all first all []
-at_first first all = record { text = λ later h. h; reached = λ other h. h }
+pub at_first : (edition : ℕ) (all : List (List ℕ)) → LeadsTo (opening edition) all (opening edition) all []
+at_first edition all = record { text = λ later h. h; reached = λ other h. h; filed = tt }
 
 text_line : (line : List ℕ) (lines : List (List ℕ)) (world next : World) (told later : List ℕ) →
     LinePrints line lines world told → LineLeads line lines world next →
@@ -64,9 +67,10 @@ next_reached leads next after = leads.reached next (reached_line _ _ _ next next
 pub leads_on : {first : World} {all : List (List ℕ)} {world : World} {line : List ℕ} {lines : List (List ℕ)} {front : List ℕ} → LeadsTo first all world (line ∷ lines) front → (next : World) (told : List ℕ) →
     LinePrints line lines world told → LineLeads line lines world next →
     LeadsTo first all next (drop (text_lines (command_of line)) lines) (front ++ told)
-leads_on {first = first} {all = all} {front = front} leads next told prints after = record {
+leads_on {first = first} {all = all} {world = world} {line = line} {lines = lines} {front = front} leads next told prints after = record {
   text = λ later h. subst (λ (t : List ℕ). TextFrom 0 all first t) (sym (append_assoc front told later)) (leads.text (told ++ later) (text_line _ _ _ next told later prints after h));
   reached = λ other h. leads.reached other (reached_line _ _ _ next other after h);
+  filed = filed_after (command_of line) (text_of (text_lines (command_of line)) lines) world next after leads.filed;
 }
 
 -- with no line left the front is all
@@ -82,7 +86,7 @@ BegunFrom all first front = (text : List ℕ) × TextFrom 0 all first text × Is
 -- the front is a beginning
 pub front_said : {first : World} {all : List (List ℕ)} {world : World} {left : List (List ℕ)} {front : List ℕ} → LeadsTo first all world left front → BegunFrom all first front
 front_said {world = world} {left = left} {front = front} leads =
-    let later = some_text_from 0 left world in
+    let later = some_text_from 0 left world leads.filed in
     (front ++ later.0, leads.text later.0 later.1, (later.0, refl))
 
 -- and so is the front with some of what the next command prints
@@ -90,7 +94,8 @@ pub part_said : {first : World} {all : List (List ℕ)} {world : World} {line : 
     LinePrints line lines world told → BegunFrom all first (front ++ take n told)
 part_said {world = world} {line = line} {lines = lines} {front = front} leads told n prints =
     let next = some_after (command_of line) (text_of (text_lines (command_of line)) lines) world in
-    let later = some_text_from 0 (drop (text_lines (command_of line)) lines) next.0 in
+    let filed = filed_after (command_of line) (text_of (text_lines (command_of line)) lines) world next.0 next.1 leads.filed in
+    let later = some_text_from 0 (drop (text_lines (command_of line)) lines) next.0 filed in
     let split : front ++ (told ++ later.0) ≡ (front ++ take n told) ++ (drop n told ++ later.0) =
     ap (λ t. front ++ (t ++ later.0)) (sym (take-append-drop n told)) ∙ ap (λ t. front ++ t) (append_assoc (take n told) (drop n told) later.0)
     ∙ sym (append_assoc front (take n told) (drop n told ++ later.0)) in

@@ -10,7 +10,7 @@ use Rattle.ws_cache.specs.Count.{compiled_count}
 use Rattle.ws_replica.specs.Builds as numbered
 use Rattle.ws_replica.specs.Builds.{LacksPackage, AreBuilt, AreRight}
 use Rattle.ws_replica.specs.Holdings.{Took, AllStandFor}
-use Rattle.ws_replica.specs.Reports.{TargetBuild, all_sought, all_compiled, report_of}
+use Rattle.ws_replica.specs.Reports.{TargetBuild, all_actions, report_of}
 use Rattle.ws_report.specs.declared.Report.{Report}
 use Rattle.ws_report.specs.Reports.{rows, Verdict}
 use Rattle.ws_session.specs.declared.replicas.Named.{Named}
@@ -21,25 +21,25 @@ use Rattle.ws_command.specs.Refusals.{first_of, refused}
 use Rattle.ws_command.specs.Printing.{report_text}
 use Rattle.ws_session.specs.World.{World, knows, AreBuilds, held_by, after_builds, target_report, builds_text, refusals, AfterBy, After, PrintsBy, Prints}
 use Rattle.ws_session.specs.Standing.{index_of, AllStand, AreApart, names_in, IsTarget, targets_row, replicas_of, Built, report_line, Tells}
-use Rattle.ws_session.proofs.Building.{same_held, same_builds, no_builds, held_sized, same_tests, all_share, clear_builds, compiled_sized}
-use Rattle.ws_session.proofs.Settled.{took_of, all_stand_for, all_actions, all_sized}
+use Rattle.ws_session.proofs.Building.{same_held, same_builds, no_builds, held_sized, same_tests, all_share, clear_builds}
+use Rattle.ws_session.proofs.Settled.{took_of, all_stand_for, all_actions as taken_actions, all_sized}
 use Rattle.ws_session.proofs.Settling.{sized_both}
 use Rattle.ws_session.proofs.Standings.{known_index}
 use Rattle.ws_session.proofs.Telling.{settled_tells}
 
 -- ---- what is printed
 
-one_line : (count : ℕ) (asked : List ℕ × List ℕ) (r : Report) (b : TargetBuild) → rows r.directories.items ≡ report_of b.plan.directories b.fates → r.compiled ≡ count → report_line (asked, r) ≡ target_report count (asked, b)
+one_line : (count : ℕ) (asked : List ℕ × List ℕ) (r : Report) (b : TargetBuild) → rows r.directories.items ≡ report_of b → r.compiled ≡ count → report_line (asked, r) ≡ target_report count (asked, b)
 one_line count (name, directory) r b same counts =
-    ap (λ z. report_text name directory z r.compiled) same ∙ ap (report_text name directory (report_of b.plan.directories b.fates)) counts
+    ap (λ z. report_text name directory z r.compiled) same ∙ ap (report_text name directory (report_of b)) counts
 
 abbrev told_rows : List Report → List (List (List ℕ × Verdict))
 told_rows reports = map (λ (r : Report). rows r.directories.items) reports
 
 abbrev build_rows : List TargetBuild → List (List (List ℕ × Verdict))
-build_rows all = map (λ (b : TargetBuild). report_of b.plan.directories b.fates) all
+build_rows all = map report_of all
 
-first_rows : (r : Report) (b : TargetBuild) (reports : List Report) (all : List TargetBuild) → told_rows (r ∷ reports) ≡ build_rows (b ∷ all) → rows r.directories.items ≡ report_of b.plan.directories b.fates
+first_rows : (r : Report) (b : TargetBuild) (reports : List Report) (all : List TargetBuild) → told_rows (r ∷ reports) ≡ build_rows (b ∷ all) → rows r.directories.items ≡ report_of b
 first_rows r b reports all e = cc
 
 later_rows : (r : Report) (b : TargetBuild) (reports : List Report) (all : List TargetBuild) → told_rows (r ∷ reports) ≡ build_rows (b ∷ all) → told_rows reports ≡ build_rows all
@@ -72,11 +72,11 @@ module _ (asked : List (List ℕ × List ℕ)) (text : Option (List ℕ)) (world
 
   module _ (targets : List (ℕ × List ℕ)) (allowed : targets_row ns asked ≡ None) (are : AllZip (IsTarget ns) asked targets) where
     pub build_lacks : (edition : ℕ) (told : List ℕ) → edition ≡ world.edition → told ≡ refused NoPackage
-        → ((took : List Took) → AllStandFor (replicas_of ns) took → LacksPackage edition took targets) → Tells (Build asked) text world told ns
+        → ((took : List Took) → AllStandFor (replicas_of ns) took → LacksPackage took targets) → Tells (Build asked) text world told ns
     unfolding After Prints
     build_lacks edition told same t lacks =
         let none : AreBuilds world asked None =
-        no_builds world ns h asked targets are (subst (λ n. LacksPackage n (took_of world.replicas) targets) same (lacks (took_of world.replicas) (all_stand_for ns world.replicas h))) in
+        no_builds world ns h asked targets are (lacks (took_of world.replicas) (all_stand_for ns world.replicas h)) in
         record {
           next = world;
           after = subst (λ z. AfterBy z (Build asked) text world world) (sym (row ∙ allowed)) (None, none, refl);
@@ -89,7 +89,7 @@ module _ (asked : List (List ℕ × List ℕ)) (text : Option (List ℕ)) (world
     unfolding After Prints
     build_told apart edition reports told ms same t built =
         let took : List Took = took_of world.replicas in
-        let sized = subst AllSized (sym (all_actions world.replicas)) (all_sized ns world.replicas h) in
+        let sized = subst AllSized (sym (taken_actions world.replicas)) (all_sized ns world.replicas h) in
         let b = subst (λ n. AreBuilt n took targets reports (replicas_of ms)) same (built.builds took (all_stand_for ns world.replicas h) sized) in
         let builds : AreBuilds world asked (Some b.all) = same_builds world ns h asked targets b.all are b.are in
         let held = same_held world ns h asked targets are in
@@ -99,16 +99,16 @@ module _ (asked : List (List ℕ × List ℕ)) (text : Option (List ℕ)) (world
           after = subst (λ z. AfterBy z (Build asked) text world next) (sym (row ∙ allowed)) (Some b.all, builds, refl);
           edition = refl;
           clear = λ clear.
-              let right : AreRight took targets b.all reports (replicas_of ms) =
-              b.right (subst (λ E. NoClash (hashed_actions (E ++ all_sought b.all))) (sym held) (clear_builds world asked b.all clear)) in
-              let count : ℕ = compiled_count (held_by world asked) (all_compiled b.all) in
+              let right : AreRight world.edition took targets b.all reports (replicas_of ms) =
+              b.right (subst (λ E. NoClash (hashed_actions (E ++ all_actions world.edition b.all))) (sym held) (clear_builds world asked b.all clear)) in
+              let count : ℕ = compiled_count (held_by world asked) (all_actions world.edition b.all) in
               let printed : told ≡ builds_text world asked (Some b.all) =
-              t ∙ same_text count asked reports b.all right.reports (λ r c. right.counts r c ∙ ap (λ E. compiled_count E (all_compiled b.all)) held) in
-              let actions : List Action = held_by world asked ++ all_compiled b.all in (
+              t ∙ same_text count asked reports b.all (right.told).reports (λ r c. (right.told).counts r c ∙ ap (λ E. compiled_count E (all_actions world.edition b.all)) held) in
+              let actions : List Action = held_by world asked ++ all_actions world.edition b.all in (
                 subst (λ z. PrintsBy z (Build asked) world told) (sym (row ∙ allowed)) (Some b.all, builds, printed),
                 all_share (λ r. list_any (λ t. bytes_eq r.name t.0) asked) (numbered.builds targets) actions ns ms world.replicas built.labels h
-                    (sized_both (held_by world asked) (all_compiled b.all) (held_sized world ns h asked targets are) (compiled_sized world.edition world asked b.all builds b.sized))
+                    (sized_both (held_by world asked) (all_actions world.edition b.all) (held_sized world ns h asked targets are) right.sized)
                     (same_tests world ns h apart asked targets are)
-                    (λ k o m e f. subst (λ E. numbered.StandsAfter targets (E ++ all_compiled b.all) k o m) held (right.stand k o m e f)),
+                    (λ k o m e f. subst (λ E. numbered.StandsAfter targets (E ++ all_actions world.edition b.all) k o m) held (right.stand k o m e f)),
               );
         }

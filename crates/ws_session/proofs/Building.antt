@@ -11,18 +11,16 @@ use Rattle.std.proofs.lemmas.Slice.Eq.{bytes_eq-Decides}
 use Rattle.ws_action.specs.Actions.{Action}
 use Rattle.ws_action.specs.Clash.{NoClash, AllSized, hashed_actions, hashed as hashed_action}
 use Rattle.ws_action.proofs.Members.{none_in_empty, head_or_later, later, at_head}
-use Rattle.ws_replica.specs.ActionPlans.{IsPlanFor, actions_in}
 use Rattle.ws_replica.specs.Builds as numbered
 use Rattle.ws_replica.specs.Builds.{target_of, took_at, builds, LacksPackage}
 use Rattle.ws_replica.specs.Holdings.{ReplicaStandsFor, Took}
 use Rattle.ws_replica.specs.Holdings as holdings
-use Rattle.ws_replica.specs.Reports.{TargetBuild, IsTargetBuild, all_sought, all_compiled, compiled_actions}
+use Rattle.ws_replica.specs.Reports.{TargetBuild, IsTargetBuild, all_actions}
 use Rattle.ws_replica.specs.declared.building.Target.{Target}
 use Rattle.ws_replica.proofs.Numbered.{some_same}
 use Rattle.ws_session.specs.declared.replicas.Named.{Named}
 use Rattle.ws_session.specs.World.{World, Replica, replica_at, or_new, writes_of, actions_held, grown, with_replicas, AreBuilds, held_by, sharing, after_builds, hashed, texts_of_replica}
 use Rattle.ws_session.specs.Standing.{index_of, Stands, AllStand, AreApart, names_in, IsTarget, labels_of, replicas_of, words_of}
-use Rattle.ws_session.proofs.Fates.{compiled_planned}
 use Rattle.ws_session.proofs.Names.{one_number}
 use Rattle.ws_session.proofs.RunTelling.{held_among}
 use Rattle.ws_session.proofs.Settled.{took_by, took_of, first_label, later_labels}
@@ -117,18 +115,18 @@ module _ (world : World) (ns : List Named) (h : AllStand ns world.replicas) wher
       ap (λ (k : Took). k.actions ++ numbered.held_by (took_of world.replicas) targets) (reads a t z.0) ∙ ap (λ E. actions_held a.0 world ++ E) (same_held asked targets z.1)
 
   pub same_builds : (asked : List (List ℕ × List ℕ)) (targets : List (ℕ × List ℕ)) (all : List TargetBuild) → AllZip (IsTarget ns) asked targets
-      → AllZip (λ t b. IsTargetBuild world.edition (took_at (took_of world.replicas) t.0).writes t.1 b) targets all → AllZip (λ t b. IsTargetBuild world.edition (writes_of t.0 world) t.1 b) asked all
+      → AllZip (λ t b. IsTargetBuild (took_at (took_of world.replicas) t.0).writes t.1 (Some b)) targets all → AllZip (λ t b. IsTargetBuild (writes_of t.0 world) t.1 (Some b)) asked all
   same_builds [] [] [] z are = tt
   same_builds [] [] (b ∷ all) z are = absurd are
   same_builds [] (t ∷ targets) all z are = absurd z
   same_builds (a ∷ asked) [] all z are = absurd z
   same_builds (a ∷ asked) (t ∷ targets) [] z are = absurd are
   same_builds (a ∷ asked) (t ∷ targets) (b ∷ all) z are = (
-    subst (λ d. IsTargetBuild world.edition (writes_of a.0 world) d b) (sym z.0.1) (subst (λ (k : Took). IsTargetBuild world.edition k.writes t.1 b) (reads a t z.0) are.0),
+    subst (λ d. IsTargetBuild (writes_of a.0 world) d (Some b)) (sym z.0.1) (subst (λ (k : Took). IsTargetBuild k.writes t.1 (Some b)) (reads a t z.0) are.0),
     same_builds asked targets all z.1 are.1,
   )
 
-  pub no_builds : (asked : List (List ℕ × List ℕ)) (targets : List (ℕ × List ℕ)) → AllZip (IsTarget ns) asked targets → LacksPackage world.edition (took_of world.replicas) targets → AreBuilds world asked None
+  pub no_builds : (asked : List (List ℕ × List ℕ)) (targets : List (ℕ × List ℕ)) → AllZip (IsTarget ns) asked targets → LacksPackage (took_of world.replicas) targets → AreBuilds world asked None
   no_builds [] [] z (k, directory, c, is) = absurd (none_in_empty (k, directory) c)
   no_builds [] (t ∷ targets) z lacks = absurd z
   no_builds (a ∷ asked) [] z lacks = absurd z
@@ -137,8 +135,8 @@ module _ (world : World) (ns : List Named) (h : AllStand ns world.replicas) wher
       a.0,
       a.1,
       at_head asked a (a.0, a.1) refl,
-      subst (λ d. IsPlanFor world.edition (writes_of a.0 world) d None) (sym (z.0.1 ∙ ap (λ (p : ℕ × List ℕ). p.1) same))
-          (subst (λ (o : Took). IsPlanFor world.edition o.writes directory None) (ap (λ (p : ℕ × List ℕ). took_at (took_of world.replicas) p.0) (sym same) ∙ reads a t z.0) is),
+      subst (λ d. IsTargetBuild (writes_of a.0 world) d None) (sym (z.0.1 ∙ ap (λ (p : ℕ × List ℕ). p.1) same))
+          (subst (λ (o : Took). IsTargetBuild o.writes directory None) (ap (λ (p : ℕ × List ℕ). took_at (took_of world.replicas) p.0) (sym same) ∙ reads a t z.0) is),
     )
     | inr rest ↦ let found = no_builds asked targets z.1 (k, directory, rest, is) in (found.0, found.1, later a asked (found.0, found.1) found.2, found.3)
   ]
@@ -246,24 +244,10 @@ shared_more test actions (r ∷ rs) s c =
       | inr more ↦ Contains-append_right head rest s (shared_more test actions rs s more)
     ]
 
--- where the texts of the world after builds don't clash, no more do those of what the builds looked for and of what is held before
-pub clear_builds : (world : World) (asked : List (List ℕ × List ℕ)) (all : List TargetBuild) → NoClash (hashed (after_builds world asked (Some all))) → NoClash (hashed_actions (held_by world asked ++ all_sought all))
+-- where the texts of the world after builds don't clash, no more do those of what is held before and of what the builds compile
+pub clear_builds : (world : World) (asked : List (List ℕ × List ℕ)) (all : List TargetBuild) → NoClash (hashed (after_builds world asked (Some all))) → NoClash (hashed_actions (held_by world asked ++ all_actions world.edition all))
 clear_builds world asked all clear =
-    let actions : List Action = held_by world asked ++ all_compiled all in
+    let compiled : List Action = all_actions world.edition all in
+    let actions : List Action = held_by world asked ++ compiled in
     let next : World = with_replicas world (sharing asked actions world.replicas) in
-    clear_sought (held_by world asked) (all_sought all) next (λ s c. shared_more (λ r. list_any (λ t. bytes_eq r.name t.0) asked) actions world.replicas s (all_held_in world asked s c)) clear
-
--- what was compiled was looked for
-compiled_sought : (edition : ℕ) (world : World) (asked : List (List ℕ × List ℕ)) (all : List TargetBuild) → AllZip (λ t b. IsTargetBuild edition (writes_of t.0 world) t.1 b) asked all
-    → (a : Action) → Contains (all_compiled all) a → Contains (all_sought all) a
-compiled_sought edition world [] [] are a c = absurd (none_in_empty a c)
-compiled_sought edition world [] (b ∷ all) are a c = absurd are
-compiled_sought edition world (t ∷ asked) [] are a c = absurd are
-compiled_sought edition world (t ∷ asked) (b ∷ all) are a c =
-    elim (Contains-append_cases (compiled_actions b.fates) (all_compiled all) a c) [
-      | inl l ↦ Contains-append_left (actions_in (Some b.plan)) (all_sought all) a (compiled_planned b.plan b.fates are.0.1 a l)
-      | inr rest ↦ Contains-append_right (actions_in (Some b.plan)) (all_sought all) a (compiled_sought edition world asked all are.1 a rest)
-    ]
-
-pub compiled_sized : (edition : ℕ) (world : World) (asked : List (List ℕ × List ℕ)) (all : List TargetBuild) → AllZip (λ t b. IsTargetBuild edition (writes_of t.0 world) t.1 b) asked all → AllSized (all_sought all) → AllSized (all_compiled all)
-compiled_sized edition world asked all are sized a c = sized a (compiled_sought edition world asked all are a c)
+    clear_sought (held_by world asked) compiled next (λ s c. shared_more (λ r. list_any (λ t. bytes_eq r.name t.0) asked) actions world.replicas s (all_held_in world asked s c)) clear

@@ -2,7 +2,7 @@
 use Rattle.std.proofs.Common.{◌≡◌, ℕ, List, [], Option, None, Some, true, false, refl, sym, ap, subst}
 use Rattle.std.specs.Str.{is_utf8}
 use Rattle.ws_action.specs.Actions.{Action}
-use Rattle.ws_replica.specs.ActionPlans.{IsPlanFor, actions_in}
+use Rattle.ws_replica.specs.Reports.{IsTargetBuild, actions_of}
 use Rattle.ws_replica.specs.Ids.{AreIdRows, AreIds}
 use Rattle.ws_report.specs.declared.Standing.{Standing}
 use Rattle.ws_session.specs.declared.replicas.Named.{Named}
@@ -11,7 +11,7 @@ use Rattle.ws_command.specs.Commands.{Ids}
 use Rattle.ws_command.specs.IdsPrinting.{ids_text}
 use Rattle.ws_command.specs.Refusals.{first_of, refused}
 use Rattle.ws_session.specs.World.{World, or_new, writes_of, actions_held, seeking, refusals, AfterBy, After, PrintsBy, Prints}
-use Rattle.ws_session.specs.Standing.{index_of, AllStand, Tells, HasNoPlanAt, AreIdsAt}
+use Rattle.ws_session.specs.Standing.{index_of, AllStand, Tells, HasNoFilesAt, AreIdsAt}
 use Rattle.ws_session.proofs.Standings.{found}
 use Rattle.ws_session.proofs.Settling.{knows_none, knows_some}
 use Rattle.ws_session.proofs.Telling.{settled_tells, build_row, clear_sought}
@@ -37,18 +37,18 @@ module _ (name directory : List ℕ) (text : Option (List ℕ)) (world : World) 
     allowed u = build_row _ _ true true (knows_some name k world ns h e) u
 
     pub ids_none : (told : List ℕ) → is_utf8 directory ≡ true → told ≡ refused NoPackage
-        → HasNoPlanAt world.edition directory ns k → Tells (Ids name directory) text world told ns
+        → HasNoFilesAt directory ns k → Tells (Ids name directory) text world told ns
     unfolding After Prints
-    ids_none told u t plans =
+    ids_none told u t none =
         let f = found name k ns world.replicas h e in
         let r = f.replica in
         let s = f.stands f.one f.is in
-        let plan : IsPlanFor world.edition (writes_of name world) directory None = subst (λ W. IsPlanFor world.edition W directory None) (sym writes_are) (plans f.one r.writes r.actions f.is s.holds) in
+        let build : IsTargetBuild (writes_of name world) directory None = subst (λ W. IsTargetBuild W directory None) (sym writes_are) (none f.one r.writes r.actions f.is s.holds) in
         record {
           next = seeking world [];
-          after = subst (λ z. AfterBy z (Ids name directory) text world (seeking world [])) (sym (allowed u)) (None, plan, refl);
+          after = subst (λ z. AfterBy z (Ids name directory) text world (seeking world [])) (sym (allowed u)) (None, build, refl);
           edition = refl;
-          clear = λ _. (subst (λ z. PrintsBy z (Ids name directory) world told) (sym (allowed u)) (None, plan, t), h);
+          clear = λ _. (subst (λ z. PrintsBy z (Ids name directory) world told) (sym (allowed u)) (None, build, t), h);
         }
 
     pub ids_told : (edition : ℕ) (rows : List (List ℕ × Standing)) (told : List ℕ) → edition ≡ world.edition → is_utf8 directory ≡ true
@@ -59,16 +59,16 @@ module _ (name directory : List ℕ) (text : Option (List ℕ)) (world : World) 
         let r = f.replica in
         let s = f.stands f.one f.is in
         let b = subst (λ n. AreIds n r.writes r.actions directory rows) same (are f.one r.writes r.actions f.is s.holds s.sized) in
-        let sought : List Action = actions_in (Some b.plan) in
+        let sought : List Action = actions_of world.edition b.build in
         let next : World = seeking world sought in
-        let plan : IsPlanFor world.edition (writes_of name world) directory (Some b.plan) = subst (λ W. IsPlanFor world.edition W directory (Some b.plan)) (sym writes_are) b.planned in
+        let build : IsTargetBuild (writes_of name world) directory (Some b.build) = subst (λ W. IsTargetBuild W directory (Some b.build)) (sym writes_are) b.are in
         record {
           next = next;
-          after = subst (λ z. AfterBy z (Ids name directory) text world next) (sym (allowed u)) (Some b.plan, plan, refl);
+          after = subst (λ z. AfterBy z (Ids name directory) text world next) (sym (allowed u)) (Some b.build, build, refl);
           edition = refl;
           clear = λ clear.
-              let listed = subst (λ E. AreIdRows E b.plan rows) (sym actions_are) (b.right (clear_sought r.actions sought world (held_among name world.replicas r f.at) clear)) in (
-                subst (λ z. PrintsBy z (Ids name directory) world told) (sym (allowed u)) (Some b.plan, plan, (rows, listed, t)),
+              let listed = subst (λ E. AreIdRows world.edition E b.build rows) (sym actions_are) (b.right (clear_sought r.actions sought world (held_among name world.replicas r f.at) clear)) in (
+                subst (λ z. PrintsBy z (Ids name directory) world told) (sym (allowed u)) (Some b.build, build, (rows, listed, t)),
                 h,
               );
         }

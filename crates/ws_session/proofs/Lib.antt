@@ -1,11 +1,14 @@
 pub mod Asked
 pub mod BuildTelling
 pub mod Building
-pub mod Fates
+pub mod Bytes
+pub mod Filed
+pub mod IdRows
 pub mod IdsTelling
 pub mod Lines
 pub mod Names
 pub mod OneText
+pub mod Programs
 pub mod Tested
 pub mod RunTelling
 pub mod Runs

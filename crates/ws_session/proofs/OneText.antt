@@ -1,9 +1,8 @@
 -- A script has one session text.
 use Rattle.std.proofs.Common.{◌≡◌, ℕ, zero, suc, List, [], ◌∷◌, ◌++◌, Option, None, Some, sym, ap, ◌∙◌, subst, inl, inr, refl}
+use Rattle.std.specs.Prelude.{⊤}
 use Rattle.ws_version.specs.Writes.{Write as AWrite}
-use Rattle.ws_replica.specs.ActionPlans.{ActionPlan, IsPlanFor, actions_in}
-use Rattle.ws_replica.specs.Reports.{AreFates, TargetBuild, IsTargetBuild}
-use Rattle.ws_replica.proofs.Numbered.{some_same}
+use Rattle.ws_replica.specs.Reports.{TargetBuild, IsTargetBuild, actions_in}
 use Rattle.ws_action.proofs.Members.{none_in_empty, head_or_later}
 use Rattle.ws_command.specs.declared.refusal.Refusal.{Refusal}
 use Rattle.ws_command.specs.Commands.{Command, Nothing, Bad, Create, Write, Remove, Apply, Merge, Settle, Build, Run, Ids, Show, command_of, text_lines, text_of}
@@ -15,30 +14,29 @@ use Rattle.std.specs.FinMap.{entries}
 use Rattle.ws_register.specs.Edits.{Contents}
 use Rattle.ws_register.specs.Sources.{IsShown}
 use Rattle.ws_register.proofs.Laws.{one_contents, SameMembers-itself}
-use Rattle.go_check.specs.Meaning.{SourceMeaning}
-use Rattle.go_check.proofs.Sound.{source_once}
-use Rattle.ws_replica.proofs.IdRows.{one_id_rows}
-use Rattle.ws_replica.proofs.OneBuild.{one_plan_for, one_fates}
-use Rattle.ws_replica.proofs.OneProgram.{one_program}
-use Rattle.ws_session.specs.World.{World, opening, writes_of, actions_held, seeking, AreBuilds, after_builds, builds_text, refusals, Accepted, AfterBy, After, Answers, PrintsBy, Prints, IsPlan, Ran, Listed}
+use Rattle.go_code.specs.declared.ending.Ending.{Ending}
+use Rattle.go_meaning.specs.Meaning.{Outcome, Gives, Ends, Stuck}
+use Rattle.go_meaning.specs.Programs.{IsOver, SourceMeaning, run}
+use Rattle.go_typed.specs.Trees.{Package}
+use Rattle.ws_replica.proofs.OneBuild.{one_build as one_build_of}
+use Rattle.ws_session.proofs.IdRows.{one_id_rows}
+use Rattle.ws_session.proofs.Programs.{one_program}
+use Rattle.ws_session.specs.World.{World, opening, writes_of, actions_held, seeking, AreBuilds, after_builds, builds_text, refusals, Accepted, AfterBy, After, Answers, PrintsBy, Prints, IsBuild, Ran, Listed}
 use Rattle.ws_session.specs.Text.{TextFrom, SessionText}
 
 one_shown : (W s t : List AWrite) → IsShown W s → IsShown W t → s ≡ t
 one_shown W s t g h = g.2 ∙ ap (λ (m : Contents). entries m) (one_contents g.0 h.0 W W (SameMembers-itself W) g.1 h.1) ∙ sym h.2
 
-one_plan : (edition : ℕ) (W : List AWrite) (target : List ℕ) (p q : Option ActionPlan) → IsPlanFor edition W target p → IsPlanFor edition W target q → p ≡ q
-one_plan edition W target p q g h = one_plan_for edition W W target p q (SameMembers-itself W) g h
-
 -- a target has one build
-one_build : (edition : ℕ) (W : List AWrite) (directory : List ℕ) (a b : TargetBuild) → IsTargetBuild edition W directory a → IsTargetBuild edition W directory b → a ≡ b
-one_build edition W directory a b g h =
-    let plan : a.plan ≡ b.plan = some_same a.plan b.plan (one_plan edition W directory (Some a.plan) (Some b.plan) g.0 h.0) in
-    let fates : a.fates ≡ b.fates = one_fates edition W directory (Some a.plan) a.fates b.fates g.0 g.1 (subst (λ p. AreFates (Some p) b.fates) (sym plan) h.1) in
-    λ i. record { plan = plan i; fates = fates i }
+one_build : (W : List AWrite) (target : List ℕ) (a b : Option TargetBuild) → IsTargetBuild W target a → IsTargetBuild W target b → a ≡ b
+one_build W target a b g h = one_build_of W W target a b (SameMembers-itself W) g h
 
 -- and none where it has no package files
-never_built : (edition : ℕ) (W : List AWrite) (directory : List ℕ) (b : TargetBuild) → IsPlanFor edition W directory None → IsTargetBuild edition W directory b → ⊥
-never_built edition W directory b none is = let e : ◌≡◌ {A = Option ActionPlan} None (Some b.plan) = one_plan edition W directory None (Some b.plan) none is.0 in cc
+never_built : (W : List AWrite) (target : List ℕ) (b : TargetBuild) → IsTargetBuild W target None → IsTargetBuild W target (Some b) → ⊥
+never_built W target b none is = let e : ◌≡◌ {A = Option TargetBuild} None (Some b) = one_build W target None (Some b) none is in absurd (cc (e))
+
+same_build : (W : List AWrite) (target : List ℕ) (a b : TargetBuild) → IsTargetBuild W target (Some a) → IsTargetBuild W target (Some b) → a ≡ b
+same_build W target a b g h = (let e : Some a ≡ Some b = one_build W target (Some a) (Some b) g h in cc (e))
 
 all_one : (world : World) (targets : List (List ℕ × List ℕ)) (a b : List TargetBuild) → AreBuilds world targets (Some a) → AreBuilds world targets (Some b) → a ≡ b
 all_one world [] [] [] g h = refl
@@ -47,14 +45,14 @@ all_one world [] (x ∷ a) b g h = absurd g
 all_one world (t ∷ targets) [] b g h = absurd g
 all_one world (t ∷ targets) (x ∷ a) [] g h = absurd h
 all_one world (t ∷ targets) (x ∷ a) (y ∷ b) g h =
-    ap (λ z. z ∷ a) (one_build world.edition (writes_of t.0 world) t.1 x y g.0 h.0) ∙ ap (λ zs. y ∷ zs) (all_one world targets a b g.1 h.1)
+    ap (λ z. z ∷ a) (same_build (writes_of t.0 world) t.1 x y g.0 h.0) ∙ ap (λ zs. y ∷ zs) (all_one world targets a b g.1 h.1)
 
 none_or_some : (world : World) (targets : List (List ℕ × List ℕ)) (b : List TargetBuild) → AreBuilds world targets None → AreBuilds world targets (Some b) → ⊥
 none_or_some world [] [] (name, directory, c, none) h = none_in_empty (name, directory) c
 none_or_some world [] (y ∷ b) g h = absurd h
 none_or_some world (t ∷ targets) [] g h = absurd h
 none_or_some world (t ∷ targets) (y ∷ b) (name, directory, c, none) h = elim (head_or_later t targets (name, directory) c) [
-  | inl same ↦ never_built world.edition (writes_of t.0 world) t.1 y (subst (λ (p : List ℕ × List ℕ). IsPlanFor world.edition (writes_of p.0 world) p.1 None) (sym same) none) h.0
+  | inl same ↦ never_built (writes_of t.0 world) t.1 y (subst (λ (p : List ℕ × List ℕ). IsTargetBuild (writes_of p.0 world) p.1 None) (sym same) none) h.0
   | inr rest ↦ none_or_some world targets b (name, directory, rest, none) h.1
 ]
 
@@ -64,32 +62,37 @@ one_builds world targets None (Some b) g h = absurd (none_or_some world targets 
 one_builds world targets (Some a) None g h = absurd (none_or_some world targets a h g)
 one_builds world targets (Some a) (Some b) g h = ap Some (all_one world targets a b g h)
 
-ran_once : (world : World) (name directory : List ℕ) (ticks : ℕ) (plan : ActionPlan) (a b : List ℕ) → IsPlan name directory world (Some plan)
-    → Ran name directory ticks world (Some plan) a → Ran name directory ticks world (Some plan) b → a ≡ b
-ran_once world name directory ticks plan a b is (inl g) (inl h) =
-    let same : h.0 ≡ g.0 = one_program world.edition (writes_of name world) directory (actions_held name world) (Some plan) h.0 g.0 is h.1 g.1 in
-    let means = source_once (g.0 ∷ []) ticks g.2 h.2 g.3 h.3 g.4 (subst (λ t. SourceMeaning (t ∷ []) ticks h.2 h.3) same h.4) in
+over_once : (o : Outcome ⊤) (a b : Ending) (s t : List ℕ) → IsOver o a s → IsOver o b t → (a ≡ b) × (s ≡ t)
+over_once (Gives done w) a b s t g h = (g.0 ∙ sym h.0, g.1 ∙ sym h.1)
+over_once (Ends ending output) a b s t g h = (g.0 ∙ sym h.0, g.1 ∙ sym h.1)
+over_once Stuck a b s t g h = absurd g
+
+ran_once : (world : World) (name directory : List ℕ) (ticks : ℕ) (build : TargetBuild) (a b : List ℕ) → Ran name directory ticks world (Some build) a → Ran name directory ticks world (Some build) b → a ≡ b
+ran_once world name directory ticks build a b (inl g) (inl h) =
+    let same : h.0 ≡ g.0 = one_program world.edition (actions_held name world) build h.0 g.0 h.1 g.1 in
+    let other = subst (λ (ps : List Package). SourceMeaning ps ticks h.2 h.3) same h.4 in
+    let means = over_once (run g.0 ticks) g.2 h.2 g.3 h.3 (g.4).1 other.1 in
     g.5 ∙ ap (λ e. run_text name directory e g.3) means.0 ∙ ap (run_text name directory h.2) means.1 ∙ sym h.5
-ran_once world name directory ticks plan a b is (inl g) (inr h) = absurd (h.0 g.0 g.1)
-ran_once world name directory ticks plan a b is (inr g) (inl h) = absurd (g.0 h.0 h.1)
-ran_once world name directory ticks plan a b is (inr g) (inr h) = g.1 ∙ sym h.1
+ran_once world name directory ticks build a b (inl g) (inr h) = absurd (h.0 g.0 g.1)
+ran_once world name directory ticks build a b (inr g) (inl h) = absurd (g.0 h.0 h.1)
+ran_once world name directory ticks build a b (inr g) (inr h) = g.1 ∙ sym h.1
 
-one_ran : (world : World) (name directory : List ℕ) (ticks : ℕ) (plan : Option ActionPlan) (a b : List ℕ) → IsPlan name directory world plan → Ran name directory ticks world plan a → Ran name directory ticks world plan b → a ≡ b
-one_ran world name directory ticks None a b is g h = g ∙ sym h
-one_ran world name directory ticks (Some plan) a b is g h = ran_once world name directory ticks plan a b is g h
+one_ran : (world : World) (name directory : List ℕ) (ticks : ℕ) (build : Option TargetBuild) (a b : List ℕ) → Ran name directory ticks world build a → Ran name directory ticks world build b → a ≡ b
+one_ran world name directory ticks None a b g h = g ∙ sym h
+one_ran world name directory ticks (Some build) a b g h = ran_once world name directory ticks build a b g h
 
-one_listed : (world : World) (name directory : List ℕ) (plan : Option ActionPlan) (a b : List ℕ) → IsPlan name directory world plan → Listed name directory world plan a → Listed name directory world plan b → a ≡ b
+one_listed : (world : World) (name directory : List ℕ) (build : Option TargetBuild) (a b : List ℕ) → IsBuild name directory world build → Listed name directory world build a → Listed name directory world build b → a ≡ b
 one_listed world name directory None a b is g h = g ∙ sym h
-one_listed world name directory (Some plan) a b is g h =
-    g.2 ∙ ap (ids_text name directory) (one_id_rows world.edition (writes_of name world) directory (actions_held name world) plan g.0 h.0 is g.1 h.1) ∙ sym h.2
+one_listed world name directory (Some build) a b is g h =
+    g.2 ∙ ap (ids_text name directory) (one_id_rows world.edition (writes_of name world) directory (actions_held name world) build g.0 h.0 is g.1 h.1) ∙ sym h.2
 
 one_answer : (command : Command) (world : World) (a b : List ℕ) → Answers command world a → Answers command world b → a ≡ b
 one_answer (Build targets) world a b g h = g.2 ∙ ap (builds_text world targets) (one_builds world targets g.0 h.0 g.1 h.1) ∙ sym h.2
 one_answer (Run name directory ticks) world a b g h =
-    let same : h.0 ≡ g.0 = one_plan world.edition (writes_of name world) directory h.0 g.0 h.1 g.1 in
-    one_ran world name directory ticks g.0 a b g.1 g.2 (subst (λ p. Ran name directory ticks world p b) same h.2)
+    let same : h.0 ≡ g.0 = one_build (writes_of name world) directory h.0 g.0 h.1 g.1 in
+    one_ran world name directory ticks g.0 a b g.2 (subst (λ p. Ran name directory ticks world p b) same h.2)
 one_answer (Ids name directory) world a b g h =
-    let same : h.0 ≡ g.0 = one_plan world.edition (writes_of name world) directory h.0 g.0 h.1 g.1 in
+    let same : h.0 ≡ g.0 = one_build (writes_of name world) directory h.0 g.0 h.1 g.1 in
     one_listed world name directory g.0 a b g.1 g.2 (subst (λ p. Listed name directory world p b) same h.2)
 one_answer Nothing world a b g h = g ∙ sym h
 one_answer Bad world a b g h = g ∙ sym h
@@ -112,11 +115,11 @@ one_print command text world a b g h = one_print_by (first_of (refusals command 
 one_accepted : (command : Command) (text : Option (List ℕ)) (world a b : World) → Accepted command text world a → Accepted command text world b → a ≡ b
 one_accepted (Build targets) text world a b g h = g.2 ∙ ap (after_builds world targets) (one_builds world targets g.0 h.0 g.1 h.1) ∙ sym h.2
 one_accepted (Run name directory ticks) text world a b g h =
-    let same : g.0 ≡ h.0 = one_plan world.edition (writes_of name world) directory g.0 h.0 g.1 h.1 in
-    g.2 ∙ ap (λ p. seeking world (actions_in p)) same ∙ sym h.2
+    let same : g.0 ≡ h.0 = one_build (writes_of name world) directory g.0 h.0 g.1 h.1 in
+    g.2 ∙ ap (λ p. seeking world (actions_in world.edition p)) same ∙ sym h.2
 one_accepted (Ids name directory) text world a b g h =
-    let same : g.0 ≡ h.0 = one_plan world.edition (writes_of name world) directory g.0 h.0 g.1 h.1 in
-    g.2 ∙ ap (λ p. seeking world (actions_in p)) same ∙ sym h.2
+    let same : g.0 ≡ h.0 = one_build (writes_of name world) directory g.0 h.0 g.1 h.1 in
+    g.2 ∙ ap (λ p. seeking world (actions_in world.edition p)) same ∙ sym h.2
 one_accepted Nothing text world a b g h = g ∙ sym h
 one_accepted Bad text world a b g h = g ∙ sym h
 one_accepted (Create name) text world a b g h = g ∙ sym h

@@ -6,7 +6,7 @@ use Rattle.std.specs.Str.{bytes_eq, is_utf8}
 use Rattle.std.proofs.lemmas.List.Elements.{Contains-append_left, Contains-append_right}
 use Rattle.ws_action.specs.Actions.{Action}
 use Rattle.ws_action.specs.Clash.{hashed_actions}
-use Rattle.ws_replica.specs.ActionPlans.{ActionPlan, IsPlanFor, actions_in}
+use Rattle.ws_replica.specs.Reports.{TargetBuild, IsTargetBuild, actions_of}
 use Rattle.go_vm.specs.Outcomes.{Outcome}
 use Rattle.ws_session.specs.declared.replicas.Named.{Named}
 use Rattle.ws_command.specs.declared.refusal.Refusal.TheVariants.{Unknown, NoPackage, NotBuilt}
@@ -14,7 +14,7 @@ use Rattle.ws_command.specs.Commands.{Run}
 use Rattle.ws_command.specs.Refusals.{first_of, refused}
 use Rattle.ws_command.specs.RunPrinting.{run_text}
 use Rattle.ws_session.specs.World.{World, Replica, replica_at, or_new, writes_of, actions_held, seeking, refusals, AfterBy, After, PrintsBy, Prints, Ran, texts_of_replica}
-use Rattle.ws_session.specs.Standing.{index_of, AllStand, Tells, IsOutcome, RunOf, HasNoPlanAt, RanAt}
+use Rattle.ws_session.specs.Standing.{index_of, AllStand, Tells, IsOutcome, RunOf, HasNoFilesAt, RanAt}
 use Rattle.ws_session.proofs.Standings.{found}
 use Rattle.ws_session.proofs.Settling.{knows_none, knows_some}
 use Rattle.ws_session.proofs.Telling.{settled_tells, build_row, clear_sought}
@@ -41,10 +41,10 @@ among name (q ∷ rs) r e = among_by name q rs r (bytes_eq q.name name) e (among
 pub held_among : (name : List ℕ) (rs : List Replica) (r : Replica) → replica_at name rs ≡ Some r → (s : List ℕ) → Contains (hashed_actions r.actions) s → Contains (flat_map texts_of_replica rs) s
 held_among name rs r e s c = among name rs r e s (Contains-append_right (flat_map (λ w. option_to_list w.1.text) r.writes) (hashed_actions r.actions) s c)
 
-ran_of_plan : (world : World) (name directory : List ℕ) (ticks : ℕ) (plan : ActionPlan) (outcome : Option Outcome) (told : List ℕ) → IsOutcome directory ticks (actions_held name world) plan outcome → told ≡ printed name directory outcome
-    → Ran name directory ticks world (Some plan) told
-ran_of_plan world name directory ticks plan None told o e = inr (o, e)
-ran_of_plan world name directory ticks plan (Some outcome) told o e = inl (o.0, o.1, outcome.ending, outcome.output, o.2, e)
+ran_of : (world : World) (name directory : List ℕ) (ticks : ℕ) (build : TargetBuild) (outcome : Option Outcome) (told : List ℕ) → IsOutcome world.edition ticks (actions_held name world) build outcome → told ≡ printed name directory outcome
+    → Ran name directory ticks world (Some build) told
+ran_of world name directory ticks build None told o e = inr (o, e)
+ran_of world name directory ticks build (Some outcome) told o e = inl (o.0, o.1, outcome.ending, outcome.output, o.2, e)
 
 module _ (name directory : List ℕ) (ticks : ℕ) (text : Option (List ℕ)) (world : World) (ns : List Named) (h : AllStand ns world.replicas) where
   pub run_unknown : (told : List ℕ) → index_of name ns ≡ None → told ≡ refused Unknown → Tells (Run name directory ticks) text world told ns
@@ -66,18 +66,18 @@ module _ (name directory : List ℕ) (ticks : ℕ) (text : Option (List ℕ)) (w
     allowed u = build_row _ _ true true (knows_some name k world ns h e) u
 
     pub run_none : (told : List ℕ) → is_utf8 directory ≡ true → told ≡ refused NoPackage
-        → HasNoPlanAt world.edition directory ns k → Tells (Run name directory ticks) text world told ns
+        → HasNoFilesAt directory ns k → Tells (Run name directory ticks) text world told ns
     unfolding After Prints
-    run_none told u t plans =
+    run_none told u t none =
         let f = found name k ns world.replicas h e in
         let r = f.replica in
         let s = f.stands f.one f.is in
-        let plan : IsPlanFor world.edition (writes_of name world) directory None = subst (λ W. IsPlanFor world.edition W directory None) (sym writes_are) (plans f.one r.writes r.actions f.is s.holds) in
+        let build : IsTargetBuild (writes_of name world) directory None = subst (λ W. IsTargetBuild W directory None) (sym writes_are) (none f.one r.writes r.actions f.is s.holds) in
         record {
           next = seeking world [];
-          after = subst (λ z. AfterBy z (Run name directory ticks) text world (seeking world [])) (sym (allowed u)) (None, plan, refl);
+          after = subst (λ z. AfterBy z (Run name directory ticks) text world (seeking world [])) (sym (allowed u)) (None, build, refl);
           edition = refl;
-          clear = λ _. (subst (λ z. PrintsBy z (Run name directory ticks) world told) (sym (allowed u)) (None, plan, t), h);
+          clear = λ _. (subst (λ z. PrintsBy z (Run name directory ticks) world told) (sym (allowed u)) (None, build, t), h);
         }
 
     pub run_told : (edition : ℕ) (outcome : Option Outcome) (told : List ℕ) → edition ≡ world.edition → is_utf8 directory ≡ true
@@ -88,16 +88,16 @@ module _ (name directory : List ℕ) (ticks : ℕ) (text : Option (List ℕ)) (w
         let r = f.replica in
         let s = f.stands f.one f.is in
         let b = subst (λ n. RunOf n directory ticks r.writes r.actions outcome) same (ran f.one r.writes r.actions f.is s.holds s.sized) in
-        let sought : List Action = actions_in (Some b.plan) in
+        let sought : List Action = actions_of world.edition b.build in
         let next : World = seeking world sought in
-        let plan : IsPlanFor world.edition (writes_of name world) directory (Some b.plan) = subst (λ W. IsPlanFor world.edition W directory (Some b.plan)) (sym writes_are) b.planned in
+        let build : IsTargetBuild (writes_of name world) directory (Some b.build) = subst (λ W. IsTargetBuild W directory (Some b.build)) (sym writes_are) b.are in
         record {
           next = next;
-          after = subst (λ z. AfterBy z (Run name directory ticks) text world next) (sym (allowed u)) (Some b.plan, plan, refl);
+          after = subst (λ z. AfterBy z (Run name directory ticks) text world next) (sym (allowed u)) (Some b.build, build, refl);
           edition = refl;
           clear = λ clear.
-              let o = subst (λ E. IsOutcome directory ticks E b.plan outcome) (sym actions_are) (b.ran (clear_sought r.actions sought world (held_among name world.replicas r f.at) clear)) in (
-                subst (λ z. PrintsBy z (Run name directory ticks) world told) (sym (allowed u)) (Some b.plan, plan, ran_of_plan world name directory ticks b.plan outcome told o t),
+              let o = subst (λ E. IsOutcome world.edition ticks E b.build outcome) (sym actions_are) (b.ran (clear_sought r.actions sought world (held_among name world.replicas r f.at) clear)) in (
+                subst (λ z. PrintsBy z (Run name directory ticks) world told) (sym (allowed u)) (Some b.build, build, ran_of world name directory ticks b.build outcome told o t),
                 h,
               );
         }

@@ -32,7 +32,7 @@ all_stand_for [] (r ∷ rs) h = absurd h
 all_stand_for (n ∷ ns) [] h = absurd h
 all_stand_for (n ∷ ns) (r ∷ rs) h = (h.0.holds, all_stand_for ns rs h.1)
 
-all_writes : (rs : List Replica) → (all_taken (took_of rs)).writes ≡ flat_map (λ r. r.writes) rs
+pub all_writes : (rs : List Replica) → (all_taken (took_of rs)).writes ≡ flat_map (λ r. r.writes) rs
 all_writes [] = refl
 all_writes (r ∷ rs) = ap (λ (W : List AWrite). r.writes ++ W) (all_writes rs)
 

@@ -1,8 +1,7 @@
 -- Each script has a session text.
 use Rattle.std.proofs.Common.{ℕ, zero, suc, List, [], ◌∷◌, ◌++◌, Option, None, Some, refl, inl, inr}
 use Rattle.ws_action.proofs.Members.{later, at_head}
-use Rattle.ws_replica.specs.ActionPlans.{ActionPlan, IsPlanFor, actions_in}
-use Rattle.ws_replica.specs.Reports.{Fate, AreFates, TargetBuild}
+use Rattle.ws_replica.specs.Reports.{TargetBuild, actions_in}
 use Rattle.ws_command.specs.declared.refusal.Refusal.{Refusal}
 use Rattle.ws_command.specs.declared.refusal.Refusal.TheVariants.{NoPackage, NotBuilt}
 use Rattle.ws_command.specs.Commands.{Command, Nothing, Bad, Create, Write, Remove, Apply, Merge, Settle, Build, Run, Ids, Show, command_of, text_lines, text_of}
@@ -13,84 +12,85 @@ use Rattle.ws_command.specs.ShowPrinting.{show_text}
 use Rattle.std.specs.FinMap.{entries}
 use Rattle.ws_register.proofs.Exists.{some_contents}
 use Rattle.ws_command.specs.Lines.{lines_of}
-use Rattle.ws_session.specs.World.{World, opening, writes_of, actions_held, seeking, AreBuilds, after_builds, builds_text, refusals, Accepted, AfterBy, After, Answers, PrintsBy, Prints, IsPlan, Ran, Listed}
+use Rattle.ws_session.specs.World.{World, opening, writes_of, actions_held, seeking, AreBuilds, after_builds, builds_text, refusals, Accepted, AfterBy, After, Answers, PrintsBy, Prints, IsBuild, Ran, Listed}
 use Rattle.ws_session.specs.Text.{TextFrom, SessionText}
-use Rattle.ws_replica.proofs.IdRows.{some_id_rows}
-use Rattle.ws_replica.proofs.SomeBuild.{some_plan_for, some_fates}
-use Rattle.ws_replica.proofs.OneProgram.{Decided, program_decided, some_meaning}
-use Rattle.ws_replica.specs.Programs.{IsPlannedProgram}
+use Rattle.ws_replica.proofs.SomeBuild.{some_build}
+use Rattle.ws_session.proofs.Filed.{IsFiled, files_of, filed_after}
+use Rattle.ws_session.proofs.IdRows.{some_id_rows}
+use Rattle.ws_session.proofs.Programs.{Decided, program_decided, some_meaning}
 
 none_later : (world : World) (t : List ℕ × List ℕ) (targets : List (List ℕ × List ℕ)) → AreBuilds world targets None → AreBuilds world (t ∷ targets) None
 none_later world t targets (name, directory, c, none) = (name, directory, later t targets (name, directory) c, none)
 
-more_builds : (world : World) (t : List ℕ × List ℕ) (targets : List (List ℕ × List ℕ)) (plan : Option ActionPlan) (fates : List Fate) (builds : Option (List TargetBuild))
-    → IsPlanFor world.edition (writes_of t.0 world) t.1 plan → AreFates plan fates → AreBuilds world targets builds → (all : Option (List TargetBuild)) × AreBuilds world (t ∷ targets) all
-more_builds world t targets None fates builds is are rest = (None, (t.0, t.1, at_head targets t (t.0, t.1) refl, is))
-more_builds world t targets (Some plan) fates None is are rest = (None, none_later world t targets rest)
-more_builds world t targets (Some plan) fates (Some builds) is are rest = (Some (record { plan = plan; fates = fates } ∷ builds), ((is, are), rest))
+more_builds : (world : World) (t : List ℕ × List ℕ) (targets : List (List ℕ × List ℕ)) (build : Option TargetBuild) (builds : Option (List TargetBuild))
+    → IsBuild t.0 t.1 world build → AreBuilds world targets builds → (all : Option (List TargetBuild)) × AreBuilds world (t ∷ targets) all
+more_builds world t targets None builds is rest = (None, (t.0, t.1, at_head targets t (t.0, t.1) refl, is))
+more_builds world t targets (Some build) None is rest = (None, none_later world t targets rest)
+more_builds world t targets (Some build) (Some builds) is rest = (Some (build ∷ builds), (is, rest))
 
 some_builds : (world : World) (targets : List (List ℕ × List ℕ)) → (builds : Option (List TargetBuild)) × AreBuilds world targets builds
 some_builds world [] = (Some [], tt)
 some_builds world (t ∷ targets) =
-    let p = some_plan_for world.edition (writes_of t.0 world) t.1 in
-    let f = some_fates world.edition (writes_of t.0 world) t.1 p.0 p.1 in
+    let b = some_build (writes_of t.0 world) t.1 in
     let rest = some_builds world targets in
-    more_builds world t targets p.0 f.0 rest.0 p.1 f.1 rest.1
+    more_builds world t targets b.0 rest.0 b.1 rest.1
 
-ran_by : (world : World) (name directory : List ℕ) (ticks : ℕ) (plan : ActionPlan) → Decided (IsPlannedProgram (actions_held name world) (Some plan) directory) → (told : List ℕ) × Ran name directory ticks world (Some plan) told
-ran_by world name directory ticks plan (inl (typed, program)) =
-    let means = some_meaning (actions_held name world) (Some plan) directory typed program ticks in
-    (run_text name directory means.0 means.1, inl (typed, program, means.0, means.1, means.2, refl))
-ran_by world name directory ticks plan (inr no_program) = (refused NotBuilt, inr (no_program, refl))
+ran_by : (world : World) (filed : IsFiled world) (name directory : List ℕ) (ticks : ℕ) (build : TargetBuild) (is : IsBuild name directory world (Some build))
+    → Decided world.edition (writes_of name world) (files_of name world filed) directory (actions_held name world) build is → (told : List ℕ) × Ran name directory ticks world (Some build) told
+ran_by world filed name directory ticks build is (inl (packages, program)) =
+    let means = some_meaning world.edition (writes_of name world) (files_of name world filed) directory (actions_held name world) build is packages program ticks in
+    (run_text name directory means.0 means.1, inl (packages, program, means.0, means.1, means.2, refl))
+ran_by world filed name directory ticks build is (inr no_program) = (refused NotBuilt, inr (no_program, refl))
 
-some_ran : (world : World) (name directory : List ℕ) (ticks : ℕ) (plan : Option ActionPlan) → IsPlan name directory world plan → (told : List ℕ) × Ran name directory ticks world plan told
-some_ran world name directory ticks None is = (refused NoPackage, refl)
-some_ran world name directory ticks (Some plan) is = ran_by world name directory ticks plan (program_decided world.edition (writes_of name world) directory (actions_held name world) (Some plan) is)
+some_ran : (world : World) → IsFiled world → (name directory : List ℕ) (ticks : ℕ) (build : Option TargetBuild) → IsBuild name directory world build → (told : List ℕ) × Ran name directory ticks world build told
+some_ran world filed name directory ticks None is = (refused NoPackage, refl)
+some_ran world filed name directory ticks (Some build) is =
+    ran_by world filed name directory ticks build is (program_decided world.edition (writes_of name world) (files_of name world filed) directory (actions_held name world) build is)
 
-some_listed : (world : World) (name directory : List ℕ) (plan : Option ActionPlan) → IsPlan name directory world plan → (told : List ℕ) × Listed name directory world plan told
+some_listed : (world : World) (name directory : List ℕ) (build : Option TargetBuild) → IsBuild name directory world build → (told : List ℕ) × Listed name directory world build told
 some_listed world name directory None is = (refused NoPackage, refl)
-some_listed world name directory (Some plan) is =
-    let rows = some_id_rows world.edition (writes_of name world) directory (actions_held name world) plan is in
+some_listed world name directory (Some build) is =
+    let rows = some_id_rows world.edition (writes_of name world) directory (actions_held name world) build is in
     (ids_text name directory rows.0, (rows.0, rows.1, refl))
 
-some_answer : (command : Command) (world : World) → (told : List ℕ) × Answers command world told
-some_answer (Build targets) world = let b = some_builds world targets in (builds_text world targets b.0, (b.0, b.1, refl))
-some_answer (Run name directory ticks) world =
-    let p = some_plan_for world.edition (writes_of name world) directory in
-    let t = some_ran world name directory ticks p.0 p.1 in
+some_answer : (command : Command) (world : World) → IsFiled world → (told : List ℕ) × Answers command world told
+some_answer (Build targets) world filed = let b = some_builds world targets in (builds_text world targets b.0, (b.0, b.1, refl))
+some_answer (Run name directory ticks) world filed =
+    let p = some_build (writes_of name world) directory in
+    let t = some_ran world filed name directory ticks p.0 p.1 in
     (t.0, (p.0, p.1, t.1))
-some_answer (Ids name directory) world =
-    let p = some_plan_for world.edition (writes_of name world) directory in
+some_answer (Ids name directory) world filed =
+    let p = some_build (writes_of name world) directory in
     let t = some_listed world name directory p.0 p.1 in
     (t.0, (p.0, p.1, t.1))
-some_answer Nothing world = ([], refl)
-some_answer Bad world = ([], refl)
-some_answer (Create name) world = ([], refl)
-some_answer (Write name path lines) world = ([], refl)
-some_answer (Remove name path) world = ([], refl)
-some_answer (Apply name path counter number lines) world = ([], refl)
-some_answer (Merge name other) world = ([], refl)
-some_answer Settle world = ([], refl)
-some_answer (Show name) world =
+some_answer Nothing world filed = ([], refl)
+some_answer Bad world filed = ([], refl)
+some_answer (Create name) world filed = ([], refl)
+some_answer (Write name path lines) world filed = ([], refl)
+some_answer (Remove name path) world filed = ([], refl)
+some_answer (Apply name path counter number lines) world filed = ([], refl)
+some_answer (Merge name other) world filed = ([], refl)
+some_answer Settle world filed = ([], refl)
+some_answer (Show name) world filed =
     let m = some_contents (writes_of name world) in
     (show_text name (entries m.0), (entries m.0, (m.0, m.1, refl), refl))
 
-some_print_by : (refusal : Option Refusal) (command : Command) (world : World) → (told : List ℕ) × PrintsBy refusal command world told
-some_print_by None command world = some_answer command world
-some_print_by (Some refusal) command world = (refused refusal, refl)
+some_print_by : (refusal : Option Refusal) (command : Command) (world : World) → IsFiled world → (told : List ℕ) × PrintsBy refusal command world told
+some_print_by None command world filed = some_answer command world filed
+some_print_by (Some refusal) command world filed = (refused refusal, refl)
 
-some_print : (command : Command) (text : Option (List ℕ)) (world : World) → (told : List ℕ) × Prints command text world told
+some_print : (command : Command) (text : Option (List ℕ)) (world : World) → IsFiled world → (told : List ℕ) × Prints command text world told
 unfolding Prints
-some_print command text world = some_print_by (first_of (refusals command text world)) command world
+some_print command text world filed = some_print_by (first_of (refusals command text world)) command world filed
 
 some_accepted : (command : Command) (text : Option (List ℕ)) (world : World) → (next : World) × Accepted command text world next
 some_accepted (Build targets) text world = let b = some_builds world targets in (after_builds world targets b.0, (b.0, b.1, refl))
 some_accepted (Run name directory ticks) text world =
-    let p = some_plan_for world.edition (writes_of name world) directory in
-    (seeking world (actions_in p.0), (p.0, p.1, refl))
+    let p = some_build (writes_of name world) directory in
+    (seeking world (actions_in world.edition p.0), (p.0, p.1, refl))
 some_accepted (Ids name directory) text world =
-    let p = some_plan_for world.edition (writes_of name world) directory in
-    (seeking world (actions_in p.0), (p.0, p.1, refl))
+    let p = some_build (writes_of name world) directory in
+    (seeking world (actions_in world.edition p.0), (p.0, p.1, refl))
 some_accepted Nothing text world = (world, refl)
 some_accepted Bad text world = (world, refl)
 some_accepted (Create name) text world = (_, refl)
@@ -109,17 +109,17 @@ pub some_after : (command : Command) (text : Option (List ℕ)) (world : World) 
 unfolding After
 some_after command text world = some_after_by (first_of (refusals command text world)) command text world
 
-pub some_text_from : (taken : ℕ) (lines : List (List ℕ)) (world : World) → (told : List ℕ) × TextFrom taken lines world told
+pub some_text_from : (taken : ℕ) (lines : List (List ℕ)) (world : World) → IsFiled world → (told : List ℕ) × TextFrom taken lines world told
 unfolding TextFrom
-some_text_from taken [] world = ([], refl)
-some_text_from (suc taken) (line ∷ lines) world = some_text_from taken lines world
-some_text_from zero (line ∷ lines) world =
+some_text_from taken [] world filed = ([], refl)
+some_text_from (suc taken) (line ∷ lines) world filed = some_text_from taken lines world filed
+some_text_from zero (line ∷ lines) world filed =
     let command = command_of line in
     let text = text_of (text_lines command) lines in
-    let now = some_print command text world in
+    let now = some_print command text world filed in
     let next = some_after command text world in
-    let later = some_text_from (text_lines command) lines next.0 in
+    let later = some_text_from (text_lines command) lines next.0 (filed_after command text world next.0 next.1 filed) in
     (now.0 ++ later.0, (now.0, later.0, next.0, now.1, next.1, later.1, refl))
 
 pub some_session_text : (edition : ℕ) (script : List ℕ) → (text : List ℕ) × SessionText edition script text
-some_session_text edition script = some_text_from 0 (lines_of script) (opening edition)
+some_session_text edition script = some_text_from 0 (lines_of script) (opening edition) tt

@@ -13,7 +13,7 @@ use Rattle.ws_register.specs.Sources.{top}
 use Rattle.ws_register.specs.Edits.{greatest_at, is_missing, removed}
 use Rattle.ws_action.specs.Actions.{Action}
 use Rattle.ws_action.specs.Clash.{AllSized, NoClash, hashed_actions}
-use Rattle.ws_replica.specs.ActionPlans.{ActionPlan, IsPlanFor, actions_in}
+use Rattle.ws_replica.specs.Reports.{TargetBuild, IsTargetBuild, actions_of}
 use Rattle.ws_replica.specs.declared.building.Target.{Target}
 use Rattle.ws_replica.specs.Builds.{target_of, AllTookSized, AreBuilt, LacksPackage}
 use Rattle.ws_report.specs.declared.Report.{Report}
@@ -23,8 +23,8 @@ use Rattle.ws_replica.specs.Holdings.{ReplicaStandsFor, Took, AllStandFor}
 use Rattle.ws_replica.specs.Programs.{IsPlannedProgram}
 use Rattle.ws_replica.specs.Ids.{AreIds}
 use Rattle.ws_report.specs.declared.Standing.{Standing}
-use Rattle.go_export.specs.Typed.{Typed}
-use Rattle.go_check.specs.Meaning.{SourceMeaning}
+use Rattle.go_typed.specs.Trees.{Package}
+use Rattle.go_meaning.specs.Programs.{SourceMeaning}
 use Rattle.go_vm.specs.Outcomes.{Outcome}
 use Rattle.ws_command.specs.Refusals.{refused, first_of}
 use Rattle.ws_command.specs.Commands.{Command}
@@ -167,7 +167,7 @@ pub record Built (edition : ℕ) (targets : List (ℕ × List ℕ)) (reports : L
 
 -- or nothing changed, since a target has no package files
 abbrev pub AreBuiltBy : ℕ → List (ℕ × List ℕ) → List Named → Option (Vec Report Global) → List Named → Type 0
-AreBuiltBy edition targets old None new = (new ≡ old) × ((took : List Took) → AllStandFor (replicas_of old) took → LacksPackage edition took targets)
+AreBuiltBy edition targets old None new = (new ≡ old) × ((took : List Took) → AllStandFor (replicas_of old) took → LacksPackage took targets)
 AreBuiltBy edition targets old (Some reports) new = Built edition targets reports.items old new
 
 -- the name of a target's replica, with its directory
@@ -179,21 +179,21 @@ abbrev pub report_line : (List ℕ × List ℕ) × Report → List ℕ
 report_line ((name, directory), report) = report_text name directory (rows report.directories.items) report.compiled
 
 -- by what the replica at an index took, a directory has no package files
-abbrev pub HasNoPlanAt : ℕ → List ℕ → List Named → ℕ → Type 0
-HasNoPlanAt edition directory named index =
-    (n : Named) (W : List Write) (E : List Action) → n ≡ slice_index_or named index n → ReplicaStandsFor n.replica W E → IsPlanFor edition W directory None
+abbrev pub HasNoFilesAt : List ℕ → List Named → ℕ → Type 0
+HasNoFilesAt directory named index =
+    (n : Named) (W : List Write) (E : List Action) → n ≡ slice_index_or named index n → ReplicaStandsFor n.replica W E → IsTargetBuild W directory None
 
 -- what a run came to: an outcome that the sources mean, if there is a compiled program, and none if there is none
-abbrev pub IsOutcome : List ℕ → ℕ → List Action → ActionPlan → Option Outcome → Type 0
-IsOutcome directory ticks held plan None = (typed : Typed) → IsPlannedProgram held (Some plan) directory typed → ⊥
-IsOutcome directory ticks held plan (Some outcome) =
-    (typed : Typed) × IsPlannedProgram held (Some plan) directory typed × SourceMeaning (typed ∷ []) ticks outcome.ending outcome.output
+abbrev pub IsOutcome : ℕ → ℕ → List Action → TargetBuild → Option Outcome → Type 0
+IsOutcome edition ticks held build None = (packages : List Package) → IsPlannedProgram edition held (Some build) packages → ⊥
+IsOutcome edition ticks held build (Some outcome) =
+    (packages : List Package) × IsPlannedProgram edition held (Some build) packages × SourceMeaning packages ticks outcome.ending outcome.output
 
 -- what is known of a run
 pub record RunOf (edition : ℕ) (directory : List ℕ) (ticks : ℕ) (W : List Write) (E : List Action) (outcome : Option Outcome) : Type 0 where
-  pub plan : ActionPlan
-  pub planned : IsPlanFor edition W directory (Some plan)
-  pub ran : NoClash (hashed_actions (E ++ actions_in (Some plan))) → IsOutcome directory ticks E plan outcome
+  pub build : TargetBuild
+  pub are : IsTargetBuild W directory (Some build)
+  pub ran : NoClash (hashed_actions (E ++ actions_of edition build)) → IsOutcome edition ticks E build outcome
 
 -- the replica at an index ran a directory, with this outcome
 abbrev pub RanAt : ℕ → List ℕ → ℕ → List Named → ℕ → Option Outcome → Type 0

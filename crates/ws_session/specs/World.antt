@@ -11,13 +11,12 @@ use Rattle.ws_register.specs.Edits.{edited, removed, greatest_at, is_missing}
 use Rattle.ws_action.specs.Actions.{Action}
 use Rattle.ws_action.specs.Clash.{hashed_actions}
 use Rattle.ws_cache.specs.Count.{compiled_count}
-use Rattle.ws_replica.specs.ActionPlans.{ActionPlan, IsPlanFor, actions_in}
-use Rattle.ws_replica.specs.Reports.{TargetBuild, IsTargetBuild, all_sought, all_compiled, report_of}
+use Rattle.ws_replica.specs.Reports.{TargetBuild, IsTargetBuild, actions_in, all_actions, report_of}
 use Rattle.ws_replica.specs.Programs.{IsPlannedProgram}
 use Rattle.ws_replica.specs.Ids.{AreIdRows}
 use Rattle.ws_report.specs.declared.Standing.{Standing}
-use Rattle.go_export.specs.Typed.{Typed}
-use Rattle.go_check.specs.Meaning.{SourceMeaning}
+use Rattle.go_typed.specs.Trees.{Package}
+use Rattle.go_meaning.specs.Programs.{SourceMeaning}
 use Rattle.go_code.specs.declared.ending.Ending.{Ending}
 use Rattle.ws_command.specs.declared.refusal.Refusal.{Refusal}
 use Rattle.ws_command.specs.declared.refusal.Refusal.TheVariants.{BadCommand, Unknown, Exists, BadPath, NoFile, CounterFull, BadText, NoPackage, NotBuilt}
@@ -131,14 +130,14 @@ with_replicas world replicas = record { edition = world.edition; replicas = repl
 abbrev pub seeking : World → List Action → World
 seeking world actions = record { edition = world.edition; replicas = world.replicas; sought = world.sought ++ actions }
 
--- a plan of a directory, by what the replica of that name took
-abbrev pub IsPlan : List ℕ → List ℕ → World → Option ActionPlan → Type 0
-IsPlan name directory world plan = IsPlanFor world.edition (writes_of name world) directory plan
+-- what becomes of a directory and of all that it reaches, by what the replica of that name took; none where it has no package files
+abbrev pub IsBuild : List ℕ → List ℕ → World → Option TargetBuild → Type 0
+IsBuild name directory world build = IsTargetBuild (writes_of name world) directory build
 
 -- what builds of targets come to; nothing where one of them has no package files
 abbrev pub AreBuilds : World → List (List ℕ × List ℕ) → Option (List TargetBuild) → Type 0
-AreBuilds world targets None = (name : List ℕ) × (directory : List ℕ) × Contains targets (name, directory) × IsPlan name directory world None
-AreBuilds world targets (Some builds) = AllZip (λ t b. IsTargetBuild world.edition (writes_of t.0 world) t.1 b) targets builds
+AreBuilds world targets None = (name : List ℕ) × (directory : List ℕ) × Contains targets (name, directory) × IsBuild name directory world None
+AreBuilds world targets (Some builds) = AllZip (λ t b. IsBuild t.0 t.1 world (Some b)) targets builds
 
 -- the entries that the replicas of targets hold
 abbrev pub held_by : World → List (List ℕ × List ℕ) → List Action
@@ -152,7 +151,7 @@ sharing targets actions rs = map (λ r. if list_any (λ t. bytes_eq r.name t.0) 
 abbrev pub after_builds : World → List (List ℕ × List ℕ) → Option (List TargetBuild) → World
 after_builds world targets None = world
 after_builds world targets (Some builds) =
-    seeking (with_replicas world (sharing targets (held_by world targets ++ all_compiled builds) world.replicas)) (all_sought builds)
+    seeking (with_replicas world (sharing targets (held_by world targets ++ all_actions world.edition builds) world.replicas)) (all_actions world.edition builds)
 
 -- the world after a command that isn't refused
 abbrev pub Accepted : Command → Option (List ℕ) → World → World → Type 0
@@ -168,8 +167,8 @@ Accepted Settle text world next = next ≡ with_replicas world (settled world.re
 Accepted (Merge name other) text world next =
     next ≡ with_replicas world (taking name (writes_of other world) (actions_held other world) world.replicas)
 Accepted (Build targets) text world next = (builds : Option (List TargetBuild)) × AreBuilds world targets builds × (next ≡ after_builds world targets builds)
-Accepted (Run name directory ticks) text world next = (plan : Option ActionPlan) × IsPlan name directory world plan × (next ≡ seeking world (actions_in plan))
-Accepted (Ids name directory) text world next = (plan : Option ActionPlan) × IsPlan name directory world plan × (next ≡ seeking world (actions_in plan))
+Accepted (Run name directory ticks) text world next = (build : Option TargetBuild) × IsBuild name directory world build × (next ≡ seeking world (actions_in world.edition build))
+Accepted (Ids name directory) text world next = (build : Option TargetBuild) × IsBuild name directory world build × (next ≡ seeking world (actions_in world.edition build))
 Accepted _ text world next = next ≡ world
 
 abbrev pub AfterBy : Option Refusal → Command → Option (List ℕ) → World → World → Type 0
@@ -181,30 +180,30 @@ After command text world next = AfterBy (first_of (refusals command text world))
 
 -- what builds of targets print: a report each, where each has package files; the count is that of all
 abbrev pub target_report : ℕ → (List ℕ × List ℕ) × TargetBuild → List ℕ
-target_report count ((name, directory), build) = report_text name directory (report_of build.plan.directories build.fates) count
+target_report count ((name, directory), build) = report_text name directory (report_of build) count
 
 abbrev pub builds_text : World → List (List ℕ × List ℕ) → Option (List TargetBuild) → List ℕ
 builds_text world targets None = refused NoPackage
-builds_text world targets (Some builds) = flat_map (target_report (compiled_count (held_by world targets) (all_compiled builds))) (zip targets builds)
+builds_text world targets (Some builds) = flat_map (target_report (compiled_count (held_by world targets) (all_actions world.edition builds))) (zip targets builds)
 
 -- what a run prints: for so many ticks what the sources mean, if they are a program that the replica holds compiled, and else a refusal
-abbrev pub Ran : List ℕ → List ℕ → ℕ → World → Option ActionPlan → List ℕ → Type 0
+abbrev pub Ran : List ℕ → List ℕ → ℕ → World → Option TargetBuild → List ℕ → Type 0
 Ran name directory ticks world None told = told ≡ refused NoPackage
-Ran name directory ticks world plan told =
-    ((typed : Typed) × IsPlannedProgram (actions_held name world) plan directory typed
-    × (ending : Ending) × (output : List ℕ) × SourceMeaning (typed ∷ []) ticks ending output × (told ≡ run_text name directory ending output))
-    ⊎ (((typed : Typed) → IsPlannedProgram (actions_held name world) plan directory typed → ⊥) × (told ≡ refused NotBuilt))
+Ran name directory ticks world build told =
+    ((packages : List Package) × IsPlannedProgram world.edition (actions_held name world) build packages
+    × (ending : Ending) × (output : List ℕ) × SourceMeaning packages ticks ending output × (told ≡ run_text name directory ending output))
+    ⊎ (((packages : List Package) → IsPlannedProgram world.edition (actions_held name world) build packages → ⊥) × (told ≡ refused NotBuilt))
 
 -- what the ids of a plan's directories print
-abbrev pub Listed : List ℕ → List ℕ → World → Option ActionPlan → List ℕ → Type 0
+abbrev pub Listed : List ℕ → List ℕ → World → Option TargetBuild → List ℕ → Type 0
 Listed name directory world None told = told ≡ refused NoPackage
-Listed name directory world (Some plan) told = (rows : List (List ℕ × Standing)) × AreIdRows (actions_held name world) plan rows × (told ≡ ids_text name directory rows)
+Listed name directory world (Some build) told = (rows : List (List ℕ × Standing)) × AreIdRows world.edition (actions_held name world) build rows × (told ≡ ids_text name directory rows)
 
 -- what a command that isn't refused prints
 abbrev pub Answers : Command → World → List ℕ → Type 0
 Answers (Build targets) world told = (builds : Option (List TargetBuild)) × AreBuilds world targets builds × (told ≡ builds_text world targets builds)
-Answers (Run name directory ticks) world told = (plan : Option ActionPlan) × IsPlan name directory world plan × Ran name directory ticks world plan told
-Answers (Ids name directory) world told = (plan : Option ActionPlan) × IsPlan name directory world plan × Listed name directory world plan told
+Answers (Run name directory ticks) world told = (build : Option TargetBuild) × IsBuild name directory world build × Ran name directory ticks world build told
+Answers (Ids name directory) world told = (build : Option TargetBuild) × IsBuild name directory world build × Listed name directory world build told
 Answers (Show name) world told = (shown : List AWrite) × IsShown (writes_of name world) shown × (told ≡ show_text name shown)
 Answers _ world told = told ≡ []
 

@@ -12,7 +12,7 @@ ghost use Rattle.ws_replica.specs.Holdings.{ReplicaStandsFor};
 ghost use Rattle.ws_replica.specs.Builds.{target_of};
 ghost use Rattle.ws_report.specs.Reports.{id_row};
 ghost use Rattle.ws_path.specs.Paths.{is_path};
-ghost use Rattle.ws_session.specs.Standing.{StandFor, index_of, AllStand, Settles, Tells, told_of, ChangedAt, Edited, Removal, Applied, MergedFrom, asked_of, AreTargets, AreBuiltBy, AreApart, names_in, words_of, report_line, HasNoPlanAt, RanAt, AreIdsAt, replicas_of, labels_of, IsContent};
+ghost use Rattle.ws_session.specs.Standing.{StandFor, index_of, AllStand, Settles, Tells, told_of, ChangedAt, Edited, Removal, Applied, MergedFrom, asked_of, AreTargets, AreBuiltBy, AreApart, names_in, words_of, report_line, HasNoFilesAt, RanAt, AreIdsAt, replicas_of, labels_of, IsContent};
 ghost use Rattle.ws_session.specs.World.{World, opening, is_text, is_path_word, hashed, After, Prints};
 ghost use Rattle.ws_action.specs.Clash.{NoClash};
 ghost use Rattle.ws_command.specs.Seen.{seen};
@@ -29,7 +29,7 @@ use std::{mem, str};
 use ws_command::commands::Asked;
 use ws_command::printing::{ids_lines, report_lines, run_lines, show_lines};
 use ws_command::refusal::{Refusal, refused};
-use ws_path::{file_name, is_path};
+use ws_path::{FilePath, file_name, is_path};
 use ws_pool::Gate;
 use ws_register::EditError;
 use ws_replica::join::settle;
@@ -76,6 +76,19 @@ fn path_of(word: &[u8]) -> Option<&str>
     match str::from_utf8(word) {
         Err(_) => None,
         Ok(path) => { if is_path(path) { Some(path) } else { None } }
+    }
+}
+
+/// A word as the path of a file, if it is one.
+fn file_path_of(alloc: Global, word: &[u8]) -> Result<Option<FilePath>, AllocError>
+    ensures { IfOk result (λ path. MatchOption path (is_path_word word.now ≡ false) (λ p. (is_path_word word.now ≡ true) × (p ≡ word.now))) }
+{
+    match str::from_utf8(word) {
+        Err(_) => Ok(None),
+        Ok(text) => {
+            let text = String::from_str(alloc, text)?;
+            Ok(FilePath::new(text))
+        }
     }
 }
 
@@ -243,16 +256,14 @@ fn remove(
 
 /// The replica at an index takes a write to a path.
 fn apply_at(
-    alloc: Global,
     named: &mut Vec<Named>,
     index: usize,
-    path: &str,
+    path: FilePath,
     held: Held,
 ) -> Result<(), AllocError>
     requires { index < vec_len named.old }
-    ensures { OnOk result (ChangedAt (Applied (path.now, held)) named.old.items index named.new.items) }
+    ensures { OnOk result (ChangedAt (Applied (path, held)) named.old.items index named.new.items) }
 {
-    let path = String::from_str(alloc, path)?;
     let one = &mut named[index];
     one.replica.apply(ws_version::Write::new(path, held))
 }
@@ -291,13 +302,13 @@ fn apply(
     let Some(index) = index_of(named.as_slice(), name) else {
         return Ok(Some(Refusal::Unknown));
     };
-    let Some(path) = path_of(word) else {
+    let Some(path) = file_path_of(alloc, word)? else {
         return Ok(Some(Refusal::BadPath));
     };
-    match content_of(alloc, path, lines, text)? {
+    match content_of(alloc, path.as_str(), lines, text)? {
         Err(refusal) => Ok(Some(refusal)),
         Ok(content) => {
-            apply_at(alloc, named, index, path, Held::new(version, content))?;
+            apply_at(named, index, path, Held::new(version, content))?;
             Ok(None)
         }
     }
@@ -516,15 +527,18 @@ fn run_at<R: Threads + Sync>(
 ) -> Result<Option<Outcome>, BuildError>
     requires { index < vec_len named.now }
     ensures ok { IfOk result (λ outcome. RanAt (edition_number edition) directory.now ticks named.now.items index outcome) }
-    ensures none { result ≡ Err BuildError.NoPackage → HasNoPlanAt (edition_number edition) directory.now named.now.items index }
+    ensures none { result ≡ Err BuildError.NoPackage → HasNoFilesAt directory.now named.now.items index }
 {
-    let Some(image) = image(rt, alloc, &named[index].replica, directory, edition)? else {
+    let replica = &named[index].replica;
+    replica.see_files();
+    let Some(image) = image(rt, alloc, replica, directory, edition)? else {
         return Ok(None);
     };
     match run(alloc, &image, ticks) {
         Ok(outcome) => Ok(Some(outcome)),
         Err(RunError::Memory) => Err(BuildError::Memory),
-        Err(RunError::BadCode) => unreachable!(),
+        // Only where hashed texts clash: what is linked was compiled against other summaries.
+        Err(RunError::BadCode) => Ok(None),
     }
 }
 
@@ -565,7 +579,7 @@ fn ids_at<R: Threads + Sync>(
 ) -> Result<Vec<IdLine>, BuildError>
     requires { index < vec_len named.now }
     ensures ok { IfOk result (λ lines. AreIdsAt (edition_number edition) directory.now named.now.items index (map id_row lines.items)) }
-    ensures none { result ≡ Err BuildError.NoPackage → HasNoPlanAt (edition_number edition) directory.now named.now.items index }
+    ensures none { result ≡ Err BuildError.NoPackage → HasNoFilesAt directory.now named.now.items index }
 {
     ids(rt, alloc, &named[index].replica, directory, edition)
 }

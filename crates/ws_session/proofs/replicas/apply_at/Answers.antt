@@ -11,9 +11,9 @@ returns c =
     let old : Named = c.index_mut-one.result.now in
     let new : Named = record { name = old.name; number = old.number; replica = c.apply.new.self } in
     on_ok_map c.apply.result (λ stands.
-    changed_one (Applied (c.args.path.now, c.args.held)) c.args.named.now.items c.args.index old new (omega (arith, c.requires, c.args.named.now.ok.0)) c.index_mut-one.ensures.value
+    changed_one (Applied (c.args.path, c.args.held)) c.args.named.now.items c.args.index old new (omega (arith, c.requires, c.args.named.now.ok.0)) c.index_mut-one.ensures.value
     (record {
       name = refl;
       number = refl;
-      holds = λ W E h. subst (λ (w : Write). ReplicaStandsFor c.apply.new.self (W ++ w ∷ []) E) (c.new.ensures ∙ ap (λ (p : List ℕ). let w : Write = (p, c.args.held) in w) c.in_ok-path.ensures.ok) (stands W E h);
+      holds = λ W E h. subst (λ (w : Write). ReplicaStandsFor c.apply.new.self (W ++ w ∷ []) E) c.new.ensures (stands W E h);
     })) c.apply.ensures.stands

@@ -4,7 +4,7 @@ use Rattle.std.specs.Prelude.{Err}
 use Rattle.go_text.specs.Editions.{edition_number}
 use Rattle.ws_report.specs.Reports.{id_row}
 use Rattle.ws_command.specs.IdsPrinting.{ids_text}
-use Rattle.ws_session.specs.Standing.{index_of, HasNoPlanAt, AreIdsAt}
+use Rattle.ws_session.specs.Standing.{index_of, HasNoFilesAt, AreIdsAt}
 use Rattle.ws_session.proofs.Utf8.{not_utf8}
 use Rattle.ws_session.proofs.Standings.{if_ok_map}
 use Rattle.ws_session.proofs.IdsTelling.{ids_unknown, ids_word, ids_none, ids_told}
@@ -38,4 +38,4 @@ returns-in-Err-NoPackage g c =
     let none = c.ids_at.ensures.none (c.in-Err-NoPackage.is ∙ ap (λ x. Err x) c.in-Err-NoPackage.field-0-is) in
     if_ok_map c.refused-in-Err-NoPackage.result (λ told t text world same h.
     ids_none c.args.name.now c.args.word.now text world c.args.named.now.items h c.in-Some.index e told.items (is_utf8-from_IsUtf8 c.args.word.now c.in-Ok.ensures.cases.1) t
-    (subst (λ k. HasNoPlanAt k c.args.word.now c.args.named.now.items c.in-Some.index) same (subst (λ d. HasNoPlanAt (edition_number c.args.edition) d c.args.named.now.items c.in-Some.index) word none))) c.refused-in-Err-NoPackage.ensures
+    (subst (λ d. HasNoFilesAt d c.args.named.now.items c.in-Some.index) word none)) c.refused-in-Err-NoPackage.ensures

@@ -1,35 +1,38 @@
-use Rattle.std.proofs.Common.{◌≡◌, ◌<◌, length, arith, subst, Option, [], ◌∷◌}
-use Rattle.std.specs.Prelude.{IfSome, Err}
-use Rattle.go_export.specs.Typed.{Typed}
-use Rattle.go_export.specs.WellTyped.{IsWellTyped}
-use Rattle.go_check.specs.Meaning.{IsProgram}
+use Rattle.std.proofs.Common.{◌≡◌, ◌<◌, length, arith, subst, Option}
+use Rattle.std.specs.Prelude.{Err}
 use Rattle.go_code.specs.Images.{Image}
 use Rattle.go_text.specs.Editions.{edition_number}
 use Rattle.go_vm.specs.Answers.{Answers}
 use Rattle.ws_replica.specs.Holdings.{ReplicaStandsFor}
-use Rattle.ws_replica.specs.Programs.{IsImage, MeansProgram}
+use Rattle.ws_replica.specs.Programs.{IsImage}
 use Rattle.ws_session.specs.declared.replicas.Named.{Named}
 use Rattle.ws_session.proofs.Standings.{one_element}
-use Rattle.ws_session.proofs.Runs.{no_run, image_runs, no_nonsense}
+use Rattle.ws_session.proofs.Runs.{no_run, image_runs, nonsense_runs}
 use Rattle.ws_session.proofs.replicas.run_at.Goals as goal
 
 pub returns-in_default-clause-ok : goal.returns-in_default-clause-ok
 returns-in_default-clause-ok g c n W E e h sized =
     let inside : c.args.index < length c.args.named.now.items = omega (arith, c.requires, c.args.named.now.ok.0) in
     let same : n ≡ c.index.result.now = one_element c.args.named.now.items c.args.index n c.index.result.now inside e c.index.ensures in
-    let is : IsImage (edition_number c.args.edition) W E c.args.directory.now c.in_ok-image.field-0 = c.in_ok-image.ensures.ok W E (subst (λ (m : Named). ReplicaStandsFor m.replica W E) same h) sized in
+    let holds = subst (λ (m : Named). ReplicaStandsFor m.replica W E) same h in
+    let is : IsImage (edition_number c.args.edition) W E c.args.directory.now c.in_ok-image.field-0 = c.in_ok-image.ensures.ok W E holds sized in
     no_run (edition_number c.args.edition) c.args.directory.now c.args.ticks W E (subst (λ (o : Option Image). IsImage (edition_number c.args.edition) W E c.args.directory.now o) c.in_default.is is)
 
 pub returns-in-Ok-clause-ok : goal.returns-in-Ok-clause-ok
 returns-in-Ok-clause-ok g c n W E e h sized =
     let inside : c.args.index < length c.args.named.now.items = omega (arith, c.requires, c.args.named.now.ok.0) in
     let same : n ≡ c.index.result.now = one_element c.args.named.now.items c.args.index n c.index.result.now inside e c.index.ensures in
-    let is : IsImage (edition_number c.args.edition) W E c.args.directory.now c.in_ok-image.field-0 = c.in_ok-image.ensures.ok W E (subst (λ (m : Named). ReplicaStandsFor m.replica W E) same h) sized in
-    image_runs (edition_number c.args.edition) c.args.directory.now c.args.ticks W E c.in-Some.image c.in-Ok.outcome
+    let holds = subst (λ (m : Named). ReplicaStandsFor m.replica W E) same h in
+    let is : IsImage (edition_number c.args.edition) W E c.args.directory.now c.in_ok-image.field-0 = c.in_ok-image.ensures.ok W E holds sized in
+    image_runs (edition_number c.args.edition) c.args.directory.now c.args.ticks W (c.see_files.ensures W E holds) E c.in-Some.image c.in-Ok.outcome
     (subst (λ (o : Option Image). IsImage (edition_number c.args.edition) W E c.args.directory.now o) c.in-Some.is is) c.in-Ok.ensures
 
-pub unreachable-requires : goal.unreachable-requires
-unreachable-requires g c =
-    no_nonsense c.in-Some.image c.args.ticks
-    (subst (λ (o : Option Image). IfSome o (λ (image : Image). (typed : Typed) × IsWellTyped typed × IsProgram (typed ∷ []) × MeansProgram image typed)) c.in-Some.is c.in_ok-image.ensures.program)
+pub returns-clause-ok : goal.returns-clause-ok
+returns-clause-ok g c n W E e h sized =
+    let inside : c.args.index < length c.args.named.now.items = omega (arith, c.requires, c.args.named.now.ok.0) in
+    let same : n ≡ c.index.result.now = one_element c.args.named.now.items c.args.index n c.index.result.now inside e c.index.ensures in
+    let holds = subst (λ (m : Named). ReplicaStandsFor m.replica W E) same h in
+    let is : IsImage (edition_number c.args.edition) W E c.args.directory.now c.in_ok-image.field-0 = c.in_ok-image.ensures.ok W E holds sized in
+    nonsense_runs (edition_number c.args.edition) c.args.directory.now c.args.ticks W (c.see_files.ensures W E holds) E c.in-Some.image
+    (subst (λ (o : Option Image). IsImage (edition_number c.args.edition) W E c.args.directory.now o) c.in-Some.is is)
     (subst (λ error. Answers c.in-Some.image c.args.ticks (Err error)) c.in-Err-BadCode.field-0-is c.in-Err-BadCode.ensures)

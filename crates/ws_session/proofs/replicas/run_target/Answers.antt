@@ -4,7 +4,7 @@ use Rattle.std.specs.Prelude.{Err}
 use Rattle.go_text.specs.Editions.{edition_number}
 use Rattle.go_vm.specs.Outcomes.{Outcome}
 use Rattle.ws_command.specs.RunPrinting.{run_text}
-use Rattle.ws_session.specs.Standing.{index_of, HasNoPlanAt, RanAt}
+use Rattle.ws_session.specs.Standing.{index_of, HasNoFilesAt, RanAt}
 use Rattle.ws_session.proofs.Utf8.{not_utf8}
 use Rattle.ws_session.proofs.Standings.{if_ok_map}
 use Rattle.ws_session.proofs.RunTelling.{run_unknown, run_word, run_none, run_told}
@@ -49,4 +49,4 @@ returns-in-Err-NoPackage g c =
     let none = c.run_at.ensures.none (c.in-Err-NoPackage.is ∙ ap (λ x. Err x) c.in-Err-NoPackage.field-0-is) in
     if_ok_map c.refused-in-Err-NoPackage.result (λ told t text world same h.
     run_none c.args.name.now c.args.word.now c.args.ticks text world c.args.named.now.items h c.in-Some.index e told.items (is_utf8-from_IsUtf8 c.args.word.now c.in-Ok.ensures.cases.1) t
-    (subst (λ k. HasNoPlanAt k c.args.word.now c.args.named.now.items c.in-Some.index) same (subst (λ d. HasNoPlanAt (edition_number c.args.edition) d c.args.named.now.items c.in-Some.index) word none))) c.refused-in-Err-NoPackage.ensures
+    (subst (λ d. HasNoFilesAt d c.args.named.now.items c.in-Some.index) word none)) c.refused-in-Err-NoPackage.ensures

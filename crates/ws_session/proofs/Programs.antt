@@ -1,0 +1,90 @@
+-- Whether what a target reaches is a program that is held compiled is decided, and it is one, which means something.
+use Rattle.std.proofs.Common.{◌≡◌, ◌⊎◌, ℕ, List, [], ◌∷◌, map, Option, None, Some, Bool, true, false, refl, sym, ap, ◌∙◌, inl, inr}
+use Rattle.std.specs.List.{All, Contains}
+use Rattle.std.proofs.lemmas.List.Elements.{All-nil, All-cons, All-head, All-tail}
+use Rattle.go_code.specs.declared.ending.Ending.{Ending}
+use Rattle.go_gen.specs.Translation.{object_of}
+use Rattle.go_init.specs.Packages.{package_order}
+use Rattle.go_link.specs.Links.{link_refusal}
+use Rattle.go_link.specs.declared.link.LinkError.{LinkError}
+use Rattle.go_meaning.specs.Programs.{SourceMeaning}
+use Rattle.go_translation_laws.proofs.LinkedNames.{program_linked}
+use Rattle.go_translation_laws.proofs.Refusals.{linked_program}
+use Rattle.go_meaning_laws.proofs.Programs.{means}
+use Rattle.go_meaning_laws.specs.WellTyped.{IsWellTyped}
+use Rattle.go_typed.specs.Trees.{Package}
+use Rattle.ws_version.specs.Writes.{Write}
+use Rattle.ws_register.specs.Sources.{HasFiles}
+use Rattle.ws_action.specs.Actions.{Action}
+use Rattle.ws_action.proofs.Members.{none_in_empty, head_or_later, later, at_head}
+use Rattle.ws_cache.proofs.Laws.{same_action, same_action-Decides}
+use Rattle.ws_replica.specs.Reports.{Fate, ArePackages, actions_of, TargetBuild, IsTargetBuild}
+use Rattle.ws_replica.specs.Programs.{IsGood, IsHeldProgram}
+use Rattle.ws_replica.proofs.OneBuild.{one_packages, agree_refl}
+use Rattle.ws_replica.proofs.SomeBuild.{good_or_not, some_packages}
+use Rattle.ws_replica.proofs.WellTyped.{well_typed}
+
+-- ---- what holds of all of a list, or not
+
+pub each : {X : Type 0} (P : X → Type 0) → ((x : X) → P x ⊎ (P x → ⊥)) → (xs : List X) → All P xs ⊎ (All P xs → ⊥)
+each P test [] = inl (All-nil P)
+each P test (x ∷ xs) = elim (test x) [
+  | inr bad ↦ inr (λ h. bad (All-head P x xs h))
+  | inl here ↦ elim (each P test xs) [
+    | inr bad ↦ inr (λ h. bad (All-tail P x xs h))
+    | inl rest ↦ inl (All-cons P x xs here rest)
+  ]
+]
+
+among_by : (x : Action) (xs : List Action) (a : Action) (b : Bool) → same_action x a ≡ b → Contains xs a ⊎ (Contains xs a → ⊥) → Contains (x ∷ xs) a ⊎ (Contains (x ∷ xs) a → ⊥)
+among_by x xs a true e rest = inl (at_head xs x a ((same_action-Decides x a).0 e))
+among_by x xs a false e (inl is) = inl (later x xs a is)
+among_by x xs a false e (inr no_rest) = inr (λ c. elim (head_or_later x xs a c) [ inl same ↦ (let t : same_action x a ≡ true = (same_action-Decides x a).1 same in let wrong : true ≡ false = sym t ∙ e in absurd (cc (wrong))) | inr r ↦ no_rest r ])
+
+pub among : (xs : List Action) (a : Action) → Contains xs a ⊎ (Contains xs a → ⊥)
+among [] a = inr (none_in_empty a)
+among (x ∷ xs) a = among_by x xs a (same_action x a) refl (among xs a)
+
+good : (fate : Fate) → IsGood fate ⊎ (IsGood fate → ⊥)
+good fate = elim (good_or_not fate) [ inl is ↦ inl is | inr bad ↦ inr (λ g. bad g.0 g.1) ]
+
+-- ---- the program
+
+pub one_program : (edition : ℕ) (held : List Action) (build : TargetBuild) (a b : List Package) → IsHeldProgram edition held build a → IsHeldProgram edition held build b → a ≡ b
+one_program edition held build a b g h =
+    let order = package_order (map (λ d. d.imports) build.directories) in
+    one_packages build.fates build.fates order a b (agree_refl build.fates order) g.in_order h.in_order
+
+module _ (edition : ℕ) (W : List Write) (files : HasFiles W) (target : List ℕ) (held : List Action) (build : TargetBuild) (are : IsTargetBuild W target (Some build)) where
+  pub program_well : (packages : List Package) → IsHeldProgram edition held build packages → IsWellTyped packages
+  program_well packages h = well_typed W files target build are.0 are.1 h.good packages h.in_order h.program
+
+  -- a program has a meaning
+  pub some_meaning : (packages : List Package) → IsHeldProgram edition held build packages → (ticks : ℕ) → (ending : Ending) × (output : List ℕ) × SourceMeaning packages ticks ending output
+  some_meaning packages h ticks = means packages (program_well packages h) ticks h.program
+
+  abbrev pub Decided : Type 0
+  Decided = ((packages : List Package) × IsHeldProgram edition held build packages) ⊎ ((packages : List Package) → IsHeldProgram edition held build packages → ⊥)
+
+  abbrev order : List ℕ
+  order = package_order (map (λ d. d.imports) build.directories)
+
+  by_link : All IsGood build.fates → All (Contains held) (actions_of edition build) → (packages : List Package) → ArePackages build.fates order packages → (o : Option LinkError) → link_refusal (map object_of packages) ≡ o → Decided
+  by_link all compiled packages in_order None e = inl (packages, record { good = all; compiled = compiled; in_order = in_order; program = linked_program packages e })
+  by_link all compiled packages in_order (Some error) e = inr (λ others h.
+      let same : others ≡ packages = one_packages build.fates build.fates order others packages (agree_refl build.fates order) h.in_order in_order in
+      let linked : link_refusal (map object_of others) ≡ None = program_linked others (program_well others h) h.program in
+      let wrong : None ≡ Some error = sym linked ∙ ap (λ (ps : List Package). link_refusal (map object_of ps)) same ∙ e in
+      absurd (cc (wrong)))
+
+  pub program_decided : Decided
+  program_decided = elim (each IsGood good build.fates) [
+    | inr bad ↦ inr (λ packages h. bad h.good)
+    | inl all ↦ elim (each (Contains held) (among held) (actions_of edition build)) [
+      | inr lacks ↦ inr (λ packages h. lacks h.compiled)
+      | inl compiled ↦ elim (some_packages build.fates order) [
+        | inr none ↦ inr (λ packages h. none packages h.in_order)
+        | inl (packages, in_order) ↦ by_link all compiled packages in_order (link_refusal (map object_of packages)) refl
+      ]
+    ]
+  ]
