@@ -14,17 +14,18 @@ use Rattle.go_vm.specs.Outcomes.{Outcome}
 use Rattle.go_vm.specs.declared.run.RunError.{RunError}
 use Rattle.go_vm.specs.declared.run.RunError.TheVariants.{Memory, BadCode as Nonsense}
 use Rattle.go_typed.specs.Trees.{Package}
-use Rattle.go_sound.specs.WellTyped.{is_text}
-use Rattle.go_emit.specs.Translation.{object_of}
-use Rattle.go_simulation.specs.Programs.{IsLinked}
-use Rattle.go_simulation.proofs.Refusals.{linked_program}
-use Rattle.go_checked.specs.Packages as checked
-use Rattle.go_checked.proofs.Meant.{checked_same, checked_sense}
-use Rattle.go_program.specs.Programs.{AreTreesOf, fmt_alone, AreTyped, AreProgram, AreTexts, Mean}
+use Rattle.go_meaning_laws.specs.WellTyped.{is_text}
+use Rattle.go_gen.specs.Translation.{object_of}
+use Rattle.go_translation_laws.specs.Programs.{IsLinked}
+use Rattle.go_translation_laws.proofs.Refusals.{linked_program}
+use Rattle.go_package_laws.specs.Packages as checked
+use Rattle.go_package_laws.proofs.Meant.{checked_same, checked_sense}
+use Rattle.go_check.specs.Checked.{AreTrees, fmt, AreTyped}
+use Rattle.go_program.specs.Programs.{AreProgram, AreTexts, Mean}
 
 -- ---- the texts of the files
 
-of_texts : (sources : List Parsed) (files : List File) → AreTreesOf sources files → AreTexts sources → checked.AreOfTexts files
+of_texts : (sources : List Parsed) (files : List File) → AreTrees sources files → AreTexts sources → checked.AreOfTexts files
 of_texts [] [] trees texts = tt
 of_texts [] (f ∷ fs) trees texts = absurd trees
 of_texts (s ∷ sources) [] trees texts = absurd trees
@@ -34,11 +35,11 @@ of_texts (s ∷ sources) (f ∷ fs) trees texts =
 
 -- ---- programs
 
-pub program_by : (path : List ℕ) (sources : List Parsed) (whole : Package) (typed : AreTyped path sources whole) → checked.is_initialized whole ≡ false → whole.name ≡ codes "main"
-    → AreTexts sources → checked.AreProgram path typed.files fmt_alone (map (λ s. s.name) sources) whole
+pub program_by : (path : List ℕ) (sources : List Parsed) (whole : Package) (typed : AreTyped path sources [] whole) → checked.is_initialized whole ≡ false → whole.name ≡ codes "main"
+    → AreTexts sources → checked.AreProgram path typed.trees (fmt ∷ []) (map (λ s. s.name) sources) whole
 program_by path sources whole typed plain named texts = record {
-  sources = of_texts sources typed.files typed.trees texts;
-  typed = typed.typed;
+  sources = of_texts sources typed.trees typed.parse texts;
+  typed = typed.is;
   plain = plain;
   named = named;
 }
@@ -47,7 +48,7 @@ module _ (path : List ℕ) (sources : List Parsed) (image : Image) (it : AreProg
   abbrev names : List (List ℕ)
   names = map (λ s. s.name) sources
 
-  good : checked.AreProgram path it.typed.files fmt_alone names it.whole
+  good : checked.AreProgram path it.typed.trees (fmt ∷ []) names it.whole
   good = program_by path sources it.whole it.typed it.is.plain (linked_program (it.whole ∷ []) it.is.links.0).0 texts
 
   linked : IsLinked (it.whole ∷ []) image
@@ -58,11 +59,11 @@ module _ (path : List ℕ) (sources : List Parsed) (image : Image) (it : AreProg
     whole = it.whole;
     typed = it.typed;
     plain = it.is.plain;
-    meaning = (checked_same path it.typed.files fmt_alone names it.whole (refl, tt) good image linked ticks ending output).1 h;
+    meaning = (checked_same path it.typed.trees (fmt ∷ []) names it.whole (refl, tt) good image linked ticks ending output).1 h;
   }
 
   pub sensible : (ticks : ℕ) → MachineMeaning image ticks BadCode → ⊥
-  sensible ticks h = checked_sense path it.typed.files fmt_alone names it.whole (refl, tt) good image ticks linked h
+  sensible ticks h = checked_sense path it.typed.trees (fmt ∷ []) names it.whole (refl, tt) good image ticks linked h
 
 -- ---- what a run answers
 

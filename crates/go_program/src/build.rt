@@ -1,67 +1,25 @@
 //! The image of a package's files.
 //! [Program execution](https://go.dev/ref/spec#Program_execution)
-ghost use Rattle.std.specs.Prelude.{◌≡◌, ℕ, map, Err, IfOk};
+ghost use Rattle.std.specs.Prelude.{◌≡◌, [], map, Err, IfOk};
 ghost use Rattle.std.specs.List.{list_any};
-ghost use Rattle.go_text.specs.declared.fault.FaultKind.{FaultKind as AKind};
-ghost use Rattle.go_text.specs.declared.place.Place.{Place as APlace};
+ghost use Rattle.go_text.specs.Faults.{Fault};
 ghost use Rattle.go_typed.specs.Views.{function_of, typed_of};
 ghost use Rattle.go_link.specs.declared.link.LinkError.TheVariants as linking;
-ghost use Rattle.go_package.specs.Seen.{files_of};
 ghost use Rattle.go_program.specs.declared.error.ProgramError.TheVariants as errors;
-ghost use Rattle.go_checked.specs.Packages.{is_init, is_initialized};
-ghost use Rattle.go_program.specs.Programs.{AreFaulty, AreInitialized, AreProgram, AreTreesOf, AreUnlinked};
-ghost use Rattle.go_program.specs.Told.{Builds, Compiles, Types};
+ghost use Rattle.go_package_laws.specs.Packages.{is_init, is_initialized};
+ghost use Rattle.go_check.specs.Checked.{HaveFault};
+ghost use Rattle.go_program.specs.Programs.{AreInitialized, AreProgram, AreUnlinked};
+ghost use Rattle.go_program.specs.Told.{Builds, Compiles};
 
 use crate::error::ProgramError;
-use go_ast::file::File;
 use go_ast::parsed::Parsed;
+use go_check::check::check;
 use go_code::image::Image;
-use go_emit::generate::generate;
-use go_expr::known::library;
+use go_gen::generate::generate;
 use go_link::link::link;
-use go_package::import::Importable;
-use go_package::typed::typed;
 use go_typed::package::{Typed, TypedFunction};
 use std::alloc::{AllocError, Global};
 use std::sync::Arc;
-
-/// The names of files, in their order.
-fn names_of(alloc: Global, files: &[Parsed]) -> Result<Vec<&str>, AllocError>
-    ensures { IfOk result (λ names. map (λ n. n.now) names.items ≡ map (λ f. f.name) files.now) }
-{
-    let mut names = Vec::with_capacity(alloc, files.len())?;
-    for file in files {
-        names.push(file.name())?;
-    }
-    Ok(names)
-}
-
-/// The trees of files, in their order. An `Err` only where memory ran out.
-pub fn trees_of(alloc: Global, files: &[Parsed]) -> Result<Vec<&File>, AllocError>
-    ensures { IfOk result (λ trees. AreTreesOf files.now (files_of trees.items)) }
-{
-    let mut trees = Vec::with_capacity(alloc, files.len())?;
-    for file in files {
-        let tree = file.file();
-        trees.push(tree)?;
-    }
-    Ok(trees)
-}
-
-/// The typed package that files are, or its first fault. They may import the library fmt alone.
-fn check(alloc: Global, path: &str, files: &[Parsed]) -> Result<Typed, ProgramError>
-    ensures { Types path.now files.now result }
-{
-    let exports = library(alloc)?;
-    let fmt = Importable {
-        path: "fmt",
-        name: "fmt",
-        exports: &exports,
-    };
-    let names = names_of(alloc, files)?;
-    let trees = trees_of(alloc, files)?;
-    Ok(typed(alloc, path, &names, &trees, &[fmt])?)
-}
 
 /// Whether a function comes before main.
 fn is_init(function: &TypedFunction) -> bool
@@ -111,8 +69,7 @@ fn image_of(alloc: Global, typed: &Typed) -> Result<Image, ProgramError>
 /// - `NameMissing`: its code calls a function that it doesn't have.
 pub fn build(alloc: Global, path: &str, files: &[Parsed]) -> Result<Image, ProgramError>
     ensures program { IfOk result (λ image. AreProgram path.now files.now image) }
-    ensures faulty { (file : ℕ) (place : APlace) (kind : AKind) → result ≡ Err (errors.Faulty file place kind)
-        → AreFaulty path.now files.now (file, (place, kind)) }
+    ensures faulty { (fault : Fault) → result ≡ Err (errors.Faulty fault) → HaveFault path.now files.now [] fault }
     ensures initialized { result ≡ Err errors.Initialized → AreInitialized path.now files.now }
     ensures no_main { result ≡ Err errors.NoMain → AreUnlinked path.now files.now linking.NoMain }
     ensures missing { result ≡ Err errors.NameMissing → AreUnlinked path.now files.now linking.NameMissing }
@@ -124,6 +81,6 @@ pub fn build(alloc: Global, path: &str, files: &[Parsed]) -> Result<Image, Progr
 fn build_told(alloc: Global, path: &str, files: &[Parsed]) -> Result<Image, ProgramError>
     ensures { Builds path.now files.now result }
 {
-    let typed = check(alloc, path, files)?;
+    let typed = check(alloc, path, files, &[])?;
     image_of(alloc, &typed)
 }

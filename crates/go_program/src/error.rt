@@ -3,20 +3,18 @@ ghost use Rattle.std.specs.Prelude.{◌≡◌};
 ghost use Rattle.go_program.specs.Told.{of_checker, of_linker};
 ghost use Rattle.go_program.specs.declared.error.ProgramError.TheVariants.{Memory};
 
-use go_decl::error::DeclError;
+use go_check::error::CheckError;
 use go_link::link::LinkError;
-use go_text::fault::FaultKind;
-use go_text::place::Place;
+use go_text::fault::Fault;
 use std::alloc::{AllocError, AllocFailed};
 use thiserror::Error;
 
 /// Why the files of a package give no image.
 #[derive(Debug, Drop, Error)]
 pub enum ProgramError {
-    /// The package has a fault, of which this is the first: the number of its file, where in the
-    /// file, and of which kind.
+    /// The package has a fault, of which this is the first.
     #[error("the package has a fault")]
-    Faulty(usize, Place, FaultKind),
+    Faulty(Fault),
     /// A variable of the package has an initial value, or the package has a function init: these
     /// aren't compiled yet.
     #[error("initial values of package variables and init functions aren't compiled yet")]
@@ -32,13 +30,13 @@ pub enum ProgramError {
     Memory,
 }
 
-impl From<DeclError> for ProgramError {
+impl From<CheckError> for ProgramError {
     ghost from_gives = { λ from e. e ≡ of_checker from };
 
-    fn from(e: DeclError) -> ProgramError {
+    fn from(e: CheckError) -> ProgramError {
         match e {
-            DeclError::Faulty(file, place, kind) => ProgramError::Faulty(file, place, kind),
-            DeclError::Memory => ProgramError::Memory,
+            CheckError::Faulty(fault) => ProgramError::Faulty(fault),
+            CheckError::Memory => ProgramError::Memory,
         }
     }
 }

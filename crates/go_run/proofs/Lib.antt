@@ -1,6 +1,5 @@
 mod Plans
 mod Reading
-mod Within
 mod Faults
 mod Refusals
 mod Texts

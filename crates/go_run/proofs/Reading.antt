@@ -6,7 +6,7 @@ use Rattle.std.proofs.lemmas.List.{append_assoc, drop_more, drop_all, append-nil
 use Rattle.go_text.specs.Faults.{Fault}
 use Rattle.go_text.specs.Named.{Source}
 use Rattle.go_ast.specs.Parse.{Parsed}
-use Rattle.go_sound.specs.WellTyped.{is_text}
+use Rattle.go_meaning_laws.specs.WellTyped.{is_text}
 use Rattle.go_program.specs.Programs.{AreTexts}
 use Rattle.go_run.specs.Sources.{all_parsed, IsTextFault}
 use Rattle.go_run.specs.Answers.{IsRead}

@@ -10,10 +10,11 @@ use Rattle.go_meaning.specs.Programs.{function_named}
 use Rattle.go_link.specs.declared.link.LinkError.{LinkError}
 use Rattle.go_link.specs.declared.link.LinkError.TheVariants.{NoMain, NameMissing}
 use Rattle.go_link.specs.Links.{has_main, name_missing, link_refusal}
-use Rattle.go_emit.specs.Translation.{object_of}
-use Rattle.go_simulation.proofs.Refusals.{main_same}
-use Rattle.go_checked.proofs.Meant.{checked_linked}
-use Rattle.go_program.specs.Programs.{fmt_alone, AreTexts, AreUnlinked}
+use Rattle.go_gen.specs.Translation.{object_of}
+use Rattle.go_translation_laws.proofs.Refusals.{main_same}
+use Rattle.go_package_laws.proofs.Meant.{checked_linked}
+use Rattle.go_check.specs.Checked.{fmt}
+use Rattle.go_program.specs.Programs.{AreTexts, AreUnlinked}
 use Rattle.go_program.proofs.Meant.{program_by}
 use Rattle.go_run.specs.Sources.{main_path, all_parsed, AreNoProgram}
 
@@ -21,7 +22,7 @@ module _ (path : List ℕ) (sources : List Parsed) (why : LinkError) (texts : Ar
   -- a package that is named main is linked
   not_refused : it.whole.name ≡ codes "main" → ⊥
   not_refused named =
-      let linked = checked_linked path it.typed.files fmt_alone (map (λ (s : Parsed). s.name) sources) it.whole (refl, tt) (program_by path sources it.whole it.typed it.is.plain named texts) in
+      let linked = checked_linked path it.typed.trees (fmt ∷ []) (map (λ (s : Parsed). s.name) sources) it.whole (refl, tt) (program_by path sources it.whole it.typed it.is.plain named texts) in
       let bad : Some why ≡ None = sym it.is.refused ∙ linked in
       cc
 

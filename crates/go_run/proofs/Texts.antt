@@ -6,7 +6,7 @@ use Rattle.std.proofs.lemmas.Bool.{and_from, lt-ltb}
 use Rattle.go_const.specs.declared.kind.IntKind.TheVariants as integers
 use Rattle.go_const.specs.Constants.{fits}
 use Rattle.go_text.specs.Texts.{text_limit}
-use Rattle.go_sound.specs.WellTyped.{is_text}
+use Rattle.go_meaning_laws.specs.WellTyped.{is_text}
 
 all_bytes : (bs : List ℕ) → ((i : ℕ) → get_or bs i 0 < 256) → list_all (λ b. nat_lt b 256) bs ≡ true
 all_bytes [] h = refl

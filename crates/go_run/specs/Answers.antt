@@ -1,6 +1,5 @@
 -- What the answers about sources say.
-use Rattle.std.specs.Prelude.{◌≡◌, ℕ, List, map, Option, Some, None, Result, Ok, Err, Vec}
-use Rattle.std.specs.List.{slice_get}
+use Rattle.std.specs.Prelude.{◌≡◌, ℕ, List, Option, Some, None, Result, Ok, Err, Vec}
 use Rattle.std.specs.Global.{Global}
 use Rattle.go_text.specs.Faults.{Fault}
 use Rattle.go_text.specs.Named.{Source}
@@ -28,11 +27,6 @@ AreRead sources (Err fault) = IsTextFault sources fault
 abbrev pub IsPlanned : List Source → Option Fault → Type 0
 IsPlanned sources None = AreOnePackage sources
 IsPlanned sources (Some fault) = IsPlanFault sources fault
-
--- a fault by the number of its file, and by its name
-pub record IsFaultIn (files : List Parsed) (numbered : ℕ × (Place × FaultKind)) (fault : Fault) : Type 0 where
-  pub name : slice_get (map (λ f. f.name) files) numbered.0 ≡ Some fault.file
-  pub same : numbered.1 ≡ (fault.place, fault.kind)
 
 -- the image is a program's, whose sources are texts
 abbrev pub IsOfTexts : Image → Type 0

@@ -6,8 +6,8 @@ use Rattle.go_text.specs.Named.{Source}
 use Rattle.go_ast.specs.Trees.{File}
 use Rattle.go_ast.specs.Parse.{Parsed, Derived, Stopped, IsParse}
 use Rattle.go_typed.specs.Trees.{Package}
-use Rattle.go_checked.specs.Packages.{is_initialized}
-use Rattle.go_program.specs.Programs.{AreTyped, AreFaulty, AreTreesOf}
+use Rattle.go_package_laws.specs.Packages.{is_initialized}
+use Rattle.go_check.specs.Checked.{AreTrees, AreTyped, HaveFault}
 use Rattle.go_run.specs.Plan.{plan_faults}
 
 -- the path of a program's package
@@ -38,7 +38,7 @@ IsTextFault (s ∷ ss) fault = IsStopped s fault ⊎ (IsFile s × IsTextFault ss
 -- all sources are files, and the first fault of what they must have in common is this, in the file of that number
 pub record IsPlanFault (sources : List Source) (fault : Fault) : Type 0 where
   pub files : List File
-  pub trees : AreTreesOf (all_parsed sources) files
+  pub trees : AreTrees (all_parsed sources) files
   pub number : ℕ
   pub name : slice_get (map (λ s. s.name) sources) number ≡ Some fault.file
   pub first : slice_get (plan_faults files) 0 ≡ Some (number, (fault.place, fault.kind))
@@ -46,15 +46,13 @@ pub record IsPlanFault (sources : List Source) (fault : Fault) : Type 0 where
 -- all sources are the files of one package, which imports what is there
 pub record AreOnePackage (sources : List Source) : Type 0 where
   pub files : List File
-  pub trees : AreTreesOf (all_parsed sources) files
+  pub trees : AreTrees (all_parsed sources) files
   pub none : plan_faults files ≡ []
 
 -- they are, and the first fault of their package is this
 pub record IsPackageFault (sources : List Source) (fault : Fault) : Type 0 where
   pub one : AreOnePackage sources
-  pub number : ℕ
-  pub name : slice_get (map (λ s. s.name) sources) number ≡ Some fault.file
-  pub first : AreFaulty main_path (all_parsed sources) (number, (fault.place, fault.kind))
+  pub first : HaveFault main_path (all_parsed sources) [] fault
 
 abbrev pub IsFirstFault : List Source → Fault → Type 0
 IsFirstFault sources fault = IsTextFault sources fault ⊎ (IsPlanFault sources fault ⊎ IsPackageFault sources fault)
@@ -64,6 +62,6 @@ IsFirstFault sources fault = IsTextFault sources fault ⊎ (IsPlanFault sources 
 -- the sources have no fault and nothing that isn't compiled yet, but their package isn't named main
 pub record AreNoProgram (sources : List Source) : Type 0 where
   pub whole : Package
-  pub typed : AreTyped main_path (all_parsed sources) whole
+  pub typed : AreTyped main_path (all_parsed sources) [] whole
   pub plain : is_initialized whole ≡ false
   pub other : whole.name ≢ codes "main"

@@ -1,27 +1,27 @@
 //! What comes of sources: they are parsed, built and run.
 //! [Program execution](https://go.dev/ref/spec#Program_execution)
-ghost use Rattle.std.specs.Prelude.{◌≡◌, ◌<◌, ◌≤◌, ℕ, true, List, Ok, IfOk, length};
+ghost use Rattle.std.specs.Prelude.{◌≡◌, ◌≤◌, true, List, Ok, IfOk, length};
 ghost use Rattle.go_text.specs.Faults.{Fault as AFault};
 ghost use Rattle.go_text.specs.Texts.{text_limit};
 ghost use Rattle.go_text.specs.Named.{Source as ASource};
 ghost use Rattle.go_ast.specs.Parse.{Parsed as AParsed};
-ghost use Rattle.go_sound.specs.WellTyped.{is_text};
+ghost use Rattle.go_meaning_laws.specs.WellTyped.{is_text};
 ghost use Rattle.go_vm.specs.Outcomes.{Outcome as AnOutcome};
 ghost use Rattle.go_program.specs.Programs.{AreProgram, AreInitialized, AreTexts, Mean};
 ghost use Rattle.go_run.specs.declared.answer.Answer.TheVariants as answers;
 ghost use Rattle.go_run.specs.Sources.{main_path, all_parsed, IsFirstFault, AreOnePackage, AreNoProgram};
-ghost use Rattle.go_run.specs.Answers.{IsRead, AreRead, IsFaultIn, IsOfTexts, IsPlanned, AreOneUnlessFaulty, Answers};
+ghost use Rattle.go_run.specs.Answers.{IsRead, AreRead, IsOfTexts, IsPlanned, AreOneUnlessFaulty, Answers};
 
 use crate::answer::Answer;
 use crate::plan::plan_fault;
 use go_ast::parsed::Parsed;
+use go_check::files::{fault_in, trees_of};
 use go_code::image::Image;
 use go_parse::{ParseError, parse};
-use go_program::build::{build, trees_of};
+use go_program::build::build;
 use go_program::error::ProgramError;
 use go_program::run::run_program;
-use go_text::fault::{Fault, FaultKind};
-use go_text::place::Place;
+use go_text::fault::Fault;
 use go_text::source::Source;
 use go_vm::run::{Outcome, RunError};
 use std::alloc::{AllocError, Global};
@@ -74,21 +74,6 @@ fn read_sources(alloc: Global, sources: &[Source]) -> Result<Result<Vec<Parsed>,
     Ok(Ok(files))
 }
 
-/// A fault of the file of a number.
-fn fault_in(
-    alloc: Global,
-    files: &[Parsed],
-    number: usize,
-    place: Place,
-    kind: FaultKind,
-) -> Result<Fault, AllocError>
-    requires { number < length files.now }
-    ensures { IfOk result (λ fault. IsFaultIn files.now (number, (place, kind)) fault) }
-{
-    let name = String::from_str(alloc, files[number].name())?;
-    Ok(Fault::new(name, place, kind))
-}
-
 /// What the image of a program does.
 fn run_image(alloc: Global, image: &Image, ticks: u64) -> Result<Outcome, AllocError>
     requires { IsOfTexts image.now }
@@ -122,10 +107,7 @@ fn run_package(alloc: Global, files: &[Parsed], ticks: u64) -> Result<Answer, Al
 {
     match build(alloc, "main", files) {
         Ok(image) => Ok(Answer::Ran(run_image(alloc, &image, ticks)?)),
-        Err(ProgramError::Faulty(number, place, kind)) => {
-            let fault = fault_in(alloc, files, number, place, kind)?;
-            Ok(Answer::Faulty(fault))
-        }
+        Err(ProgramError::Faulty(fault)) => Ok(Answer::Faulty(fault)),
         Err(ProgramError::Initialized) => Ok(Answer::Initialized),
         Err(ProgramError::NoMain) => Ok(Answer::NoMain),
         // A package without fault calls no function that it doesn't have.

@@ -1,7 +1,7 @@
 use Rattle.std.proofs.Common.{◌≡◌, drop, map}
 use Rattle.std.specs.List.{list_any}
 use Rattle.go_typed.specs.Views.{function_of}
-use Rattle.go_checked.specs.Packages.{is_init}
+use Rattle.go_package_laws.specs.Packages.{is_init}
 use Rattle.go_program.proofs.build.has_init.Given as goal
 
 abbrev pub invariant-loop-function : goal.invariant-loop-function

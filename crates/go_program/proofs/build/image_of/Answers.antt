@@ -3,8 +3,8 @@ use Rattle.std.proofs.lemmas.Result.{err_from_is_err_and}
 use Rattle.std.specs.Arc.{arc_value}
 use Rattle.go_code.specs.Packages.{Object}
 use Rattle.go_typed.specs.Views.{typed_of}
-use Rattle.go_emit.specs.Translation.{object_of}
-use Rattle.go_checked.specs.Packages.{is_initialized}
+use Rattle.go_gen.specs.Translation.{object_of}
+use Rattle.go_package_laws.specs.Packages.{is_initialized}
 use Rattle.go_program.proofs.Answered.{linked_by, unlinked_by}
 use Rattle.go_program.proofs.build.image_of.Goals as goal
 

@@ -1,7 +1,7 @@
 use Rattle.std.proofs.Common.{rules, ◌≡◌, ◌≤◌, ℕ, true, List, length, sym, subst}
 use Rattle.go_text.specs.Texts.{text_limit}
 use Rattle.go_text.proofs.Texts.{valid_is_short}
-use Rattle.go_sound.specs.WellTyped.{is_text}
+use Rattle.go_meaning_laws.specs.WellTyped.{is_text}
 use Rattle.go_run.proofs.run.is_text.Goals as goal
 
 pub are_text-requires : goal.are_text-requires

@@ -1,5 +1,0 @@
-use Rattle.std.proofs.Common.{◌≡◌, ◌++◌, drop, map}
-use Rattle.go_program.proofs.build.names_of.Given as goal
-
-abbrev pub invariant-loop-file : goal.invariant-loop-file
-invariant-loop-file l = map (λ n. n.now) l.names.items ++ map (λ f. f.name) (drop l.file-index l.files) ≡ map (λ f. f.name) l.files
