@@ -1,6 +1,6 @@
 -- Numbers that differ by a multiple.
 use Rattle.std.proofs.Common.{◌≡◌, ℕ, ◌+◌, ◌-◌, ◌*◌, ◌/◌, ◌%◌, ◌^◌, ◌<◌, ◌≤◌, ℤ, pos, ◌+ℤ◌, refl, sym, ◌∙◌, subst, arith, inl, inr}
-use Rattle.std.specs.Int.{w128, int_rem_euclid, int_wrap, cast_signed}
+use Rattle.std.specs.Int.{w64, w128, int_rem_euclid, int_wrap, cast_signed}
 use Rattle.std.specs.Prelude.{unsigned_abs}
 use Rattle.std.proofs.lemmas.Bool.{cases_lt}
 use Rattle.std.proofs.lemmas.Int.{int_rem_euclid_is, ints}
@@ -62,6 +62,25 @@ near_wrap z =
     let is : int_rem_euclid z (pos (2 ^ 128)) ≡ pos (m % 2 ^ 128) = int_rem_euclid_is z (pos (2 ^ 128)) (2 ^ 128) t m some refl (omega (arith, ints)) in
     let small : unsigned_abs (int_rem_euclid z (pos (2 ^ 128))) < 2 ^ 128 = subst (λ r. unsigned_abs r < 2 ^ 128) (sym is) (mod_below m (2 ^ 128) some) in
     near_then (2 ^ 128) _ (pos (unsigned_abs (int_rem_euclid z (pos (2 ^ 128))))) z (read (unsigned_abs (int_rem_euclid z (pos (2 ^ 128)))) small) (near_remainder (2 ^ 128) z some)
+
+-- the signed number of 64 bits
+read_64 : (n : ℕ) → n < 2 ^ 64 → Near (2 ^ 64) (cast_signed w64 n) (pos n)
+read_64 n h = elim (cases_lt n (2 ^ 63)) [
+  | inl low ↦ record { over = 0; under = 0; same = omega (arith, ints) }
+  | inr high ↦ record { over = 1; under = 0; same = grind (arith, ints) }
+]
+
+-- what is left of a number in 64 bits
+pub near_wrap_64 : (z : ℤ) → Near (2 ^ 64) (int_wrap w64 z) z
+unfolding int_wrap
+near_wrap_64 z =
+    let some : 0 < 2 ^ 64 = omega arith in
+    let t = down z in
+    let far : t * 1 ≤ t * 2 ^ 64 = mul-le-mul_left t some in
+    let m = up z + t * 2 ^ 64 - down z in
+    let is : int_rem_euclid z (pos (2 ^ 64)) ≡ pos (m % 2 ^ 64) = int_rem_euclid_is z (pos (2 ^ 64)) (2 ^ 64) t m some refl (omega (arith, ints)) in
+    let small : unsigned_abs (int_rem_euclid z (pos (2 ^ 64))) < 2 ^ 64 = subst (λ r. unsigned_abs r < 2 ^ 64) (sym is) (mod_below m (2 ^ 64) some) in
+    near_then (2 ^ 64) _ (pos (unsigned_abs (int_rem_euclid z (pos (2 ^ 64))))) z (read_64 (unsigned_abs (int_rem_euclid z (pos (2 ^ 64)))) small) (near_remainder (2 ^ 64) z some)
 
 pub record Remainder (n : ℕ) (z : ℤ) : Type 0 where
   pub rest : ℕ

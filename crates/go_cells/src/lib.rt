@@ -5,3 +5,4 @@ mod number;
 pub mod operate;
 pub mod part;
 pub mod slot;
+pub mod small;

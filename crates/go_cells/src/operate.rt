@@ -11,9 +11,10 @@ ghost use Rattle.go_cells.specs.Told.{told};
 
 use crate::number::{calculate, shift, wrap};
 use crate::slot::Slot;
-use go_code::cell::{Cell, Text};
+use go_code::cell::Cell;
 use go_code::ending::PanicKind;
 use go_code::operator::{Operator, TextOperator};
+use go_const::constant::Text;
 use go_const::kind::IntKind;
 use go_const::operator::{ArithmeticOperator, ComparisonOperator, ShiftOperator};
 use std::alloc::{AllocError, Global};

@@ -3,6 +3,7 @@ pub mod Decoding
 pub mod Handed
 pub mod Numbers
 pub mod Pushing
+pub mod Readings
 pub mod Rows
 pub mod Settled
 pub mod Sinks

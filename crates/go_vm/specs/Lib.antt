@@ -6,3 +6,4 @@ pub mod View
 pub mod Ahead
 pub mod Trees
 pub mod Coming
+pub mod Readings

@@ -11,6 +11,7 @@ mod machine;
 mod number;
 mod place;
 mod program;
+mod row;
 pub mod run;
 mod tree;
 mod value;

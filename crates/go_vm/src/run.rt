@@ -13,6 +13,7 @@ use crate::decode::Coded;
 use crate::frames::Frames;
 use crate::machine::{Begun, Exit, Flow, World, begin_function, one_step};
 use crate::program::Program;
+use crate::row::read_ahead;
 use go_cells::slot::Slot;
 use go_code::cell::Cell;
 use go_code::ending::Ending;
@@ -84,6 +85,9 @@ fn advance<'a>(
     ensures { IfOk result (λ flow. Advances image.now frames.old world.old flow frames.new world.new) }
 {
     if obey_ahead(frames, &mut world.ticks, image)? {
+        return Ok(Flow::GoesOn);
+    }
+    if read_ahead(frames, world)? {
         return Ok(Flow::GoesOn);
     }
     one_step(alloc, frames, world, image)

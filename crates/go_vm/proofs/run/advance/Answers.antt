@@ -3,8 +3,9 @@ use Rattle.std.proofs.lemmas.Result.{IfOk-weaker}
 use Rattle.go_code.specs.Images.{Image}
 use Rattle.go_code.specs.Machine.{State, step}
 use Rattle.go_vm.specs.Ahead.{Went, Obeyed}
-use Rattle.go_vm.specs.Coming.{by_one}
+use Rattle.go_vm.specs.Coming.{Comes, by_one}
 use Rattle.go_vm.specs.Open.{Open}
+use Rattle.go_vm.specs.Readings.{Reads}
 use Rattle.go_vm.specs.Told.{state_of, told}
 use Rattle.go_vm.specs.declared.machine.Flow.{Flow}
 use Rattle.go_vm.specs.declared.machine.Flow.TheVariants.{GoesOn, Leaves}
@@ -23,15 +24,31 @@ returns-then-branch c =
     let obeyed : Obeyed c.args.image.now true o t p u = subst (λ b. Obeyed c.args.image.now b o t p u) c.if-branch.true c.in_ok-obey_ahead.ensures in
     λ starts. obeyed starts c.args.world.now
 
-pub returns : goal.returns
-returns c =
-    let old = c.args.frames.now in
+pub returns-then-branch-2 : goal.returns-then-branch-2
+returns-then-branch-2 c =
+    let image = c.args.image.now in
     let p = c.obey_ahead.new.frames in
+    let q = c.read_ahead.new.frames in
     let w = c.args.world.now in
     let u = c.obey_ahead.new.ticks in
-    let same : Obeyed c.args.image.now false old w.ticks p u = subst (λ b. Obeyed c.args.image.now b old w.ticks p u) c.if-branch.false c.in_ok-obey_ahead.ensures in
+    let same : Obeyed image false c.args.frames.now w.ticks p u = subst (λ b. Obeyed image b c.args.frames.now w.ticks p u) c.if-branch.false c.in_ok-obey_ahead.ensures in
+    let reads : Reads true p (record w { ticks = u }) q = subst (λ b. Reads b p (record w { ticks = u }) q) c.if-branch-2.true c.in_ok-read_ahead.ensures in
+    λ starts.
+    subst (λ (o : Open). Comes image (state_of o starts w) (state_of q starts (record w { ticks = u }))) same.0
+    (subst (λ t. Comes image (state_of p starts (record w { ticks = t })) (state_of q starts (record w { ticks = u }))) same.1 (reads image starts))
+
+pub returns : goal.returns
+returns c =
+    let image = c.args.image.now in
+    let p = c.obey_ahead.new.frames in
+    let q = c.read_ahead.new.frames in
+    let w = c.args.world.now in
+    let u = c.obey_ahead.new.ticks in
+    let same : Obeyed image false c.args.frames.now w.ticks p u = subst (λ b. Obeyed image b c.args.frames.now w.ticks p u) c.if-branch.false c.in_ok-obey_ahead.ensures in
+    let kept : Reads false p (record w { ticks = u }) q = subst (λ b. Reads b p (record w { ticks = u }) q) c.if-branch-2.false c.in_ok-read_ahead.ensures in
     IfOk-weaker c.one_step.result _ _
     (λ flow h starts.
-    subst (λ (o : Open). Went c.args.image.now (state_of o starts w) flow (state_of c.one_step.new.frames starts c.one_step.new.world)) same.0
-    (subst (λ t. Went c.args.image.now (state_of p starts (record w { ticks = t })) flow (state_of c.one_step.new.frames starts c.one_step.new.world)) same.1
-    (went c.args.image.now (state_of p starts (record w { ticks = u })) (state_of c.one_step.new.frames starts c.one_step.new.world) flow (h starts)))) c.one_step.ensures
+    subst (λ (o : Open). Went image (state_of o starts w) flow (state_of c.one_step.new.frames starts c.one_step.new.world)) same.0
+    (subst (λ t. Went image (state_of p starts (record w { ticks = t })) flow (state_of c.one_step.new.frames starts c.one_step.new.world)) same.1
+    (subst (λ (o : Open). Went image (state_of o starts (record w { ticks = u })) flow (state_of c.one_step.new.frames starts c.one_step.new.world)) kept
+    (went image (state_of q starts (record w { ticks = u })) (state_of c.one_step.new.frames starts c.one_step.new.world) flow (h starts))))) c.one_step.ensures
