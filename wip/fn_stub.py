@@ -4,7 +4,7 @@ checked over their contracts in a minute (laws_fast.py with OUT as ROOT/stub). I
 import os, re, shutil, sys
 root, out, names = sys.argv[1], sys.argv[2], sys.argv[3:]
 FN = re.compile(r"^(\s*)(?:pub(?:\([a-z:]+\))? )?(?:const )?fn (\w+)")
-ERR = {"AllocError": "Err(AllocError)", "ExprError": "Err(ExprError::Memory)", "RuleError": "Err(RuleError::Memory)", "DeclError": "Err(DeclError::Memory)"}
+ERR = {"AllocError": "Err(AllocError)", "ExprError": "Err(ExprError::Memory)", "RuleError": "Err(RuleError::Memory)", "DeclError": "Err(DeclError::Memory)", "BuildError": "Err(BuildError::Memory)", "EditError": "Err(EditError::Memory)", "RunError": "Err(RunError::Memory)", "PlanError": "Err(PlanError::Memory)"}
 def stub(text, made):
     lines, kept, i, kind = text.split("\n"), [], 0, ""
     while i < len(lines):

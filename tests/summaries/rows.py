@@ -1,5 +1,5 @@
 #!/usr/bin/env python3
-"""Prints the rows of the crate go_summary_tests: the size and the SHA-256 digest of summaries' texts.
+"""Prints the rows of the crate go_export_tests: the size and the SHA-256 digest of summaries' texts.
 
     python3 tests/summaries/rows.py
 
