@@ -114,6 +114,6 @@ def explain_tells_how_files_end(room):
         explain = run_tree(room, f"echo hi; echo '{line}' >&2; exit 3")
         status, printed, complained = explain("--run", "d/x.go")
         same((status, complained, printed.startswith(f"hi\n{told}")), (3, "", True))
-    for line in ("not compiled yet: initial values", "goset: d/x.go: no such file", "none.go:1:1: 99 word"):
+    for line in ("no program: no file of a package is in its folder", "goset: d/x.go: no such file", "none.go:1:1: 99 word"):
         explain = run_tree(room, f"echo '{line}' >&2; exit 1")
         same(explain("--run", "d/x.go"), (1, "", f"{line}\n"))

@@ -15,7 +15,7 @@ sys.setrecursionlimit(20000)
 MOST_OPEN = 1000
 FAULTS = {1: "scan", 2: "leftout", 3: "parse", 4: "deep", 5: "size", 6: "packagename", 7: "noimport", 8: "cycle", 9: "program"}
 FAULTS |= {10: "redeclared", 11: "undeclared", 12: "unusedimport", 13: "mismatch", 14: "range", 15: "constant", 16: "zero"}
-FAULTS |= {17: "index", 18: "noreturn", 19: "assign", 20: "count", 21: "recursive", 23: "main", 24: "branch", 25: "unexported"}
+FAULTS |= {17: "index", 18: "noreturn", 19: "assign", 20: "count", 21: "recursive", 22: "initcycle", 23: "main", 24: "branch", 25: "unexported"}
 
 
 def numeral(count):
@@ -50,14 +50,24 @@ class Export:
         return text + field(*self.types) + (field(spelled(self.value)) if self.letter == "C" else b"")
 
 
+class Initial:
+    """The place of a variable with a value of its own, or of the first that one call gives values; their names, of which `_` is none;
+    what gives the values, by a run and the directory, and which of the package's names stand in it."""
+
+    def __init__(self, at, names, values, uses=()):
+        self.at, self.names, self.values, self.uses = at, names, values, uses
+
+
 class File:
     """What a build makes of a text: its fault, or its package, its imports, and in their order the faults of checking and the
-    names that it declares, each with its place; the first form that isn't compiled yet; what it exports, and its functions.
+    names that it declares, each with its place; what it exports, and its functions; the initial values of its variables, what of
+    the package its functions use by their names, and its functions init.
 
     The number of a fault may be asked of what the imports export, and so may all that it exports; nothing is no fault."""
 
-    def __init__(self, text, name=None, at=(1, 9), fault=None, later=None, imports=(), items=(), prints=b"", exports=None, functions=None):
-        self.text, self.name, self.at, self.fault, self.later, self.items = text, name, at, fault, later, items
+    def __init__(self, text, name=None, at=(1, 9), fault=None, imports=(), items=(), prints=b"", exports=None, functions=None, initials=(), uses=None, inits=()):
+        self.text, self.name, self.at, self.fault, self.items = text, name, at, fault, items
+        self.initials, self.uses, self.inits = initials, uses or {}, inits
         self.imports = [Import(*it) for it in imports]
         self.exports = exports or (lambda seen: {})
         self.functions = functions or {it[0]: lambda run: run.write(prints) for it in items if it[0] == "main"}
@@ -68,6 +78,17 @@ class Import:
 
     def __init__(self, line, column, path, name=None, used=None):
         self.line, self.column, self.path, self.name, self.used = line, column, path, name, used
+
+
+def led_to(uses, names):
+    """These names of a package, and those that they use, and so on."""
+    found, left = set(), list(names)
+    while left:
+        name = left.pop()
+        if name not in found:
+            found.add(name)
+            left += uses.get(name, ())
+    return found
 
 
 class Cut(Exception):
@@ -81,9 +102,9 @@ class Panic(Exception):
 class Run:
     """A run of a program: the functions of its packages, by directory and name, the ticks that are left, and the output."""
 
-    def __init__(self, functions, exports, ticks):
+    def __init__(self, functions, exports, ticks, packages):
         self.functions, self.exports, self.left, self.output, self.open = functions, exports, ticks, b"", 0
-        self.variables = {}
+        self.variables, self.packages = {}, packages
 
     def tick(self):
         if self.left == 0:
@@ -97,17 +118,31 @@ class Run:
         self.output += " ".join(map(spelled, operands)).encode() + b"\n"
 
     def call(self, at, name, *arguments):
+        return self.enter(self.functions[at][name], *arguments)
+
+    def enter(self, function, *arguments):
         self.tick()
         if self.open == MOST_OPEN:
             raise Panic("depth")
         self.open += 1
-        result = self.functions[at][name](self, *arguments)
+        result = function(self, *arguments)
         self.open -= 1
         return result
+
+    def start(self):
+        """What comes before main: package by package its variables get their values, then its functions init run."""
+        for at, initials, inits in self.packages:
+            for it in initials:
+                for name, value in zip(it.names, it.values(self, at)):
+                    if name != "_":
+                        self.variables[(at, name)] = value
+            for init in inits:
+                self.enter(init, at)
 
     def told(self, start):
         """What the line of the run says of it, and what comes behind that line."""
         try:
+            self.start()
             self.call(start, "main")
             return b"ended %d" % len(self.output), self.output
         except Cut:
@@ -288,7 +323,33 @@ class Plan:
         first = self.by_text[files[0][1]]
         if first.name == "main" and "main" not in names:
             return files[0][0], *first.at, 23
-        return next(((name, *self.by_text[text].later, 2) for name, text in files if self.by_text[text].later), None)
+        return next(((name, *it.at, 22) for name, it in self.initials(at)[1]), None)
+
+    @kept
+    def initials(self, at):
+        """The initial values of a directory's variables in their order, and those that are left over, each with its file's name.
+
+        The next is always the first that leads to none that is left."""
+        files = [(name, self.by_text[text]) for name, text in self.files(at)]
+        left, order = [(name, it) for name, file in files for it in file.initials], []
+        uses = {key: names for _, file in files for key, names in file.uses.items()}
+        uses.update({key: it.uses for _, it in left for key in it.names})
+        while True:
+            waiting = {key for _, it in left for key in it.names}
+            ready = next((one for one in left if not led_to(uses, one[1].uses) & waiting), None)
+            if not ready:
+                return order, left
+            left.remove(ready)
+            order.append(ready)
+
+    def in_order(self):
+        """The directories of a good program: always the first by path whose imports all stand before it."""
+        left, order = sorted(self.reached), []
+        while left:
+            at = next(it for it in left if all(other in order for other in self.imports(it)))
+            left.remove(at)
+            order.append(at)
+        return order
 
     @kept
     def is_held(self, at):
@@ -322,7 +383,8 @@ class Plan:
     def run(self, at, ticks):
         """What a run of a program all of whose actions are held prints behind its words."""
         functions = {it: {name: f for _, text in self.files(it) for name, f in self.by_text[text].functions.items()} for it in self.reached}
-        return Run(functions, {it: self.exports(it) for it in self.reached}, ticks).told(at)
+        packages = [(it, [one for _, one in self.initials(it)[0]], [f for _, text in self.files(it) for f in self.by_text[text].inits]) for it in self.in_order()]
+        return Run(functions, {it: self.exports(it) for it in self.reached}, ticks, packages).told(at)
 
 
 class World:

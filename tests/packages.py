@@ -8,11 +8,13 @@ arguments, and at each turn of a loop.
 import random
 import re
 
-from model import Export, File, Panic
+from model import Export, File, Initial, Panic, led_to
 
 KINDS = {"int": (64, True), "int8": (8, True), "uint8": (8, False), "int16": (16, True), "uint64": (64, False)}
 LONGEST = 16_777_216
 LINE = b"package main\n"
+# which functions may call which: main and init all others, and what gives an initial value those too
+MAIN, INITIAL = -1, -2
 
 
 def wrapped(kind, value):
@@ -65,6 +67,7 @@ class Declared:
     def __init__(self, key, letter, of=None, parameters=(), results=()):
         self.key, self.letter, self.of, self.parameters, self.results = key, letter, of, parameters, results
         self.is_shown, self.file, self.text, self.meaning = True, 0, None, None
+        self.index, self.giver = None, None
 
     @property
     def name(self):
@@ -81,6 +84,8 @@ class Body:
 
     def __init__(self, rand, package, index):
         self.random, self.package, self.index, self.names, self.scopes, self.loops = rand, package, index, 0, [[]], 0
+        # most initial values use nothing of their package, so that few depend on themselves
+        self.is_apart = index == INITIAL and self.chance(70)
 
     def chance(self, percent):
         return self.random.randrange(100) < percent
@@ -100,7 +105,7 @@ class Body:
         for of, name in self.locals(fits):
             found.append((of, name, lambda f, n=name: f[n], lambda f, v, n=name: f.__setitem__(n, v)))
         for number, it in self.package.seen("V"):
-            if fits(it.of):
+            if fits(it.of) and not (self.is_apart and number == self.package.number):
                 at = (f"d{number}".encode(), it.key)
                 read = lambda f, at=at, of=it.of: f["run"].variables.get(at, of.zero())
                 found.append((it.of, self.package.spelled(number, it), read, lambda f, v, at=at: f["run"].variables.__setitem__(at, v)))
@@ -173,7 +178,7 @@ class Body:
 
     def callable(self, fits):
         """Functions that come behind this one, so that calls end, of whose parameters' types there are variables."""
-        behind = [(n, it) for n, it in self.package.seen("F") if (n > self.package.number or it.index > self.index) and fits(it)]
+        behind = [(n, it) for n, it in self.package.seen("F") if (n > self.package.number or it.index > self.index and not self.is_apart) and fits(it)]
         return [(n, it) for n, it in behind if all(self.variables(lambda t, of=of: t is of) for of in it.parameters)]
 
     def call(self, of, depth):
@@ -354,7 +359,7 @@ class Body:
         """The lines of a declared function's body, and its meaning."""
         names = [f"a{k}" for k in range(len(it.parameters))]
         lines, start = [], {}
-        for of in [*BASIC, BOOL, STRING, *self.package.types()]:
+        for of in [*BASIC, BOOL, STRING, *self.package.types(), *(of for of in it.results if of.part)]:
             name = self.new()
             start[name], text = self.first(of)
             lines.append(f"\tvar {name} {of.spelled(self.package.number)}" + (f" = {text}" if text else ""))
@@ -432,6 +437,10 @@ class Package:
             self.add_function(index)
         if not number:
             self.add_main()
+        for it in [it for it in self.declared if it.letter == "V" and rand.randrange(2)]:
+            self.add_giver(it)
+        for index in range(rand.choice([0, 0, 1, 2])):
+            self.add_init(index)
 
     def visible(self):
         """The packages that are named here, with this one."""
@@ -464,7 +473,9 @@ class Package:
             inner = "; ".join(f"{n} {t.spelled(self.number)}" for n, t in it.of.fields)
             it.text = f"type <{it.key}> " + (f"struct {{ {inner} }}" if inner else it.of.kind)
         elif it.letter == "V":
-            it.text, it.meaning = f"var <{it.key}> {it.of.spelled(self.number)}", lambda get: None
+            of = it.of.spelled(self.number)
+            value = self.random.choice([f" {of} = <{it.giver.key}>()", f" = <{it.giver.key}>()", f" {of}"]) if it.giver else f" {of}"
+            it.text, it.meaning = f"var <{it.key}>{value}", lambda get: None
         elif it.letter == "C":
             self.renew_constant(it)
         else:
@@ -472,7 +483,8 @@ class Package:
             lines, it.meaning = body.whole(it)
             parameters = ", ".join(f"a{k} {t.spelled(self.number)}" for k, t in enumerate(it.parameters))
             result = it.results[0].spelled(self.number) + " " if it.results else ""
-            it.text = "\n".join([f"func <{it.key}>({parameters}) {result}{{", *lines, "}"])
+            name = "init" if it.letter == "I" else f"<{it.key}>"
+            it.text = "\n".join([f"func {name}({parameters}) {result}{{", *lines, "}"])
 
     def renew_constant(self, it):
         """A value, or that of the same constant of an import with something behind it."""
@@ -498,13 +510,24 @@ class Package:
 
     def add_main(self):
         it = Declared("main", "F")
-        it.index = -1
+        it.index = MAIN
+        self.declared.append(it)
+
+    def add_init(self, number):
+        it = Declared(f"init{number}", "I")
+        it.index = MAIN
+        self.declared.append(it)
+
+    def add_giver(self, of):
+        """A function that gives a variable its value, which the variable has or has not."""
+        it = Declared(f"Give{of.key}", "F", None, [], [of.of])
+        it.index, it.is_shown, of.giver = INITIAL, False, it
         self.declared.append(it)
 
     def finish(self):
         """Bodies come when all functions are known."""
         for it in self.declared:
-            if it.letter == "F":
+            if it.letter in "FI" or it.giver:
                 self.renew(it)
 
     def edit(self):
@@ -512,7 +535,7 @@ class Package:
         it, kind = self.random.choice(self.declared), self.random.randrange(10)
         if kind < 5:
             self.renew(it)
-        elif kind < 7 and self.number and it.letter != "T":
+        elif kind < 7 and self.number and it.letter in "CFV" and it.index != INITIAL:
             it.is_shown = not it.is_shown
         elif kind == 7:
             self.random.shuffle(self.declared)
@@ -521,8 +544,17 @@ class Package:
         else:
             self.salt = self.random.randrange(100)
 
+    def settle(self):
+        """Most values that depend on themselves go."""
+        uses = {it.key: marks(it) for it in self.declared}
+        for it in self.declared:
+            if it.letter == "V" and it.key in led_to(uses, marks(it)) and self.random.randrange(10):
+                it.text = f"var <{it.key}> {it.of.spelled(self.number)}"
+                uses[it.key] = marks(it)
+
     def files(self):
         """The package's files by path, each with its text and what it is."""
+        self.settle()
         made = {}
         for number, name in enumerate(["x.go", "y.go"]):
             held = [it for it in self.declared if it.file == number]
@@ -537,7 +569,7 @@ class Package:
     def file(self, text, held, used, prints):
         imports = [(2 + k, 8, b"d%d" % n, None, f"p{n}") for k, n in enumerate(used)]
         imports += [(2 + len(used), 8, b"fmt", None, "fmt")] if prints else []
-        items = [(it.name, 0, 0) for it in held]
+        items = [(it.name, 0, 0) for it in held if it.letter != "I"]
         for it in re.finditer(r"\bp(\d+)\.([A-Z]\w*)", text):
             before = text[: it.start()]
             missing = lambda seen, at=b"d" + it[1].encode(), key=it[2]: None if key in seen[at] else 11
@@ -545,7 +577,19 @@ class Package:
         shown = [(it.key, it, it.meaning) for it in held if it.is_shown and it.key[0].isupper()]
         exports = lambda seen: {key: it.export(meaning(lambda at, name: seen[at][name].value) if it.letter == "C" else None) for key, it, meaning in shown}
         functions = {it.key: it.meaning if it.letter == "F" else constant_of(it.meaning) for it in held if it.letter in "CF"}
-        return File(text.encode(), f"p{self.number}" if self.number else "main", imports=imports, items=items, exports=exports, functions=functions)
+        initials = [self.initial(text, it) for it in held if it.letter == "V" and "=" in it.text]
+        inits = [lambda run, at, does=it.meaning: does(run) for it in held if it.letter == "I"]
+        uses = {it.key: marks(it) for it in held if it.letter == "F"}
+        return File(text.encode(), f"p{self.number}" if self.number else "main", imports=imports, items=items, exports=exports, functions=functions, initials=initials, uses=uses, inits=inits)
+
+    def initial(self, text, it):
+        before = text[: re.search(rf"(?m)^var {it.name} ", text).end()]
+        return Initial((before.count("\n") + 1, 5), [it.key], lambda run, at: [run.call(at, it.giver.key)], marks(it))
+
+
+def marks(it):
+    """The names of its own package in a declaration's text, but the one that it declares."""
+    return set(re.findall(r"<(\w+)>", it.text)) - {it.key} if it.letter == "V" else set(re.findall(r"<(\w+)>", it.text.split("\n", 1)[-1]))
 
 
 def constant_of(meaning):

@@ -12,10 +12,12 @@ import script
 from kit import TOP
 
 HELP, VERSION = ("--help", "-h"), ("--version", "-V")
-RUN_USAGE = "usage: ./goset --run [--ticks N] FILE..\n"
+RUN_USAGE = "usage: ./goset --run [--ticks N] FILE.. | FOLDER\n"
 # What each option of a session takes at most; the least is 1.
 OPTIONS = {"--workers": 64, "--edition": 1}
 NO_TEXT = "not a text: it is UTF-8 without NUL, with a byte order mark at its start alone"
+NO_PATH = "not a path of a Go file, as docs/SCRIPT.md has them"
+ALONE = "main"
 
 
 class Answer(Exception):
@@ -107,12 +109,50 @@ def why_unread(file):
     return NO_TEXT if script.text_error(text) else None
 
 
+def is_folder(files):
+    """Whether words name one folder."""
+    return len(files) == 1 and os.path.isdir(files[0])
+
+
+def top_of(folder):
+    """The directory of what a folder holds."""
+    name = os.path.basename(folder.rstrip("/"))
+    return ALONE if name in ("", ".", "..") else name
+
+
+def files_below(folder):
+    """The Go files at and below a folder, each with the directory in which it stands; the folder's own name is first."""
+    top, found = top_of(folder), {}
+    for at, folders, names in os.walk(folder):
+        folders[:] = [it for it in folders if not it.startswith((".", "_"))]
+        for it in names:
+            if it.endswith(".go") and not it.startswith((".", "_")):
+                found[f"{at}/{it}"] = top + at.removeprefix(folder)
+    return found
+
+
+def directory_of(folder):
+    directory = folder.removeprefix("./")
+    return ALONE if directory in ("", ".") else directory
+
+
+def directories(files):
+    """The files that words name, each with the directory in which it stands."""
+    if is_folder(files):
+        return files_below(files[0].rstrip("/"))
+    folders = {it: it.rpartition("/")[0] for it in files}
+    is_alone = len(set(folders.values())) == 1
+    return {it: ALONE if is_alone else directory_of(at) for it, at in folders.items()}
+
+
 def look_at_files(files):
-    """The files are texts; in byte order of their names the first that isn't one is told."""
+    """The files are texts at paths; in byte order of their names the first that isn't one is told."""
     if not all(map(is_utf8, files)):
         raise Answer(70, err="goset: a file's name isn't UTF-8\n")
-    for file in sorted(files, key=os.fsencode):
-        why = why_unread(file)
+    found = directories(files)
+    for file in sorted(found, key=os.fsencode):
+        path = os.fsencode(f"{found[file]}/{file.rpartition('/')[2]}")
+        why = why_unread(file) or ("" if script.is_path(path) else NO_PATH)
         if why:
             raise Answer(70, err=f"goset: {file}: {why}\n")
 

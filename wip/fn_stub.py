@@ -4,7 +4,7 @@ checked over their contracts in a minute (laws_fast.py with OUT as ROOT/stub). I
 import os, re, shutil, sys
 root, out, names = sys.argv[1], sys.argv[2], sys.argv[3:]
 FN = re.compile(r"^(\s*)(?:pub(?:\([a-z:]+\))? )?(?:const )?fn (\w+)")
-ERR = {"AllocError": "Err(AllocError)", "ExprError": "Err(ExprError::Memory)", "RuleError": "Err(RuleError::Memory)", "DeclError": "Err(DeclError::Memory)", "BuildError": "Err(BuildError::Memory)", "EditError": "Err(EditError::Memory)", "RunError": "Err(RunError::Memory)", "PlanError": "Err(PlanError::Memory)"}
+ERR = {"AllocError": "Err(AllocError)", "ExprError": "Err(ExprError::Memory)", "InitError": "Err(InitError::Memory)", "RuleError": "Err(RuleError::Memory)", "DeclError": "Err(DeclError::Memory)", "BuildError": "Err(BuildError::Memory)", "EditError": "Err(EditError::Memory)", "RunError": "Err(RunError::Memory)", "PlanError": "Err(PlanError::Memory)"}
 def stub(text, made):
     lines, kept, i, kind = text.split("\n"), [], 0, ""
     while i < len(lines):
@@ -18,7 +18,7 @@ def stub(text, made):
             while lines[j] != indent + "{" and not lines[j].endswith("{}") and not (lines[j].endswith(" {") and not lines[j].strip().startswith(("ensures", "requires"))): head.append(lines[j]); j += 1
             sig = "\n".join(head) if lines[j] == indent + "{" else "\n".join(head + [lines[j]])
             r = re.search(r"-> Result<.*, (\w+)>\s*(?:$|\{|\n)", sig, re.S if False else 0)
-            r = r or re.search(r"-> Result<.*?, (AllocError|ExprError|RuleError|DeclError)>", sig, re.S)
+            r = r or re.search(r"-> Result<.*?, (AllocError|ExprError|InitError|RuleError|DeclError)>", sig, re.S)
             end = j
             if not lines[j].endswith("{}"):
                 while lines[end] != indent + "}": end += 1

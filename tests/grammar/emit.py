@@ -27,6 +27,9 @@ DEEP = {
     "blocks": "Blocks, loops and chains of else.",
     "a statement at level 249": "Statements at level 249 (248 in the last row), in clauses, which are no levels.",
     "a statement at level 250": "Statements at level 250.",
+    "expressions at their last level and past it": "Expressions of each form at their last level, and one past it.",
+    "types at their last level and past it": "Types wherever they stand at their last level, and one past it.",
+    "statements at their last level and past it": "Statements of each form at their last level, and one past it.",
 }
 
 

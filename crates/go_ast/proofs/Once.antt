@@ -41,9 +41,10 @@ kind_of n =
     else (if nat_eq n 19 then faults.Assign
     else (if nat_eq n 20 then faults.Count
     else (if nat_eq n 21 then faults.Recursive
+    else (if nat_eq n 22 then faults.InitCycle
     else (if nat_eq n 23 then faults.Main
     else (if nat_eq n 24 then faults.Branch
-    else faults.Unexported))))))))))))))))))))))
+    else faults.Unexported)))))))))))))))))))))))
 
 kind_again : (k : FaultKind) → kind_of (fault_number k) ≡ k
 unfolding kind_of
@@ -68,6 +69,7 @@ kind_again faults.NoReturn = refl
 kind_again faults.Assign = refl
 kind_again faults.Count = refl
 kind_again faults.Recursive = refl
+kind_again faults.InitCycle = refl
 kind_again faults.Main = refl
 kind_again faults.Branch = refl
 kind_again faults.Unexported = refl

@@ -1,5 +1,6 @@
 -- What a source text is parsed to.
 use Rattle.std.specs.Prelude.{◌≡◌, ◌≢◌, ◌⊎◌, ℕ, List, [], ◌∷◌, length}
+use Rattle.go_text.specs.declared.edition.Edition.{Edition}
 use Rattle.go_text.specs.declared.fault.FaultKind.{FaultKind}
 use Rattle.go_text.specs.declared.fault.FaultKind.TheVariants as faults
 use Rattle.go_text.specs.declared.place.Place.{Place}
@@ -68,3 +69,4 @@ pub record IsOther (name text : List ℕ) : Type 0 where
 pub record Parsed : Type 0 where
   pub name : List ℕ
   pub text : List ℕ
+  pub edition : Edition

@@ -6,16 +6,18 @@ ghost use Rattle.std.specs.Arc.{arc_value};
 
 use crate::file::File;
 use crate::name::Name;
+use go_text::edition::Edition;
 use go_text::source::Source;
 use go_text::text::Text;
 use std::alloc::AllocError;
 use std::marker::Model;
 use std::sync::Arc;
 
-/// A source with the file that its text is. Copies share both.
+/// A source with the file that its text is in an edition of the language. Copies share source and file.
 #[derive(Drop)]
 pub struct Parsed {
     source: Source,
+    edition: Edition,
     file: Arc<File>,
 }
 
@@ -26,19 +28,24 @@ impl Model for Parsed {
 
     ghost Value = { parses.Parsed };
 
-    ghost view = { λ a. record { name = a.source.name; text = a.source.text } };
+    ghost view = { λ a. record { name = a.source.name; text = a.source.text; edition = a.edition } };
 
     ghost invariant = { λ a. parses.IsParse a.source.text (parses.Derived (file_of (arc_value a.file))) };
 }
 
 impl Parsed {
-    /// A source with a file, which the caller knows to be the one that the source's text is.
-    pub fn of(source: Source, file: Arc<File>) -> Parsed
+    /// A source with a file, which the caller knows to be the one that the source's text is in that edition.
+    pub fn of(source: Source, edition: Edition, file: Arc<File>) -> Parsed
         requires { IsParse source.text (Derived (file_of (arc_value file))) }
         ensures name { result.name ≡ source.name }
         ensures text { result.text ≡ source.text }
+        ensures edition { result.edition ≡ edition }
     {
-        Parsed { source, file }
+        Parsed {
+            source,
+            edition,
+            file,
+        }
     }
 
     /// The file's name.
@@ -53,6 +60,13 @@ impl Parsed {
         ensures { result.now ≡ self.now.text }
     {
         self.source.text()
+    }
+
+    /// The edition of the language that the file is of.
+    pub fn edition(&self) -> Edition
+        ensures { result ≡ self.now.edition }
+    {
+        self.edition
     }
 
     /// The file that the text is.
@@ -76,6 +90,10 @@ impl Parsed {
     {
         let source = self.source.copy()?;
         let file = Arc::try_clone(&self.file)?;
-        Ok(Parsed { source, file })
+        Ok(Parsed {
+            source,
+            edition: self.edition,
+            file,
+        })
     }
 }

@@ -1,6 +1,7 @@
 -- From what the checker of packages answers to what is answered about files.
 use Rattle.std.proofs.Common.{◌≡◌, ℕ, ◌<◌, List, ◌∷◌, map, length, Some, Result, Ok, Err, IfOk, subst}
 use Rattle.go_text.specs.Faults.{Fault}
+use Rattle.go_text.specs.declared.edition.Edition.{Edition}
 use Rattle.go_text.specs.declared.fault.FaultKind.{FaultKind}
 use Rattle.go_text.specs.declared.place.Place.{Place}
 use Rattle.go_ast.specs.Trees.{File}
@@ -11,18 +12,19 @@ use Rattle.go_typed.specs.declared.package.Typed.{Typed}
 use Rattle.go_package.specs.Imports.{Importable}
 use Rattle.go_package.specs.Packages.{package_in, IsFaultOf}
 use Rattle.go_package.specs.Typed.{IsTypedIn}
-use Rattle.go_check.specs.Checked.{AreTrees, fmt, AreTyped, HaveFault}
+use Rattle.go_check.specs.Checked.{AreTrees, fmt, AreTyped, HaveFault, edition_of}
 use Rattle.go_check.specs.Told.{IsFaultIn, Tells}
 use Rattle.go_check.specs.declared.error.CheckError.{CheckError}
 use Rattle.go_check.proofs.Some.{of_file}
 
 module _ (path : List ℕ) (files : List Parsed) (imports packages : List Importable) (trees : List File) (parse : AreTrees files trees) (are : packages ≡ fmt ∷ imports) where
-  pub typed_by : (names : List (List ℕ)) (t : Package) → names ≡ map (λ f. f.name) files → IsTypedIn (package_in path trees packages) trees packages names t → AreTyped path files imports t
-  typed_by names t named typed = record {
+  pub typed_by : (edition : Edition) (names : List (List ℕ)) (t : Package) → edition ≡ edition_of files → names ≡ map (λ f. f.name) files → IsTypedIn edition (package_in path trees packages) trees packages names t → AreTyped path files imports t
+  typed_by edition names t same named typed = record {
     trees = trees;
     parse = parse;
-    is = subst (λ (ns : List (List ℕ)). IsTypedIn (package_in path trees (fmt ∷ imports)) trees (fmt ∷ imports) ns t) named
-        (subst (λ (ps : List Importable). IsTypedIn (package_in path trees ps) trees ps names t) are typed);
+    is = subst (λ (ns : List (List ℕ)). IsTypedIn (edition_of files) (package_in path trees (fmt ∷ imports)) trees (fmt ∷ imports) ns t) named
+        (subst (λ (ps : List Importable). IsTypedIn (edition_of files) (package_in path trees ps) trees ps names t) are
+        (subst (λ e. IsTypedIn e (package_in path trees packages) trees packages names t) same typed));
   }
 
   same : (numbered : ℕ × (Place × FaultKind)) → IsFaultOf path trees packages (Some numbered) → IsFaultOf path trees (fmt ∷ imports) (Some numbered)

@@ -14,7 +14,7 @@ use Rattle.go_package.specs.Typed.{IsTypedIn}
 use Rattle.go_package.proofs.OneFault as fault_once
 use Rattle.go_package.proofs.OneTyped as typed_once
 use Rattle.go_package.proofs.SomeFacts.{typed_or_faulty}
-use Rattle.go_check.specs.Checked.{AreTrees, fmt, AreTyped, HaveFault}
+use Rattle.go_check.specs.Checked.{AreTrees, fmt, AreTyped, HaveFault, edition_of}
 
 -- ---- trees
 
@@ -65,13 +65,13 @@ module _ (path : List ℕ) (files : List Parsed) (imports : List Importable) whe
   pub one_typed : (a b : Package) → AreTyped path files imports a → AreTyped path files imports b → a ≡ b
   one_typed a b g h =
       let same = one_trees files h.trees g.trees h.parse g.parse in
-      typed_once.one_typed (package_in path g.trees all) g.trees all names a b g.is
-      (subst (λ trees. IsTypedIn (package_in path trees all) trees all names b) same h.is)
+      typed_once.one_typed (package_in path g.trees all) g.trees all (edition_of files) names a b g.is
+      (subst (λ trees. IsTypedIn (edition_of files) (package_in path trees all) trees all names b) same h.is)
 
   pub not_both : (typed : Package) (fault : Fault) → AreTyped path files imports typed → HaveFault path files imports fault → ⊥
   not_both typed fault h g =
       let same = one_trees files g.trees h.trees g.parse h.parse in
-      typed_or_faulty (package_in path h.trees all) h.trees all names typed (numbered g.number fault) h.is
+      typed_or_faulty (package_in path h.trees all) h.trees all (edition_of files) names typed (numbered g.number fault) h.is
       (subst (λ trees. IsFaultOf path trees all (Some (numbered g.number fault))) same g.is)
 
   pub one_fault : (a b : Fault) → HaveFault path files imports a → HaveFault path files imports b → a ≡ b

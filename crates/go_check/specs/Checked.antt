@@ -2,6 +2,8 @@
 use Rattle.std.specs.Prelude.{◌≡◌, ℕ, codes, List, [], ◌∷◌, map, Some}
 use Rattle.std.specs.List.{slice_get}
 use Rattle.go_text.specs.Faults.{Fault}
+use Rattle.go_text.specs.declared.edition.Edition.{Edition}
+use Rattle.go_text.specs.declared.edition.Edition.TheVariants.{One}
 use Rattle.go_ast.specs.Trees.{File}
 use Rattle.go_ast.specs.Parse.{Parsed, Derived, IsParse}
 use Rattle.go_typed.specs.Trees.{Package}
@@ -21,11 +23,15 @@ AreTrees (file ∷ files) (tree ∷ trees) = IsParse file.text (Derived tree) ×
 abbrev pub fmt : Importable
 fmt = record { path = codes "fmt"; name = codes "fmt"; exports = library }
 
+-- the edition that the files of a package are written in: where they differ, that of the first
+abbrev pub edition_of : List Parsed → Edition
+edition_of files = elim files [ [] ↦ One | file ∷ rest ↦ file.edition ]
+
 -- the files at a path, which may import these packages too, are typed to this one
 pub record AreTyped (path : List ℕ) (files : List Parsed) (imports : List Importable) (typed : Package) : Type 0 where
   pub trees : List File
   pub parse : AreTrees files trees
-  pub is : IsTypedIn (package_in path trees (fmt ∷ imports)) trees (fmt ∷ imports) (map (λ f. f.name) files) typed
+  pub is : IsTypedIn (edition_of files) (package_in path trees (fmt ∷ imports)) trees (fmt ∷ imports) (map (λ f. f.name) files) typed
 
 -- or this is the first fault of their package, in the file of that number
 pub record HaveFault (path : List ℕ) (files : List Parsed) (imports : List Importable) (fault : Fault) : Type 0 where

@@ -13,7 +13,7 @@ ghost use Rattle.go_check.specs.Told.{Tells};
 ghost use Rattle.go_check.specs.declared.error.CheckError.TheVariants as errors;
 
 use crate::error::CheckError;
-use crate::files::{fault_in, names_of, trees_of};
+use crate::files::{edition_of, fault_in, names_of, trees_of};
 use go_ast::parsed::Parsed;
 use go_decl::error::DeclError;
 use go_export::summary::Summary;
@@ -94,7 +94,7 @@ fn check_told(
     let packages = importables(alloc, &library_names, imports, &exports)?;
     let names = names_of(alloc, files)?;
     let trees = trees_of(alloc, files)?;
-    match typed(alloc, path, &names, &trees, &packages) {
+    match typed(alloc, path, edition_of(files), &names, &trees, &packages) {
         Ok(typed) => Ok(typed),
         Err(DeclError::Faulty(number, place, kind)) => {
             let fault = fault_in(alloc, files, number, place, kind)?;

@@ -1,14 +1,25 @@
 //! Files that were parsed: their names, their trees, and faults in them.
 ghost use Rattle.std.specs.Prelude.{◌≡◌, ◌<◌, map, length, IfOk};
 ghost use Rattle.go_package.specs.Seen.{files_of};
-ghost use Rattle.go_check.specs.Checked.{AreTrees};
+ghost use Rattle.go_check.specs.Checked.{AreTrees, edition_of};
 ghost use Rattle.go_check.specs.Told.{IsFaultIn};
 
 use go_ast::file::File;
 use go_ast::parsed::Parsed;
+use go_text::edition::Edition;
 use go_text::fault::{Fault, FaultKind};
 use go_text::place::Place;
 use std::alloc::{AllocError, Global};
+
+/// The edition that the files of a package are written in: that of the first.
+pub(crate) fn edition_of(files: &[Parsed]) -> Edition
+    ensures { result ≡ edition_of files.now }
+{
+    match files {
+        [] => Edition::One,
+        [first, ..] => first.edition(),
+    }
+}
 
 /// The names of files, in their order.
 pub(crate) fn names_of(alloc: Global, files: &[Parsed]) -> Result<Vec<&str>, AllocError>

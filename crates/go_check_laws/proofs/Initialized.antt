@@ -130,32 +130,32 @@ known_source ns (Some t) values source some is =
     let here : fine (suited (map due ns) values) ≡ Some source = ap fine (sym r) ∙ is in
     (suited_source (map due ns) values source here, sym (length-map ns due) ∙ suited_counted (map due ns) values (source, here))
 
-each_named : {B : Type 0} (g : Expr → B) (t : Facts) (file : ℕ) (ns : List Name) (vs : Exprs) (ys : List typed.Expr) → length ns ≡ length (each_of g vs) → length ys ≡ length ns
-    → named_in (each_alone t file ns vs (pack_exprs ys)) ≡ map own_name ns
-each_named g t file [] vs ys same as_many = refl
-each_named g t file (n ∷ ns) no_exprs ys same as_many = absurd (omega (arith, same))
-each_named g t file (n ∷ ns) (some_exprs v vs) [] same as_many = absurd (omega (arith, as_many))
-each_named g t file (n ∷ ns) (some_exprs v vs) (y ∷ ys) same as_many = ap (λ l. own_name n ∷ l) (each_named g t file ns vs ys (omega (arith, same)) (omega (arith, as_many)))
+each_named : {B : Type 0} (g : Expr → B) (t : Facts) (called : List (List ℕ)) (file : ℕ) (ns : List Name) (vs : Exprs) (ys : List typed.Expr) → length ns ≡ length (each_of g vs) → length ys ≡ length ns
+    → named_in (each_alone t called file ns vs (pack_exprs ys)) ≡ map own_name ns
+each_named g t called file [] vs ys same as_many = refl
+each_named g t called file (n ∷ ns) no_exprs ys same as_many = absurd (omega (arith, same))
+each_named g t called file (n ∷ ns) (some_exprs v vs) [] same as_many = absurd (omega (arith, as_many))
+each_named g t called file (n ∷ ns) (some_exprs v vs) (y ∷ ys) same as_many = ap (λ l. own_name n ∷ l) (each_named g t called file ns vs ys (omega (arith, same)) (omega (arith, as_many)))
 
-by_source : (t : Facts) (file : ℕ) (s : Scope) (ns : List Name) (of : Option TypeExpr) (e : Expr) (es : Exprs) (values : Values) (source : Source) → values_known s (some_exprs e es) ≡ Some values → IsSource values source → length ns ≡ count values
-    → named_in (initializations_by t file (record { names = ns; type = of; values = some_exprs e es }) (Some source)) ≡ map own_name ns
-by_source t file s ns of e es (separate xs) source are is as_many =
+by_source : (t : Facts) (called : List (List ℕ)) (file : ℕ) (s : Scope) (ns : List Name) (of : Option TypeExpr) (e : Expr) (es : Exprs) (values : Values) (source : Source) → values_known s (some_exprs e es) ≡ Some values → IsSource values source → length ns ≡ count values
+    → named_in (initializations_by t called file (record { names = ns; type = of; values = some_exprs e es }) (Some source)) ≡ map own_name ns
+by_source t called file s ns of e es (separate xs) source are is as_many =
     let spec : VarSpec = record { names = ns; type = of; values = some_exprs e es } in
-    ap (λ (x : Source). named_in (initializations_by t file spec (Some x))) is.1
-    ∙ each_named (λ e. operand (verdict s e)) t file ns (some_exprs e es) is.0 (as_many ∙ separate_counted s e es xs are) (is.2 ∙ sym as_many)
-by_source t file s ns of e es (together ts f ys) source are is as_many =
+    ap (λ (x : Source). named_in (initializations_by t called file spec (Some x))) is.1
+    ∙ each_named (λ e. operand (verdict s e)) t called file ns (some_exprs e es) is.0 (as_many ∙ separate_counted s e es xs are) (is.2 ∙ sym as_many)
+by_source t called file s ns of e es (together ts f ys) source are is as_many =
     let spec : VarSpec = record { names = ns; type = of; values = some_exprs e es } in
-    ap (λ (x : Source). named_in (initializations_by t file spec (Some x))) is ∙ append-nil (map own_name ns)
-by_source t file s ns of e es no_values source are is as_many = absurd is
+    ap (λ (x : Source). named_in (initializations_by t called file spec (Some x))) is ∙ append-nil (map own_name ns)
+by_source t called file s ns of e es no_values source are is as_many = absurd is
 
 written_known : (s : Scope) → Tells s → (of : Option TypeExpr) → written_faults s of ≡ [] → IsKnown (written_type s of)
 written_known s tells None none = (None, refl)
 written_known s tells (Some t) none = mapped Some (fine (type_verdict s t)) (told_type s t tells none)
 
-valued_spec : (t : Facts) (file : ℕ) (s : Scope) → Tells s → (p : Place) (ns : List Name) (of : Option TypeExpr) (e : Expr) (es : Exprs) → written_faults s of ≡ [] → values_faults s (some_exprs e es) ≡ []
+valued_spec : (t : Facts) (called : List (List ℕ)) (file : ℕ) (s : Scope) → Tells s → (p : Place) (ns : List Name) (of : Option TypeExpr) (e : Expr) (es : Exprs) → written_faults s of ≡ [] → values_faults s (some_exprs e es) ≡ []
     → broken p (asked_both (variables_source ns) (written_type s of) (values_known s (some_exprs e es))) ≡ []
-    → named_in (initializations_by t file (record { names = ns; type = of; values = some_exprs e es }) (fine (asked_both (variables_source ns) (written_type s of) (values_known s (some_exprs e es))))) ≡ map own_name ns
-valued_spec t file s tells p ns of e es w v none =
+    → named_in (initializations_by t called file (record { names = ns; type = of; values = some_exprs e es }) (fine (asked_both (variables_source ns) (written_type s of) (values_known s (some_exprs e es))))) ≡ map own_name ns
+valued_spec t called file s tells p ns of e es w v none =
     let spec : VarSpec = record { names = ns; type = of; values = some_exprs e es } in
     let k = written_known s tells of w in
     let l = all_values s tells (some_exprs e es) v in
@@ -163,49 +163,49 @@ valued_spec t file s tells p ns of e es w v none =
     ap (λ (o : Option (Option Type')). asked_both (variables_source ns) o (values_known s (some_exprs e es))) k.1 ∙ ap (λ (o : Option Values). asked_both (variables_source ns) (Some k.0) o) l.1 in
     let source = known p (variables_source ns k.0 l.0) (variables ns k.0 l.0) (subst (λ (x : Verdict Source). broken p x ≡ []) is none) in
     let sourced = known_source ns k.0 l.0 source.0 (some_values s e es l.0 l.1) source.1 in
-    ap (λ (x : Verdict Source). named_in (initializations_by t file spec (fine x))) is
-    ∙ ap (λ (o : Option Source). named_in (initializations_by t file spec o)) source.1
-    ∙ by_source t file s ns of e es l.0 source.0 l.1 sourced.0 sourced.1
+    ap (λ (x : Verdict Source). named_in (initializations_by t called file spec (fine x))) is
+    ∙ ap (λ (o : Option Source). named_in (initializations_by t called file spec o)) source.1
+    ∙ by_source t called file s ns of e es l.0 source.0 l.1 sourced.0 sourced.1
 
-zero_spec : (t : Facts) (file : ℕ) (s : Scope) → Tells s → (p : Place) (n : Name) (ns : List Name) (of : Option TypeExpr) → written_faults s of ≡ []
+zero_spec : (t : Facts) (called : List (List ℕ)) (file : ℕ) (s : Scope) → Tells s → (p : Place) (n : Name) (ns : List Name) (of : Option TypeExpr) → written_faults s of ≡ []
     → broken p (asked_both (variables_source (n ∷ ns)) (written_type s of) (Some (separate []))) ≡ []
-    → named_in (initializations_by t file (record { names = n ∷ ns; type = of; values = no_exprs }) (fine (asked_both (variables_source (n ∷ ns)) (written_type s of) (Some (separate []))))) ≡ []
-zero_spec t file s tells p n ns None w none =
+    → named_in (initializations_by t called file (record { names = n ∷ ns; type = of; values = no_exprs }) (fine (asked_both (variables_source (n ∷ ns)) (written_type s of) (Some (separate []))))) ≡ []
+zero_spec t called file s tells p n ns None w none =
     let nothing : Name → Option Type' = λ n. None in
     let k = known p (variables_source (n ∷ ns) None (separate [])) (variables (n ∷ ns) None (separate [])) none in
     let no : length (map nothing (n ∷ ns)) ≡ 0 = suited_counted (map nothing (n ∷ ns)) (separate []) k in
     absurd (omega (arith, no))
-zero_spec t file s tells p n ns (Some of) w none =
+zero_spec t called file s tells p n ns (Some of) w none =
     let spec : VarSpec = record { names = n ∷ ns; type = Some of; values = no_exprs } in
     let k = told_type s of tells w in
-    ap (λ (o : Option Type'). named_in (initializations_by t file spec (fine (asked_both (variables_source (n ∷ ns)) (option_map Some o) (Some (separate [])))))) k.1
+    ap (λ (o : Option Type'). named_in (initializations_by t called file spec (fine (asked_both (variables_source (n ∷ ns)) (option_map Some o) (Some (separate [])))))) k.1
 
-nameless : (t : Facts) (file : ℕ) (of : Option TypeExpr) (es : Exprs) (o : Option Source) → named_in (initializations_by t file (record { names = []; type = of; values = es }) o) ≡ []
-nameless t file of es None = refl
-nameless t file of es (Some (typed.each ys)) = refl
-nameless t file of es (Some (typed.results ts f ys)) = refl
-nameless t file of es (Some (typed.zeros ts)) = refl
+nameless : (t : Facts) (called : List (List ℕ)) (file : ℕ) (of : Option TypeExpr) (es : Exprs) (o : Option Source) → named_in (initializations_by t called file (record { names = []; type = of; values = es }) o) ≡ []
+nameless t called file of es None = refl
+nameless t called file of es (Some (typed.each ys)) = refl
+nameless t called file of es (Some (typed.results ts f ys)) = refl
+nameless t called file of es (Some (typed.zeros ts)) = refl
 
 valueless : (of : Option TypeExpr) (es : Exprs) → valued (record { names = []; type = of; values = es }) ≡ []
 valueless of no_exprs = refl
 valueless of (some_exprs e es) = refl
 
-pub spec_initialized : (t : Facts) (file : ℕ) → Tells (scope_at t.package t.known file None) → (ns : List Name) (of : Option TypeExpr) (es : Exprs) → var_spec_faults t file (record { names = ns; type = of; values = es }) ≡ []
-    → named_in (spec_initializations t file (record { names = ns; type = of; values = es })) ≡ valued (record { names = ns; type = of; values = es })
-spec_initialized t file tells [] of es none = nameless t file of es _ ∙ sym (valueless of es)
-spec_initialized t file tells (n ∷ ns) of no_exprs none =
+pub spec_initialized : (t : Facts) (called : List (List ℕ)) (file : ℕ) → Tells (scope_at t.package t.known file None) → (ns : List Name) (of : Option TypeExpr) (es : Exprs) → var_spec_faults t file (record { names = ns; type = of; values = es }) ≡ []
+    → named_in (spec_initializations t called file (record { names = ns; type = of; values = es })) ≡ valued (record { names = ns; type = of; values = es })
+spec_initialized t called file tells [] of es none = nameless t called file of es _ ∙ sym (valueless of es)
+spec_initialized t called file tells (n ∷ ns) of no_exprs none =
     let s = scope_at t.package t.known file None in
     let spec : VarSpec = record { names = n ∷ ns; type = of; values = no_exprs } in
     let own = two_none (flat_map (name_faults t file) (n ∷ ns)) (var_parts_faults s spec ++ (var_broken n.place s spec ++ variables_apart t file n.place s spec)) none in
     let rest = two_none (var_parts_faults s spec) (var_broken n.place s spec ++ variables_apart t file n.place s spec) own.1 in
     let whole = two_none (var_broken n.place s spec) (variables_apart t file n.place s spec) rest.1 in
     let parts = two_none (written_faults s of) (values_faults s no_exprs) rest.0 in
-    zero_spec t file s tells n.place n ns of parts.0 whole.0
-spec_initialized t file tells (n ∷ ns) of (some_exprs e es) none =
+    zero_spec t called file s tells n.place n ns of parts.0 whole.0
+spec_initialized t called file tells (n ∷ ns) of (some_exprs e es) none =
     let s = scope_at t.package t.known file None in
     let spec : VarSpec = record { names = n ∷ ns; type = of; values = some_exprs e es } in
     let own = two_none (flat_map (name_faults t file) (n ∷ ns)) (var_parts_faults s spec ++ (var_broken n.place s spec ++ variables_apart t file n.place s spec)) none in
     let rest = two_none (var_parts_faults s spec) (var_broken n.place s spec ++ variables_apart t file n.place s spec) own.1 in
     let whole = two_none (var_broken n.place s spec) (variables_apart t file n.place s spec) rest.1 in
     let parts = two_none (written_faults s of) (values_faults s (some_exprs e es)) rest.0 in
-    valued_spec t file s tells n.place (n ∷ ns) of e es parts.0 parts.1 whole.0
+    valued_spec t called file s tells n.place (n ∷ ns) of e es parts.0 parts.1 whole.0

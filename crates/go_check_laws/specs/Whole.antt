@@ -1,5 +1,6 @@
 -- A typed package that leaves out nothing that its files declare.
-use Rattle.std.specs.Prelude.{◌≡◌, ℕ, Bool, true, false, not, bytes_eq, codes, List, [], ◌∷◌, Option, map}
+use Rattle.std.specs.Prelude.{◌≡◌, ℕ, suc, Bool, true, false, not, bytes_eq, codes, if◌then◌else◌, List, [], ◌∷◌, ◌++◌, Option, map}
+use Rattle.std.specs.Fmt.{decimal}
 use Rattle.std.specs.List.{filter, flat_map}
 use Rattle.go_ast.specs.Parse.{IsParse, Derived}
 use Rattle.go_ast.specs.Trees.{no_exprs, some_exprs, VarSpec, variables, TopLevel, declared, function, File}
@@ -45,6 +46,11 @@ in_files of files = flat_map (λ (f : File). flat_map of f.declarations) files
 abbrev pub function_names : TopLevel → List (List ℕ)
 function_names top = elim top [ function f ↦ own_names (f.name ∷ []) | _ ↦ [] ]
 
+-- functions init count from 1, by names that are no words
+abbrev pub with_numbers : ℕ → List (List ℕ) → List (List ℕ)
+with_numbers n [] = []
+with_numbers n (x ∷ xs) = if bytes_eq x (codes "init") then (codes "init." ++ decimal n) ∷ with_numbers (suc n) xs else x ∷ with_numbers n xs
+
 -- variables that get values where they are declared; a blank one has no name
 abbrev pub valued : VarSpec → List (Option (List ℕ))
 valued s = elim s.values [ no_exprs ↦ [] | some_exprs e es ↦ map own_name s.names ]
@@ -58,4 +64,5 @@ pub record IsWhole (files : List File) (p : typed.Package) : Type 0 where
   pub types : map (λ t. t.0) p.types ≡ objects_named is_type (declared_by files)
   pub variables : map (λ (v : typed.Variable). v.name) p.variables ≡ objects_named is_variable (declared_by files)
   pub initializations : flat_map (λ (i : typed.Initialization). i.variables) p.initializations ≡ in_files valued_in files
-  pub functions : map (λ (f : typed.Function). f.name) p.functions ≡ in_files function_names files
+  pub uses : map (λ u. u.0) p.uses ≡ in_files function_names files
+  pub functions : map (λ (f : typed.Function). f.name) p.functions ≡ with_numbers 1 (in_files function_names files)

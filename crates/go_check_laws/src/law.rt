@@ -1,5 +1,6 @@
 //! What holds of all expressions, types, functions and packages without fault.
 ghost use Rattle.std.specs.Prelude.{◌≡◌, ◌++◌, ℕ, List, [], map, Option, false};
+ghost use Rattle.go_text.specs.declared.edition.Edition.{Edition};
 ghost use Rattle.go_ast.specs.Trees.{Expr, File, Function, TypeExpr};
 ghost use Rattle.go_scope.specs.Names.{in_expr, in_type};
 ghost use Rattle.go_typed.specs.Trees.{Package};
@@ -59,7 +60,7 @@ pub fn law_faultless_drops_nothing()
 /// The tree of a package without fault leaves nothing out, where the files are those of texts: it has each constant, type, variable and function that they
 /// declare under a name that isn't blank, and the initialization of each variable that has a value, also of a blank one, in the order of the text.
 pub fn law_typed_package_is_whole()
-    ensures { (path : List ℕ) (files : List File) (ps : List Importable) (names : List (List ℕ)) (t : Package)
-        → AreWhole (map (λ (p : Importable). (p.path, p.exports)) ps) → AreParsed files → IsTypedIn (package_in path files ps) files ps names t
+    ensures { (path : List ℕ) (files : List File) (ps : List Importable) (edition : Edition) (names : List (List ℕ)) (t : Package)
+        → AreWhole (map (λ (p : Importable). (p.path, p.exports)) ps) → AreParsed files → IsTypedIn edition (package_in path files ps) files ps names t
         → IsWhole files t }
 {}

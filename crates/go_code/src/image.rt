@@ -4,6 +4,7 @@ ghost use Rattle.std.specs.Prelude.{◌≡◌};
 use crate::cell::Cell;
 use crate::function::Function;
 use crate::setup::Setup;
+use go_text::edition::Edition;
 use std::marker::Model;
 
 /// A step of a program's start.
@@ -15,10 +16,11 @@ pub enum Start {
     Function(usize),
 }
 
-/// A program: the zero cells of its package variables, one variable's behind another's, its
+/// A program: the edition of the language that its last package is of, the zero cells of its package variables, one variable's behind another's, its
 /// functions, by number, and its start steps in order.
 #[derive(Drop)]
 pub struct Image {
+    edition: Edition,
     globals: Vec<Cell>,
     functions: Vec<Function<usize>>,
     starts: Vec<Start>,
@@ -29,19 +31,32 @@ impl Model for Image {
 
     ghost Value = { images.Image };
 
-    ghost view = { λ a. record { globals = a.globals.items; functions = a.functions.items; starts = a.starts.items } };
+    ghost view = { λ a. record { edition = a.edition; globals = a.globals.items; functions = a.functions.items; starts = a.starts.items } };
 }
 
 impl Image {
-    /// The image of zero cells, functions and start steps. It need not make sense.
-    pub fn new(globals: Vec<Cell>, functions: Vec<Function<usize>>, starts: Vec<Start>) -> Image
-        ensures { result ≡ record { globals = globals.items; functions = functions.items; starts = starts.items } }
+    /// The image of an edition, zero cells, functions and start steps. It need not make sense.
+    pub fn new(
+        edition: Edition,
+        globals: Vec<Cell>,
+        functions: Vec<Function<usize>>,
+        starts: Vec<Start>,
+    ) -> Image
+        ensures { result ≡ record { edition = edition; globals = globals.items; functions = functions.items; starts = starts.items } }
     {
         Image {
+            edition,
             globals,
             functions,
             starts,
         }
+    }
+
+    /// The edition of the language.
+    pub fn edition(&self) -> Edition
+        ensures { result ≡ self.now.edition }
+    {
+        self.edition
     }
 
     /// The zero cells of the package variables.

@@ -1,4 +1,5 @@
 //! Objects: what a package is compiled to.
+ghost use Rattle.go_code.specs.Packages.{object_with};
 ghost use Rattle.std.specs.Prelude.{◌≡◌, string_bytes};
 
 pub mod function;
@@ -8,14 +9,16 @@ use crate::object::function::PackageFunction;
 use crate::object::variable::PackageVariable;
 use crate::setup::Setup;
 use go_symbol::Symbol;
+use go_text::edition::Edition;
 use std::marker::Model;
 
-/// What a package is compiled to: its path, its name, its variables and its functions in
-/// declaration order, and its setups in the order in which they run.
+/// What a package is compiled to: its path, its name, the edition of the language that it is of, its
+/// variables and its functions in declaration order, and its setups in the order in which they run.
 #[derive(Drop)]
 pub struct Object {
     path: String,
     name: String,
+    edition: Edition,
     variables: Vec<PackageVariable>,
     functions: Vec<PackageFunction>,
     setups: Vec<Setup<Symbol>>,
@@ -30,6 +33,7 @@ impl Model for Object {
     ghost view = { λ a. record {
       path = string_bytes a.path;
       name = string_bytes a.name;
+      edition = a.edition;
       variables = a.variables.items;
       functions = a.functions.items;
       setups = a.setups.items;
@@ -37,19 +41,21 @@ impl Model for Object {
 }
 
 impl Object {
-    /// The object of a package's path and name, its variables, its functions and its setups.
+    /// The object of a package's path, name and edition, its variables, its functions and its setups.
     pub fn new(
         path: String,
         name: String,
+        edition: Edition,
         variables: Vec<PackageVariable>,
         functions: Vec<PackageFunction>,
         setups: Vec<Setup<Symbol>>,
     ) -> Object
-        ensures { result ≡ record { path = string_bytes path; name = string_bytes name; variables = variables.items; functions = functions.items; setups = setups.items } }
+        ensures { result ≡ object_with (string_bytes path) (string_bytes name) edition variables.items functions.items setups.items }
     {
         Object {
             path,
             name,
+            edition,
             variables,
             functions,
             setups,
@@ -68,6 +74,13 @@ impl Object {
         ensures { result.now ≡ self.now.name }
     {
         self.name.as_str()
+    }
+
+    /// The edition of the language that the package is of.
+    pub fn edition(&self) -> Edition
+        ensures { result ≡ self.now.edition }
+    {
+        self.edition
     }
 
     /// The variables, in declaration order.

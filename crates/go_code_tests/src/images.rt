@@ -5,6 +5,7 @@ use go_code::function::Function;
 use go_code::image::{Image, Start};
 use go_code::instr::{CallInstr, Instr};
 use go_code::setup::Setup;
+use go_text::edition::Edition;
 use std::alloc::Global;
 use test_rows::answers::RowError;
 
@@ -68,7 +69,7 @@ fn read_part(alloc: Global, read: &mut Parts, part: &str) -> Result<(), RowError
     Ok(())
 }
 
-/// The image of parts with semicolons between them.
+/// The image of parts with semicolons between them, of edition 1.
 pub(crate) fn image(alloc: Global, text: &str) -> Result<Image, RowError> {
     let mut read = Parts {
         globals: Vec::new(alloc),
@@ -86,5 +87,5 @@ pub(crate) fn image(alloc: Global, text: &str) -> Result<Image, RowError> {
         functions,
         starts,
     } = read;
-    Ok(Image::new(globals, functions, starts))
+    Ok(Image::new(Edition::One, globals, functions, starts))
 }

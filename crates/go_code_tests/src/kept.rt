@@ -7,6 +7,7 @@ use go_code::function::Function;
 use go_code::image::{Image, Start};
 use go_code::object::Object;
 use go_code::setup::Setup;
+use go_packed::packed::Packed;
 use go_symbol::Symbol;
 use std::alloc::{AllocError, Global};
 use test_rows::answers::RowError;
@@ -52,7 +53,8 @@ fn told_setup<R: Drop>(alloc: Global, setup: &Setup<R>) -> Result<String, AllocE
 }
 
 fn told_object(alloc: Global, object: &Object) -> Result<String, AllocError> {
-    let mut told = format!(in alloc; "{} {}", object.path(), object.name())?;
+    let (path, name, edition) = (object.path(), object.name(), object.edition().number());
+    let mut told = format!(in alloc; "{path} {name} {edition}")?;
     for variable in object.variables() {
         let (name, count) = (variable.name(), variable.zero().len());
         told.push_str(&format!(in alloc; ", {name} {count}")?)?;
@@ -66,13 +68,15 @@ fn told_object(alloc: Global, object: &Object) -> Result<String, AllocError> {
     Ok(told)
 }
 
-/// The parts of a package.
+/// The parts of a package that was packed.
 pub(crate) fn object_parts(alloc: Global, asked: &str) -> Result<String, RowError> {
-    Ok(told_object(alloc, &object(alloc, asked)?)?)
+    let packed = Packed::of(alloc, &object(alloc, asked)?)?;
+    Ok(told_object(alloc, &packed.unpack(alloc)?)?)
 }
 
 fn told_image(alloc: Global, image: &Image) -> Result<String, AllocError> {
-    let mut told = format!(in alloc; "{}", image.globals().len())?;
+    let (edition, count) = (image.edition().number(), image.globals().len());
+    let mut told = format!(in alloc; "{edition} {count}")?;
     for function in image.functions() {
         told.push_str(&told_function(alloc, "function", function)?)?;
     }

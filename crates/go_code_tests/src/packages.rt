@@ -10,7 +10,9 @@ use go_code::object::variable::PackageVariable;
 use go_code::setup::Setup;
 use go_const::constant::Text;
 use go_link::link::{LinkError, link};
+use go_packed::packed::Packed;
 use go_symbol::Symbol;
+use go_text::edition::Edition;
 use std::alloc::{AllocError, Global};
 use std::sync::Arc;
 use test_rows::answers::RowError;
@@ -73,7 +75,7 @@ fn functions(alloc: Global, text: &str) -> Result<Vec<PackageFunction>, RowError
     Ok(functions)
 }
 
-/// A package: its path and its name, and functions with semicolons between them. It has a
+/// A package of edition 1: its path and its name, and functions with semicolons between them. It has a
 /// variable of two cells and a setup of two cells.
 pub(crate) fn object(alloc: Global, text: &str) -> Result<Object, RowError> {
     let (head, rest) = text.split_once(';').unwrap_or((text, ""));
@@ -90,15 +92,18 @@ pub(crate) fn object(alloc: Global, text: &str) -> Result<Object, RowError> {
     let setups = vec![in alloc; Setup::new(2, code)]?;
     let path = String::from_str(alloc, path)?;
     let name = String::from_str(alloc, name.trim())?;
-    Ok(Object::new(path, name, variables, functions(alloc, rest)?, setups))
+    let functions = functions(alloc, rest)?;
+    Ok(Object::new(path, name, Edition::One, variables, functions, setups))
 }
 
+/// Objects that were packed.
 fn objects(alloc: Global, text: &str) -> Result<Vec<Arc<Object>>, RowError> {
     let mut objects = Vec::new(alloc);
     for part in text.split('#') {
         let part = part.trim();
         if !part.is_empty() {
-            objects.push(Arc::new(alloc, object(alloc, part)?)?)?;
+            let packed = Packed::of(alloc, &object(alloc, part)?)?;
+            objects.push(Arc::new(alloc, packed.unpack(alloc)?)?)?;
         }
     }
     Ok(objects)

@@ -5,6 +5,7 @@ use Rattle.std.specs.Str.{chars}
 use Rattle.ucd_category.specs.GeneralCategory.{general_category}
 use Rattle.ucd_category.specs.GeneralCategoryRows.{general_category_rows}
 use Rattle.ucd_table.specs.Rows.{value_in}
+use Rattle.go_text.specs.declared.edition.Edition.TheVariants.{One}
 use Rattle.go_const.specs.declared.constant.Const.TheVariants.{Integer}
 use Rattle.go_types.specs.declared.types.Basic.TheVariants as basics
 use Rattle.go_types.specs.declared.types.Untyped.TheVariants as kinds
@@ -18,10 +19,12 @@ abbrev lib : Package
 lib = record {
   path = codes "lib";
   name = codes "lib";
+  edition = One;
   constants = (codes "k", (basic (basics.Untyped kinds.Int), Integer (pos 2))) ∷ (codes "K", (basic (basics.Untyped kinds.Int), Integer (pos 1))) ∷ [];
   types = [];
   variables = [];
   initializations = [];
+  uses = [];
   functions = [];
 }
 

@@ -69,7 +69,7 @@ alike (Text s) (Truth b) k p q e = cc
 alike (Truth b) (Integer z) k p q e = cc
 alike (Truth b) (Text s) k p q e = cc
 
-pub one_value : (t : Type') (c d : Const) → IsValue t c → IsValue t d → value_text c ≡ value_text d → c ≡ d
-one_value t c d p q e =
+pub one_value : (t : Type') (c d : Const) → IsValue t c → IsValue t d → IsSmall c → IsSmall d → value_text c ≡ value_text d → c ≡ d
+one_value t c d p q small tiny e =
     let kinds : p.of ≡ q.of = (let types : basic p.of ≡ basic q.of = sym p.is ∙ q.is in cc) in
-    alike c d (sym p.kind ∙ ap value_kind kinds ∙ q.kind) p.small q.small e
+    alike c d (sym p.kind ∙ ap value_kind kinds ∙ q.kind) small tiny e

@@ -1,6 +1,7 @@
 -- Which values the code's exports are.
 use Rattle.std.specs.Prelude.{ℕ, List, map, string_bytes, String}
 use Rattle.std.specs.Global.{Global}
+use Rattle.go_text.specs.declared.edition.Edition.{Edition}
 use Rattle.go_types.specs.Views.{type_of}
 use Rattle.go_export.specs.Exports as exports
 use Rattle.go_export.specs.Summaries.{Summary}
@@ -20,6 +21,6 @@ named_of e = (string_bytes e.0, export_of e.1)
 abbrev pub all_of : List (String Global × Export) → exports.Exports
 all_of es = map named_of es
 
--- the summary of a package by its path, its name and its exports
-abbrev pub shown : List ℕ → List ℕ → List (String Global × Export) → Summary
-shown path name es = record { path = path; «package» = name; exports = all_of es }
+-- the summary of a package by its edition, its path, its name and its exports
+abbrev pub shown : Edition → List ℕ → List ℕ → List (String Global × Export) → Summary
+shown edition path name es = record { edition = edition; path = path; «package» = name; exports = all_of es }

@@ -30,17 +30,11 @@ value_kind (basics.Integer i) = kinds.Int
 value_kind (basics.Untyped kinds.Rune) = kinds.Int
 value_kind (basics.Untyped kind) = kind
 
--- an integer has 128 bits
-abbrev pub IsSmall : Const → Type 0
-IsSmall (Integer z) = IsTrue (fits None z)
-IsSmall c = Unit {0}
-
 -- the value is of the kind of the type's values
 pub record IsValue (t : Type') (c : Const) : Type 0 where
   pub of : Basic
   pub is : underlying t ≡ basic of
   pub kind : value_kind of ≡ kind_of c
-  pub small : IsSmall c
 
 -- types are writable, and a constant's value is one of its type
 abbrev pub IsShown : Export → Type 0
@@ -49,7 +43,18 @@ IsShown (variable t) = IsWritable t
 IsShown (function parameters results) = All IsWritable parameters × All IsWritable results
 IsShown (type' t) = IsWritable t
 
--- so are all exports, and the text's length has 64 bits
+-- an integer has 128 bits
+abbrev pub IsSmall : Const → Type 0
+IsSmall (Integer z) = IsTrue (fits None z)
+IsSmall c = Unit {0}
+
+-- an exported constant does
+abbrev pub HasSmall : Export → Type 0
+HasSmall (constant t c) = IsSmall c
+HasSmall e = Unit {0}
+
+-- all exports can be shown, their integers have 128 bits, and the text's length 64
 pub record IsWritten (s : Summary) : Type 0 where
   pub exports : All IsShown (values_of s.exports)
+  pub small : All HasSmall (values_of s.exports)
   pub sized : length (summary_text s) < 2 ^ 64

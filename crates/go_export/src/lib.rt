@@ -2,6 +2,7 @@
 #![tactic(auto)]
 
 mod collection;
+pub mod error;
 pub mod export;
 pub mod field;
 pub mod law;

@@ -1,28 +1,34 @@
 //! What the importers of a package know of it.
-ghost use Rattle.std.specs.Prelude.{◌≡◌, ◌<◌, ◌^◌, IfOk, length};
+ghost use Rattle.std.specs.Prelude.{◌≡◌, ◌<◌, ◌^◌, Err, IfOk, OnOk, length};
+ghost use Rattle.std.specs.List.{All};
+ghost use Rattle.std.specs.Map.{values_of};
 ghost use Rattle.std.specs.Option.{option_map};
 ghost use Rattle.go_typed.specs.Views.{typed_of};
-ghost use Rattle.go_export.specs.Exports.{look_up};
+ghost use Rattle.go_export.specs.declared.error.SummaryError.TheVariants.{Unshown};
+ghost use Rattle.go_export.specs.Exports.{exports_of, look_up};
 ghost use Rattle.go_export.specs.Summaries.{summary_of, summary_text, summary_digest};
 ghost use Rattle.go_export.specs.Views.{all_of, export_of};
-ghost use Rattle.go_export.specs.Writable.{IsWritten};
+ghost use Rattle.go_export.specs.Writable.{IsShown, IsWritten};
 
 use crate::collection::exports_of;
+use crate::error::SummaryError;
 use crate::export::Export;
 use crate::field::digest;
 use crate::text::text_of;
 use crate::written::are_shown;
+use go_text::edition::Edition;
 use go_typed::package::Typed;
-use std::alloc::{AllocError, Global};
+use std::alloc::Global;
 use std::collections::BTreeMap;
 use std::marker::Model;
 
-/// What the importers of a package know of it: its path, its name and what it exports. It holds
-/// the text that stands for it in digests, and that text's digest, so that none who takes the
-/// digest hashes the text again.
+/// What the importers of a package know of it: its edition, its path, its name and what it exports.
+/// It holds the text that stands for it in digests, which doesn't tell the edition, and that text's
+/// digest, so that none who takes the digest hashes the text again.
 /// [Import declarations](https://go.dev/ref/spec#Import_declarations)
 #[derive(Drop)]
 pub struct Summary {
+    edition: Edition,
     path: String,
     name: String,
     named: BTreeMap<String, Export>,
@@ -41,33 +47,37 @@ impl Model for Summary {
 
     ghost use Rattle.go_export.specs.Views.{shown};
 
-    ghost view = { λ s. shown (string_bytes s.path) (string_bytes s.name) s.named.entries };
+    ghost view = { λ s. shown s.edition (string_bytes s.path) (string_bytes s.name) s.named.entries };
 
     ghost use Rattle.sha2.specs.Sha256.{sha256};
     ghost use Rattle.go_export.specs.Writable as writable;
 
-    ghost invariant = { λ s. (s.text.items ≡ summaries.summary_text (shown (string_bytes s.path) (string_bytes s.name) s.named.entries))
+    ghost invariant = { λ s. (s.text.items ≡ summaries.summary_text (shown s.edition (string_bytes s.path) (string_bytes s.name) s.named.entries))
         × (s.digest ≡ sha256 s.text.items)
-        × writable.IsWritten (shown (string_bytes s.path) (string_bytes s.name) s.named.entries) };
+        × writable.IsWritten (shown s.edition (string_bytes s.path) (string_bytes s.name) s.named.entries) };
 }
 
 impl Summary {
-    /// The summary of a checked package. An `Err` where memory ran out, or where the text wouldn't
-    /// tell the summary: names in it have a space, a brace or a dot, or a constant isn't of its
-    /// type, which is so of no checked package.
-    pub fn of(alloc: Global, typed: &Typed) -> Result<Summary, AllocError>
-        ensures { IfOk result (λ s. s ≡ summary_of (typed_of typed.now)) }
+    /// The summary of a checked package. `Unshown` exactly where its text wouldn't tell what the
+    /// package exports: names in types have a space, a brace or a dot, or a constant isn't of its
+    /// type, which is so of no checked package whose path is plain. `Memory` only where memory ran
+    /// out.
+    pub fn of(alloc: Global, typed: &Typed) -> Result<Summary, SummaryError>
+        ensures ok { IfOk result (λ s. s ≡ summary_of (typed_of typed.now)) }
+        ensures shown { OnOk result (All IsShown (values_of (exports_of (typed_of typed.now)))) }
+        ensures unshown { result ≡ Err Unshown → ¬ (All IsShown (values_of (exports_of (typed_of typed.now)))) }
     {
         let path = typed.path.clone()?;
         let name = typed.name.clone()?;
         let named = exports_of(alloc, typed)?;
         if !are_shown(&named) {
-            return Err(AllocError);
+            return Err(SummaryError::Unshown);
         }
         let text = text_of(alloc, &path, &name, &named)?;
         let _ = text.len();
         let digest = digest(&text);
         Ok(Summary {
+            edition: typed.edition,
             path,
             name,
             named,
@@ -81,6 +91,13 @@ impl Summary {
         ensures { IsWritten self.now }
     {
         let _ = self.text.len();
+    }
+
+    /// The edition of the language that the package is written in.
+    pub fn edition(&self) -> Edition
+        ensures { result ≡ self.now.edition }
+    {
+        self.edition
     }
 
     /// The directory that the package stands in, which is its path.

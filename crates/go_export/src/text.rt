@@ -5,6 +5,7 @@ ghost use Rattle.go_export.specs.Fields.{field};
 ghost use Rattle.go_types.specs.Texts.{type_text};
 ghost use Rattle.go_types.specs.Views.{type_of};
 ghost use Rattle.go_export.specs.Summaries.{value_text, types_text, export_text, named_text, summary_text};
+ghost use Rattle.go_text.specs.declared.edition.Edition.{Edition};
 ghost use Rattle.go_export.specs.Views.{export_of, all_of, shown};
 
 use crate::export::Export;
@@ -86,15 +87,15 @@ fn push_exports(
     Ok(())
 }
 
-/// The text of the summary of a package by its path, its name and its exports. An `Err` only where
-/// memory ran out.
+/// The text of the summary of a package by its path, its name and its exports, whatever its edition.
+/// An `Err` only where memory ran out.
 pub(crate) fn text_of(
     alloc: Global,
     path: &str,
     name: &str,
     exports: &BTreeMap<String, Export>,
 ) -> Result<Vec<u8>, AllocError>
-    ensures { IfOk result (λ text. text.items ≡ summary_text (shown path.now name.now exports.now.entries)) }
+    ensures { (edition : Edition) → IfOk result (λ text. text.items ≡ summary_text (shown edition path.now name.now exports.now.entries)) }
 {
     let mut text = Vec::new(alloc);
     push_field(&mut text, b"goset summary")?;

@@ -1,12 +1,12 @@
 //! Which summaries their texts tell.
 ghost use Rattle.std.specs.Prelude.{◌≡◌, map};
-ghost use Rattle.std.specs.Bool.{OnTrue};
+ghost use Rattle.std.specs.Bool.{Decides, OnTrue};
 ghost use Rattle.std.specs.List.{All};
 ghost use Rattle.std.specs.Map.{values_of};
 ghost use Rattle.go_types.specs.Texts.{IsWritable};
 ghost use Rattle.go_types.specs.Views.{type_of};
 ghost use Rattle.go_export.specs.Views.{all_of, export_of};
-ghost use Rattle.go_export.specs.Writable.{kind_of, value_kind, IsSmall, IsValue, IsShown};
+ghost use Rattle.go_export.specs.Writable.{kind_of, value_kind, IsSmall, HasSmall, IsValue, IsShown};
 
 use crate::export::Export;
 use go_const::constant::Const;
@@ -49,9 +49,8 @@ fn is_small(value: &Const)
 
 /// Whether a value is one of a type.
 fn is_value(of: &GoType, value: &Const) -> bool
-    ensures { OnTrue result (IsValue (type_of of.now) value.now) }
+    ensures { Decides result (IsValue (type_of of.now) value.now) }
 {
-    is_small(value);
     match underlying(of) {
         GoType::Basic(basic) => value_kind(*basic) == kind_of(value),
         GoType::Array(_, _) | GoType::Struct(_) | GoType::Named(_) => false,
@@ -59,7 +58,7 @@ fn is_value(of: &GoType, value: &Const) -> bool
 }
 
 fn are_writable(types: &[GoType]) -> bool
-    ensures { OnTrue result (All IsWritable (map type_of types.now)) }
+    ensures { Decides result (All IsWritable (map type_of types.now)) }
 {
     for of in types {
         if !is_writable(of) {
@@ -71,10 +70,14 @@ fn are_writable(types: &[GoType]) -> bool
 
 /// Whether what a name exports can be shown.
 fn is_shown(export: &Export) -> bool
-    ensures { OnTrue result (IsShown (export_of export.now)) }
+    ensures shown { Decides result (IsShown (export_of export.now)) }
+    ensures small { HasSmall (export_of export.now) }
 {
     match export {
-        Export::Constant(of, value) => is_writable(of) && is_value(of, value),
+        Export::Constant(of, value) => {
+            is_small(value);
+            is_writable(of) && is_value(of, value)
+        }
         Export::Variable(of) => is_writable(of),
         Export::Function(parameters, results) => are_writable(parameters) && are_writable(results),
         Export::Type(of) => is_writable(of),
@@ -83,7 +86,8 @@ fn is_shown(export: &Export) -> bool
 
 /// Whether all that a package exports can be shown.
 pub(crate) fn are_shown(exports: &BTreeMap<String, Export>) -> bool
-    ensures { OnTrue result (All IsShown (values_of (all_of exports.now.entries))) }
+    ensures shown { Decides result (All IsShown (values_of (all_of exports.now.entries))) }
+    ensures small { OnTrue result (All HasSmall (values_of (all_of exports.now.entries))) }
 {
     for (_, export) in exports {
         if !is_shown(export) {

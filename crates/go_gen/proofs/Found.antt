@@ -1,4 +1,4 @@
--- Fields by their numbers, and new variables without values.
+-- Fields by their numbers, and variables without values.
 use Rattle.std.proofs.Common.{◌≡◌, ℕ, zero, suc, ◌<◌, ◌≤◌, List, [], ◌∷◌, ◌++◌, length, get_or, Option, refl, arith}
 use Rattle.go_code.specs.declared.instr.Instr.{Instr}
 use Rattle.go_symbol.specs.Symbols as symbols
@@ -6,7 +6,7 @@ use Rattle.go_types.specs.declared.types.Field.{Field}
 use Rattle.go_types.specs.Types.{Type'}
 use Rattle.go_types.specs.Views.{type_of, fields_in}
 use Rattle.go_meaning.specs.Choices.{field_at}
-use Rattle.go_gen.specs.Translation.{Places, or_type, defines_code}
+use Rattle.go_gen.specs.Translation.{Places, or_type, defines_code, sets_code}
 
 pub field_some : (fs : List Field) (n : ℕ) (other : Type') (d : Field) → n < length fs → type_of (get_or fs n d).of ≡ or_type other (field_at (fields_in fs) n)
 field_some [] n other d lt = absurd (omega arith)
@@ -23,3 +23,8 @@ pub defines_end : (p : Places symbols.Symbol) (ns : List (Option ℕ)) (rest : L
 defines_end p [] rest code all lt e = e
 defines_end p (n ∷ ns) [] code all lt e = e
 defines_end p (n ∷ ns) (r ∷ rest) code all lt e = absurd (omega arith)
+
+pub sets_end : (p : Places symbols.Symbol) (path : List ℕ) (os : List (Option (List ℕ))) (rest : List ℕ) (code all : List (Instr symbols.Symbol)) → length rest < 1 → sets_code p path os rest ++ code ≡ all → code ≡ all
+sets_end p path [] rest code all lt e = e
+sets_end p path (o ∷ os) [] code all lt e = e
+sets_end p path (o ∷ os) (r ∷ rest) code all lt e = absurd (omega arith)

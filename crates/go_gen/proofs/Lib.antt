@@ -3,6 +3,7 @@ pub mod ByKind
 pub mod Closed
 pub mod Emitted
 pub mod Found
+pub mod Listed
 pub mod Made
 pub mod Reversed
 pub mod Totals

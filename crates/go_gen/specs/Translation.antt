@@ -18,11 +18,12 @@ use Rattle.go_code.specs.declared.instr.CallInstr.TheVariants.{Call, Return}
 use Rattle.go_code.specs.declared.operator.Operator.TheVariants.{Compare, Text as On_text}
 use Rattle.go_code.specs.declared.operator.Operator as operators
 use Rattle.go_code.specs.declared.operator.TextOperator.TheVariants.{At, Length}
-use Rattle.go_code.specs.Functions.{Function}
+use Rattle.go_code.specs.Functions.{Function, Setup}
 use Rattle.go_code.specs.Packages.{PackageVariable, PackageFunction, Object}
 use Rattle.go_typed.specs.declared.expression.Operator.TheVariants.{Arithmetic as arithmetic, Comparison as comparison}
 use Rattle.go_typed.specs.Trees as trees
-use Rattle.go_typed.specs.Trees.{Symbol, Expr, Exprs, no_exprs, some_exprs, Parts, no_parts, part, Steps, here, to_field, to_element, Left, blank, of_local, of_global, Source, each, results, zeros, Stmt, Stmts, no_stmts, some_stmts, Clauses, no_clauses, clause, expr_type, Package}
+use Rattle.go_typed.specs.Trees.{Symbol, Expr, Exprs, no_exprs, some_exprs, Parts, no_parts, part, Steps, here, to_field, to_element, Left, blank, of_local, of_global, Source, each, results, zeros, Initialization, Stmt, Stmts, no_stmts, some_stmts, Clauses, no_clauses, clause, expr_type, Package}
+use Rattle.go_init.specs.Variables.{variable_order}
 use Rattle.go_meaning.specs.Values.{flat, zero_cell, zero_of}
 use Rattle.go_meaning.specs.Choices.{cell_of, unary_operators, binary_operators, conversion_operators, field_type, element_type}
 
@@ -445,6 +446,29 @@ translated {R} globals functions f =
     let p : Places R = record { locals = slice_index (slots 0 (local_types f)); globals = globals; functions = functions } in
     record { parameters = total f.parameters; cells = size + stmts_temps f.body; code = body_code p size f.body }
 
+-- https://go.dev/ref/spec#Package_initialization
+-- a value into the variable's cells; one for a blank variable is dropped
+abbrev pub set_code : {R : Type 0} → Places R → List ℕ → Option (List ℕ) → ℕ → Instr R
+set_code {R} p path None n = In_frame (Pop n)
+set_code {R} p path (Some x) n = On_globals (Store (p.globals (record { path = path; name = x })) n)
+
+-- the values of so many cells, from the last to the first, for variables of the package at a path
+abbrev pub sets_code : {R : Type 0} → Places R → List ℕ → List (Option (List ℕ)) → List ℕ → List (Instr R)
+sets_code {R} p path [] counts = []
+sets_code {R} p path (o ∷ os) [] = []
+sets_code {R} p path (o ∷ os) (n ∷ counts) = sets_code p path os counts ++ set_code p path o n ∷ []
+
+-- variables of the package at a path get their values
+abbrev pub setup_code : {R : Type 0} → Places R → List ℕ → Source → List (Option (List ℕ)) → List (Instr R)
+setup_code {R} p path s os = source_code p 0 s ++ (sets_code p path os (source_counts s) ++ By_call (Return 0) ∷ [])
+
+abbrev pub no_locals : {R : Type 0} → (Symbol → R) → (Symbol → R) → Places R
+no_locals {R} globals functions = record { locals = slice_index []; globals = globals; functions = functions }
+
+abbrev pub translated_setup : {R : Type 0} → (Symbol → R) → (Symbol → R) → List ℕ → Initialization → Setup R
+translated_setup {R} globals functions path i =
+    record { cells = source_temps i.source; code = setup_code (no_locals globals functions) path i.source i.variables }
+
 -- code names variables and functions by their symbols
 abbrev pub symbol_code : Symbol → Symbol
 symbol_code s = s
@@ -456,12 +480,17 @@ translated_function f = record { name = f.name; function = translated symbol_cod
 abbrev pub translated_variable : trees.Variable → PackageVariable
 translated_variable v = record { name = v.name; zero = flat (zero_of v.of) }
 
--- a package: its variables and its functions in declaration order
-abbrev pub object_of : Package → Object
-object_of typed = record {
+-- a package: its variables and its functions in declaration order, and the setups of these initializations
+abbrev pub object_in : List Initialization → Package → Object
+object_in order typed = record {
   path = typed.path;
   name = typed.name;
+  edition = typed.edition;
   variables = map translated_variable typed.variables;
   functions = map translated_function typed.functions;
-  setups = [];
+  setups = map (translated_setup symbol_code symbol_code typed.path) order;
 }
+
+-- a package whose variables are initialized in their order
+abbrev pub object_of : Package → Object
+object_of typed = object_in (variable_order typed).0 typed

@@ -52,7 +52,8 @@ impl Code {
     /// Another instruction in the place of the one that so many follow.
     pub fn replace(&mut self, following: usize, instr: Instr<Symbol>)
         requires { following < length self.old }
-        ensures { (front back : List (Instr Symbol)) (x : Instr Symbol) → self.old ≡ front ++ x ∷ back → length back ≡ following → self.new ≡ front ++ instr ∷ back }
+        ensures { (front back : List (Instr Symbol)) (x : Instr Symbol) → self.old ≡ front ++ x ∷ back → length back ≡ following
+            → self.new ≡ front ++ instr ∷ back }
     {
         self.reversed[following] = instr;
     }

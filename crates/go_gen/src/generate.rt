@@ -1,11 +1,13 @@
 //! The object of a checked package.
-ghost use Rattle.std.specs.Prelude.{◌≡◌, IfOk, map};
+ghost use Rattle.std.specs.Prelude.{◌≡◌, IfOk, map, slice_get};
+ghost use Rattle.std.specs.List.{filter_map};
 ghost use Rattle.go_typed.specs.Views.{stmts_in, variable_of, function_of, typed_of};
-ghost use Rattle.go_gen.specs.Translation.{body_code, translated_variable, translated_function, object_of};
+ghost use Rattle.go_gen.specs.Translation.{body_code, translated_variable, translated_function, object_in};
 ghost use Rattle.go_gen.specs.Views.{places_of};
 
 use crate::code::Code;
 use crate::layout::Layout;
+use crate::setup::generate_setups;
 use crate::size::{push_slots, sum};
 use crate::statement::emit_stmts;
 use crate::statement_temps::stmts_temps;
@@ -96,15 +98,16 @@ fn generate_variables(
     Ok(made)
 }
 
-/// The object of a checked package. Initial values of its variables aren't in it. An `Err` only
-/// where memory ran out, or where there is none with so many cells or instructions.
-pub fn generate(alloc: Global, typed: &Typed) -> Result<Object, AllocError>
-    ensures { IfOk result (λ object. object ≡ object_of (typed_of typed.now)) }
+/// The object of a checked package, whose setups are those of its initializations by these indexes,
+/// in this order; an index of none is passed. An `Err` only where memory ran out, or where there is
+/// none with so many cells or instructions.
+pub fn generate(alloc: Global, typed: &Typed, order: &[usize]) -> Result<Object, AllocError>
+    ensures { let p = typed_of typed.now in IfOk result (λ object. object ≡ object_in (filter_map (slice_get p.initializations) order.now) p) }
 {
     let path = typed.path.clone()?;
     let name = typed.name.clone()?;
     let variables = generate_variables(alloc, &typed.variables)?;
     let functions = generate_functions(alloc, &typed.functions)?;
-    let setups = Vec::new(alloc);
-    Ok(Object::new(path, name, variables, functions, setups))
+    let setups = generate_setups(alloc, path.as_str(), &typed.initializations, order)?;
+    Ok(Object::new(path, name, typed.edition, variables, functions, setups))
 }

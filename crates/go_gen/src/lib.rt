@@ -8,6 +8,7 @@ pub mod generate;
 mod instr;
 mod layout;
 mod operator;
+mod setup;
 mod size;
 mod source;
 mod statement;

@@ -57,7 +57,8 @@ fn emit_run(
     function: &Symbol,
     arguments: &[TypedExpr],
 ) -> Result<(), AllocError>
-    ensures { OnOk result (code.new ≡ stmt_code (places_of layout.now) k (trees.run (map type_of types.now) function.now (exprs_in arguments.now)) 0 0 ++ code.old) }
+    ensures { OnOk result (code.new
+        ≡ stmt_code (places_of layout.now) k (trees.run (map type_of types.now) function.now (exprs_in arguments.now)) 0 0 ++ code.old) }
 {
     let counts = type_counts(alloc, types)?;
     code.put(Instr::Frame(FrameInstr::Pop(total(&counts)?)))?;

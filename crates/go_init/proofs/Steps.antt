@@ -28,7 +28,7 @@ pub record SoFar (rows : List (List ℕ)) (listed : List Bool) (order : List ℕ
   pub left : AreLeft listed xs
   pub same : order ++ (turns (imports rows) todo xs).0 ≡ package_order rows
 
-range_ascends : (a n : ℕ) → Ascending (range_with_len a n)
+pub range_ascends : (a n : ℕ) → Ascending (range_with_len a n)
 range_ascends a zero = tt
 range_ascends a (suc n) = (λ y h. (let r = in_range (a + 1) n y h in let low = r.0 in omega (arith, low)), range_ascends (a + 1) n)
 

@@ -1,10 +1,11 @@
 //! Packages by number, with those that each imports.
+use crate::packages::ordered;
 use go_init::law::law_package_order;
 use go_init::packages::package_order;
 use std::alloc::{AllocError, Global};
 use test_rows::answers::{Answers, RowError};
 
-/// Answers rows about package order.
+/// Answers rows about the orders of packages and of variables.
 #[derive(Drop)]
 pub(crate) struct OrderRows;
 
@@ -12,6 +13,9 @@ impl Answers for OrderRows {
     fn begin(&mut self, _alloc: Global) {}
 
     fn answer(&mut self, alloc: Global, kind: &str, asked: &str) -> Result<String, RowError> {
+        if kind == "variables" {
+            return ordered(alloc, asked);
+        }
         let rows = match kind {
             "order" => listed_rows(alloc, asked)?,
             "chain" => chain(alloc, number(asked)?)?,

@@ -1,7 +1,8 @@
-//! Answers rows about the order in which packages are initialized.
+//! Answers rows about the order in which packages and their variables are initialized.
 #![tactic(auto)]
 
 mod graphs;
+mod packages;
 
 use graphs::OrderRows;
 use std::io;

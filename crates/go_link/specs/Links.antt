@@ -3,6 +3,8 @@ use Rattle.std.specs.Prelude.{◌≡◌, ℕ, ◌+◌, ◌-◌, Bool, false, ◌
 use Rattle.std.specs.List.{filter, filter_map, flat_map, list_any, position_or_len, starts_with}
 use Rattle.std.specs.Str.{bytes_eq}
 use Rattle.std.specs.Prelude.{nat_eq}
+use Rattle.go_text.specs.declared.edition.Edition.{Edition}
+use Rattle.go_text.specs.declared.edition.Edition.TheVariants.{One}
 use Rattle.go_code.specs.declared.cell.Cell.{Cell}
 use Rattle.go_code.specs.declared.image.Start.{Start}
 use Rattle.go_code.specs.declared.image.Start.TheVariants.{Setup as Set_up, Function as Run}
@@ -124,9 +126,15 @@ main_start names (Some o) = start_of names o (codes "main") ∷ []
 abbrev pub zeros_of : Object → List Cell
 zeros_of o = flat_map (λ v. v.zero) o.variables
 
+-- the edition that the last package is of
+abbrev pub edition_of : Option Object → Edition
+edition_of None = One
+edition_of (Some o) = o.edition
+
 -- variables and functions package by package, each package's in declaration order; the start steps package by package, and main at last
 abbrev pub linked : List Object → Image
 linked packages = record {
+  edition = edition_of (last_package packages);
   globals = flat_map zeros_of packages;
   functions = flat_map (λ o. map (linked_function (names packages) (variables packages)) o.functions) packages;
   starts = flat_map (package_starts (names packages) (variables packages)) packages ++ main_start (names packages) (last_package packages);

@@ -9,7 +9,7 @@ use crate::code::{link_functions, link_globals};
 use crate::missing::name_missing;
 use crate::names::{Names, collect_names};
 use crate::places::{Places, collect_places};
-use crate::starts::{has_main, link_starts};
+use crate::starts::{edition_of, has_main, link_starts};
 use go_code::image::Image;
 use go_code::object::Object;
 use std::alloc::{AllocError, Global};
@@ -73,10 +73,11 @@ fn image_of<'a>(
     requires variables { places.now ≡ variables (map arc_value packages.now) }
     ensures { IfOk result (λ image. image ≡ linked (map arc_value packages.now)) }
 {
+    let edition = edition_of(packages);
     let globals = link_globals(alloc, packages)?;
     let functions = link_functions(alloc, names, places, packages)?;
     let starts = link_starts(alloc, names, places, packages)?;
-    Ok(Image::new(globals, functions, starts))
+    Ok(Image::new(edition, globals, functions, starts))
 }
 
 /// The image of packages in their order.

@@ -1,6 +1,7 @@
 -- Rows computed on the definitions.
 use Rattle.std.proofs.Common.{◌≡◌, ℕ, true, false, List, [], ◌∷◌, Some, None, refl, pos, negsuc, ◌++◌}
 use Rattle.std.specs.Prelude.{codes, ⊤}
+use Rattle.go_text.specs.declared.edition.Edition.TheVariants.{One}
 use Rattle.go_const.specs.declared.constant.Const.TheVariants as consts
 use Rattle.go_const.specs.declared.operator.UnaryOperator.TheVariants.{Negative}
 use Rattle.go_const.specs.declared.operator.ArithmeticOperator.TheVariants.{Add, Divide, Remainder}
@@ -19,7 +20,7 @@ use Rattle.go_typed.specs.Trees as trees
 use Rattle.go_typed.specs.Trees.{Expr, constant, local, index, unary, binary, both, call, Exprs, no_exprs, some_exprs, here, to_element, Left, blank, of_local, each, results, zeros, Stmt, Stmts, no_stmts, some_stmts, define, assign, update, print, panic, if_statement, for_statement, range_statement, switch_statement, break, continue, return, no_clauses, clause, pack_exprs, pack_stmts, Function, Package}
 use Rattle.go_meaning.specs.Values.{Value}
 use Rattle.go_meaning.specs.Meaning.{Outcome, Gives, Ends, World}
-use Rattle.go_meaning.specs.Programs.{call_at, run, first_world}
+use Rattle.go_meaning.specs.Programs.{call_at, run, first_arrays, first_world}
 
 abbrev int : Type'
 int = types.basic (basics.Integer integers.Int)
@@ -50,10 +51,12 @@ abbrev main_of : List Type' → List Stmt → List Package
 main_of locals body = record {
   path = codes "app";
   name = codes "main";
+  edition = One;
   constants = [];
   types = [];
   variables = [];
   initializations = [];
+  uses = [];
   functions = record { name = codes "main"; parameters = []; results = []; locals = locals; body = pack_stmts body } ∷ [];
 } ∷ []
 
@@ -67,7 +70,7 @@ ints (k ∷ ks) = Int (pos k) ∷ ints ks
 
 -- it ends with so many ticks left, and these lines
 abbrev ended : ℕ → List (List Cell) → Outcome ⊤
-ended ticks rows = Gives tt (record { ticks = ticks; variables = []; output = out [] rows })
+ended ticks rows = Gives tt (record { ticks = ticks; variables = []; arrays = first_arrays; output = out [] rows })
 
 -- for { fmt.Println(1) }, with 3 ticks
 pub loop_is_cut : run (main_of [] (for_statement None no_stmts (pack_stmts (print (pack_exprs (n 1 ∷ [])) ∷ [])) ∷ [])) 3 ≡ Ends Cut (out [] (ints (1 ∷ []) ∷ ints (1 ∷ []) ∷ []))
@@ -172,10 +175,12 @@ either_of =
     record {
       path = codes "app";
       name = codes "main";
+      edition = One;
       constants = [];
       types = [];
       variables = [];
       initializations = [];
+      uses = [];
       functions =
           record {
             name = codes "t";

@@ -29,10 +29,11 @@ pub record Stored : Type 0 where
   pub of : Type'
   pub value : Value
 
--- what outlives calls: the ticks that are left, the package variables, and the output so far
+-- what outlives calls: the ticks that are left, the package variables, the arrays that slices are parts of, by number, and the output so far
 pub record World : Type 0 where
   pub ticks : ℕ
   pub variables : List Stored
+  pub arrays : List (List Value)
   pub output : List ℕ
 
 -- what something comes to: it gives an answer, or the whole program ends there, or a rule of the language is broken, of which nothing is said
@@ -143,10 +144,13 @@ abbrev mutual
   eval calls (length_of t e) ls w = and_then (eval calls e ls w) (λ v. given t (operated (On_text Length ∷ []) (v ∷ [])))
   eval calls (unary t op e) ls w = and_then (eval calls e ls w) (λ v. given t (operated (unary_operators (underlying t) op) (v ∷ [])))
   eval calls (binary t op a b) ls w =
-      and_then (eval calls a ls w) (λ x w1. and_then (eval calls b ls w1) (λ y. given t (operated (binary_operators (underlying (expr_type a)) op) (x ∷ y ∷ []))))
+      and_then (eval calls a ls w) (λ x w1. and_then (eval calls b ls w1) (λ y.
+      given t (operated (binary_operators (underlying (expr_type a)) op) (x ∷ y ∷ []))))
   -- https://go.dev/ref/spec#Logical_operators
-  eval calls (both t a b) ls w = and_then (eval calls a ls w) (λ x w1. and_then (if_true x (eval calls b ls w1) (Gives x w1)) (λ y. given t (operators.Gives y)))
-  eval calls (either t a b) ls w = and_then (eval calls a ls w) (λ x w1. and_then (if_true x (Gives x w1) (eval calls b ls w1)) (λ y. given t (operators.Gives y)))
+  eval calls (both t a b) ls w =
+      and_then (eval calls a ls w) (λ x w1. and_then (if_true x (eval calls b ls w1) (Gives x w1)) (λ y. given t (operators.Gives y)))
+  eval calls (either t a b) ls w =
+      and_then (eval calls a ls w) (λ x w1. and_then (if_true x (Gives x w1) (eval calls b ls w1)) (λ y. given t (operators.Gives y)))
   eval calls (conversion t e) ls w = and_then (eval calls e ls w) (λ v. given t (operated (conversion_operators (underlying t)) (v ∷ [])))
   -- https://go.dev/ref/spec#Composite_literals
   eval calls (literal t ps) ls w = and_then (given t (operators.Gives (zero_of t)) w) (eval_parts calls t ps ls)
@@ -247,13 +251,17 @@ give_all [] (v ∷ vs) ls w = Stuck
 give_all (t ∷ ts) [] ls w = Stuck
 give_all (t ∷ ts) (v ∷ vs) ls w = and_then (give t v ls w) (give_all ts vs)
 
+-- values for what has such names, the last first; a blank one has none
+abbrev pub all_put : {S N : Type 0} → (S → N → Value → Option S) → List (Option N) → List Value → S → Option S
+all_put put [] [] s = Some s
+all_put put [] (v ∷ vs) s = None
+all_put put (o ∷ os) [] s = None
+all_put put (None ∷ os) (v ∷ vs) s = all_put put os vs s
+all_put put (Some x ∷ os) (v ∷ vs) s = option_and_then (λ s1. put s1 x v) (all_put put os vs s)
+
 -- https://go.dev/ref/spec#Variable_declarations: new variables get values
 abbrev pub defined : List (Option ℕ) → List Value → Locals → Option Locals
-defined [] [] ls = Some ls
-defined [] (v ∷ vs) ls = None
-defined (n ∷ ns) [] ls = None
-defined (None ∷ ns) (v ∷ vs) ls = defined ns vs ls
-defined (Some n ∷ ns) (v ∷ vs) ls = option_and_then (λ ls1. with_local ls1 n v) (defined ns vs ls)
+defined = all_put with_local
 
 -- ---- statements
 
@@ -342,9 +350,11 @@ abbrev mutual
   exec calls (if_statement e a b) ls w = and_then (eval calls e ls w) (λ c w1. if_true c (exec_all calls a ls w1) (exec_all calls b ls w1))
   exec calls (for_statement o post body) ls w = turns w.ticks (tested calls o) (exec_all calls body) (exec_all calls post) ls w
   exec calls (range_statement o t e body) ls w =
-      and_then (eval calls e ls w) (λ v w1. and_then (given t (operators.Gives v) w1) (λ v1 w2. walk_to v1 (λ h. walk w2.ticks 0 h o (exec_all calls body) ls w2)))
+      and_then (eval calls e ls w) (λ v w1. and_then (given t (operators.Gives v) w1) (λ v1 w2.
+      walk_to v1 (λ h. walk w2.ticks 0 h o (exec_all calls body) ls w2)))
   exec calls (switch_statement e cs) ls w =
-      and_then (eval calls e ls w) (λ tag w1. and_then (chosen calls (expr_type e) tag cs 0 None ls w1) (λ o w2. and_then (from_clause calls cs o ls w2) switched))
+      and_then (eval calls e ls w) (λ tag w1. and_then (chosen calls (expr_type e) tag cs 0 None ls w1) (λ o w2.
+      and_then (from_clause calls cs o ls w2) switched))
   exec calls (block ss) ls w = exec_all calls ss ls w
   exec calls break ls w = Gives (Breaks ls) w
   exec calls continue ls w = Gives (Continues ls) w

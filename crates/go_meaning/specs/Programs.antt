@@ -7,10 +7,11 @@ use Rattle.go_types.specs.Types.{Type'}
 use Rattle.go_code.specs.declared.ending.Ending.{Ending}
 use Rattle.go_code.specs.declared.ending.Ending.TheVariants.{Ended, Panicked}
 use Rattle.go_code.specs.declared.ending.PanicKind.TheVariants.{Depth}
-use Rattle.go_typed.specs.Trees.{Symbol, Function, Package}
+use Rattle.go_typed.specs.Trees.{Symbol, Function, Initialization, Package}
+use Rattle.go_init.specs.Variables.{variable_order}
 use Rattle.go_meaning.specs.Values.{Value, are_of, zero_of}
 use Rattle.go_symbol.specs.Symbols.{same_symbol}
-use Rattle.go_meaning.specs.Meaning.{Stored, World, Outcome, Gives, Ends, Stuck, Locals, Flow, Normal, Breaks, Continues, Returns, and_then, with_tick, Calls, exec_all}
+use Rattle.go_meaning.specs.Meaning.{Stored, World, Outcome, Gives, Ends, Stuck, Locals, Flow, Normal, Breaks, Continues, Returns, and_then, with_tick, Calls, if_known, with_global, all_put, source, exec_all}
 
 -- ---- calls
 
@@ -82,14 +83,15 @@ IsProgram packages = HasMain (last_package packages)
 abbrev pub is_init : Function → Bool
 is_init f = starts_with nat_eq f.name (codes "init.")
 
--- a step of a program's start: a call of a function, without arguments
+-- a step of a program's start: variables of the package at a path get their values, or a function is called, without arguments
 pub data Step : Type 0 where
+  sets : List ℕ → Initialization → Step
   calls : Symbol → Step
 
 -- https://go.dev/ref/spec#Package_initialization
--- a package's inits, in declaration order
+-- a package's variables in their order, then its inits in declaration order
 abbrev pub package_steps : Package → List Step
-package_steps p = map (λ f. calls (symbol_of p f.name)) (filter is_init p.functions)
+package_steps p = map (sets p.path) (variable_order p).0 ++ map (λ f. calls (symbol_of p f.name)) (filter is_init p.functions)
 
 abbrev pub main_steps : Option Package → List Step
 main_steps o = elim o [ None ↦ [] | Some p ↦ calls (symbol_of p (codes "main")) ∷ [] ]
@@ -98,7 +100,14 @@ main_steps o = elim o [ None ↦ [] | Some p ↦ calls (symbol_of p (codes "main
 abbrev pub start_steps : List Package → List Step
 start_steps packages = flat_map package_steps packages ++ main_steps (last_package packages)
 
+-- variables of the package at a path get values
+abbrev pub stored : List ℕ → List (Option (List ℕ)) → List Value → World → Outcome ⊤
+stored path os vs w =
+    and_then (if_known (all_put (λ variables x. with_global variables (record { path = path; name = x })) os vs w.variables) w)
+    (λ variables w1. Gives tt (record w1 { variables = variables }))
+
 abbrev pub step : Calls → Step → World → Outcome ⊤
+step call (sets path i) w = and_then (source call i.source [] w) (stored path i.variables)
 step call (calls s) w = and_then (call s [] w) (λ results w1. Gives tt w1)
 
 -- one step after another
@@ -110,9 +119,13 @@ step_all call (s ∷ ss) w = and_then (step call s w) (λ done w1. step_all call
 abbrev pub first_variables : Package → List Stored
 first_variables p = map (λ v. record { symbol = symbol_of p v.name; of = v.of; value = zero_of v.of }) p.variables
 
+-- array 0 has nothing: slices without an array are parts of it
+abbrev pub first_arrays : List (List Value)
+first_arrays = [] ∷ []
+
 -- the world that a program starts in
 abbrev pub first_world : List Package → ℕ → World
-first_world packages ticks = record { ticks = ticks; variables = flat_map first_variables packages; output = [] }
+first_world packages ticks = record { ticks = ticks; variables = flat_map first_variables packages; arrays = first_arrays; output = [] }
 
 -- the program is over so where its start comes to this
 abbrev pub IsOver : Outcome ⊤ → Ending → List ℕ → Type 0

@@ -6,6 +6,8 @@ ghost use Rattle.go_meaning.specs.Programs.{SourceMeaning};
 
 /// A program that is given a number of ticks ends in one way.
 pub fn law_meaning_once()
-    ensures ending { (packages : List Package) (ticks : ℕ) (a b : Ending) (s t : List ℕ) → SourceMeaning packages ticks a s → SourceMeaning packages ticks b t → a ≡ b }
-    ensures output { (packages : List Package) (ticks : ℕ) (a b : Ending) (s t : List ℕ) → SourceMeaning packages ticks a s → SourceMeaning packages ticks b t → s ≡ t }
+    ensures ending { (packages : List Package) (ticks : ℕ) (a b : Ending) (s t : List ℕ)
+        → SourceMeaning packages ticks a s → SourceMeaning packages ticks b t → a ≡ b }
+    ensures output { (packages : List Package) (ticks : ℕ) (a b : Ending) (s t : List ℕ)
+        → SourceMeaning packages ticks a s → SourceMeaning packages ticks b t → s ≡ t }
 {}

@@ -2,6 +2,7 @@
 use Rattle.std.proofs.Common.{◌≡◌, inr, List, [], ◌∷◌, Some, refl, pos}
 use Rattle.std.specs.Prelude.{codes}
 use Rattle.std.proofs.lemmas.List.Elements.{All-nil, All-cons}
+use Rattle.go_text.specs.declared.edition.Edition.TheVariants.{One}
 use Rattle.go_const.specs.declared.constant.Const.TheVariants as consts
 use Rattle.go_const.specs.declared.operator.ArithmeticOperator.TheVariants.{Add}
 use Rattle.go_const.specs.declared.operator.ComparisonOperator.TheVariants.{Equal}
@@ -46,10 +47,12 @@ abbrev package_of : List Function → List Package
 package_of functions = record {
   path = codes "app";
   name = codes "main";
+  edition = One;
   constants = [];
   types = [];
   variables = [];
   initializations = [];
+  uses = [];
   functions = functions;
 } ∷ []
 

@@ -20,24 +20,24 @@ use Rattle.go_meaning_laws.proofs.Values.{Of, AllOf, zero_is, of_underlying}
 use Rattle.go_meaning_laws.proofs.Parts.{Fine, PartOf, one_step, part_put}
 use Rattle.go_meaning_laws.proofs.Operators.{IsTruth, bool_value, unary_is}
 use Rattle.go_meaning_laws.proofs.Binary.{operation_is, conversion_is, indexed_is, length_is}
-use Rattle.go_meaning_laws.proofs.Worlds.{Sound, sound_then, Stores, Valued, sound_given, global_is, Fits, local_is}
+use Rattle.go_meaning_laws.proofs.Worlds.{Shelf, grows_not, Sound, sound_then, Keeps, Valued, sound_given, global_is, Fits, local_is}
 
 -- values of these types
-abbrev pub AllValued : (Symbol → Option Type') → List Type' → List Value → World → Type 0
-AllValued types ts vs w = AllOf ts vs × Stores types w.variables
+abbrev pub AllValued : (Symbol → Option Type') → List Type' → List Value → Shelf → World → Type 0
+AllValued types ts vs σ w = AllOf ts vs × Keeps types σ w
 
 -- calls of functions are never stuck where their arguments have the types of their parameters, and give results of theirs
 pub record Answers (functions : Symbol → Option Signature) (types : Symbol → Option Type') (calls : Calls) : Type 0 where
-  pub each : (s : Symbol) (ps rs : List Type') (vs : List Value) (w : World) → functions s ≡ Some (record { parameters = ps; results = rs }) → AllOf ps vs → Stores types w.variables → Sound (AllValued types rs) (calls s vs w)
+  pub each : (s : Symbol) (ps rs : List Type') (vs : List Value) (σ : Shelf) (w : World) → functions s ≡ Some (record { parameters = ps; results = rs }) → AllOf ps vs → Keeps types σ w → Sound σ (AllValued types rs) (calls s vs w)
 
-pub sound_all_given : (types : Symbol → Option Type') (ts us : List Type') (vs : List Value) (w : World) → are_of ts vs ≡ true → AllValued types us vs w → Sound (AllValued types us) (all_given ts vs w)
-sound_all_given types ts us vs w e h = rw e h
+pub sound_all_given : (types : Symbol → Option Type') (ts us : List Type') (vs : List Value) (σ : Shelf) (w : World) → are_of ts vs ≡ true → AllValued types us vs σ w → Sound σ (AllValued types us) (all_given ts vs w)
+sound_all_given types ts us vs σ w e h = rw e (σ, grows_not σ, h)
 
 -- a truth value decides
-pub decided : {A : Type 0} (P : A → World → Type 0) (v : Value) (a b : Outcome A) → IsTruth v → Sound P a → Sound P b → Sound P (if_true v a b)
-decided P v a b h k l = subst (λ u. Sound P (if_true u a b)) (sym h.1) (by_truth h.0)
+pub decided : {A : Type 0} (σ : Shelf) (P : A → Shelf → World → Type 0) (v : Value) (a b : Outcome A) → IsTruth v → Sound σ P a → Sound σ P b → Sound σ P (if_true v a b)
+decided σ P v a b h k l = subst (λ u. Sound σ P (if_true u a b)) (sym h.1) (by_truth h.0)
   where
-    by_truth : (c : Bool) → Sound P (if_true (single (Truth c)) a b)
+    by_truth : (c : Bool) → Sound σ P (if_true (single (Truth c)) a b)
     by_truth true = k
     by_truth false = l
 
@@ -46,33 +46,33 @@ truth_in t v e h = bool_value (underlying t) v e (of_underlying t v h)
 
 module _ (calls : Calls) where
   abbrev pub Evals : Setting → List ℕ → Expr → Type 0
-  Evals g d e = (ls : Locals) (w : World) → Fits g.locals d ls → Stores g.variables w.variables → Sound (Valued g.variables (expr_type e)) (eval calls e ls w)
+  Evals g d e = (ls : Locals) (σ : Shelf) (w : World) → Fits g.locals d ls → Keeps g.variables σ w → Sound σ (Valued g.variables (expr_type e)) (eval calls e ls w)
 
   abbrev pub EvalsAll : Setting → List ℕ → Exprs → Type 0
-  EvalsAll g d es = (ls : Locals) (w : World) → Fits g.locals d ls → Stores g.variables w.variables → Sound (AllValued g.variables (exprs_types es)) (eval_all calls es ls w)
+  EvalsAll g d es = (ls : Locals) (σ : Shelf) (w : World) → Fits g.locals d ls → Keeps g.variables σ w → Sound σ (AllValued g.variables (exprs_types es)) (eval_all calls es ls w)
 
   abbrev pub EvalsParts : Setting → List ℕ → Type' → Parts → Type 0
-  EvalsParts g d t ps = (ls : Locals) (v : Value) (w : World) → Fits g.locals d ls → Of t v → Stores g.variables w.variables → Sound (Valued g.variables t) (eval_parts calls t ps ls v w)
+  EvalsParts g d t ps = (ls : Locals) (v : Value) (σ : Shelf) (w : World) → Fits g.locals d ls → Of t v → Keeps g.variables σ w → Sound σ (Valued g.variables t) (eval_parts calls t ps ls v w)
 
   constant_evals : (g : Setting) (d : List ℕ) (t : Type') (c : Const) → IsConstant t c → Evals g d (trees.constant t c)
-  constant_evals g d t c h ls w fits good = sound_given g.variables t (operators.Gives (single (cell_of c))) w good h
+  constant_evals g d t c h ls σ w fits good = sound_given g.variables t (operators.Gives (single (cell_of c))) σ w good h
 
   local_evals : (g : Setting) (d : List ℕ) (t : Type') (n : ℕ) → Holds g d n t → Evals g d (trees.local t n)
-  local_evals g d t n h ls w fits good = sound_given g.variables t (local_value ls n) w good (local_is g.locals d ls n t fits h.0 h.1)
+  local_evals g d t n h ls σ w fits good = sound_given g.variables t (local_value ls n) σ w good (local_is g.locals d ls n t fits h.0 h.1)
 
   global_evals : (g : Setting) (d : List ℕ) (t : Type') (s : Symbol) → g.variables s ≡ Some t → Evals g d (trees.global t s)
-  global_evals g d t s h ls w fits good = sound_given g.variables t (global_value w.variables s) w good (global_is g.variables w.variables s t good h)
+  global_evals g d t s h ls σ w fits good = sound_given g.variables t (global_value w.variables s) σ w good (global_is g.variables w.variables s t good.0 h)
 
   -- an expression, and a rule on its value
-  one_evals : (g : Setting) (d : List ℕ) (e : Expr) (t : Type') (rule : Value → Operated Value) → Evals g d e → ((v : Value) → Of (expr_type e) v → Fine (Of t) (rule v)) → (ls : Locals) (w : World) → Fits g.locals d ls → Stores g.variables w.variables → Sound (Valued g.variables t) (and_then (eval calls e ls w) (λ v. given t (rule v)))
-  one_evals g d e t rule evals fine ls w fits good =
-      sound_then (Valued g.variables (expr_type e)) (Valued g.variables t) (eval calls e ls w) (λ v. given t (rule v)) (evals ls w fits good)
-      (λ v w1 h. sound_given g.variables t (rule v) w1 h.1 (fine v h.0))
+  one_evals : (g : Setting) (d : List ℕ) (e : Expr) (t : Type') (rule : Value → Operated Value) → Evals g d e → ((v : Value) → Of (expr_type e) v → Fine (Of t) (rule v)) → (ls : Locals) (σ : Shelf) (w : World) → Fits g.locals d ls → Keeps g.variables σ w → Sound σ (Valued g.variables t) (and_then (eval calls e ls w) (λ v. given t (rule v)))
+  one_evals g d e t rule evals fine ls σ w fits good =
+      sound_then σ (Valued g.variables (expr_type e)) (Valued g.variables t) (eval calls e ls w) (λ v. given t (rule v)) (evals ls σ w fits good)
+      (λ v σ1 w1 grown1 h. sound_given g.variables t (rule v) σ1 w1 h.1 (fine v h.0))
 
-  two_evals : (g : Setting) (d : List ℕ) (a b : Expr) (t : Type') (rule : Value → Value → Operated Value) → Evals g d a → Evals g d b → ((x y : Value) → Of (expr_type a) x → Of (expr_type b) y → Fine (Of t) (rule x y)) → (ls : Locals) (w : World) → Fits g.locals d ls → Stores g.variables w.variables → Sound (Valued g.variables t) (and_then (eval calls a ls w) (λ x w1. and_then (eval calls b ls w1) (λ y. given t (rule x y))))
-  two_evals g d a b t rule first second fine ls w fits good =
-      sound_then (Valued g.variables (expr_type a)) (Valued g.variables t) (eval calls a ls w) (λ x w1. and_then (eval calls b ls w1) (λ y. given t (rule x y))) (first ls w fits good)
-      (λ x w1 h. one_evals g d b t (rule x) second (λ y k. fine x y h.0 k) ls w1 fits h.1)
+  two_evals : (g : Setting) (d : List ℕ) (a b : Expr) (t : Type') (rule : Value → Value → Operated Value) → Evals g d a → Evals g d b → ((x y : Value) → Of (expr_type a) x → Of (expr_type b) y → Fine (Of t) (rule x y)) → (ls : Locals) (σ : Shelf) (w : World) → Fits g.locals d ls → Keeps g.variables σ w → Sound σ (Valued g.variables t) (and_then (eval calls a ls w) (λ x w1. and_then (eval calls b ls w1) (λ y. given t (rule x y))))
+  two_evals g d a b t rule first second fine ls σ w fits good =
+      sound_then σ (Valued g.variables (expr_type a)) (Valued g.variables t) (eval calls a ls w) (λ x w1. and_then (eval calls b ls w1) (λ y. given t (rule x y))) (first ls σ w fits good)
+      (λ x σ1 w1 grown1 h. one_evals g d b t (rule x) second (λ y k. fine x y h.0 k) ls σ1 w1 fits h.1)
 
   selected_part : (s t : Type') (n : ℕ) (v : Value) → field_type (underlying s) n ≡ Some t → selected (underlying s) v n ≡ part_of v (to_field n)
   selected_part s t n v e = ap (λ (o : Option Type'). elim o as (λ p. Operated Value) [ None ↦ operators.Senseless | Some u ↦ part_of v (to_field n) ]) e
@@ -111,57 +111,57 @@ module _ (calls : Calls) where
       one_evals g d e t (λ v. operated (conversion_operators (underlying t)) (v ∷ [])) evals (λ v k. conversion_is (expr_type e) t v h k)
 
   -- one of two outcomes, by what is given first
-  chosen_evals : (g : Setting) (t : Type') (o : Outcome Value) → Sound (Valued g.variables t) o → Sound (Valued g.variables t) (and_then o (λ y. given t (operators.Gives y)))
-  chosen_evals g t o h =
-      sound_then (Valued g.variables t) (Valued g.variables t) o (λ y. given t (operators.Gives y)) h (λ y w k. sound_given g.variables t (operators.Gives y) w k.1 k.0)
+  chosen_evals : (g : Setting) (t : Type') (σ : Shelf) (o : Outcome Value) → Sound σ (Valued g.variables t) o → Sound σ (Valued g.variables t) (and_then o (λ y. given t (operators.Gives y)))
+  chosen_evals g t σ o h =
+      sound_then σ (Valued g.variables t) (Valued g.variables t) o (λ y. given t (operators.Gives y)) h (λ y later w grown k. sound_given g.variables t (operators.Gives y) later w k.1 k.0)
 
   both_evals : (g : Setting) (d : List ℕ) (t : Type') (a b : Expr) → Evals g d a → Evals g d b → expr_type a ≡ t → expr_type b ≡ t → is_bool (underlying t) ≡ true → Evals g d (trees.both t a b)
-  both_evals g d t a b first second same_a same_b bool ls w fits good =
-      sound_then (Valued g.variables (expr_type a)) (Valued g.variables t) (eval calls a ls w) (λ x w1. and_then (if_true x (eval calls b ls w1) (Gives x w1)) (λ y. given t (operators.Gives y))) (first ls w fits good)
-      (λ x w1 h.
+  both_evals g d t a b first second same_a same_b bool ls σ w fits good =
+      sound_then σ (Valued g.variables (expr_type a)) (Valued g.variables t) (eval calls a ls w) (λ x w1. and_then (if_true x (eval calls b ls w1) (Gives x w1)) (λ y. given t (operators.Gives y))) (first ls σ w fits good)
+      (λ x σ1 w1 grown1 h.
       let hx : Of t x = subst (λ u. Of u x) same_a h.0 in
-      let hb : Sound (Valued g.variables t) (eval calls b ls w1) = subst (λ u. Sound (Valued g.variables u) (eval calls b ls w1)) same_b (second ls w1 fits h.1) in
-      chosen_evals g t (if_true x (eval calls b ls w1) (Gives x w1)) (decided (Valued g.variables t) x (eval calls b ls w1) (Gives x w1) (truth_in t x bool hx) hb (hx, h.1)))
+      let hb : Sound σ1 (Valued g.variables t) (eval calls b ls w1) = subst (λ u. Sound σ1 (Valued g.variables u) (eval calls b ls w1)) same_b (second ls σ1 w1 fits h.1) in
+      chosen_evals g t σ1 (if_true x (eval calls b ls w1) (Gives x w1)) (decided σ1 (Valued g.variables t) x (eval calls b ls w1) (Gives x w1) (truth_in t x bool hx) hb (σ1, grows_not σ1, (hx, h.1))))
 
   either_evals : (g : Setting) (d : List ℕ) (t : Type') (a b : Expr) → Evals g d a → Evals g d b → expr_type a ≡ t → expr_type b ≡ t → is_bool (underlying t) ≡ true → Evals g d (trees.either t a b)
-  either_evals g d t a b first second same_a same_b bool ls w fits good =
-      sound_then (Valued g.variables (expr_type a)) (Valued g.variables t) (eval calls a ls w) (λ x w1. and_then (if_true x (Gives x w1) (eval calls b ls w1)) (λ y. given t (operators.Gives y))) (first ls w fits good)
-      (λ x w1 h.
+  either_evals g d t a b first second same_a same_b bool ls σ w fits good =
+      sound_then σ (Valued g.variables (expr_type a)) (Valued g.variables t) (eval calls a ls w) (λ x w1. and_then (if_true x (Gives x w1) (eval calls b ls w1)) (λ y. given t (operators.Gives y))) (first ls σ w fits good)
+      (λ x σ1 w1 grown1 h.
       let hx : Of t x = subst (λ u. Of u x) same_a h.0 in
-      let hb : Sound (Valued g.variables t) (eval calls b ls w1) = subst (λ u. Sound (Valued g.variables u) (eval calls b ls w1)) same_b (second ls w1 fits h.1) in
-      chosen_evals g t (if_true x (Gives x w1) (eval calls b ls w1)) (decided (Valued g.variables t) x (Gives x w1) (eval calls b ls w1) (truth_in t x bool hx) (hx, h.1) hb))
+      let hb : Sound σ1 (Valued g.variables t) (eval calls b ls w1) = subst (λ u. Sound σ1 (Valued g.variables u) (eval calls b ls w1)) same_b (second ls σ1 w1 fits h.1) in
+      chosen_evals g t σ1 (if_true x (Gives x w1) (eval calls b ls w1)) (decided σ1 (Valued g.variables t) x (Gives x w1) (eval calls b ls w1) (truth_in t x bool hx) (σ1, grows_not σ1, (hx, h.1)) hb))
 
   literal_evals : (g : Setting) (d : List ℕ) (t : Type') (ps : Parts) → IsWhole t → EvalsParts g d t ps → Evals g d (trees.literal t ps)
-  literal_evals g d t ps whole evals ls w fits good =
-      sound_then (Valued g.variables t) (Valued g.variables t) (given t (operators.Gives (zero_of t)) w) (eval_parts calls t ps ls)
-      (sound_given g.variables t (operators.Gives (zero_of t)) w good (zero_is t whole)) (λ v w1 h. evals ls v w1 fits h.0 h.1)
+  literal_evals g d t ps whole evals ls σ w fits good =
+      sound_then σ (Valued g.variables t) (Valued g.variables t) (given t (operators.Gives (zero_of t)) w) (eval_parts calls t ps ls)
+      (sound_given g.variables t (operators.Gives (zero_of t)) σ w good (zero_is t whole)) (λ v σ1 w1 grown1 h. evals ls v σ1 w1 fits h.0 h.1)
 
   part_evals : (g : Setting) (d : List ℕ) (t : Type') (n : ℕ) (e : Expr) (ps : Parts) → Evals g d e → part_type (underlying t) n ≡ Some (expr_type e) → EvalsParts g d t ps → EvalsParts g d t (part n e ps)
-  part_evals g d t n e ps first has rest ls v w fits h good =
-      sound_then (Valued g.variables (expr_type e)) (Valued g.variables t) (eval calls e ls w) (λ x w1. and_then (given t (updated (to_field n ∷ []) v x) w1) (eval_parts calls t ps ls)) (first ls w fits good)
-      (λ x w1 k.
-      sound_then (Valued g.variables t) (Valued g.variables t) (given t (updated (to_field n ∷ []) v x) w1) (eval_parts calls t ps ls)
-      (sound_given g.variables t (updated (to_field n ∷ []) v x) w1 k.1 (part_put t n (expr_type e) v x has h k.0)) (λ y w2 l. rest ls y w2 fits l.0 l.1))
+  part_evals g d t n e ps first has rest ls v σ w fits h good =
+      sound_then σ (Valued g.variables (expr_type e)) (Valued g.variables t) (eval calls e ls w) (λ x w1. and_then (given t (updated (to_field n ∷ []) v x) w1) (eval_parts calls t ps ls)) (first ls σ w fits good)
+      (λ x σ1 w1 grown1 k.
+      sound_then σ1 (Valued g.variables t) (Valued g.variables t) (given t (updated (to_field n ∷ []) v x) w1) (eval_parts calls t ps ls)
+      (sound_given g.variables t (updated (to_field n ∷ []) v x) σ1 w1 k.1 (part_put t n (expr_type e) v x has h k.0)) (λ y σ2 w2 grown2 l. rest ls y σ2 w2 fits l.0 l.1))
 
   -- the one result of a call
-  one_result : (g : Setting) (t : Type') (rs : List Value) (w : World) → AllValued g.variables (t ∷ []) rs w → Sound (Valued g.variables t) (and_then (all_given (t ∷ []) rs w) one_value)
-  one_result g t [] w h = absurd h.0
-  one_result g t (v ∷ []) w h = rw (((h.0).0).0) ((h.0).0, h.1)
-  one_result g t (v ∷ u ∷ us) w h = absurd (h.0).1
+  one_result : (g : Setting) (t : Type') (rs : List Value) (σ : Shelf) (w : World) → AllValued g.variables (t ∷ []) rs σ w → Sound σ (Valued g.variables t) (and_then (all_given (t ∷ []) rs w) one_value)
+  one_result g t [] σ w h = absurd h.0
+  one_result g t (v ∷ []) σ w h = rw (((h.0).0).0) (σ, grows_not σ, ((h.0).0, h.1))
+  one_result g t (v ∷ u ∷ us) σ w h = absurd (h.0).1
 
   call_evals : (g : Setting) (d : List ℕ) (t : Type') (s : Symbol) (es : Exprs) → Answers g.functions g.variables calls → EvalsAll g d es → IsCall g s (exprs_types es) (t ∷ []) → Evals g d (trees.call t s es)
-  call_evals g d t s es answers evals is ls w fits good =
-      sound_then (AllValued g.variables (exprs_types es)) (Valued g.variables t) (eval_all calls es ls w) (λ vs w1. and_then (calls s vs w1) (λ rs w2. and_then (all_given (t ∷ []) rs w2) one_value)) (evals ls w fits good)
-      (λ vs w1 h.
-      sound_then (AllValued g.variables (t ∷ [])) (Valued g.variables t) (calls s vs w1) (λ rs w2. and_then (all_given (t ∷ []) rs w2) one_value)
-      (answers.each s (exprs_types es) (t ∷ []) vs w1 is h.0 h.1) (λ rs w2 k. one_result g t rs w2 k))
+  call_evals g d t s es answers evals is ls σ w fits good =
+      sound_then σ (AllValued g.variables (exprs_types es)) (Valued g.variables t) (eval_all calls es ls w) (λ vs w1. and_then (calls s vs w1) (λ rs w2. and_then (all_given (t ∷ []) rs w2) one_value)) (evals ls σ w fits good)
+      (λ vs σ1 w1 grown1 h.
+      sound_then σ1 (AllValued g.variables (t ∷ [])) (Valued g.variables t) (calls s vs w1) (λ rs w2. and_then (all_given (t ∷ []) rs w2) one_value)
+      (answers.each s (exprs_types es) (t ∷ []) vs σ1 w1 is h.0 h.1) (λ rs σ2 w2 grown2 k. one_result g t rs σ2 w2 k))
 
   some_evals : (g : Setting) (d : List ℕ) (e : Expr) (es : Exprs) → Evals g d e → EvalsAll g d es → EvalsAll g d (some_exprs e es)
-  some_evals g d e es first rest ls w fits good =
-      sound_then (Valued g.variables (expr_type e)) (AllValued g.variables (exprs_types (some_exprs e es))) (eval calls e ls w) (λ v w1. and_then (eval_all calls es ls w1) (λ vs w2. Gives (v ∷ vs) w2)) (first ls w fits good)
-      (λ v w1 h.
-      sound_then (AllValued g.variables (exprs_types es)) (AllValued g.variables (exprs_types (some_exprs e es))) (eval_all calls es ls w1) (λ vs w2. Gives (v ∷ vs) w2) (rest ls w1 fits h.1)
-      (λ vs w2 k. ((h.0, k.0), k.1)))
+  some_evals g d e es first rest ls σ w fits good =
+      sound_then σ (Valued g.variables (expr_type e)) (AllValued g.variables (exprs_types (some_exprs e es))) (eval calls e ls w) (λ v w1. and_then (eval_all calls es ls w1) (λ vs w2. Gives (v ∷ vs) w2)) (first ls σ w fits good)
+      (λ v σ1 w1 grown1 h.
+      sound_then σ1 (AllValued g.variables (exprs_types es)) (AllValued g.variables (exprs_types (some_exprs e es))) (eval_all calls es ls w1) (λ vs w2. Gives (v ∷ vs) w2) (rest ls σ1 w1 fits h.1)
+      (λ vs σ2 w2 grown2 k. (σ2, grows_not σ2, ((h.0, k.0), k.1))))
 
   -- ---- all expressions
 
@@ -182,9 +182,9 @@ module _ (calls : Calls) where
     expr_evals g d a (trees.call t s es) h = call_evals g d t s es a (exprs_evals g d a es h.0) h.1
 
     pub exprs_evals : (g : Setting) (d : List ℕ) → Answers g.functions g.variables calls → (es : Exprs) → AreExprs g d es → EvalsAll g d es
-    exprs_evals g d a no_exprs h = λ ls w fits good. (tt, good)
+    exprs_evals g d a no_exprs h = λ ls σ w fits good. (σ, grows_not σ, (tt, good))
     exprs_evals g d a (some_exprs e es) h = some_evals g d e es (expr_evals g d a e h.0) (exprs_evals g d a es h.1)
 
     parts_evals : (g : Setting) (d : List ℕ) → Answers g.functions g.variables calls → (t : Type') (ps : Parts) → AreParts g d t ps → EvalsParts g d t ps
-    parts_evals g d a t no_parts h = λ ls v w fits k good. (k, good)
+    parts_evals g d a t no_parts h = λ ls v σ w fits k good. (σ, grows_not σ, (k, good))
     parts_evals g d a t (part n e ps) h = part_evals g d t n e ps (expr_evals g d a e h.0) h.1 (parts_evals g d a t ps h.2)

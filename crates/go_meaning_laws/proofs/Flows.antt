@@ -13,96 +13,96 @@ use Rattle.go_meaning.specs.Meaning.{World, Outcome, Ends, Locals, Flow, Normal,
 use Rattle.go_meaning_laws.specs.WellTyped.{Setting, AreNew, numbers, in_loop, in_post, IsCounter}
 use Rattle.go_meaning_laws.proofs.Values.{Of, AllOf, by_underlying}
 use Rattle.go_meaning_laws.proofs.Operators.{IsTruth}
-use Rattle.go_meaning_laws.proofs.Worlds.{Sound, sound_then, Stores, Within, fits_before, within_more, defined_is}
+use Rattle.go_meaning_laws.proofs.Worlds.{Shelf, grows_not, Sound, sound_then, Keeps, Within, fits_before, within_more, defined_is}
 use Rattle.go_meaning_laws.proofs.Targets.{Fitting}
 
 -- ---- how a statement leaves off
 
 -- For the next one, where the second numbers have been given a value, unless it is one that ends; for the end or the next turn of a
 -- loop, where the first ones have, if there is such; or with the function's results.
-abbrev pub Leaves : Setting → List ℕ → List ℕ → Bool → Bool → Flow → World → Type 0
-Leaves g d e ends breaks (Normal ls) w = Fitting g e ls w × (ends ≡ false)
-Leaves g d e ends breaks (Breaks ls) w = Fitting g d ls w × (g.breaks ≡ true) × (breaks ≡ true)
-Leaves g d e ends breaks (Continues ls) w = Fitting g d ls w × (g.continues ≡ true)
-Leaves g d e ends breaks (Returns vs) w = AllOf g.results vs × Stores g.variables w.variables
+abbrev pub Leaves : Setting → List ℕ → List ℕ → Bool → Bool → Flow → Shelf → World → Type 0
+Leaves g d e ends breaks (Normal ls) σ w = Fitting g e ls σ w × (ends ≡ false)
+Leaves g d e ends breaks (Breaks ls) σ w = Fitting g d ls σ w × (g.breaks ≡ true) × (breaks ≡ true)
+Leaves g d e ends breaks (Continues ls) σ w = Fitting g d ls σ w × (g.continues ≡ true)
+Leaves g d e ends breaks (Returns vs) σ w = AllOf g.results vs × Keeps g.variables σ w
 
-pub before : (g : Setting) (d e : List ℕ) (ls : Locals) (w : World) → Within d e → Fitting g e ls w → Fitting g d ls w
-before g d e ls w h k = (fits_before g.locals d e ls h k.0, k.1)
+pub before : (g : Setting) (d e : List ℕ) (ls : Locals) (σ : Shelf) (w : World) → Within d e → Fitting g e ls σ w → Fitting g d ls σ w
+before g d e ls σ w h k = (fits_before g.locals d e ls h k.0, k.1)
 
 pub not_true : (p q : Bool) → (q ≡ true → p ≡ true) → p ≡ false → q ≡ false
 not_true p true h e = (let k = h refl in cc)
 not_true p false h e = refl
 
-pub leaves_as : (g : Setting) (d e x y : List ℕ) (ends breaks ends1 breaks1 : Bool) → Within x d → Within y e → (ends1 ≡ true → ends ≡ true) → (breaks ≡ true → breaks1 ≡ true) → (f : Flow) (w : World) → Leaves g d e ends breaks f w → Leaves g x y ends1 breaks1 f w
-leaves_as g d e x y ends breaks ends1 breaks1 h k en br (Normal ls) w l = (before g y e ls w k l.0, not_true ends ends1 en l.1)
-leaves_as g d e x y ends breaks ends1 breaks1 h k en br (Breaks ls) w l = (before g x d ls w h l.0, l.1, br l.2)
-leaves_as g d e x y ends breaks ends1 breaks1 h k en br (Continues ls) w l = (before g x d ls w h l.0, l.1)
-leaves_as g d e x y ends breaks ends1 breaks1 h k en br (Returns vs) w l = l
+pub leaves_as : (g : Setting) (d e x y : List ℕ) (ends breaks ends1 breaks1 : Bool) → Within x d → Within y e → (ends1 ≡ true → ends ≡ true) → (breaks ≡ true → breaks1 ≡ true) → (f : Flow) (σ : Shelf) (w : World) → Leaves g d e ends breaks f σ w → Leaves g x y ends1 breaks1 f σ w
+leaves_as g d e x y ends breaks ends1 breaks1 h k en br (Normal ls) σ w l = (before g y e ls σ w k l.0, not_true ends ends1 en l.1)
+leaves_as g d e x y ends breaks ends1 breaks1 h k en br (Breaks ls) σ w l = (before g x d ls σ w h l.0, l.1, br l.2)
+leaves_as g d e x y ends breaks ends1 breaks1 h k en br (Continues ls) σ w l = (before g x d ls σ w h l.0, l.1)
+leaves_as g d e x y ends breaks ends1 breaks1 h k en br (Returns vs) σ w l = l
 
 pub within_same : (d : List ℕ) → Within d d
 within_same d n h = h
 
 -- what is done with a tick
-pub ticked : {A : Type 0} (P : A → World → Type 0) (w : World) (next : World → Outcome A) → ((n : ℕ) → Sound P (next (record w { ticks = n }))) → Sound P (with_tick w next)
-ticked {A} P w next h = by_ticks w.ticks
+pub ticked : {A : Type 0} (P : A → Shelf → World → Type 0) (σ : Shelf) (w : World) (next : World → Outcome A) → ((n : ℕ) → Sound σ P (next (record w { ticks = n }))) → Sound σ P (with_tick w next)
+ticked {A} P σ w next h = by_ticks w.ticks
   where
-    by_ticks : (n : ℕ) → Sound P (elim n as (λ m. Outcome A) [ zero ↦ Ends Cut w.output | suc left ↦ next (record w { ticks = left }) ])
+    by_ticks : (n : ℕ) → Sound σ P (elim n as (λ m. Outcome A) [ zero ↦ Ends Cut w.output | suc left ↦ next (record w { ticks = left }) ])
     by_ticks zero = tt
     by_ticks (suc left) = h left
 
 -- by a truth value, which is known in each branch
-pub decided_by : {A : Type 0} (P : A → World → Type 0) (v : Value) (a b : Outcome A) → IsTruth v → (v ≡ single (Truth true) → Sound P a) → (v ≡ single (Truth false) → Sound P b) → Sound P (if_true v a b)
-decided_by P v a b h k l = by_truth h.0 h.1
+pub decided_by : {A : Type 0} (σ : Shelf) (P : A → Shelf → World → Type 0) (v : Value) (a b : Outcome A) → IsTruth v → (v ≡ single (Truth true) → Sound σ P a) → (v ≡ single (Truth false) → Sound σ P b) → Sound σ P (if_true v a b)
+decided_by σ P v a b h k l = by_truth h.0 h.1
   where
-    by_truth : (c : Bool) → v ≡ single (Truth c) → Sound P (if_true v a b)
-    by_truth true e = subst (λ u. Sound P (if_true u a b)) (sym e) (k e)
-    by_truth false e = subst (λ u. Sound P (if_true u a b)) (sym e) (l e)
+    by_truth : (c : Bool) → v ≡ single (Truth c) → Sound σ P (if_true v a b)
+    by_truth true e = subst (λ u. Sound σ P (if_true u a b)) (sym e) (k e)
+    by_truth false e = subst (λ u. Sound σ P (if_true u a b)) (sym e) (l e)
 
 -- ---- for
 
 module _ (g : Setting) (d e x : List ℕ) (ends breaks ends1 ends2 breaks2 : Bool) (test : Locals → World → Outcome Value) (body post : Locals → World → Outcome Flow) where
   -- the condition gives a truth value, which is true where the loop has no end
-  abbrev pub Tests : Value → World → Type 0
-  Tests v w = IsTruth v × (ends ≡ true → v ≡ single (Truth true)) × Stores g.variables w.variables
+  abbrev pub Tests : Value → Shelf → World → Type 0
+  Tests v σ w = IsTruth v × (ends ≡ true → v ≡ single (Truth true)) × Keeps g.variables σ w
 
-  abbrev Turning : Flow → World → Type 0
+  abbrev Turning : Flow → Shelf → World → Type 0
   Turning = Leaves g d d ends false
 
   over : (c : Value) → (ends ≡ true → c ≡ single (Truth true)) → c ≡ single (Truth false) → ends ≡ false
   over c h is = elim (cases_Bool ends) [ inl sure ↦ (let k = h sure in cc) | inr not_so ↦ not_so ]
 
-  module _ (grown : Within d e) (later : Within d x) (quiet : ends ≡ true → breaks ≡ false) (tests : (ls : Locals) (w : World) → Fitting g d ls w → Sound Tests (test ls w)) (bodies : (ls : Locals) (w : World) → Fitting g d ls w → Sound (Leaves (in_loop g) d e ends1 breaks) (body ls w)) (posts : (ls : Locals) (w : World) → Fitting g d ls w → Sound (Leaves (in_post g) d x ends2 breaks2) (post ls w)) where
+  module _ (grown : Within d e) (later : Within d x) (quiet : ends ≡ true → breaks ≡ false) (tests : (ls : Locals) (σ : Shelf) (w : World) → Fitting g d ls σ w → Sound σ Tests (test ls w)) (bodies : (ls : Locals) (σ : Shelf) (w : World) → Fitting g d ls σ w → Sound σ (Leaves (in_loop g) d e ends1 breaks) (body ls w)) (posts : (ls : Locals) (σ : Shelf) (w : World) → Fitting g d ls σ w → Sound σ (Leaves (in_post g) d x ends2 breaks2) (post ls w)) where
     no_break : breaks ≡ true → ends ≡ false
     no_break b = elim (cases_Bool ends) [ inl sure ↦ (let k = quiet sure in cc) | inr not_so ↦ not_so ]
 
-    after_post : (next : Locals → World → Outcome Flow) → ((ls : Locals) (w : World) → Fitting g d ls w → Sound Turning (next ls w)) → (f : Flow) (w : World) → Leaves (in_post g) d x ends2 breaks2 f w → Sound Turning (if_normal next f w)
-    after_post next turn (Normal ls) w h = turn ls w (before g d x ls w later h.0)
-    after_post next turn (Breaks ls) w h = (let k = h.1 in absurd (cc))
-    after_post next turn (Continues ls) w h = (let k = h.1 in absurd (cc))
-    after_post next turn (Returns vs) w h = h
+    after_post : (next : Locals → World → Outcome Flow) → ((ls : Locals) (σ : Shelf) (w : World) → Fitting g d ls σ w → Sound σ Turning (next ls w)) → (f : Flow) (σ : Shelf) (w : World) → Leaves (in_post g) d x ends2 breaks2 f σ w → Sound σ Turning (if_normal next f w)
+    after_post next turn (Normal ls) σ w h = turn ls σ w (before g d x ls σ w later h.0)
+    after_post next turn (Breaks ls) σ w h = (let k = h.1 in absurd (cc))
+    after_post next turn (Continues ls) σ w h = (let k = h.1 in absurd (cc))
+    after_post next turn (Returns vs) σ w h = (σ, grows_not σ, h)
 
-    again : (next : Locals → World → Outcome Flow) → ((ls : Locals) (w : World) → Fitting g d ls w → Sound Turning (next ls w)) → (ls : Locals) (w : World) → Fitting g d ls w → Sound Turning (and_then (post ls w) (if_normal next))
-    again next turn ls w fits = sound_then (Leaves (in_post g) d x ends2 breaks2) Turning (post ls w) (if_normal next) (posts ls w fits) (after_post next turn)
+    again : (next : Locals → World → Outcome Flow) → ((ls : Locals) (σ : Shelf) (w : World) → Fitting g d ls σ w → Sound σ Turning (next ls w)) → (ls : Locals) (σ : Shelf) (w : World) → Fitting g d ls σ w → Sound σ Turning (and_then (post ls w) (if_normal next))
+    again next turn ls σ w fits = sound_then σ (Leaves (in_post g) d x ends2 breaks2) Turning (post ls w) (if_normal next) (posts ls σ w fits) (λ f σ1 w1 grown1. after_post next turn f σ1 w1)
 
-    after_body : (next : Locals → World → Outcome Flow) → ((ls : Locals) (w : World) → Fitting g d ls w → Sound Turning (next ls w)) → (f : Flow) (w : World) → Leaves (in_loop g) d e ends1 breaks f w → Sound Turning (turned next f w)
-    after_body next turn (Normal ls) w h = turn ls w (before g d e ls w grown h.0)
-    after_body next turn (Breaks ls) w h = (h.0, no_break h.2)
-    after_body next turn (Continues ls) w h = turn ls w h.0
-    after_body next turn (Returns vs) w h = h
+    after_body : (next : Locals → World → Outcome Flow) → ((ls : Locals) (σ : Shelf) (w : World) → Fitting g d ls σ w → Sound σ Turning (next ls w)) → (f : Flow) (σ : Shelf) (w : World) → Leaves (in_loop g) d e ends1 breaks f σ w → Sound σ Turning (turned next f w)
+    after_body next turn (Normal ls) σ w h = turn ls σ w (before g d e ls σ w grown h.0)
+    after_body next turn (Breaks ls) σ w h = (σ, grows_not σ, (h.0, no_break h.2))
+    after_body next turn (Continues ls) σ w h = turn ls σ w h.0
+    after_body next turn (Returns vs) σ w h = (σ, grows_not σ, h)
 
-    pub turns_leave : (n : ℕ) (ls : Locals) (w : World) → Fitting g d ls w → Sound Turning (turns n test body post ls w)
-    turns_leave zero ls w fits =
-        sound_then Tests Turning (test ls w) (λ c w1. if_true c (Ends Cut w1.output) (normal ls w1)) (tests ls w fits)
-        (λ c w1 h. decided_by Turning c (Ends Cut w1.output) (normal ls w1) h.0 (λ is. tt) (λ is. ((fits.0, h.2), over c h.1 is)))
-    turns_leave (suc n) ls w fits =
+    pub turns_leave : (n : ℕ) (ls : Locals) (σ : Shelf) (w : World) → Fitting g d ls σ w → Sound σ Turning (turns n test body post ls w)
+    turns_leave zero ls σ w fits =
+        sound_then σ Tests Turning (test ls w) (λ c w1. if_true c (Ends Cut w1.output) (normal ls w1)) (tests ls σ w fits)
+        (λ c σ1 w1 grown1 h. decided_by σ1 Turning c (Ends Cut w1.output) (normal ls w1) h.0 (λ is. tt) (λ is. (σ1, grows_not σ1, ((fits.0, h.2), over c h.1 is))))
+    turns_leave (suc n) ls σ w fits =
         let next : Locals → World → Outcome Flow = λ ls1 w3. and_then (post ls1 w3) (if_normal (turns n test body post)) in
         let turn : World → Outcome Flow = λ w2. and_then (body ls w2) (turned next) in
-        sound_then Tests Turning (test ls w) (λ c w1. if_true c (with_tick w1 turn) (normal ls w1)) (tests ls w fits)
-        (λ c w1 h. decided_by Turning c (with_tick w1 turn) (normal ls w1) h.0
-        (λ is. ticked Turning w1 turn (λ m.
-        sound_then (Leaves (in_loop g) d e ends1 breaks) Turning (body ls (record w1 { ticks = m })) (turned next) (bodies ls (record w1 { ticks = m }) (fits.0, h.2))
-        (after_body next (again (turns n test body post) (turns_leave n)))))
-        (λ is. ((fits.0, h.2), over c h.1 is)))
+        sound_then σ Tests Turning (test ls w) (λ c w1. if_true c (with_tick w1 turn) (normal ls w1)) (tests ls σ w fits)
+        (λ c σ1 w1 grown1 h. decided_by σ1 Turning c (with_tick w1 turn) (normal ls w1) h.0
+        (λ is. ticked Turning σ1 w1 turn (λ m.
+        sound_then σ1 (Leaves (in_loop g) d e ends1 breaks) Turning (body ls (record w1 { ticks = m })) (turned next) (bodies ls σ1 (record w1 { ticks = m }) (fits.0, h.2))
+        (λ f σ2 w2 grown2. after_body next (again (turns n test body post) (turns_leave n)) f σ2 w2)))
+        (λ is. (σ1, grows_not σ1, ((fits.0, h.2), over c h.1 is))))
 
 -- ---- range
 
@@ -112,8 +112,8 @@ below i c h l e =
     let fit = leb-true (suc h) (sizes (Some i)).1 e in
     le-leb (suc c) (sizes (Some i)).1 (omega (arith, less, fit))
 
-module _ (g : Setting) (d e : List ℕ) (ends breaks : Bool) (o : Option ℕ) (t : Type') (i : IntKind) (is : underlying t ≡ basic (basics.Integer i)) (counts : IsCounter g o t) (h : ℕ) (fit : fits (Some i) (pos h) ≡ true) (body : Locals → World → Outcome Flow) (grown : Within (numbers (o ∷ []) ++ d) e) (bodies : (ls : Locals) (w : World) → Fitting g (numbers (o ∷ []) ++ d) ls w → Sound (Leaves (in_loop g) (numbers (o ∷ []) ++ d) e ends breaks) (body ls w)) where
-  abbrev Walking : Flow → World → Type 0
+module _ (g : Setting) (d e : List ℕ) (ends breaks : Bool) (o : Option ℕ) (t : Type') (i : IntKind) (is : underlying t ≡ basic (basics.Integer i)) (counts : IsCounter g o t) (h : ℕ) (fit : fits (Some i) (pos h) ≡ true) (body : Locals → World → Outcome Flow) (grown : Within (numbers (o ∷ []) ++ d) e) (bodies : (ls : Locals) (σ : Shelf) (w : World) → Fitting g (numbers (o ∷ []) ++ d) ls σ w → Sound σ (Leaves (in_loop g) (numbers (o ∷ []) ++ d) e ends breaks) (body ls w)) where
+  abbrev Walking : Flow → Shelf → World → Type 0
   Walking = Leaves g d d false false
 
   new : (o : Option ℕ) → IsCounter g o t → AreNew g.locals (o ∷ []) (t ∷ [])
@@ -126,27 +126,27 @@ module _ (g : Setting) (d e : List ℕ) (ends breaks : Bool) (o : Option ℕ) (t
   enough : Within d e
   enough n k = grown n (within_more (numbers (o ∷ [])) d n k)
 
-  walked : (next : Locals → World → Outcome Flow) → ((ls : Locals) (w : World) → Fitting g d ls w → Sound Walking (next ls w)) → (f : Flow) (w : World) → Leaves (in_loop g) (numbers (o ∷ []) ++ d) e ends breaks f w → Sound Walking (turned next f w)
-  walked next turn (Normal ls) w k = turn ls w (before g d e ls w enough k.0)
-  walked next turn (Breaks ls) w k = (before g d (numbers (o ∷ []) ++ d) ls w (within_more (numbers (o ∷ [])) d) k.0, refl)
-  walked next turn (Continues ls) w k = turn ls w (before g d (numbers (o ∷ []) ++ d) ls w (within_more (numbers (o ∷ [])) d) k.0)
-  walked next turn (Returns vs) w k = k
+  walked : (next : Locals → World → Outcome Flow) → ((ls : Locals) (σ : Shelf) (w : World) → Fitting g d ls σ w → Sound σ Walking (next ls w)) → (f : Flow) (σ : Shelf) (w : World) → Leaves (in_loop g) (numbers (o ∷ []) ++ d) e ends breaks f σ w → Sound σ Walking (turned next f w)
+  walked next turn (Normal ls) σ w k = turn ls σ w (before g d e ls σ w enough k.0)
+  walked next turn (Breaks ls) σ w k = (σ, grows_not σ, (before g d (numbers (o ∷ []) ++ d) ls σ w (within_more (numbers (o ∷ [])) d) k.0, refl))
+  walked next turn (Continues ls) σ w k = turn ls σ w (before g d (numbers (o ∷ []) ++ d) ls σ w (within_more (numbers (o ∷ [])) d) k.0)
+  walked next turn (Returns vs) σ w k = (σ, grows_not σ, k)
 
-  pub walk_leaves : (n c : ℕ) (ls : Locals) (w : World) → Fitting g d ls w → Sound Walking (walk n c h o body ls w)
-  walk_leaves zero c ls w k = by_test (nat_lt c h)
+  pub walk_leaves : (n c : ℕ) (ls : Locals) (σ : Shelf) (w : World) → Fitting g d ls σ w → Sound σ Walking (walk n c h o body ls w)
+  walk_leaves zero c ls σ w k = by_test (nat_lt c h)
     where
-      by_test : (b : Bool) → Sound Walking (if b then Ends Cut w.output else normal ls w)
+      by_test : (b : Bool) → Sound σ Walking (if b then Ends Cut w.output else normal ls w)
       by_test true = tt
-      by_test false = (k, refl)
-  walk_leaves (suc n) c ls w k = by_test (nat_lt c h) refl (walk_leaves n (c + 1))
+      by_test false = (σ, grows_not σ, (k, refl))
+  walk_leaves (suc n) c ls σ w k = by_test (nat_lt c h) refl (walk_leaves n (c + 1))
     where
       go : World → Outcome Flow
       go w1 = and_then (if_known (defined (o ∷ []) (single (Int (pos c)) ∷ []) ls) w1) (λ ls1 w2. and_then (body ls1 w2) (turned (walk n (c + 1) h o body)))
 
-      by_test : (b : Bool) → nat_lt c h ≡ b → ((ls : Locals) (w : World) → Fitting g d ls w → Sound Walking (walk n (c + 1) h o body ls w)) → Sound Walking (if b then with_tick w go else normal ls w)
+      by_test : (b : Bool) → nat_lt c h ≡ b → ((ls : Locals) (σ : Shelf) (w : World) → Fitting g d ls σ w → Sound σ Walking (walk n (c + 1) h o body ls w)) → Sound σ Walking (if b then with_tick w go else normal ls w)
       by_test true l turn =
           let r = defined_is g.locals d (o ∷ []) (t ∷ []) (single (Int (pos c)) ∷ []) ls (new o counts) (counted c l, tt) k.0 in
-          ticked Walking w go (λ m. rw (r.1)
-          (sound_then (Leaves (in_loop g) (numbers (o ∷ []) ++ d) e ends breaks) Walking (body r.0 (record w { ticks = m })) (turned (walk n (c + 1) h o body)) (bodies r.0 (record w { ticks = m }) (r.2, k.1))
-          (walked (walk n (c + 1) h o body) turn)))
-      by_test false l turn = (k, refl)
+          ticked Walking σ w go (λ m. rw (r.1)
+          (sound_then σ (Leaves (in_loop g) (numbers (o ∷ []) ++ d) e ends breaks) Walking (body r.0 (record w { ticks = m })) (turned (walk n (c + 1) h o body)) (bodies r.0 σ (record w { ticks = m }) (r.2, k.1))
+          (λ f σ1 w1 grown1. walked (walk n (c + 1) h o body) turn f σ1 w1)))
+      by_test false l turn = (σ, grows_not σ, (k, refl))

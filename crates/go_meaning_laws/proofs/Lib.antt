@@ -1,5 +1,6 @@
 pub mod Binary
 pub mod Computed
+pub mod ComputedStarts
 pub mod Exprs
 pub mod Flows
 pub mod Operators

@@ -16,7 +16,7 @@ use Rattle.go_meaning_laws.specs.WellTyped.{Setting, is_integer, is_string, IsOp
 use Rattle.go_meaning_laws.proofs.Values.{Of, both_true, all_long, all_suit, number_same, zero_fits, of_underlying}
 use Rattle.go_meaning_laws.proofs.Operators.{IsTruth, IsNumber, number, integer_value, IsString, text, string_value}
 use Rattle.go_meaning_laws.proofs.Binary.{operation_is}
-use Rattle.go_meaning_laws.proofs.Worlds.{Sound, sound_then, sound_map, Stores, Valued, sound_given, Within, within_more, defined_is}
+use Rattle.go_meaning_laws.proofs.Worlds.{Shelf, grows_not, Sound, sound_then, sound_map, Keeps, Valued, sound_given, Within, within_more, defined_is}
 use Rattle.go_meaning_laws.proofs.Exprs.{AllValued, Answers, expr_evals, exprs_evals, truth_in, decided}
 use Rattle.go_meaning_laws.proofs.Targets.{Fitting, PartAt, taken_is, given_to, all_given_to, targets_long, may_be, source_evals, AllAimed, all_aimed, part_aimed}
 use Rattle.go_meaning_laws.proofs.Flows.{Leaves, leaves_as, within_same, turns_leave, walk_leaves}
@@ -66,143 +66,143 @@ ends_next s (some_stmts t ss) n e = e
 
 module _ (calls : Calls) where
   abbrev pub StmtLeaves : Setting → List ℕ → Stmt → Type 0
-  StmtLeaves g d s = (ls : Locals) (w : World) → Fitting g d ls w → Sound (Leaves g d (after d s) (terminates s) (breaks s)) (exec calls s ls w)
+  StmtLeaves g d s = (ls : Locals) (σ : Shelf) (w : World) → Fitting g d ls σ w → Sound σ (Leaves g d (after d s) (terminates s) (breaks s)) (exec calls s ls w)
 
   abbrev pub StmtsLeave : Setting → List ℕ → Stmts → Type 0
-  StmtsLeave g d ss = (ls : Locals) (w : World) → Fitting g d ls w → Sound (Leaves g d (after_all d ss) (list_terminates ss) (breaks_any ss)) (exec_all calls ss ls w)
+  StmtsLeave g d ss = (ls : Locals) (σ : Shelf) (w : World) → Fitting g d ls σ w → Sound σ (Leaves g d (after_all d ss) (list_terminates ss) (breaks_any ss)) (exec_all calls ss ls w)
 
   -- ---- one statement behind another
 
   sequence : (g : Setting) (d : List ℕ) (s : Stmt) (ss : Stmts) → StmtLeaves g d s → StmtsLeave g (after d s) ss → StmtsLeave g d (some_stmts s ss)
-  sequence g d s ss first rest ls w k =
-      sound_then (Leaves g d (after d s) (terminates s) (breaks s)) (Leaves g d (after_all (after d s) ss) (list_terminates (some_stmts s ss)) (breaks s || breaks_any ss)) (exec calls s ls w) (if_normal (exec_all calls ss)) (first ls w k) on
+  sequence g d s ss first rest ls σ w k =
+      sound_then σ (Leaves g d (after d s) (terminates s) (breaks s)) (Leaves g d (after_all (after d s) ss) (list_terminates (some_stmts s ss)) (breaks s || breaks_any ss)) (exec calls s ls w) (if_normal (exec_all calls ss)) (first ls σ w k) (λ f σ1 w1 grown1. on f σ1 w1)
     where
-      on : (f : Flow) (w1 : World) → Leaves g d (after d s) (terminates s) (breaks s) f w1 → Sound (Leaves g d (after_all (after d s) ss) (list_terminates (some_stmts s ss)) (breaks s || breaks_any ss)) (if_normal (exec_all calls ss) f w1)
-      on (Normal ls1) w1 l =
-          sound_map (Leaves g (after d s) (after_all (after d s) ss) (list_terminates ss) (breaks_any ss)) (Leaves g d (after_all (after d s) ss) (list_terminates (some_stmts s ss)) (breaks s || breaks_any ss)) (exec_all calls ss ls1 w1)
-          (leaves_as g (after d s) (after_all (after d s) ss) d (after_all (after d s) ss) (list_terminates ss) (breaks_any ss) (list_terminates (some_stmts s ss)) (breaks s || breaks_any ss)
-          (grows d s) (within_same (after_all (after d s) ss)) (ends_next s ss l.1) (or_right (breaks s) (breaks_any ss)))
-          (rest ls1 w1 l.0)
-      on (Breaks ls1) w1 l = (l.0, l.1, or_left (breaks s) (breaks_any ss) l.2)
-      on (Continues ls1) w1 l = l
-      on (Returns vs) w1 l = l
+      on : (f : Flow) (σ1 : Shelf) (w1 : World) → Leaves g d (after d s) (terminates s) (breaks s) f σ1 w1 → Sound σ1 (Leaves g d (after_all (after d s) ss) (list_terminates (some_stmts s ss)) (breaks s || breaks_any ss)) (if_normal (exec_all calls ss) f w1)
+      on (Normal ls1) σ1 w1 l =
+          sound_map σ1 (Leaves g (after d s) (after_all (after d s) ss) (list_terminates ss) (breaks_any ss)) (Leaves g d (after_all (after d s) ss) (list_terminates (some_stmts s ss)) (breaks s || breaks_any ss)) (exec_all calls ss ls1 w1)
+          (λ f later w2 grown. leaves_as g (after d s) (after_all (after d s) ss) d (after_all (after d s) ss) (list_terminates ss) (breaks_any ss) (list_terminates (some_stmts s ss)) (breaks s || breaks_any ss)
+          (grows d s) (within_same (after_all (after d s) ss)) (ends_next s ss l.1) (or_right (breaks s) (breaks_any ss)) f later w2)
+          (rest ls1 σ1 w1 l.0)
+      on (Breaks ls1) σ1 w1 l = (σ1, grows_not σ1, (l.0, l.1, or_left (breaks s) (breaks_any ss) l.2))
+      on (Continues ls1) σ1 w1 l = (σ1, grows_not σ1, l)
+      on (Returns vs) σ1 w1 l = (σ1, grows_not σ1, l)
 
   module _ (g : Setting) (d : List ℕ) (answers : Answers g.functions g.variables calls) where
     -- ---- simple statements
 
     define_leaves : (os : List (Option ℕ)) (s : Source) → IsSource g d s → AreNew g.locals os (source_types s) → StmtLeaves g d (define os s)
-    define_leaves os s hs new ls w k =
-        sound_then (AllValued g.variables (source_types s)) (Leaves g d (numbers os ++ d) false false) (source calls s ls w) (λ vs w1. and_then (if_known (defined os vs ls) w1) normal)
-        (source_evals calls g d answers s ls w hs k)
-        (λ vs w1 l. (let r = defined_is g.locals d os (source_types s) vs ls new l.0 k.0 in rw (r.1) ((r.2, l.1), refl)))
+    define_leaves os s hs new ls σ w k =
+        sound_then σ (AllValued g.variables (source_types s)) (Leaves g d (numbers os ++ d) false false) (source calls s ls w) (λ vs w1. and_then (if_known (defined os vs ls) w1) normal)
+        (source_evals calls g d answers s ls σ w hs k)
+        (λ vs σ1 w1 grown1 l. (let r = defined_is g.locals d os (source_types s) vs ls new l.0 k.0 in rw (r.1) (σ1, grows_not σ1, ((r.2, l.1), refl))))
 
     assign_leaves : (lefts : List Left) (s : Source) → AreLefts g d lefts (source_types s) → IsSource g d s → StmtLeaves g d (assign lefts s)
-    assign_leaves lefts s hl hs ls w k =
-        sound_then (AllAimed calls g d answers (source_types s)) (Leaves g d d false false) (aim_all calls lefts ls w)
+    assign_leaves lefts s hl hs ls σ w k =
+        sound_then σ (AllAimed calls g d answers (source_types s)) (Leaves g d d false false) (aim_all calls lefts ls w)
         (λ ts w1. and_then (source calls s ls w1) (λ vs w2. if nat_eq (length ts) (length vs) then and_then (give_all ts vs ls w2) normal else Stuck))
-        (all_aimed calls g d answers lefts (source_types s) ls w hl k)
-        (λ ts w1 l.
-        sound_then (AllValued g.variables (source_types s)) (Leaves g d d false false) (source calls s ls w1)
+        (all_aimed calls g d answers lefts (source_types s) ls σ w hl k)
+        (λ ts σ1 w1 grown1 l.
+        sound_then σ1 (AllValued g.variables (source_types s)) (Leaves g d d false false) (source calls s ls w1)
         (λ vs w2. if nat_eq (length ts) (length vs) then and_then (give_all ts vs ls w2) normal else Stuck)
-        (source_evals calls g d answers s ls w1 hs (k.0, l.1))
-        (λ vs w2 m.
+        (source_evals calls g d answers s ls σ1 w1 hs (k.0, l.1))
+        (λ vs σ2 w2 grown2 m.
         let same : nat_eq (length ts) (length vs) ≡ true = number_same (length ts) (length vs) (targets_long g d (source_types s) ts l.0 ∙ sym (all_long (source_types s) vs m.0)) in
         rw same
-        (sound_then (Fitting g d) (Leaves g d d false false) (give_all ts vs ls w2) normal (all_given_to g d (source_types s) ts vs ls w2 l.0 m.0 (k.0, m.1))
-        (λ ls1 w3 n. (n, refl)))))
+        (sound_then σ2 (Fitting g d) (Leaves g d d false false) (give_all ts vs ls w2) normal (all_given_to g d (source_types s) ts vs ls σ2 w2 l.0 m.0 (k.0, m.1))
+        (λ ls1 σ3 w3 grown3 n. (σ3, grows_not σ3, (n, refl))))))
 
     update_leaves : (t : Type') (left : Left) (op : Operator) (e : Expr) → IsPart g d left t → IsExpr g d e → IsOperation op t t (expr_type e) → StmtLeaves g d (update t left op e)
-    update_leaves t left op e hl he ho ls w k =
-        sound_then (λ target w1. PartAt g d t target × Stores g.variables w1.variables) (Leaves g d d false false) (aim calls left ls w)
+    update_leaves t left op e hl he ho ls σ w k =
+        sound_then σ (λ target σ1 w1. PartAt g d t target × Keeps g.variables σ1 w1) (Leaves g d d false false) (aim calls left ls w)
         (λ target w1. and_then (taken t target ls w1) (λ x w2. and_then (eval calls e ls w2) (λ y w3. and_then (given t (operated (binary_operators (underlying t) op) (x ∷ y ∷ [])) w3) (λ z w4. and_then (give target z ls w4) normal))))
-        (part_aimed calls g d answers left t ls w hl k)
-        (λ target w1 l.
-        sound_then (Valued g.variables t) (Leaves g d d false false) (taken t target ls w1)
+        (part_aimed calls g d answers left t ls σ w hl k)
+        (λ target σ1 w1 grown1 l.
+        sound_then σ1 (Valued g.variables t) (Leaves g d d false false) (taken t target ls w1)
         (λ x w2. and_then (eval calls e ls w2) (λ y w3. and_then (given t (operated (binary_operators (underlying t) op) (x ∷ y ∷ [])) w3) (λ z w4. and_then (give target z ls w4) normal)))
-        (taken_is g d t target ls w1 l.0 (k.0, l.1))
-        (λ x w2 m.
-        sound_then (Valued g.variables (expr_type e)) (Leaves g d d false false) (eval calls e ls w2)
+        (taken_is g d t target ls σ1 w1 l.0 (k.0, l.1))
+        (λ x σ2 w2 grown2 m.
+        sound_then σ2 (Valued g.variables (expr_type e)) (Leaves g d d false false) (eval calls e ls w2)
         (λ y w3. and_then (given t (operated (binary_operators (underlying t) op) (x ∷ y ∷ [])) w3) (λ z w4. and_then (give target z ls w4) normal))
-        (expr_evals calls g d answers e he ls w2 k.0 m.1)
-        (λ y w3 n.
-        sound_then (Valued g.variables t) (Leaves g d d false false) (given t (operated (binary_operators (underlying t) op) (x ∷ y ∷ [])) w3) (λ z w4. and_then (give target z ls w4) normal)
-        (sound_given g.variables t (operated (binary_operators (underlying t) op) (x ∷ y ∷ [])) w3 n.1 (operation_is op t t (expr_type e) x y ho m.0 n.0))
-        (λ z w4 q.
-        sound_then (Fitting g d) (Leaves g d d false false) (give target z ls w4) normal (given_to g d t target z ls w4 (may_be g d t target l.0) q.0 (k.0, q.1))
-        (λ ls1 w5 r. (r, refl))))))
+        (expr_evals calls g d answers e he ls σ2 w2 k.0 m.1)
+        (λ y σ3 w3 grown3 n.
+        sound_then σ3 (Valued g.variables t) (Leaves g d d false false) (given t (operated (binary_operators (underlying t) op) (x ∷ y ∷ [])) w3) (λ z w4. and_then (give target z ls w4) normal)
+        (sound_given g.variables t (operated (binary_operators (underlying t) op) (x ∷ y ∷ [])) σ3 w3 n.1 (operation_is op t t (expr_type e) x y ho m.0 n.0))
+        (λ z σ4 w4 grown4 q.
+        sound_then σ4 (Fitting g d) (Leaves g d d false false) (give target z ls w4) normal (given_to g d t target z ls σ4 w4 (may_be g d t target l.0) q.0 (k.0, q.1))
+        (λ ls1 σ5 w5 grown5 r. (σ5, grows_not σ5, (r, refl)))))))
 
     run_leaves : (ts : List Type') (s : Symbol) (es : Exprs) → IsSource g d (results ts s es) → StmtLeaves g d (run ts s es)
-    run_leaves ts s es h ls w k =
-        sound_then (AllValued g.variables ts) (Leaves g d d false false) (source calls (results ts s es) ls w) (λ vs. normal ls) (source_evals calls g d answers (results ts s es) ls w h k)
-        (λ vs w1 l. ((k.0, l.1), refl))
+    run_leaves ts s es h ls σ w k =
+        sound_then σ (AllValued g.variables ts) (Leaves g d d false false) (source calls (results ts s es) ls w) (λ vs. normal ls) (source_evals calls g d answers (results ts s es) ls σ w h k)
+        (λ vs σ1 w1 grown1 l. (σ1, grows_not σ1, ((k.0, l.1), refl)))
 
     print_leaves : (es : Exprs) → AreExprs g d es → StmtLeaves g d (print es)
-    print_leaves es h ls w k =
-        sound_then (AllValued g.variables (exprs_types es)) (Leaves g d d false false) (eval_all calls es ls w) (λ vs w1. normal ls (record w1 { output = w1.output ++ line_text (flat_map flat vs) }))
-        (exprs_evals calls g d answers es h ls w k.0 k.1) (λ vs w1 l. ((k.0, l.1), refl))
+    print_leaves es h ls σ w k =
+        sound_then σ (AllValued g.variables (exprs_types es)) (Leaves g d d false false) (eval_all calls es ls w) (λ vs w1. normal ls (record w1 { output = w1.output ++ line_text (flat_map flat vs) }))
+        (exprs_evals calls g d answers es h ls σ w k.0 k.1) (λ vs σ1 w1 grown1 l. (σ1, grows_not σ1, ((k.0, l.1), refl)))
 
-    panics : (v : Value) (s : Type') (w : World) → IsString s v → Sound (Leaves g d d true false) (panicked v w)
-    panics v s w (text bytes es ev f) = subst (λ u. Sound (Leaves g d d true false) (panicked u w)) (sym ev) tt
+    panics : (v : Value) (s : Type') (σ : Shelf) (w : World) → IsString s v → Sound σ (Leaves g d d true false) (panicked v w)
+    panics v s σ w (text bytes es ev f) = subst (λ u. Sound σ (Leaves g d d true false) (panicked u w)) (sym ev) tt
 
     panic_leaves : (e : Expr) → IsExpr g d e → is_string (underlying (expr_type e)) ≡ true → StmtLeaves g d (panic e)
-    panic_leaves e h string ls w k =
-        sound_then (Valued g.variables (expr_type e)) (Leaves g d d true false) (eval calls e ls w) panicked (expr_evals calls g d answers e h ls w k.0 k.1)
-        (λ v w1 l. panics v (underlying (expr_type e)) w1 (string_value (underlying (expr_type e)) v string (of_underlying (expr_type e) v l.0)))
+    panic_leaves e h string ls σ w k =
+        sound_then σ (Valued g.variables (expr_type e)) (Leaves g d d true false) (eval calls e ls w) panicked (expr_evals calls g d answers e h ls σ w k.0 k.1)
+        (λ v σ1 w1 grown1 l. panics v (underlying (expr_type e)) σ1 w1 (string_value (underlying (expr_type e)) v string (of_underlying (expr_type e) v l.0)))
 
     return_leaves : (s : Source) → IsSource g d s → AllSuit (source_types s) g.results → StmtLeaves g d (return s)
-    return_leaves s hs suit ls w k =
-        sound_then (AllValued g.variables (source_types s)) (Leaves g d d true false) (source calls s ls w) (λ vs w1. Gives (Returns vs) w1) (source_evals calls g d answers s ls w hs k)
-        (λ vs w1 l. (all_suit (source_types s) g.results vs suit l.0, l.1))
+    return_leaves s hs suit ls σ w k =
+        sound_then σ (AllValued g.variables (source_types s)) (Leaves g d d true false) (source calls s ls w) (λ vs w1. Gives (Returns vs) w1) (source_evals calls g d answers s ls σ w hs k)
+        (λ vs σ1 w1 grown1 l. (σ1, grows_not σ1, (all_suit (source_types s) g.results vs suit l.0, l.1)))
 
     -- ---- statements of statements
 
-    abbrev Both : Stmts → Stmts → Flow → World → Type 0
+    abbrev Both : Stmts → Stmts → Flow → Shelf → World → Type 0
     Both a b = Leaves g d d (list_terminates a && list_terminates b) (breaks_any a || breaks_any b)
 
     if_leaves : (e : Expr) (a b : Stmts) → IsCondition g d e → StmtsLeave g d a → StmtsLeave g d b → StmtLeaves g d (if_statement e a b)
-    if_leaves e a b h first second ls w k =
-        sound_then (Valued g.variables (expr_type e)) (Both a b) (eval calls e ls w) (λ c w1. if_true c (exec_all calls a ls w1) (exec_all calls b ls w1)) (expr_evals calls g d answers e h.0 ls w k.0 k.1)
-        (λ c w1 l.
-        decided (Both a b) c (exec_all calls a ls w1) (exec_all calls b ls w1) (truth_in (expr_type e) c h.1 l.0)
-        (sound_map (Leaves g d (after_all d a) (list_terminates a) (breaks_any a)) (Both a b) (exec_all calls a ls w1)
-        (leaves_as g d (after_all d a) d d (list_terminates a) (breaks_any a) (list_terminates a && list_terminates b) (breaks_any a || breaks_any b) (within_same d) (all_grow d a)
-        (λ x. (both_true (list_terminates a) (list_terminates b) x).0) (or_left (breaks_any a) (breaks_any b)))
-        (first ls w1 (k.0, l.1)))
-        (sound_map (Leaves g d (after_all d b) (list_terminates b) (breaks_any b)) (Both a b) (exec_all calls b ls w1)
-        (leaves_as g d (after_all d b) d d (list_terminates b) (breaks_any b) (list_terminates a && list_terminates b) (breaks_any a || breaks_any b) (within_same d) (all_grow d b)
-        (λ x. (both_true (list_terminates a) (list_terminates b) x).1) (or_right (breaks_any a) (breaks_any b)))
-        (second ls w1 (k.0, l.1))))
+    if_leaves e a b h first second ls σ w k =
+        sound_then σ (Valued g.variables (expr_type e)) (Both a b) (eval calls e ls w) (λ c w1. if_true c (exec_all calls a ls w1) (exec_all calls b ls w1)) (expr_evals calls g d answers e h.0 ls σ w k.0 k.1)
+        (λ c σ1 w1 grown1 l.
+        decided σ1 (Both a b) c (exec_all calls a ls w1) (exec_all calls b ls w1) (truth_in (expr_type e) c h.1 l.0)
+        (sound_map σ1 (Leaves g d (after_all d a) (list_terminates a) (breaks_any a)) (Both a b) (exec_all calls a ls w1)
+        (λ f later w2 grown. leaves_as g d (after_all d a) d d (list_terminates a) (breaks_any a) (list_terminates a && list_terminates b) (breaks_any a || breaks_any b) (within_same d) (all_grow d a)
+        (λ x. (both_true (list_terminates a) (list_terminates b) x).0) (or_left (breaks_any a) (breaks_any b)) f later w2)
+        (first ls σ1 w1 (k.0, l.1)))
+        (sound_map σ1 (Leaves g d (after_all d b) (list_terminates b) (breaks_any b)) (Both a b) (exec_all calls b ls w1)
+        (λ f later w2 grown. leaves_as g d (after_all d b) d d (list_terminates b) (breaks_any b) (list_terminates a && list_terminates b) (breaks_any a || breaks_any b) (within_same d) (all_grow d b)
+        (λ x. (both_true (list_terminates a) (list_terminates b) x).1) (or_right (breaks_any a) (breaks_any b)) f later w2)
+        (second ls σ1 w1 (k.0, l.1))))
 
     -- the condition of a loop; without one it is true
-    tests_are : (o : Option Expr) (quiet : Bool) → IsConditionOrNone g d o → (ls : Locals) (w : World) → Fitting g d ls w → Sound (λ v w1. IsTruth v × ((not (is_some o) && quiet) ≡ true → v ≡ single (Truth true)) × Stores g.variables w1.variables) (tested calls o ls w)
-    tests_are None quiet h ls w k = ((true, refl), (λ e. refl), k.1)
-    tests_are (Some e) quiet h ls w k =
-        sound_map (Valued g.variables (expr_type e)) (λ v w1. IsTruth v × (false ≡ true → v ≡ single (Truth true)) × Stores g.variables w1.variables) (eval calls e ls w)
-        (λ v w1 l. (truth_in (expr_type e) v h.1 l.0, (λ x. absurd (cc)), l.1)) (expr_evals calls g d answers e h.0 ls w k.0 k.1)
+    tests_are : (o : Option Expr) (quiet : Bool) → IsConditionOrNone g d o → (ls : Locals) (σ : Shelf) (w : World) → Fitting g d ls σ w → Sound σ (λ v σ1 w1. IsTruth v × ((not (is_some o) && quiet) ≡ true → v ≡ single (Truth true)) × Keeps g.variables σ1 w1) (tested calls o ls w)
+    tests_are None quiet h ls σ w k = (σ, grows_not σ, ((true, refl), (λ e. refl), k.1))
+    tests_are (Some e) quiet h ls σ w k =
+        sound_map σ (Valued g.variables (expr_type e)) (λ v σ1 w1. IsTruth v × (false ≡ true → v ≡ single (Truth true)) × Keeps g.variables σ1 w1) (eval calls e ls w)
+        (λ v σ1 w1 grown1 l. (truth_in (expr_type e) v h.1 l.0, (λ x. absurd (cc)), l.1)) (expr_evals calls g d answers e h.0 ls σ w k.0 k.1)
 
     for_leaves : (o : Option Expr) (post ss : Stmts) → IsConditionOrNone g d o → StmtsLeave (in_post g) d post → StmtsLeave (in_loop g) d ss → StmtLeaves g d (for_statement o post ss)
-    for_leaves o post ss h posts bodies ls w k =
+    for_leaves o post ss h posts bodies ls σ w k =
         let ends : Bool = not (is_some o) && not (breaks_any ss) in
         turns_leave g d (after_all d ss) (after_all d post) ends (breaks_any ss) (list_terminates ss) (list_terminates post) (breaks_any post) (tested calls o) (exec_all calls ss) (exec_all calls post)
-        (all_grow d ss) (all_grow d post) (λ x. negated (breaks_any ss) (both_true (not (is_some o)) (not (breaks_any ss)) x).1) (tests_are o (not (breaks_any ss)) h) bodies posts w.ticks ls w k
+        (all_grow d ss) (all_grow d post) (λ x. negated (breaks_any ss) (both_true (not (is_some o)) (not (breaks_any ss)) x).1) (tests_are o (not (breaks_any ss)) h) bodies posts w.ticks ls σ w k
 
     range_leaves : (o : Option ℕ) (t : Type') (e : Expr) (ss : Stmts) → IsExpr g d e → expr_type e ≡ t → is_integer (underlying t) ≡ true → IsCounter g o t → StmtsLeave (in_loop g) (numbers (o ∷ []) ++ d) ss → StmtLeaves g d (range_statement o t e ss)
-    range_leaves o t e ss he same integer counts bodies ls w k =
-        sound_then (Valued g.variables (expr_type e)) (Leaves g d d false false) (eval calls e ls w)
+    range_leaves o t e ss he same integer counts bodies ls σ w k =
+        sound_then σ (Valued g.variables (expr_type e)) (Leaves g d d false false) (eval calls e ls w)
         (λ v w1. and_then (given t (operators.Gives v) w1) (λ v1 w2. walk_to v1 (λ h. walk w2.ticks 0 h o (exec_all calls ss) ls w2)))
-        (expr_evals calls g d answers e he ls w k.0 k.1)
-        (λ v w1 l.
-        sound_then (Valued g.variables t) (Leaves g d d false false) (given t (operators.Gives v) w1) (λ v1 w2. walk_to v1 (λ h. walk w2.ticks 0 h o (exec_all calls ss) ls w2))
-        (sound_given g.variables t (operators.Gives v) w1 l.1 (subst (λ u. Of u v) same l.0))
-        (λ v1 w2 m. walks v1 w2 m.1 (integer_value (underlying t) v1 integer (of_underlying t v1 m.0))))
+        (expr_evals calls g d answers e he ls σ w k.0 k.1)
+        (λ v σ1 w1 grown1 l.
+        sound_then σ1 (Valued g.variables t) (Leaves g d d false false) (given t (operators.Gives v) w1) (λ v1 w2. walk_to v1 (λ h. walk w2.ticks 0 h o (exec_all calls ss) ls w2))
+        (sound_given g.variables t (operators.Gives v) σ1 w1 l.1 (subst (λ u. Of u v) same l.0))
+        (λ v1 σ2 w2 grown2 m. walks v1 σ2 w2 m.1 (integer_value (underlying t) v1 integer (of_underlying t v1 m.0))))
       where
-        walks : (v : Value) (w2 : World) → Stores g.variables w2.variables → IsNumber (underlying t) v → Sound (Leaves g d d false false) (walk_to v (λ h. walk w2.ticks 0 h o (exec_all calls ss) ls w2))
-        walks v w2 good (number i (pos n) is ev fit) =
-            subst (λ u. Sound (Leaves g d d false false) (walk_to u (λ h. walk w2.ticks 0 h o (exec_all calls ss) ls w2))) (sym ev)
-            (walk_leaves g d (after_all (numbers (o ∷ []) ++ d) ss) (list_terminates ss) (breaks_any ss) o t i is counts n fit (exec_all calls ss) (all_grow (numbers (o ∷ []) ++ d) ss) bodies w2.ticks 0 ls w2 (k.0, good))
-        walks v w2 good (number i (negsuc n) is ev fit) =
-            subst (λ u. Sound (Leaves g d d false false) (walk_to u (λ h. walk w2.ticks 0 h o (exec_all calls ss) ls w2))) (sym ev)
-            (walk_leaves g d (after_all (numbers (o ∷ []) ++ d) ss) (list_terminates ss) (breaks_any ss) o t i is counts 0 (zero_fits i) (exec_all calls ss) (all_grow (numbers (o ∷ []) ++ d) ss) bodies w2.ticks 0 ls w2 (k.0, good))
+        walks : (v : Value) (σ2 : Shelf) (w2 : World) → Keeps g.variables σ2 w2 → IsNumber (underlying t) v → Sound σ2 (Leaves g d d false false) (walk_to v (λ h. walk w2.ticks 0 h o (exec_all calls ss) ls w2))
+        walks v σ2 w2 good (number i (pos n) is ev fit) =
+            subst (λ u. Sound σ2 (Leaves g d d false false) (walk_to u (λ h. walk w2.ticks 0 h o (exec_all calls ss) ls w2))) (sym ev)
+            (walk_leaves g d (after_all (numbers (o ∷ []) ++ d) ss) (list_terminates ss) (breaks_any ss) o t i is counts n fit (exec_all calls ss) (all_grow (numbers (o ∷ []) ++ d) ss) bodies w2.ticks 0 ls σ2 w2 (k.0, good))
+        walks v σ2 w2 good (number i (negsuc n) is ev fit) =
+            subst (λ u. Sound σ2 (Leaves g d d false false) (walk_to u (λ h. walk w2.ticks 0 h o (exec_all calls ss) ls w2))) (sym ev)
+            (walk_leaves g d (after_all (numbers (o ∷ []) ++ d) ss) (list_terminates ss) (breaks_any ss) o t i is counts 0 (zero_fits i) (exec_all calls ss) (all_grow (numbers (o ∷ []) ++ d) ss) bodies w2.ticks 0 ls σ2 w2 (k.0, good))
 
   -- ---- all statements
 
@@ -219,12 +219,12 @@ module _ (calls : Calls) where
     stmt_leaves g d a (range_statement o t e ss) h = range_leaves g d a o t e ss h.0 h.1 h.2 h.3 (stmts_leave (in_loop g) (numbers (o ∷ []) ++ d) a ss h.4)
     stmt_leaves g d a (switch_statement e cs) h = switch_leaves calls g d a e cs h.0 h.1 (clauses_leave g d a (expr_type e) cs h.1)
     stmt_leaves g d a (block ss) h = stmts_leave g d a ss h
-    stmt_leaves g d a break h = λ ls w k. (k, h, refl)
-    stmt_leaves g d a continue h = λ ls w k. (k, h)
+    stmt_leaves g d a break h = λ ls σ w k. (σ, grows_not σ, (k, h, refl))
+    stmt_leaves g d a continue h = λ ls σ w k. (σ, grows_not σ, (k, h))
     stmt_leaves g d a (return s) h = return_leaves g d a s h.0 h.1
 
     pub stmts_leave : (g : Setting) (d : List ℕ) → Answers g.functions g.variables calls → (ss : Stmts) → AreStmts g d ss → StmtsLeave g d ss
-    stmts_leave g d a no_stmts h = λ ls w k. (k, refl)
+    stmts_leave g d a no_stmts h = λ ls σ w k. (σ, grows_not σ, (k, refl))
     stmts_leave g d a (some_stmts s ss) h = sequence g d s ss (stmt_leaves g d a s h.0) (stmts_leave g (after d s) a ss h.1)
 
     clauses_leave : (g : Setting) (d : List ℕ) (a : Answers g.functions g.variables calls) (t : Type') (cs : Clauses) → AreClauses g d t cs → ClauseLeaves calls g d a cs

@@ -13,7 +13,7 @@ use Rattle.go_meaning_laws.specs.WellTyped.{Setting, in_clause, exprs_types, IsE
 use Rattle.go_meaning_laws.proofs.Values.{Of, both_true, suits, of_underlying}
 use Rattle.go_meaning_laws.proofs.Operators.{IsTruth}
 use Rattle.go_meaning_laws.proofs.Binary.{compared_is}
-use Rattle.go_meaning_laws.proofs.Worlds.{Sound, sound_then, sound_map, Stores, Valued, Within}
+use Rattle.go_meaning_laws.proofs.Worlds.{Shelf, grows_not, Sound, sound_then, sound_map, Keeps, Valued, Within}
 use Rattle.go_meaning_laws.proofs.Exprs.{Answers, decided, expr_evals}
 use Rattle.go_meaning_laws.proofs.Targets.{Fitting, sound_changed}
 use Rattle.go_meaning_laws.proofs.Flows.{Leaves, before}
@@ -51,46 +51,46 @@ clause_parts g d t None ss falls cs h = h
 clause_parts g d t (Some es) ss falls cs h = (h.2, h.3, h.4)
 
 module _ (calls : Calls) (g : Setting) (d : List ℕ) (answers : Answers g.functions g.variables calls) where
-  case_is : (t : Type') (tag : Value) (es : Exprs) (ls : Locals) (w : World) → Of t tag → AreExprs g d es → AreCases t (exprs_types es) → Fitting g d ls w → Sound (λ (b : Bool) w1. Stores g.variables w1.variables) (is_case calls t tag es ls w)
-  case_is t tag no_exprs ls w of h c k = k.1
-  case_is t tag (some_exprs e es) ls w of h c k =
-      sound_then (Valued g.variables (expr_type e)) (λ b w1. Stores g.variables w1.variables) (eval calls e ls w)
+  case_is : (t : Type') (tag : Value) (es : Exprs) (ls : Locals) (σ : Shelf) (w : World) → Of t tag → AreExprs g d es → AreCases t (exprs_types es) → Fitting g d ls σ w → Sound σ (λ (b : Bool) σ1 w1. Keeps g.variables σ1 w1) (is_case calls t tag es ls w)
+  case_is t tag no_exprs ls σ w of h c k = (σ, grows_not σ, k.1)
+  case_is t tag (some_exprs e es) ls σ w of h c k =
+      sound_then σ (Valued g.variables (expr_type e)) (λ b σ1 w1. Keeps g.variables σ1 w1) (eval calls e ls w)
       (λ v w1. and_then (changed (operated (binary_operators (underlying t) (comparison Equal)) (tag ∷ v ∷ [])) w1) (λ b w2. if_true b (Gives true w2) (is_case calls t tag es ls w2)))
-      (expr_evals calls g d answers e h.0 ls w k.0 k.1)
-      (λ v w1 l.
-      sound_then (λ b w2. IsTruth b × Stores g.variables w2.variables) (λ b w2. Stores g.variables w2.variables) (changed (operated (binary_operators (underlying t) (comparison Equal)) (tag ∷ v ∷ [])) w1)
+      (expr_evals calls g d answers e h.0 ls σ w k.0 k.1)
+      (λ v σ1 w1 grown1 l.
+      sound_then σ1 (λ b σ2 w2. IsTruth b × Keeps g.variables σ2 w2) (λ b σ2 w2. Keeps g.variables σ2 w2) (changed (operated (binary_operators (underlying t) (comparison Equal)) (tag ∷ v ∷ [])) w1)
       (λ b w2. if_true b (Gives true w2) (is_case calls t tag es ls w2))
-      (sound_changed g.variables IsTruth (operated (binary_operators (underlying t) (comparison Equal)) (tag ∷ v ∷ [])) w1 l.1
+      (sound_changed g.variables IsTruth (operated (binary_operators (underlying t) (comparison Equal)) (tag ∷ v ∷ [])) σ1 w1 l.1
       (compared_is Equal (underlying t) tag v refl (of_underlying t tag of) (of_underlying t v (suits (expr_type e) t v c.0 l.0))))
-      (λ b w2 m. decided (λ (b : Bool) w3. Stores g.variables w3.variables) b (Gives true w2) (is_case calls t tag es ls w2) m.0 m.1 (case_is t tag es ls w2 of h.1 c.1 (k.0, m.1))))
+      (λ b σ2 w2 grown2 m. decided σ2 (λ (b : Bool) σ3 w3. Keeps g.variables σ3 w3) b (Gives true w2) (is_case calls t tag es ls w2) m.0 (σ2, grows_not σ2, m.1) (case_is t tag es ls σ2 w2 of h.1 c.1 (k.0, m.1))))
 
-  abbrev Choosing : Clauses → ℕ → Option ℕ → Option ℕ → World → Type 0
-  Choosing cs n other o w = Chosen cs n other o × Stores g.variables w.variables
+  abbrev Choosing : Clauses → ℕ → Option ℕ → Option ℕ → Shelf → World → Type 0
+  Choosing cs n other o σ w = Chosen cs n other o × Keeps g.variables σ w
 
-  pub chosen_is : (t : Type') (tag : Value) (cs : Clauses) (n : ℕ) (other : Option ℕ) (ls : Locals) (w : World) → Of t tag → AreClauses g d t cs → Fitting g d ls w → Sound (Choosing cs n other) (chosen calls t tag cs n other ls w)
-  chosen_is t tag no_clauses n other ls w of h k = (inr (refl, refl), k.1)
-  chosen_is t tag (clause None ss falls cs) n other ls w of h k =
-      sound_map (Choosing cs (n + 1) (Some n)) (Choosing (clause None ss falls cs) n other) (chosen calls t tag cs (n + 1) (Some n) ls w) (λ o w1 l. (chosen_default ss falls cs n other o l.0, l.1))
-      (chosen_is t tag cs (n + 1) (Some n) ls w of h.2 k)
-  chosen_is t tag (clause (Some es) ss falls cs) n other ls w of h k =
-      sound_then (λ (b : Bool) w1. Stores g.variables w1.variables) (Choosing (clause (Some es) ss falls cs) n other) (is_case calls t tag es ls w)
-      (λ b w1. if b then Gives (Some n) w1 else chosen calls t tag cs (n + 1) other ls w1) (case_is t tag es ls w of h.0 h.1 k)
-      (λ b w1 l. by_case b w1 l (chosen_is t tag cs (n + 1) other ls w1 of h.4 (k.0, l)))
+  pub chosen_is : (t : Type') (tag : Value) (cs : Clauses) (n : ℕ) (other : Option ℕ) (ls : Locals) (σ : Shelf) (w : World) → Of t tag → AreClauses g d t cs → Fitting g d ls σ w → Sound σ (Choosing cs n other) (chosen calls t tag cs n other ls w)
+  chosen_is t tag no_clauses n other ls σ w of h k = (σ, grows_not σ, (inr (refl, refl), k.1))
+  chosen_is t tag (clause None ss falls cs) n other ls σ w of h k =
+      sound_map σ (Choosing cs (n + 1) (Some n)) (Choosing (clause None ss falls cs) n other) (chosen calls t tag cs (n + 1) (Some n) ls w) (λ o σ1 w1 grown1 l. (chosen_default ss falls cs n other o l.0, l.1))
+      (chosen_is t tag cs (n + 1) (Some n) ls σ w of h.2 k)
+  chosen_is t tag (clause (Some es) ss falls cs) n other ls σ w of h k =
+      sound_then σ (λ (b : Bool) σ1 w1. Keeps g.variables σ1 w1) (Choosing (clause (Some es) ss falls cs) n other) (is_case calls t tag es ls w)
+      (λ b w1. if b then Gives (Some n) w1 else chosen calls t tag cs (n + 1) other ls w1) (case_is t tag es ls σ w of h.0 h.1 k)
+      (λ b σ1 w1 grown1 l. by_case b σ1 w1 l (chosen_is t tag cs (n + 1) other ls σ1 w1 of h.4 (k.0, l)))
     where
-      by_case : (b : Bool) (w1 : World) → Stores g.variables w1.variables → Sound (Choosing cs (n + 1) other) (chosen calls t tag cs (n + 1) other ls w1) → Sound (Choosing (clause (Some es) ss falls cs) n other) (if b then Gives (Some n) w1 else chosen calls t tag cs (n + 1) other ls w1)
-      by_case true w1 good rest = (inl (0, ap Some (let same : n ≡ n + 0 = omega arith in same), tt), good)
-      by_case false w1 good rest = sound_map (Choosing cs (n + 1) other) (Choosing (clause (Some es) ss falls cs) n other) (chosen calls t tag cs (n + 1) other ls w1) (λ o w2 m. (chosen_case es ss falls cs n other o m.0, m.1)) rest
+      by_case : (b : Bool) (σ1 : Shelf) (w1 : World) → Keeps g.variables σ1 w1 → Sound σ1 (Choosing cs (n + 1) other) (chosen calls t tag cs (n + 1) other ls w1) → Sound σ1 (Choosing (clause (Some es) ss falls cs) n other) (if b then Gives (Some n) w1 else chosen calls t tag cs (n + 1) other ls w1)
+      by_case true σ1 w1 good rest = (σ1, grows_not σ1, (inl (0, ap Some (let same : n ≡ n + 0 = omega arith in same), tt), good))
+      by_case false σ1 w1 good rest = sound_map σ1 (Choosing cs (n + 1) other) (Choosing (clause (Some es) ss falls cs) n other) (chosen calls t tag cs (n + 1) other ls w1) (λ o σ2 w2 grown2 m. (chosen_case es ss falls cs n other o m.0, m.1)) rest
 
   -- ---- from a clause on
 
   abbrev pub ListLeaves : Setting → Stmts → Type 0
-  ListLeaves g1 ss = (ls : Locals) (w : World) → Fitting g1 d ls w → Sound (Leaves g1 d (after_all d ss) (list_terminates ss) (breaks_any ss)) (exec_all calls ss ls w)
+  ListLeaves g1 ss = (ls : Locals) (σ : Shelf) (w : World) → Fitting g1 d ls σ w → Sound σ (Leaves g1 d (after_all d ss) (list_terminates ss) (breaks_any ss)) (exec_all calls ss ls w)
 
   abbrev pub ClauseLeaves : Clauses → Type 0
-  ClauseLeaves cs = (o : Option ℕ) (ends breaks : Bool) → (ends ≡ true → (clauses_terminate cs ≡ true) × InRange cs o) → (breaks_clause cs ≡ true → breaks ≡ true) → (ls : Locals) (w : World) → Fitting g d ls w → Sound (Leaves (in_clause g) d d ends breaks) (from_clause calls cs o ls w)
+  ClauseLeaves cs = (o : Option ℕ) (ends breaks : Bool) → (ends ≡ true → (clauses_terminate cs ≡ true) × InRange cs o) → (breaks_clause cs ≡ true → breaks ≡ true) → (ls : Locals) (σ : Shelf) (w : World) → Fitting g d ls σ w → Sound σ (Leaves (in_clause g) d d ends breaks) (from_clause calls cs o ls w)
 
   pub none_leave : ClauseLeaves no_clauses
-  none_leave o ends breaks h b ls w k = (k, never ends (λ e. (h e).1))
+  none_leave o ends breaks h b ls σ w k = (σ, grows_not σ, (k, never ends (λ e. (h e).1)))
 
   more_in : (cs : Clauses) → is_last cs ≡ false → InRange cs (Some zero)
   more_in no_clauses e = cc
@@ -117,22 +117,22 @@ module _ (calls : Calls) (g : Setting) (d : List ℕ) (answers : Answers g.funct
   or_right false q e = e
 
   pub some_leave : (cases : Option Exprs) (ss : Stmts) (falls : Bool) (cs : Clauses) → Within d (after_all d ss) → ListLeaves (in_clause g) ss → (falls && is_last cs) ≡ false → ClauseLeaves cs → ClauseLeaves (clause cases ss falls cs)
-  some_leave cases ss falls cs grown body last rest None ends breaks h b ls w k = (k, never ends (λ e. (h e).1))
-  some_leave cases ss falls cs grown body last rest (Some (suc n)) ends breaks h b ls w k =
-      rest (Some n) ends breaks (λ e. (let r = h e in ((both_true (falls || list_terminates ss) (clauses_terminate cs) r.0).1, r.1))) (λ e. b (or_right (breaks_any ss) (breaks_clause cs) e)) ls w k
-  some_leave cases ss falls cs grown body last rest (Some zero) ends breaks h b ls w k =
-      sound_then (Leaves (in_clause g) d (after_all d ss) (list_terminates ss) (breaks_any ss)) (Leaves (in_clause g) d d ends breaks) (exec_all calls ss ls w) (if_normal (from_clause calls cs (if falls then Some zero else None))) (body ls w k) on
+  some_leave cases ss falls cs grown body last rest None ends breaks h b ls σ w k = (σ, grows_not σ, (k, never ends (λ e. (h e).1)))
+  some_leave cases ss falls cs grown body last rest (Some (suc n)) ends breaks h b ls σ w k =
+      rest (Some n) ends breaks (λ e. (let r = h e in ((both_true (falls || list_terminates ss) (clauses_terminate cs) r.0).1, r.1))) (λ e. b (or_right (breaks_any ss) (breaks_clause cs) e)) ls σ w k
+  some_leave cases ss falls cs grown body last rest (Some zero) ends breaks h b ls σ w k =
+      sound_then σ (Leaves (in_clause g) d (after_all d ss) (list_terminates ss) (breaks_any ss)) (Leaves (in_clause g) d d ends breaks) (exec_all calls ss ls w) (if_normal (from_clause calls cs (if falls then Some zero else None))) (body ls σ w k) (λ f σ1 w1 grown1. on f σ1 w1)
     where
-      on : (f : Flow) (w1 : World) → Leaves (in_clause g) d (after_all d ss) (list_terminates ss) (breaks_any ss) f w1 → Sound (Leaves (in_clause g) d d ends breaks) (if_normal (from_clause calls cs (if falls then Some zero else None)) f w1)
-      on (Normal ls1) w1 l =
+      on : (f : Flow) (σ1 : Shelf) (w1 : World) → Leaves (in_clause g) d (after_all d ss) (list_terminates ss) (breaks_any ss) f σ1 w1 → Sound σ1 (Leaves (in_clause g) d d ends breaks) (if_normal (from_clause calls cs (if falls then Some zero else None)) f w1)
+      on (Normal ls1) σ1 w1 l =
           rest (if falls then Some zero else None) ends breaks
           (λ e.
           let r = both_true (falls || list_terminates ss) (clauses_terminate cs) (h e).0 in
           (r.1, falls_on falls (list_terminates ss) cs (or_swap falls (list_terminates ss) r.0) l.1 last))
-          (λ e. b (or_right (breaks_any ss) (breaks_clause cs) e)) ls1 w1 (before g d (after_all d ss) ls1 w1 grown l.0)
-      on (Breaks ls1) w1 l = (l.0, l.1, b (or_left (breaks_any ss) (breaks_clause cs) l.2))
-      on (Continues ls1) w1 l = l
-      on (Returns vs) w1 l = l
+          (λ e. b (or_right (breaks_any ss) (breaks_clause cs) e)) ls1 σ1 w1 (before g d (after_all d ss) ls1 σ1 w1 grown l.0)
+      on (Breaks ls1) σ1 w1 l = (σ1, grows_not σ1, (l.0, l.1, b (or_left (breaks_any ss) (breaks_clause cs) l.2)))
+      on (Continues ls1) σ1 w1 l = (σ1, grows_not σ1, l)
+      on (Returns vs) σ1 w1 l = (σ1, grows_not σ1, l)
 
   -- ---- the whole switch
 
@@ -153,20 +153,20 @@ module _ (calls : Calls) (g : Setting) (d : List ℕ) (answers : Answers g.funct
       let default : has_default cs ≡ true = some.0 in
       absurd (let none = c.1 in cc)
 
-  left : (cs : Clauses) (f : Flow) (w : World) → Leaves (in_clause g) d d (is_ended cs) (breaks_clause cs) f w → Sound (Leaves g d d (is_ended cs) false) (switched f w)
-  left cs (Normal ls) w l = l
-  left cs (Breaks ls) w l = (l.0, not_ended (has_default cs) (breaks_clause cs) (clauses_terminate cs) l.2)
-  left cs (Continues ls) w l = l
-  left cs (Returns vs) w l = l
+  left : (cs : Clauses) (f : Flow) (σ : Shelf) (w : World) → Leaves (in_clause g) d d (is_ended cs) (breaks_clause cs) f σ w → Sound σ (Leaves g d d (is_ended cs) false) (switched f w)
+  left cs (Normal ls) σ w l = (σ, grows_not σ, l)
+  left cs (Breaks ls) σ w l = (σ, grows_not σ, (l.0, not_ended (has_default cs) (breaks_clause cs) (clauses_terminate cs) l.2))
+  left cs (Continues ls) σ w l = (σ, grows_not σ, l)
+  left cs (Returns vs) σ w l = (σ, grows_not σ, l)
 
-  pub switch_leaves : (e : Expr) (cs : Clauses) → IsExpr g d e → AreClauses g d (expr_type e) cs → ClauseLeaves cs → (ls : Locals) (w : World) → Fitting g d ls w → Sound (Leaves g d d (terminates (switch_statement e cs)) false) (exec calls (switch_statement e cs) ls w)
-  switch_leaves e cs he hc clauses ls w k =
-      sound_then (Valued g.variables (expr_type e)) (Leaves g d d (is_ended cs) false) (eval calls e ls w)
+  pub switch_leaves : (e : Expr) (cs : Clauses) → IsExpr g d e → AreClauses g d (expr_type e) cs → ClauseLeaves cs → (ls : Locals) (σ : Shelf) (w : World) → Fitting g d ls σ w → Sound σ (Leaves g d d (terminates (switch_statement e cs)) false) (exec calls (switch_statement e cs) ls w)
+  switch_leaves e cs he hc clauses ls σ w k =
+      sound_then σ (Valued g.variables (expr_type e)) (Leaves g d d (is_ended cs) false) (eval calls e ls w)
       (λ tag w1. and_then (chosen calls (expr_type e) tag cs 0 None ls w1) (λ o w2. and_then (from_clause calls cs o ls w2) switched))
-      (expr_evals calls g d answers e he ls w k.0 k.1)
-      (λ tag w1 l.
-      sound_then (Choosing cs 0 None) (Leaves g d d (is_ended cs) false) (chosen calls (expr_type e) tag cs 0 None ls w1) (λ o w2. and_then (from_clause calls cs o ls w2) switched)
-      (chosen_is (expr_type e) tag cs 0 None ls w1 l.0 hc (k.0, l.1))
-      (λ o w2 m.
-      sound_then (Leaves (in_clause g) d d (is_ended cs) (breaks_clause cs)) (Leaves g d d (is_ended cs) false) (from_clause calls cs o ls w2) switched
-      (clauses o (is_ended cs) (breaks_clause cs) (λ x. ended cs o m.0 x) (λ x. x) ls w2 (k.0, m.1)) (left cs)))
+      (expr_evals calls g d answers e he ls σ w k.0 k.1)
+      (λ tag σ1 w1 grown1 l.
+      sound_then σ1 (Choosing cs 0 None) (Leaves g d d (is_ended cs) false) (chosen calls (expr_type e) tag cs 0 None ls w1) (λ o w2. and_then (from_clause calls cs o ls w2) switched)
+      (chosen_is (expr_type e) tag cs 0 None ls σ1 w1 l.0 hc (k.0, l.1))
+      (λ o σ2 w2 grown2 m.
+      sound_then σ2 (Leaves (in_clause g) d d (is_ended cs) (breaks_clause cs)) (Leaves g d d (is_ended cs) false) (from_clause calls cs o ls w2) switched
+      (clauses o (is_ended cs) (breaks_clause cs) (λ x. ended cs o m.0 x) (λ x. x) ls σ2 w2 (k.0, m.1)) (λ f σ3 w3 grown3. left cs f σ3 w3)))

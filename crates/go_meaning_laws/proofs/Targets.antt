@@ -12,15 +12,15 @@ use Rattle.go_meaning_laws.specs.WellTyped.{Setting, Holds, exprs_types, source_
 use Rattle.go_meaning_laws.proofs.Values.{Of, AllOf, all_are, all_zeros, of_underlying}
 use Rattle.go_meaning_laws.proofs.Parts.{Fine, Reaches, read_is, updated_is}
 use Rattle.go_meaning_laws.proofs.Operators.{IsNumber, number, integer_value}
-use Rattle.go_meaning_laws.proofs.Worlds.{Sound, sound_then, sound_map, Stores, Valued, sound_given, global_is, global_put, Fits, local_is, local_put, fits_before, within_more}
+use Rattle.go_meaning_laws.proofs.Worlds.{Shelf, grows_not, Sound, sound_then, sound_map, Keeps, Valued, sound_given, global_is, global_put, Fits, local_is, local_put, fits_before, within_more}
 use Rattle.go_meaning_laws.proofs.Exprs.{AllValued, Answers, expr_evals, exprs_evals}
 
 -- ---- what is changed, or panics
 
-pub sound_changed : (types : Symbol → Option Type') (P : Value → Type 0) (o : Operated Value) (w : World) → Stores types w.variables → Fine P o → Sound (λ v w1. P v × Stores types w1.variables) (changed o w)
-sound_changed types P (operators.Gives v) w good h = (h, good)
-sound_changed types P (operators.Panics kind) w good h = tt
-sound_changed types P operators.Senseless w good h = absurd h
+pub sound_changed : (types : Symbol → Option Type') (P : Value → Type 0) (o : Operated Value) (σ : Shelf) (w : World) → Keeps types σ w → Fine P o → Sound σ (λ v σ1 w1. P v × Keeps types σ1 w1) (changed o w)
+sound_changed types P (operators.Gives v) σ w good h = (σ, grows_not σ, (h, good))
+sound_changed types P (operators.Panics kind) σ w good h = tt
+sound_changed types P operators.Senseless σ w good h = absurd h
 
 -- ---- targets
 
@@ -54,120 +54,120 @@ targets_long g d (u ∷ us) [] h = absurd h
 targets_long g d (u ∷ us) (t ∷ ts) h = ap suc (targets_long g d us ts h.1)
 
 -- local variables that fit, in a world that stores
-abbrev pub Fitting : Setting → List ℕ → Locals → World → Type 0
-Fitting g d ls w = Fits g.locals d ls × Stores g.variables w.variables
+abbrev pub Fitting : Setting → List ℕ → Locals → Shelf → World → Type 0
+Fitting g d ls σ w = Fits g.locals d ls × Keeps g.variables σ w
 
 -- the variable that is aimed at
-local_aimed : (g : Setting) (d : List ℕ) (t : Type') (n : ℕ) (ls : Locals) (w : World) → Holds g d n t → Fitting g d ls w → Sound (Valued g.variables t) (given t (local_value ls n) w)
-local_aimed g d t n ls w h k = sound_given g.variables t (local_value ls n) w k.1 (local_is g.locals d ls n t k.0 h.0 h.1)
+local_aimed : (g : Setting) (d : List ℕ) (t : Type') (n : ℕ) (ls : Locals) (σ : Shelf) (w : World) → Holds g d n t → Fitting g d ls σ w → Sound σ (Valued g.variables t) (given t (local_value ls n) w)
+local_aimed g d t n ls σ w h k = sound_given g.variables t (local_value ls n) σ w k.1 (local_is g.locals d ls n t k.0 h.0 h.1)
 
-global_aimed : (g : Setting) (d : List ℕ) (t : Type') (s : Symbol) (w : World) → g.variables s ≡ Some t → Stores g.variables w.variables → Sound (Valued g.variables t) (given t (global_value w.variables s) w)
-global_aimed g d t s w h good = sound_given g.variables t (global_value w.variables s) w good (global_is g.variables w.variables s t good h)
+global_aimed : (g : Setting) (d : List ℕ) (t : Type') (s : Symbol) (σ : Shelf) (w : World) → g.variables s ≡ Some t → Keeps g.variables σ w → Sound σ (Valued g.variables t) (given t (global_value w.variables s) w)
+global_aimed g d t s σ w h good = sound_given g.variables t (global_value w.variables s) σ w good (global_is g.variables w.variables s t good.0 h)
 
-pub taken_is : (g : Setting) (d : List ℕ) (u : Type') (target : Target) (ls : Locals) (w : World) → PartAt g d u target → Fitting g d ls w → Sound (Valued g.variables u) (taken u target ls w)
-taken_is g d u nowhere ls w h k = absurd h
-taken_is g d u (in_local t n ss) ls w h k =
-    sound_then (Valued g.variables t) (Valued g.variables u) (given t (local_value ls n) w) (λ v. given u (read ss v)) (local_aimed g d t n ls w h.0 k)
-    (λ v w1 l. sound_given g.variables u (read ss v) w1 l.1 (read_is t u ss v h.1 l.0))
-taken_is g d u (in_global t s ss) ls w h k =
-    sound_then (Valued g.variables t) (Valued g.variables u) (given t (global_value w.variables s) w) (λ v. given u (read ss v)) (global_aimed g d t s w h.0 k.1)
-    (λ v w1 l. sound_given g.variables u (read ss v) w1 l.1 (read_is t u ss v h.1 l.0))
+pub taken_is : (g : Setting) (d : List ℕ) (u : Type') (target : Target) (ls : Locals) (σ : Shelf) (w : World) → PartAt g d u target → Fitting g d ls σ w → Sound σ (Valued g.variables u) (taken u target ls w)
+taken_is g d u nowhere ls σ w h k = absurd h
+taken_is g d u (in_local t n ss) ls σ w h k =
+    sound_then σ (Valued g.variables t) (Valued g.variables u) (given t (local_value ls n) w) (λ v. given u (read ss v)) (local_aimed g d t n ls σ w h.0 k)
+    (λ v σ1 w1 grown1 l. sound_given g.variables u (read ss v) σ1 w1 l.1 (read_is t u ss v h.1 l.0))
+taken_is g d u (in_global t s ss) ls σ w h k =
+    sound_then σ (Valued g.variables t) (Valued g.variables u) (given t (global_value w.variables s) w) (λ v. given u (read ss v)) (global_aimed g d t s σ w h.0 k.1)
+    (λ v σ1 w1 grown1 l. sound_given g.variables u (read ss v) σ1 w1 l.1 (read_is t u ss v h.1 l.0))
 
-local_is_put : (g : Setting) (d : List ℕ) (t : Type') (n : ℕ) (v : Value) (ls : Locals) (w : World) → Holds g d n t → Of t v → Fitting g d ls w → Sound (Fitting g d) (if_known (with_local ls n v) w)
-local_is_put g d t n v ls w h of k =
+local_is_put : (g : Setting) (d : List ℕ) (t : Type') (n : ℕ) (v : Value) (ls : Locals) (σ : Shelf) (w : World) → Holds g d n t → Of t v → Fitting g d ls σ w → Sound σ (Fitting g d) (if_known (with_local ls n v) w)
+local_is_put g d t n v ls σ w h of k =
     let r = local_put g.locals d ls n t v k.0 h.0 of in
-    rw (r.1) (fits_before g.locals d (n ∷ d) r.0 (within_more (n ∷ []) d) r.2, k.1)
+    rw (r.1) (σ, grows_not σ, (fits_before g.locals d (n ∷ d) r.0 (within_more (n ∷ []) d) r.2, k.1))
 
-global_is_put : (g : Setting) (d : List ℕ) (t : Type') (s : Symbol) (v : Value) (ls : Locals) (w : World) → g.variables s ≡ Some t → Of t v → Fitting g d ls w → Sound (Fitting g d) (and_then (if_known (with_global w.variables s v) w) (λ variables w1. Gives ls (record w1 { variables = variables })))
-global_is_put g d t s v ls w h of k = (let r = global_put g.variables w.variables s t v k.1 h of in rw (r.1) (k.0, r.2))
+global_is_put : (g : Setting) (d : List ℕ) (t : Type') (s : Symbol) (v : Value) (ls : Locals) (σ : Shelf) (w : World) → g.variables s ≡ Some t → Of t v → Fitting g d ls σ w → Sound σ (Fitting g d) (and_then (if_known (with_global w.variables s v) w) (λ variables w1. Gives ls (record w1 { variables = variables })))
+global_is_put g d t s v ls σ w h of k = (let r = global_put g.variables w.variables s t v (k.1).0 h of in rw (r.1) (σ, grows_not σ, (k.0, (r.2, (k.1).1))))
 
-pub given_to : (g : Setting) (d : List ℕ) (u : Type') (target : Target) (v : Value) (ls : Locals) (w : World) → MayBeAt g d u target → Of u v → Fitting g d ls w → Sound (Fitting g d) (give target v ls w)
-given_to g d u nowhere v ls w h of k = k
-given_to g d u (in_local t n ss) v ls w h of k =
-    sound_then (Valued g.variables t) (Fitting g d) (given t (local_value ls n) w) (λ old w1. and_then (changed (updated ss old v) w1) (λ new w2. if_known (with_local ls n new) w2))
-    (local_aimed g d t n ls w h.0 k)
-    (λ old w1 l.
-    sound_then (Valued g.variables t) (Fitting g d) (changed (updated ss old v) w1) (λ new w2. if_known (with_local ls n new) w2)
-    (sound_changed g.variables (Of t) (updated ss old v) w1 l.1 (updated_is t u ss old v h.1 l.0 of)) (λ new w2 m. local_is_put g d t n new ls w2 h.0 m.0 (k.0, m.1)))
-given_to g d u (in_global t s ss) v ls w h of k =
-    sound_then (Valued g.variables t) (Fitting g d) (given t (global_value w.variables s) w) (λ old w1. and_then (changed (updated ss old v) w1) (λ new. put (in_global t s ss) new ls))
-    (global_aimed g d t s w h.0 k.1)
-    (λ old w1 l.
-    sound_then (Valued g.variables t) (Fitting g d) (changed (updated ss old v) w1) (λ new. put (in_global t s ss) new ls)
-    (sound_changed g.variables (Of t) (updated ss old v) w1 l.1 (updated_is t u ss old v h.1 l.0 of)) (λ new w2 m. global_is_put g d t s new ls w2 h.0 m.0 (k.0, m.1)))
+pub given_to : (g : Setting) (d : List ℕ) (u : Type') (target : Target) (v : Value) (ls : Locals) (σ : Shelf) (w : World) → MayBeAt g d u target → Of u v → Fitting g d ls σ w → Sound σ (Fitting g d) (give target v ls w)
+given_to g d u nowhere v ls σ w h of k = (σ, grows_not σ, k)
+given_to g d u (in_local t n ss) v ls σ w h of k =
+    sound_then σ (Valued g.variables t) (Fitting g d) (given t (local_value ls n) w) (λ old w1. and_then (changed (updated ss old v) w1) (λ new w2. if_known (with_local ls n new) w2))
+    (local_aimed g d t n ls σ w h.0 k)
+    (λ old σ1 w1 grown1 l.
+    sound_then σ1 (Valued g.variables t) (Fitting g d) (changed (updated ss old v) w1) (λ new w2. if_known (with_local ls n new) w2)
+    (sound_changed g.variables (Of t) (updated ss old v) σ1 w1 l.1 (updated_is t u ss old v h.1 l.0 of)) (λ new σ2 w2 grown2 m. local_is_put g d t n new ls σ2 w2 h.0 m.0 (k.0, m.1)))
+given_to g d u (in_global t s ss) v ls σ w h of k =
+    sound_then σ (Valued g.variables t) (Fitting g d) (given t (global_value w.variables s) w) (λ old w1. and_then (changed (updated ss old v) w1) (λ new. put (in_global t s ss) new ls))
+    (global_aimed g d t s σ w h.0 k.1)
+    (λ old σ1 w1 grown1 l.
+    sound_then σ1 (Valued g.variables t) (Fitting g d) (changed (updated ss old v) w1) (λ new. put (in_global t s ss) new ls)
+    (sound_changed g.variables (Of t) (updated ss old v) σ1 w1 l.1 (updated_is t u ss old v h.1 l.0 of)) (λ new σ2 w2 grown2 m. global_is_put g d t s new ls σ2 w2 h.0 m.0 (k.0, m.1)))
 
-pub all_given_to : (g : Setting) (d : List ℕ) (us : List Type') (targets : List Target) (vs : List Value) (ls : Locals) (w : World) → AllMayBeAt g d us targets → AllOf us vs → Fitting g d ls w → Sound (Fitting g d) (give_all targets vs ls w)
-all_given_to g d [] [] [] ls w h of k = k
-all_given_to g d [] [] (v ∷ vs) ls w h of k = absurd of
-all_given_to g d [] (t ∷ ts) vs ls w h of k = absurd h
-all_given_to g d (u ∷ us) [] vs ls w h of k = absurd h
-all_given_to g d (u ∷ us) (t ∷ ts) [] ls w h of k = absurd of
-all_given_to g d (u ∷ us) (t ∷ ts) (v ∷ vs) ls w h of k =
-    sound_then (Fitting g d) (Fitting g d) (give t v ls w) (give_all ts vs) (given_to g d u t v ls w h.0 of.0 k) (λ ls1 w1 l. all_given_to g d us ts vs ls1 w1 h.1 of.1 l)
+pub all_given_to : (g : Setting) (d : List ℕ) (us : List Type') (targets : List Target) (vs : List Value) (ls : Locals) (σ : Shelf) (w : World) → AllMayBeAt g d us targets → AllOf us vs → Fitting g d ls σ w → Sound σ (Fitting g d) (give_all targets vs ls w)
+all_given_to g d [] [] [] ls σ w h of k = (σ, grows_not σ, k)
+all_given_to g d [] [] (v ∷ vs) ls σ w h of k = absurd of
+all_given_to g d [] (t ∷ ts) vs ls σ w h of k = absurd h
+all_given_to g d (u ∷ us) [] vs ls σ w h of k = absurd h
+all_given_to g d (u ∷ us) (t ∷ ts) [] ls σ w h of k = absurd of
+all_given_to g d (u ∷ us) (t ∷ ts) (v ∷ vs) ls σ w h of k =
+    sound_then σ (Fitting g d) (Fitting g d) (give t v ls w) (give_all ts vs) (given_to g d u t v ls σ w h.0 of.0 k) (λ ls1 σ1 w1 grown1 l. all_given_to g d us ts vs ls1 σ1 w1 h.1 of.1 l)
 
 module _ (calls : Calls) (g : Setting) (d : List ℕ) (answers : Answers g.functions g.variables calls) where
-  pub source_evals : (s : Source) (ls : Locals) (w : World) → IsSource g d s → Fitting g d ls w → Sound (AllValued g.variables (source_types s)) (source calls s ls w)
-  source_evals (each es) ls w h k = exprs_evals calls g d answers es h ls w k.0 k.1
-  source_evals (results ts s es) ls w h k =
-      sound_then (AllValued g.variables (exprs_types es)) (AllValued g.variables ts) (eval_all calls es ls w) (λ vs w1. and_then (calls s vs w1) (all_given ts)) (exprs_evals calls g d answers es h.0 ls w k.0 k.1)
-      (λ vs w1 l.
-      sound_then (AllValued g.variables ts) (AllValued g.variables ts) (calls s vs w1) (all_given ts) (answers.each s (exprs_types es) ts vs w1 h.1 l.0 l.1)
-      (λ rs w2 m. rw (all_are ts rs m.0) m))
-  source_evals (zeros ts) ls w h k = (all_zeros ts h, k.1)
+  pub source_evals : (s : Source) (ls : Locals) (σ : Shelf) (w : World) → IsSource g d s → Fitting g d ls σ w → Sound σ (AllValued g.variables (source_types s)) (source calls s ls w)
+  source_evals (each es) ls σ w h k = exprs_evals calls g d answers es h ls σ w k.0 k.1
+  source_evals (results ts s es) ls σ w h k =
+      sound_then σ (AllValued g.variables (exprs_types es)) (AllValued g.variables ts) (eval_all calls es ls w) (λ vs w1. and_then (calls s vs w1) (all_given ts)) (exprs_evals calls g d answers es h.0 ls σ w k.0 k.1)
+      (λ vs σ1 w1 grown1 l.
+      sound_then σ1 (AllValued g.variables ts) (AllValued g.variables ts) (calls s vs w1) (all_given ts) (answers.each s (exprs_types es) ts vs σ1 w1 h.1 l.0 l.1)
+      (λ rs σ2 w2 grown2 m. rw (all_are ts rs m.0) (σ2, grows_not σ2, m)))
+  source_evals (zeros ts) ls σ w h k = (σ, grows_not σ, (all_zeros ts h, k.1))
 
   -- ---- steps
 
-  abbrev Reaching : Type' → Type' → List Step → World → Type 0
-  Reaching t u ss w = Reaches t ss u × Stores g.variables w.variables
+  abbrev Reaching : Type' → Type' → List Step → Shelf → World → Type 0
+  Reaching t u ss σ w = Reaches t ss u × Keeps g.variables σ w
 
-  indexed : (t : Type') (u : Type') (part : Type') (p : Steps) (v : Value) (s : Type') (ls : Locals) (w : World) → element_type (underlying t) ≡ Some part → IsNumber s v → Sound (Reaching part u) (steps calls part p ls w) → Sound (Reaching t u) (with_index v w (λ r. and_then (steps calls part p ls w) (λ ss w2. Gives (r ∷ ss) w2)))
-  indexed t u part p v s ls w e (number i z es ev f) h =
-      subst (λ x. Sound (Reaching t u) (with_index x w (λ r. and_then (steps calls part p ls w) (λ ss w2. Gives (r ∷ ss) w2)))) (sym ev)
-      (sound_then (Reaching part u) (Reaching t u) (steps calls part p ls w) (λ ss w2. Gives (to_element z ∷ ss) w2) h (λ ss w2 l. ((part, e, l.0), l.1)))
+  indexed : (t : Type') (u : Type') (part : Type') (p : Steps) (v : Value) (s : Type') (ls : Locals) (σ : Shelf) (w : World) → element_type (underlying t) ≡ Some part → IsNumber s v → Sound σ (Reaching part u) (steps calls part p ls w) → Sound σ (Reaching t u) (with_index v w (λ r. and_then (steps calls part p ls w) (λ ss w2. Gives (r ∷ ss) w2)))
+  indexed t u part p v s ls σ w e (number i z es ev f) h =
+      subst (λ x. Sound σ (Reaching t u) (with_index x w (λ r. and_then (steps calls part p ls w) (λ ss w2. Gives (r ∷ ss) w2)))) (sym ev)
+      (sound_then σ (Reaching part u) (Reaching t u) (steps calls part p ls w) (λ ss w2. Gives (to_element z ∷ ss) w2) h (λ ss σ2 w2 grown2 l. (σ2, grows_not σ2, ((part, e, l.0), l.1))))
 
-  pub steps_lead : (p : Steps) (t u : Type') (ls : Locals) (w : World) → LeadsTo g d t p u → Fitting g d ls w → Sound (Reaching t u) (steps calls t p ls w)
-  steps_lead here t u ls w h k = (h, k.1)
-  steps_lead (then_field n p) t u ls w h k =
+  pub steps_lead : (p : Steps) (t u : Type') (ls : Locals) (σ : Shelf) (w : World) → LeadsTo g d t p u → Fitting g d ls σ w → Sound σ (Reaching t u) (steps calls t p ls w)
+  steps_lead here t u ls σ w h k = (σ, grows_not σ, (h, k.1))
+  steps_lead (then_field n p) t u ls σ w h k =
       rw (h.1)
-      (sound_then (Reaching h.0 u) (Reaching t u) (steps calls h.0 p ls w) (λ ss w1. Gives (to_field n ∷ ss) w1) (steps_lead p h.0 u ls w h.2 k)
-      (λ ss w1 l. ((h.0, h.1, l.0), l.1)))
-  steps_lead (then_element e p) t u ls w h k =
+      (sound_then σ (Reaching h.0 u) (Reaching t u) (steps calls h.0 p ls w) (λ ss w1. Gives (to_field n ∷ ss) w1) (steps_lead p h.0 u ls σ w h.2 k)
+      (λ ss σ1 w1 grown1 l. (σ1, grows_not σ1, ((h.0, h.1, l.0), l.1))))
+  steps_lead (then_element e p) t u ls σ w h k =
       rw (h.1)
-      (sound_then (Valued g.variables (expr_type e)) (Reaching t u) (eval calls e ls w) (λ v w1. with_index v w1 (λ s. and_then (steps calls h.0 p ls w1) (λ ss w2. Gives (s ∷ ss) w2))) (expr_evals calls g d answers e h.2 ls w k.0 k.1)
-      (λ v w1 l.
-      indexed t u h.0 p v (underlying (expr_type e)) ls w1 h.1 (integer_value (underlying (expr_type e)) v h.3 (of_underlying (expr_type e) v l.0)) (steps_lead p h.0 u ls w1 h.4 (k.0, l.1))))
+      (sound_then σ (Valued g.variables (expr_type e)) (Reaching t u) (eval calls e ls w) (λ v w1. with_index v w1 (λ s. and_then (steps calls h.0 p ls w1) (λ ss w2. Gives (s ∷ ss) w2))) (expr_evals calls g d answers e h.2 ls σ w k.0 k.1)
+      (λ v σ1 w1 grown1 l.
+      indexed t u h.0 p v (underlying (expr_type e)) ls σ1 w1 h.1 (integer_value (underlying (expr_type e)) v h.3 (of_underlying (expr_type e) v l.0)) (steps_lead p h.0 u ls σ1 w1 h.4 (k.0, l.1))))
 
   -- ---- left sides
 
-  pub part_aimed : (l : Left) (u : Type') (ls : Locals) (w : World) → IsPart g d l u → Fitting g d ls w → Sound (λ target w1. PartAt g d u target × Stores g.variables w1.variables) (aim calls l ls w)
-  part_aimed blank u ls w h k = absurd h
-  part_aimed (of_local t n p) u ls w h k =
+  pub part_aimed : (l : Left) (u : Type') (ls : Locals) (σ : Shelf) (w : World) → IsPart g d l u → Fitting g d ls σ w → Sound σ (λ target σ1 w1. PartAt g d u target × Keeps g.variables σ1 w1) (aim calls l ls w)
+  part_aimed blank u ls σ w h k = absurd h
+  part_aimed (of_local t n p) u ls σ w h k =
       rw (h.1)
-      (sound_then (Reaching t u) (λ target w1. PartAt g d u target × Stores g.variables w1.variables) (steps calls t p ls w) (λ ss w1. Gives (in_local t n ss) w1) (steps_lead p t u ls w h.2 k)
-      (λ ss w1 l. ((h.0, l.0), l.1)))
-  part_aimed (of_global t s p) u ls w h k =
+      (sound_then σ (Reaching t u) (λ target σ1 w1. PartAt g d u target × Keeps g.variables σ1 w1) (steps calls t p ls w) (λ ss w1. Gives (in_local t n ss) w1) (steps_lead p t u ls σ w h.2 k)
+      (λ ss σ1 w1 grown1 l. (σ1, grows_not σ1, ((h.0, l.0), l.1))))
+  part_aimed (of_global t s p) u ls σ w h k =
       rw (h.1)
-      (sound_then (Reaching t u) (λ target w1. PartAt g d u target × Stores g.variables w1.variables) (steps calls t p ls w) (λ ss w1. Gives (in_global t s ss) w1) (steps_lead p t u ls w h.2 k)
-      (λ ss w1 l. ((h.0, l.0), l.1)))
+      (sound_then σ (Reaching t u) (λ target σ1 w1. PartAt g d u target × Keeps g.variables σ1 w1) (steps calls t p ls w) (λ ss w1. Gives (in_global t s ss) w1) (steps_lead p t u ls σ w h.2 k)
+      (λ ss σ1 w1 grown1 l. (σ1, grows_not σ1, ((h.0, l.0), l.1))))
 
-  abbrev pub AllAimed : List Type' → List Target → World → Type 0
-  AllAimed us targets w = AllMayBeAt g d us targets × Stores g.variables w.variables
+  abbrev pub AllAimed : List Type' → List Target → Shelf → World → Type 0
+  AllAimed us targets σ w = AllMayBeAt g d us targets × Keeps g.variables σ w
 
-  more_aimed : (l : Left) (ls : List Left) (u : Type') (us : List Type') (locals : Locals) (w : World) → Sound (λ target w1. MayBeAt g d u target × Stores g.variables w1.variables) (aim calls l locals w) → ((w : World) → Stores g.variables w.variables → Sound (AllAimed us) (aim_all calls ls locals w)) → Sound (AllAimed (u ∷ us)) (aim_all calls (l ∷ ls) locals w)
-  more_aimed l ls u us locals w first rest =
-      sound_then (λ target w1. MayBeAt g d u target × Stores g.variables w1.variables) (AllAimed (u ∷ us)) (aim calls l locals w) (λ t w1. and_then (aim_all calls ls locals w1) (λ ts w2. Gives (t ∷ ts) w2)) first
-      (λ t w1 h.
-      sound_then (AllAimed us) (AllAimed (u ∷ us)) (aim_all calls ls locals w1) (λ ts w2. Gives (t ∷ ts) w2) (rest w1 h.1) (λ ts w2 k. ((h.0, k.0), k.1)))
+  more_aimed : (l : Left) (ls : List Left) (u : Type') (us : List Type') (locals : Locals) (σ : Shelf) (w : World) → Sound σ (λ target σ1 w1. MayBeAt g d u target × Keeps g.variables σ1 w1) (aim calls l locals w) → ((σ : Shelf) (w : World) → Keeps g.variables σ w → Sound σ (AllAimed us) (aim_all calls ls locals w)) → Sound σ (AllAimed (u ∷ us)) (aim_all calls (l ∷ ls) locals w)
+  more_aimed l ls u us locals σ w first rest =
+      sound_then σ (λ target σ1 w1. MayBeAt g d u target × Keeps g.variables σ1 w1) (AllAimed (u ∷ us)) (aim calls l locals w) (λ t w1. and_then (aim_all calls ls locals w1) (λ ts w2. Gives (t ∷ ts) w2)) first
+      (λ t σ1 w1 grown1 h.
+      sound_then σ1 (AllAimed us) (AllAimed (u ∷ us)) (aim_all calls ls locals w1) (λ ts w2. Gives (t ∷ ts) w2) (rest σ1 w1 h.1) (λ ts σ2 w2 grown2 k. (σ2, grows_not σ2, ((h.0, k.0), k.1))))
 
-  maybe_aimed : (l : Left) (u : Type') (ls : Locals) (w : World) → IsPart g d l u → Fitting g d ls w → Sound (λ target w1. MayBeAt g d u target × Stores g.variables w1.variables) (aim calls l ls w)
-  maybe_aimed l u ls w h k = sound_map (λ target w1. PartAt g d u target × Stores g.variables w1.variables) (λ target w1. MayBeAt g d u target × Stores g.variables w1.variables) (aim calls l ls w) (λ target w1 m. (may_be g d u target m.0, m.1)) (part_aimed l u ls w h k)
+  maybe_aimed : (l : Left) (u : Type') (ls : Locals) (σ : Shelf) (w : World) → IsPart g d l u → Fitting g d ls σ w → Sound σ (λ target σ1 w1. MayBeAt g d u target × Keeps g.variables σ1 w1) (aim calls l ls w)
+  maybe_aimed l u ls σ w h k = sound_map σ (λ target σ1 w1. PartAt g d u target × Keeps g.variables σ1 w1) (λ target σ1 w1. MayBeAt g d u target × Keeps g.variables σ1 w1) (aim calls l ls w) (λ target σ1 w1 grown1 m. (may_be g d u target m.0, m.1)) (part_aimed l u ls σ w h k)
 
-  pub all_aimed : (ls : List Left) (us : List Type') (locals : Locals) (w : World) → AreLefts g d ls us → Fitting g d locals w → Sound (AllAimed us) (aim_all calls ls locals w)
-  all_aimed [] [] locals w h k = (tt, k.1)
-  all_aimed [] (u ∷ us) locals w h k = absurd h
-  all_aimed (l ∷ ls) [] locals w h k = absurd h
-  all_aimed (blank ∷ ls) (u ∷ us) locals w h k = more_aimed blank ls u us locals w (tt, k.1) (λ w1 good. all_aimed ls us locals w1 h (k.0, good))
-  all_aimed (of_local t n p ∷ ls) (u ∷ us) locals w h k =
-      more_aimed (of_local t n p) ls u us locals w (maybe_aimed (of_local t n p) u locals w h.0 k) (λ w1 good. all_aimed ls us locals w1 h.1 (k.0, good))
-  all_aimed (of_global t s p ∷ ls) (u ∷ us) locals w h k =
-      more_aimed (of_global t s p) ls u us locals w (maybe_aimed (of_global t s p) u locals w h.0 k) (λ w1 good. all_aimed ls us locals w1 h.1 (k.0, good))
+  pub all_aimed : (ls : List Left) (us : List Type') (locals : Locals) (σ : Shelf) (w : World) → AreLefts g d ls us → Fitting g d locals σ w → Sound σ (AllAimed us) (aim_all calls ls locals w)
+  all_aimed [] [] locals σ w h k = (σ, grows_not σ, (tt, k.1))
+  all_aimed [] (u ∷ us) locals σ w h k = absurd h
+  all_aimed (l ∷ ls) [] locals σ w h k = absurd h
+  all_aimed (blank ∷ ls) (u ∷ us) locals σ w h k = more_aimed blank ls u us locals σ w (σ, grows_not σ, (tt, k.1)) (λ σ1 w1 good. all_aimed ls us locals σ1 w1 h (k.0, good))
+  all_aimed (of_local t n p ∷ ls) (u ∷ us) locals σ w h k =
+      more_aimed (of_local t n p) ls u us locals σ w (maybe_aimed (of_local t n p) u locals σ w h.0 k) (λ σ1 w1 good. all_aimed ls us locals σ1 w1 h.1 (k.0, good))
+  all_aimed (of_global t s p ∷ ls) (u ∷ us) locals σ w h k =
+      more_aimed (of_global t s p) ls u us locals σ w (maybe_aimed (of_global t s p) u locals σ w h.0 k) (λ σ1 w1 good. all_aimed ls us locals σ1 w1 h.1 (k.0, good))

@@ -1,5 +1,5 @@
--- Outcomes that are sound, and variables that hold values of their types.
-use Rattle.std.proofs.Common.{◌≡◌, ℕ, zero, suc, Bool, true, false, ◌||◌, List, [], ◌∷◌, ◌++◌, Option, Some, None, ◌⊎◌, inl, inr, refl, sym, ap, ◌∙◌, subst, nat_eq, slice_get, slice_set}
+-- Outcomes that are sound, variables that hold values of their types, and arrays that stand on a shelf.
+use Rattle.std.proofs.Common.{◌≡◌, ℕ, zero, suc, Bool, true, false, ◌||◌, List, [], ◌∷◌, ◌++◌, append_assoc, append-nil, length, replicate, Option, Some, None, ◌⊎◌, inl, inr, refl, sym, ap, ◌∙◌, subst, nat_eq, slice_get, slice_set}
 use Rattle.std.specs.List.{find}
 use Rattle.std.proofs.lemmas.Bool.{eqb-true, eqb-false, cases_Bool}
 use Rattle.go_types.specs.Types.{Type'}
@@ -8,28 +8,70 @@ use Rattle.go_code.specs.Operators.{Operated}
 use Rattle.go_typed.specs.Trees.{Symbol}
 use Rattle.go_meaning.specs.Values.{Value, is_of, or_else}
 use Rattle.go_symbol.specs.Symbols.{same_symbol}
-use Rattle.go_meaning.specs.Meaning.{Stored, World, Outcome, Gives, Ends, Stuck, Local, Locals, and_then, given, local_value, global_value, with_local, with_global, defined}
-use Rattle.go_meaning_laws.specs.WellTyped.{has, AreNew, numbers}
+use Rattle.go_meaning.specs.Meaning.{Stored, World, Outcome, Gives, Ends, Stuck, Local, Locals, and_then, given, local_value, global_value, with_local, with_global, all_put, defined}
+use Rattle.go_meaning_laws.specs.WellTyped.{has, AreGiven, AreNew, numbers}
 use Rattle.go_meaning_laws.proofs.Values.{Of, Proper, AllOf, suits}
 use Rattle.go_meaning_laws.proofs.Parts.{Fine}
 
+-- ---- arrays
+
+-- The arrays that slices are parts of stand on a shelf: it says, for each behind array 0, which type its elements have and how many there are.
+abbrev pub Shelf : Type 0
+Shelf = List (Type' × ℕ)
+
+-- an array has so many elements, values of that type
+abbrev pub StandsOne : Type' × ℕ → List Value → Type 0
+StandsOne a vs = (length vs ≡ a.1) × AllOf (replicate (length vs) a.0) vs
+
+abbrev pub StandAt : Shelf → List (List Value) → Type 0
+StandAt [] [] = Unit {0}
+StandAt [] (vs ∷ arrays) = ⊥
+StandAt (a ∷ σ) [] = ⊥
+StandAt (a ∷ σ) (vs ∷ arrays) = StandsOne a vs × StandAt σ arrays
+
+-- array 0 has nothing
+abbrev pub Stands : Shelf → List (List Value) → Type 0
+Stands σ [] = ⊥
+Stands σ (vs ∷ arrays) = (vs ≡ []) × StandAt σ arrays
+
+-- a shelf grows at its end: an array stays, with its type and its number of elements
+abbrev pub Grows : Shelf → Shelf → Type 0
+Grows σ later = (more : Shelf) × (later ≡ σ ++ more)
+
+pub grows_not : (σ : Shelf) → Grows σ σ
+grows_not σ = ([], sym (append-nil σ))
+
+pub grows_then : (σ later last : Shelf) → Grows σ later → Grows later last → Grows σ last
+grows_then σ later last h k = (h.0 ++ k.0, k.1 ∙ ap (λ s. s ++ k.0) h.1 ∙ append_assoc σ h.0 k.0)
+
 -- ---- outcomes
 
+-- what is given is so, with a shelf that has grown, or has not
+abbrev pub Grown : {A : Type 0} → Shelf → (A → Shelf → World → Type 0) → A → World → Type 0
+Grown σ P a w = (later : Shelf) × Grows σ later × P a later w
+
 -- it isn't stuck, and what it gives is so
-abbrev pub Sound : {A : Type 0} → (A → World → Type 0) → Outcome A → Type 0
-Sound P (Gives a w) = P a w
-Sound P (Ends ending output) = Unit {0}
-Sound P Stuck = ⊥
+abbrev pub Sound : {A : Type 0} → Shelf → (A → Shelf → World → Type 0) → Outcome A → Type 0
+Sound σ P (Gives a w) = Grown σ P a w
+Sound σ P (Ends ending output) = Unit {0}
+Sound σ P Stuck = ⊥
 
-pub sound_then : {A B : Type 0} (P : A → World → Type 0) (Q : B → World → Type 0) (o : Outcome A) (next : A → World → Outcome B) → Sound P o → ((a : A) (w : World) → P a w → Sound Q (next a w)) → Sound Q (and_then o next)
-sound_then P Q (Gives a w) next h k = k a w h
-sound_then P Q (Ends ending output) next h k = tt
-sound_then P Q Stuck next h k = absurd h
+-- where the shelf has grown before, it has grown after all
+pub sound_later : {A : Type 0} (σ later : Shelf) (P : A → Shelf → World → Type 0) (o : Outcome A) → Grows σ later → Sound later P o → Sound σ P o
+sound_later σ later P (Gives a w) g h = (h.0, grows_then σ later h.0 g h.1, h.2)
+sound_later σ later P (Ends ending output) g h = tt
+sound_later σ later P Stuck g h = absurd h
 
-pub sound_map : {A : Type 0} (P Q : A → World → Type 0) (o : Outcome A) → ((a : A) (w : World) → P a w → Q a w) → Sound P o → Sound Q o
-sound_map P Q (Gives a w) f h = f a w h
-sound_map P Q (Ends ending output) f h = tt
-sound_map P Q Stuck f h = absurd h
+pub sound_then : {A B : Type 0} (σ : Shelf) (P : A → Shelf → World → Type 0) (Q : B → Shelf → World → Type 0) (o : Outcome A) (next : A → World → Outcome B) → Sound σ P o
+    → ((a : A) (later : Shelf) (w : World) → Grows σ later → P a later w → Sound later Q (next a w)) → Sound σ Q (and_then o next)
+sound_then σ P Q (Gives a w) next h k = sound_later σ h.0 Q (next a w) h.1 (k a h.0 w h.1 h.2)
+sound_then σ P Q (Ends ending output) next h k = tt
+sound_then σ P Q Stuck next h k = absurd h
+
+pub sound_map : {A : Type 0} (σ : Shelf) (P Q : A → Shelf → World → Type 0) (o : Outcome A) → ((a : A) (later : Shelf) (w : World) → Grows σ later → P a later w → Q a later w) → Sound σ P o → Sound σ Q o
+sound_map σ P Q (Gives a w) f h = (h.0, h.1, f a h.0 w h.1 h.2)
+sound_map σ P Q (Ends ending output) f h = tt
+sound_map σ P Q Stuck f h = absurd h
 
 -- ---- package variables
 
@@ -37,14 +79,18 @@ sound_map P Q Stuck f h = absurd h
 pub record Stores (types : Symbol → Option Type') (variables : List Stored) : Type 0 where
   pub each : (s : Symbol) (t : Type') → types s ≡ Some t → (x : Stored) × (find (λ v. same_symbol s v.symbol) variables ≡ Some x) × (x.of ≡ t) × Of t x.value
 
--- a value of that type, in a world that stores such
-abbrev pub Valued : (Symbol → Option Type') → Type' → Value → World → Type 0
-Valued types t v w = Of t v × Stores types w.variables
+-- so it is in the world, whose arrays stand on the shelf
+abbrev pub Keeps : (Symbol → Option Type') → Shelf → World → Type 0
+Keeps types σ w = Stores types w.variables × Stands σ w.arrays
 
-pub sound_given : (types : Symbol → Option Type') (t : Type') (o : Operated Value) (w : World) → Stores types w.variables → Fine (Of t) o → Sound (Valued types t) (given t o w)
-sound_given types t (operators.Gives v) w good h = rw (h.0) (h, good)
-sound_given types t (operators.Panics kind) w good h = tt
-sound_given types t operators.Senseless w good h = absurd h
+-- a value of that type, in such a world
+abbrev pub Valued : (Symbol → Option Type') → Type' → Value → Shelf → World → Type 0
+Valued types t v σ w = Of t v × Keeps types σ w
+
+pub sound_given : (types : Symbol → Option Type') (t : Type') (o : Operated Value) (σ : Shelf) (w : World) → Keeps types σ w → Fine (Of t) o → Sound σ (Valued types t) (given t o w)
+sound_given types t (operators.Gives v) σ w good h = rw (h.0) (σ, grows_not σ, (h, good))
+sound_given types t (operators.Panics kind) σ w good h = tt
+sound_given types t operators.Senseless σ w good h = absurd h
 
 pub global_is : (types : Symbol → Option Type') (variables : List Stored) (s : Symbol) (t : Type') → Stores types variables → types s ≡ Some t → Fine (Of t) (global_value variables s)
 global_is types variables s t good e = (let r = good.each s t e in rw (r.1) (r.3))
@@ -206,4 +252,22 @@ defined_is types d (Some n ∷ os) (t ∷ ts) (v ∷ vs) ls new h fits =
     let r = defined_is types d os ts vs ls new.1 h.1 fits in
     let u = new.0 in
     let s = local_put types (numbers os ++ d) r.0 n u.0 v r.2 u.1 (suits t u.0 v u.2 h.0) in
+    (s.0, rw (r.1) (s.1), s.2)
+
+-- package variables get values
+abbrev pub put_at : List ℕ → List Stored → List ℕ → Value → Option (List Stored)
+put_at path variables x = with_global variables (record { path = path; name = x })
+
+pub stored_is : (types : Symbol → Option Type') (path : List ℕ) (os : List (Option (List ℕ))) (ts : List Type') (vs : List Value) (variables : List Stored) → AreGiven (λ x. types (record { path = path; name = x })) os ts → AllOf ts vs → Stores types variables
+    → (later : List Stored) × (all_put (put_at path) os vs variables ≡ Some later) × Stores types later
+stored_is types path [] [] [] variables new h good = (variables, refl, good)
+stored_is types path [] [] (v ∷ vs) variables new h good = absurd h
+stored_is types path [] (t ∷ ts) vs variables new h good = absurd new
+stored_is types path (o ∷ os) [] vs variables new h good = absurd new
+stored_is types path (o ∷ os) (t ∷ ts) [] variables new h good = absurd h
+stored_is types path (None ∷ os) (t ∷ ts) (v ∷ vs) variables new h good = stored_is types path os ts vs variables new h.1 good
+stored_is types path (Some x ∷ os) (t ∷ ts) (v ∷ vs) variables new h good =
+    let r = stored_is types path os ts vs variables new.1 h.1 good in
+    let u = new.0 in
+    let s = global_put types r.0 (record { path = path; name = x }) u.0 v r.2 u.1 (suits t u.0 v u.2 h.0) in
     (s.0, rw (r.1) (s.1), s.2)

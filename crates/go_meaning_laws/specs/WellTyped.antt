@@ -26,7 +26,7 @@ use Rattle.go_meaning.specs.Values.{single, is_of}
 use Rattle.go_meaning.specs.Choices.{cell_of, field_type, element_type}
 use Rattle.go_symbol.specs.Symbols.{same_symbol}
 use Rattle.go_meaning.specs.Meaning.{Stored, most_cells}
-use Rattle.go_meaning.specs.Programs.{Step, calls, Declared, package_functions, function_at, first_variables, start_steps}
+use Rattle.go_meaning.specs.Programs.{Step, sets, calls, Declared, package_functions, function_at, first_variables, start_steps}
 use Rattle.go_typed.specs.Terminating.{list_terminates}
 
 -- ---- what is known where an expression or a statement stands
@@ -209,12 +209,15 @@ IsSource g d (results ts s es) = AreExprs g d es × IsCall g s (exprs_types es) 
 IsSource g d (zeros ts) = AllWhole ts
 
 -- https://go.dev/ref/spec#Variable_declarations: new variables get values of these types; a blank one may get any
+abbrev pub AreGiven : {N : Type 0} → (N → Option Type') → List (Option N) → List Type' → Type 0
+AreGiven types [] [] = ⊤
+AreGiven types [] (t ∷ ts) = ⊥
+AreGiven types (o ∷ os) [] = ⊥
+AreGiven types (None ∷ os) (t ∷ ts) = AreGiven types os ts
+AreGiven types (Some n ∷ os) (t ∷ ts) = ((u : Type') × (types n ≡ Some u) × Suits t u) × AreGiven types os ts
+
 abbrev pub AreNew : List Type' → List (Option ℕ) → List Type' → Type 0
-AreNew locals [] [] = ⊤
-AreNew locals [] (t ∷ ts) = ⊥
-AreNew locals (o ∷ os) [] = ⊥
-AreNew locals (None ∷ os) (t ∷ ts) = AreNew locals os ts
-AreNew locals (Some n ∷ os) (t ∷ ts) = ((u : Type') × (slice_get locals n ≡ Some u) × Suits t u) × AreNew locals os ts
+AreNew locals = AreGiven (slice_get locals)
 
 -- the steps lead from a variable of the first type to a part that may be given a value of the other
 abbrev pub LeadsTo : Setting → List ℕ → Type' → Steps → Type' → Type 0
@@ -358,11 +361,17 @@ pub record IsFunction (packages : List Package) (f : Function) : Type 0 where
   pub body : AreStmts (setting packages f) (first (length f.parameters)) f.body
   pub ended : (are_none f.results || list_terminates f.body) ≡ true
 
--- https://go.dev/ref/spec#Program_execution: what a program starts with takes no arguments, and gives no results
+-- where the values of package variables stand
+abbrev pub outside : List Package → Setting
+outside packages = record { functions = signature_at packages; variables = variable_at packages; locals = []; results = []; breaks = false; continues = false }
+
+-- https://go.dev/ref/spec#Program_execution: package variables get values of their types; what is called takes no arguments, and gives no results
 abbrev pub IsStart : List Package → Step → Type 0
+IsStart packages (sets path i) =
+    IsSource (outside packages) [] i.source × AreGiven (λ x. variable_at packages (record { path = path; name = x })) i.variables (source_types i.source)
 IsStart packages (calls s) = signature_at packages s ≡ Some (record { parameters = []; results = [] })
 
--- packages whose functions and variables are well typed, and so are the calls that the program starts with
+-- packages whose functions and variables are well typed, and so is what the program starts with
 pub record IsWellTyped (packages : List Package) : Type 0 where
   pub functions : All (λ (d : Declared). IsFunction packages d.function) (flat_map package_functions packages)
   pub variables : All (λ (v : Stored). IsWhole v.of) (flat_map first_variables packages)

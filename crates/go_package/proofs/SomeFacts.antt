@@ -1,6 +1,7 @@
 -- Of each package there are facts, and so it has a fault or is a typed package.
 use Rattle.std.proofs.Common.{◌≡◌, ◌⊎◌, ℕ, List, [], ◌∷◌, Option, Some, None, refl, ap, inl, inr}
 use Rattle.std.specs.List.{slice_get}
+use Rattle.go_text.specs.declared.edition.Edition.{Edition}
 use Rattle.go_text.specs.declared.place.Place.{Place}
 use Rattle.go_text.specs.declared.fault.FaultKind.{FaultKind}
 use Rattle.go_ast.specs.Trees.{File}
@@ -26,31 +27,31 @@ none_first [] e = refl
 none_first (x ∷ xs) e = cc
 
 -- its first fault, and where it has none a typed package
-pub some_fault : (p : Package) (files : List File) (ps : List Importable) (names : List (List ℕ)) →
-    (fault : Option (ℕ × (Place × FaultKind))) × IsFaultIn p files ps fault × (fault ≡ None → (t : typed.Package) × IsTypedIn p files ps names t)
-some_fault p files ps names =
+pub some_fault : (p : Package) (files : List File) (ps : List Importable) (edition : Edition) (names : List (List ℕ)) →
+    (fault : Option (ℕ × (Place × FaultKind))) × IsFaultIn p files ps fault × (fault ≡ None → (t : typed.Package) × IsTypedIn edition p files ps names t)
+some_fault p files ps edition names =
     let t = some_facts p in
     let faults = package_faults ps t.0 files in (
       slice_get faults 0,
       record { facts = t.0; are = t.1; first = refl },
       λ none.
-          (typed_package t.0 names files, record { facts = t.0; are = t.1; none = none_first faults none; is = refl }),
+          (typed_package edition t.0 names files, record { facts = t.0; are = t.1; none = none_first faults none; is = refl }),
     )
 
-pub fault_or_typed : (p : Package) (files : List File) (ps : List Importable) (names : List (List ℕ)) →
-    ((fault : ℕ × (Place × FaultKind)) × IsFaultIn p files ps (Some fault)) ⊎ ((t : typed.Package) × IsTypedIn p files ps names t)
-fault_or_typed p files ps names = by_first (some_fault p files ps names)
+pub fault_or_typed : (p : Package) (files : List File) (ps : List Importable) (edition : Edition) (names : List (List ℕ)) →
+    ((fault : ℕ × (Place × FaultKind)) × IsFaultIn p files ps (Some fault)) ⊎ ((t : typed.Package) × IsTypedIn edition p files ps names t)
+fault_or_typed p files ps edition names = by_first (some_fault p files ps edition names)
   where
-    by_first : ((fault : Option (ℕ × (Place × FaultKind))) × IsFaultIn p files ps fault × (fault ≡ None → (t : typed.Package) × IsTypedIn p files ps names t)) →
-        ((fault : ℕ × (Place × FaultKind)) × IsFaultIn p files ps (Some fault)) ⊎ ((t : typed.Package) × IsTypedIn p files ps names t)
+    by_first : ((fault : Option (ℕ × (Place × FaultKind))) × IsFaultIn p files ps fault × (fault ≡ None → (t : typed.Package) × IsTypedIn edition p files ps names t)) →
+        ((fault : ℕ × (Place × FaultKind)) × IsFaultIn p files ps (Some fault)) ⊎ ((t : typed.Package) × IsTypedIn edition p files ps names t)
     by_first (None, is, typed) = inr (typed refl)
     by_first (Some fault, is, typed) = inl (fault, is)
 
 -- a typed package has no fault
-pub typed_faultless : (p : Package) (files : List File) (ps : List Importable) (names : List (List ℕ)) (t : typed.Package) → IsTypedIn p files ps names t → IsFaultIn p files ps None
-typed_faultless p files ps names t is = record { facts = is.facts; are = is.are; first = ap (λ l. slice_get l 0) is.none }
+pub typed_faultless : (p : Package) (files : List File) (ps : List Importable) (edition : Edition) (names : List (List ℕ)) (t : typed.Package) → IsTypedIn edition p files ps names t → IsFaultIn p files ps None
+typed_faultless p files ps edition names t is = record { facts = is.facts; are = is.are; first = ap (λ l. slice_get l 0) is.none }
 
 -- so not both
-pub typed_or_faulty : (p : Package) (files : List File) (ps : List Importable) (names : List (List ℕ)) (t : typed.Package) (fault : ℕ × (Place × FaultKind)) →
-    IsTypedIn p files ps names t → IsFaultIn p files ps (Some fault) → ⊥
-typed_or_faulty p files ps names t fault is faulty = (let no = one_fault p files ps None (Some fault) (typed_faultless p files ps names t is) faulty in cc (no))
+pub typed_or_faulty : (p : Package) (files : List File) (ps : List Importable) (edition : Edition) (names : List (List ℕ)) (t : typed.Package) (fault : ℕ × (Place × FaultKind)) →
+    IsTypedIn edition p files ps names t → IsFaultIn p files ps (Some fault) → ⊥
+typed_or_faulty p files ps edition names t fault is faulty = (let no = one_fault p files ps None (Some fault) (typed_faultless p files ps edition names t is) faulty in cc (no))

@@ -66,7 +66,10 @@ abbrev pub reserved_faults : List ℕ → Name → Faults
 reserved_faults clause n = if is_reserved clause n then (n.place, Main) ∷ [] else []
 
 abbrev pub function_faults : List ℕ → Function → Faults
-function_faults clause f = elim f.parameters [ [] ↦ elim f.results [ [] ↦ [] | t ∷ ts ↦ reserved_faults clause f.name ] | p ∷ ps ↦ reserved_faults clause f.name ]
+function_faults clause f = elim f.parameters [
+  | [] ↦ elim f.results [ [] ↦ [] | t ∷ ts ↦ reserved_faults clause f.name ]
+  | p ∷ ps ↦ reserved_faults clause f.name
+]
 
 abbrev pub names_faults : List ℕ → TopLevel → Faults
 names_faults clause (declared (constants p ss)) = flat_map (λ (s : ConstSpec). flat_map (reserved_faults clause) s.names) ss

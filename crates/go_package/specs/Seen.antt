@@ -27,6 +27,10 @@ importables_of ps = map importable_of ps
 abbrev pub files_of : List (Bor File) → List trees.File
 files_of fs = map (λ f. file_of f.now) fs
 
+-- the texts of names
+abbrev pub texts_of : List (Bor (List ℕ)) → List (List ℕ)
+texts_of names = map (λ n. n.now) names
+
 -- Ok says that there is no fault, Faulty which is the first
 abbrev pub Tells : {X : Type 0} → Result X DeclError → (Option (ℕ × (Place × FaultKind)) → Type 0) → Type 0
 Tells (Ok x) IsFault = IsFault None

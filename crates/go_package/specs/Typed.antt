@@ -1,7 +1,10 @@
 -- What a package without faults is: its typed tree, by what is known of its names.
-use Rattle.std.specs.Prelude.{◌≡◌, ℕ, suc, Bool, true, false, ◌&&◌, not, bytes_eq, if◌then◌else◌, List, [], ◌∷◌, ◌++◌, map, Option, Some, None, unwrap_or}
+use Rattle.std.specs.Prelude.{◌≡◌, ℕ, suc, Bool, true, false, ◌&&◌, not, bytes_eq, codes, if◌then◌else◌, List, [], ◌∷◌, ◌++◌, map, Option, Some, None, unwrap_or}
+use Rattle.std.specs.Fmt.{decimal}
 use Rattle.std.specs.List.{slice_get, filter, filter_map, flat_map}
 use Rattle.std.specs.Map.{lookup}
+use Rattle.go_text.specs.declared.edition.Edition.{Edition}
+use Rattle.go_text.specs.declared.place.Place.{Place}
 use Rattle.go_ast.specs.Trees.{Name, Expr, Exprs, some_exprs, VarSpec, variables, TopLevel, declared, function, File}
 use Rattle.go_const.specs.declared.constant.Const.{Const}
 use Rattle.go_types.specs.Types.{Type'}
@@ -9,6 +12,7 @@ use Rattle.go_typed.specs.Trees as typed
 use Rattle.go_typed.specs.Trees.{pack_exprs}
 use Rattle.go_scope.specs.Scopes.{is_blank}
 use Rattle.go_scope.specs.Names.{Used, in_expr, in_exprs}
+use Rattle.go_uses.specs.Uses.{in_function}
 use Rattle.go_expr.specs.Known.{Declared, value, type', Names}
 use Rattle.go_expr.specs.Known as known
 use Rattle.go_expr.specs.Rules.{fine}
@@ -40,9 +44,13 @@ types_in names = filter_map type_in names
 abbrev pub declared_at : Names → List ℕ → Option Declared
 declared_at names x = unwrap_or (lookup (bytes_eq x) names) None
 
+-- of the names of files the one at a number
+abbrev pub file_name : List (List ℕ) → ℕ → List ℕ
+file_name names file = unwrap_or (slice_get names file) []
+
 abbrev pub variable_in : List (List ℕ) → Object → Option Declared → Option typed.Variable
 variable_in files o d = elim d [
-  | Some (value (typed.global t x)) ↦ Some (record { name = o.name.text; of = t; file = unwrap_or (slice_get files o.file) []; place = o.name.place })
+  | Some (value (typed.global t x)) ↦ Some (record { name = o.name.text; of = t; file = file_name files o.file; place = o.name.place })
   | _ ↦ None
 ]
 
@@ -64,33 +72,55 @@ references t file us = filter (is_reference t file) (map (λ u. u.0) us)
 abbrev pub own_name : Name → Option (List ℕ)
 own_name n = if is_blank n.text then None else Some n.text
 
--- a variable that has its own value
-abbrev pub alone : Facts → ℕ → Name → Expr → typed.Expr → typed.Initialization
-alone t file n v e = record { variables = own_name n ∷ []; source = typed.each (pack_exprs (e ∷ [])); references = references t file (in_expr false v) }
+-- where a specification begins, which has a name
+abbrev pub spec_place : List Name → Place
+spec_place ns = elim ns [ [] ↦ record { line = 1; column = 1 } | n ∷ ns ↦ n.place ]
 
-abbrev pub each_alone : Facts → ℕ → List Name → Exprs → typed.Exprs → List typed.Initialization
-each_alone t file (n ∷ ns) (some_exprs v vs) (typed.some_exprs e es) = alone t file n v e ∷ each_alone t file ns vs es
-each_alone t file ns vs es = []
+-- a variable that has its own value
+abbrev pub alone : Facts → List (List ℕ) → ℕ → Name → Expr → typed.Expr → typed.Initialization
+alone t names file n v e = record {
+  variables = own_name n ∷ [];
+  file = file_name names file;
+  place = n.place;
+  source = typed.each (pack_exprs (e ∷ []));
+  references = references t file (in_expr false v);
+}
+
+abbrev pub each_alone : Facts → List (List ℕ) → ℕ → List Name → Exprs → typed.Exprs → List typed.Initialization
+each_alone t names file (n ∷ ns) (some_exprs v vs) (typed.some_exprs e es) = alone t names file n v e ∷ each_alone t names file ns vs es
+each_alone t names file ns vs es = []
 
 -- variables that one call gives values
-abbrev pub together : Facts → ℕ → VarSpec → typed.Source → typed.Initialization
-together t file spec source = record { variables = map own_name spec.names; source = source; references = references t file (in_exprs spec.values) }
+abbrev pub together : Facts → List (List ℕ) → ℕ → VarSpec → typed.Source → typed.Initialization
+together t names file spec source = record {
+  variables = map own_name spec.names;
+  file = file_name names file;
+  place = spec_place spec.names;
+  source = source;
+  references = references t file (in_exprs spec.values);
+}
 
 -- those without a value are zero
-abbrev pub initializations_by : Facts → ℕ → VarSpec → Option typed.Source → List typed.Initialization
-initializations_by t file spec source = elim source [
-  | Some (typed.each es) ↦ each_alone t file spec.names spec.values es
-  | Some (typed.results ts f es) ↦ together t file spec (typed.results ts f es) ∷ []
+abbrev pub initializations_by : Facts → List (List ℕ) → ℕ → VarSpec → Option typed.Source → List typed.Initialization
+initializations_by t names file spec source = elim source [
+  | Some (typed.each es) ↦ each_alone t names file spec.names spec.values es
+  | Some (typed.results ts f es) ↦ together t names file spec (typed.results ts f es) ∷ []
   | _ ↦ []
 ]
 
-abbrev pub spec_initializations : Facts → ℕ → VarSpec → List typed.Initialization
-spec_initializations t file spec =
+abbrev pub spec_initializations : Facts → List (List ℕ) → ℕ → VarSpec → List typed.Initialization
+spec_initializations t names file spec =
     let s = scope_at t.package t.known file None in
-    initializations_by t file spec (fine (asked_both (variables_source spec.names) (written_type s spec.type) (values_known s spec.values)))
+    initializations_by t names file spec (fine (asked_both (variables_source spec.names) (written_type s spec.type) (values_known s spec.values)))
 
-abbrev pub top_initializations : Facts → ℕ → TopLevel → List typed.Initialization
-top_initializations t file top = elim top [ declared (variables p ss) ↦ flat_map (spec_initializations t file) ss | _ ↦ [] ]
+abbrev pub top_initializations : Facts → List (List ℕ) → ℕ → TopLevel → List typed.Initialization
+top_initializations t names file top = elim top [ declared (variables p ss) ↦ flat_map (spec_initializations t names file) ss | _ ↦ [] ]
+
+-- a function's name, and the package's variables and functions in its text
+abbrev pub top_uses : Facts → ℕ → TopLevel → List (List ℕ × List (List ℕ))
+top_uses t file top = elim top [ function f ↦ if is_blank f.name.text then [] else (f.name.text, references t file (in_function f)) ∷ [] | _ ↦ [] ]
+
+-- ---- functions
 
 -- a function of the blank name is checked alone
 abbrev pub top_functions : Facts → ℕ → TopLevel → List typed.Function
@@ -98,6 +128,12 @@ top_functions t file top = elim top [
   | function f ↦ elim (function_at (context_at t file) f).known [ None ↦ [] | Some g ↦ if is_blank f.name.text then [] else g ∷ [] ]
   | _ ↦ []
 ]
+
+-- Several functions may have the name init, which nothing refers to. They count from 1, by names that are no words.
+abbrev pub with_numbers : ℕ → List typed.Function → List typed.Function
+with_numbers n [] = []
+with_numbers n (f ∷ fs) =
+    if bytes_eq f.name (codes "init") then record f { name = codes "init." ++ decimal n } ∷ with_numbers (suc n) fs else f ∷ with_numbers n fs
 
 -- ---- packages
 
@@ -108,21 +144,23 @@ of_files f number (file ∷ files) = flat_map (f number) file.declarations ++ of
 abbrev pub package_name : List File → List ℕ
 package_name files = elim files [ [] ↦ [] | f ∷ fs ↦ f.package.text ]
 
--- by the names of the files
-abbrev pub typed_package : Facts → List (List ℕ) → List File → typed.Package
-typed_package t names files = record {
+-- of files that are written in an edition, by their names
+abbrev pub typed_package : Edition → Facts → List (List ℕ) → List File → typed.Package
+typed_package edition t names files = record {
   path = t.package.path;
   name = package_name files;
+  edition = edition;
   constants = constants_in t.known;
   types = types_in t.known;
   variables = variables_in names t.known t.package.objects;
-  initializations = of_files (top_initializations t) 0 files;
-  functions = of_files (top_functions t) 0 files;
+  initializations = of_files (top_initializations t names) 0 files;
+  uses = of_files (top_uses t) 0 files;
+  functions = with_numbers 1 (of_files (top_functions t) 0 files);
 }
 
--- the typed package that some files are, which have no fault
-pub record IsTypedIn (p : Package) (files : List File) (ps : List Importable) (names : List (List ℕ)) (t : typed.Package) : Type 0 where
+-- the typed package that some files of an edition are, which have no fault
+pub record IsTypedIn (edition : Edition) (p : Package) (files : List File) (ps : List Importable) (names : List (List ℕ)) (t : typed.Package) : Type 0 where
   pub facts : Facts
   pub are : AreFacts p facts
   pub none : package_faults ps facts files ≡ []
-  pub is : t ≡ typed_package facts names files
+  pub is : t ≡ typed_package edition facts names files

@@ -14,9 +14,10 @@ ghost use Rattle.go_stmt.specs.Statements.{values_known};
 ghost use Rattle.go_stmt.specs.Seen.{values_seen};
 ghost use Rattle.go_decl.specs.Faults.{written_type};
 ghost use Rattle.go_decl.specs.Seen.{facts_of};
-ghost use Rattle.go_package.specs.Typed.{own_name, references, alone, each_alone, together, initializations_by, spec_initializations, top_initializations, of_files};
-ghost use Rattle.go_package.specs.Seen.{files_of};
+ghost use Rattle.go_package.specs.Typed.{own_name, spec_place, references, alone, each_alone, together, initializations_by, spec_initializations, top_initializations, of_files};
+ghost use Rattle.go_package.specs.Seen.{files_of, texts_of};
 
+use crate::names::file_name;
 use crate::references::references;
 use go_ast::declaration::{Decl, VarSpec};
 use go_ast::expression::Expr;
@@ -30,6 +31,7 @@ use go_objects::evaluation::scope_in;
 use go_scope::names::{UsedName, add_names};
 use go_stmt::declaration::variables_source;
 use go_stmt::values::{Values, check_values};
+use go_text::place::Place;
 use go_typed::expression::TypedExpr;
 use go_typed::package::TypedInitialization;
 use go_typed::statement::TypedSource;
@@ -91,6 +93,16 @@ fn own_names(alloc: Global, names: &[Name]) -> Result<Vec<Option<String>>, Alloc
     Ok(found)
 }
 
+// Where a specification begins, which has a name.
+fn spec_place(names: &[Name]) -> Place
+    ensures { result ≡ spec_place names.now }
+{
+    match names {
+        [first, ..] => first.place(),
+        [] => Place { line: 1, column: 1 },
+    }
+}
+
 fn names_in<'a>(alloc: Global, values: &'a [Expr]) -> Result<Vec<UsedName<'a>>, AllocError>
     ensures { IfOk result (λ names. map used names.items ≡ in_exprs (exprs_trees values.now)) }
 {
@@ -105,19 +117,22 @@ fn names_in<'a>(alloc: Global, values: &'a [Expr]) -> Result<Vec<UsedName<'a>>, 
 fn alone(
     alloc: Global,
     facts: &Facts<'_>,
+    names: &[&str],
     file: usize,
     name: &Name,
     value: &Expr,
     typed: TypedExpr,
 ) -> Result<TypedInitialization, AllocError>
-    ensures { IfOk result (λ i. initialization_of i ≡ alone (facts_of facts.now) file name.now (expr_tree value.now) (expr_of typed)) }
+    ensures { IfOk result (λ i. initialization_of i ≡ alone (facts_of facts.now) (texts_of names.now) file name.now (expr_tree value.now) (expr_of typed)) }
 {
-    let mut names = Vec::new(alloc);
-    add_names(value, &mut names)?;
+    let mut used = Vec::new(alloc);
+    add_names(value, &mut used)?;
     Ok(TypedInitialization {
         variables: vec![in alloc; own_name(alloc, name)?]?,
+        file: String::from_str(alloc, file_name(names, file))?,
+        place: name.place(),
         source: TypedSource::Each(vec![in alloc; typed]?),
-        references: references(alloc, facts, file, &names)?,
+        references: references(alloc, facts, file, &used)?,
     })
 }
 
@@ -125,17 +140,20 @@ fn alone(
 fn together(
     alloc: Global,
     facts: &Facts<'_>,
+    names: &[&str],
     file: usize,
     spec: &VarSpec,
     source: TypedSource,
 ) -> Result<TypedInitialization, AllocError>
-    ensures { IfOk result (λ i. initialization_of i ≡ together (facts_of facts.now) file (var_of spec.now) (source_of source)) }
+    ensures { IfOk result (λ i. initialization_of i ≡ together (facts_of facts.now) (texts_of names.now) file (var_of spec.now) (source_of source)) }
 {
-    let names = names_in(alloc, &spec.values)?;
+    let used = names_in(alloc, &spec.values)?;
     Ok(TypedInitialization {
         variables: own_names(alloc, &spec.names)?,
+        file: String::from_str(alloc, file_name(names, file))?,
+        place: spec_place(&spec.names),
         source,
-        references: references(alloc, facts, file, &names)?,
+        references: references(alloc, facts, file, &used)?,
     })
 }
 
@@ -143,22 +161,23 @@ fn together(
 fn add_alone(
     alloc: Global,
     facts: &Facts<'_>,
+    names: &[&str],
     file: usize,
     spec: &VarSpec,
     typed: Vec<TypedExpr>,
     found: &mut Vec<TypedInitialization>,
 ) -> Result<(), AllocError>
     ensures { OnOk result (map initialization_of found.new.items ≡ map initialization_of found.old.items
-        ++ each_alone (facts_of facts.now) file (var_of spec.now).names (var_of spec.now).values (exprs_in typed.items)) }
+        ++ each_alone (facts_of facts.now) (texts_of names.now) file (var_of spec.now).names (var_of spec.now).values (exprs_in typed.items)) }
 {
-    let names = spec.names.as_slice();
+    let variables = spec.names.as_slice();
     let values = spec.values.as_slice();
     let mut number = 0;
     for e in typed {
-        let (Some(name), Some(value)) = (names.get(number), values.get(number)) else {
+        let (Some(name), Some(value)) = (variables.get(number), values.get(number)) else {
             return Ok(());
         };
-        found.push(alone(alloc, facts, file, name, value, e)?)?;
+        found.push(alone(alloc, facts, names, file, name, value, e)?)?;
         number += 1;
     }
     Ok(())
@@ -167,19 +186,20 @@ fn add_alone(
 fn add_by(
     alloc: Global,
     facts: &Facts<'_>,
+    names: &[&str],
     file: usize,
     spec: &VarSpec,
     source: Option<TypedSource>,
     found: &mut Vec<TypedInitialization>,
 ) -> Result<(), AllocError>
     ensures { OnOk result (map initialization_of found.new.items ≡ map initialization_of found.old.items
-        ++ initializations_by (facts_of facts.now) file (var_of spec.now) (option_map source_of source)) }
+        ++ initializations_by (facts_of facts.now) (texts_of names.now) file (var_of spec.now) (option_map source_of source)) }
 {
     match source {
-        Some(TypedSource::Each(typed)) => add_alone(alloc, facts, file, spec, typed, found),
+        Some(TypedSource::Each(typed)) => add_alone(alloc, facts, names, file, spec, typed, found),
         Some(TypedSource::Results(types, symbol, arguments)) => {
             let source = TypedSource::Results(types, symbol, arguments);
-            found.push(together(alloc, facts, file, spec, source)?)?;
+            found.push(together(alloc, facts, names, file, spec, source)?)?;
             Ok(())
         }
         Some(TypedSource::Zeros(_)) => Ok(()),
@@ -190,30 +210,32 @@ fn add_by(
 fn add_spec(
     alloc: Global,
     facts: &Facts<'_>,
+    names: &[&str],
     file: usize,
     spec: &VarSpec,
     found: &mut Vec<TypedInitialization>,
 ) -> Result<(), AllocError>
     ensures { OnOk result (map initialization_of found.new.items ≡ map initialization_of found.old.items
-        ++ spec_initializations (facts_of facts.now) file (var_of spec.now)) }
+        ++ spec_initializations (facts_of facts.now) (texts_of names.now) file (var_of spec.now)) }
 {
     let scope = scope_in(facts.package(), facts.known(), file, None);
     let source = source_in(alloc, &scope, spec)?;
-    add_by(alloc, facts, file, spec, source, found)
+    add_by(alloc, facts, names, file, spec, source, found)
 }
 
 fn add_specs(
     alloc: Global,
     facts: &Facts<'_>,
+    names: &[&str],
     file: usize,
     specs: &[VarSpec],
     found: &mut Vec<TypedInitialization>,
 ) -> Result<(), AllocError>
     ensures { OnOk result (map initialization_of found.new.items ≡ map initialization_of found.old.items
-        ++ flat_map (spec_initializations (facts_of facts.now) file) (map var_of specs.now)) }
+        ++ flat_map (spec_initializations (facts_of facts.now) (texts_of names.now) file) (map var_of specs.now)) }
 {
     for spec in specs {
-        add_spec(alloc, facts, file, spec, found)?;
+        add_spec(alloc, facts, names, file, spec, found)?;
     }
     Ok(())
 }
@@ -221,16 +243,17 @@ fn add_specs(
 fn add_top(
     alloc: Global,
     facts: &Facts<'_>,
+    names: &[&str],
     file: usize,
     top: &TopLevel,
     found: &mut Vec<TypedInitialization>,
 ) -> Result<(), AllocError>
     ensures { OnOk result (map initialization_of found.new.items ≡ map initialization_of found.old.items
-        ++ top_initializations (facts_of facts.now) file (top_of top.now)) }
+        ++ top_initializations (facts_of facts.now) (texts_of names.now) file (top_of top.now)) }
 {
     match top {
         TopLevel::Declared(Decl::Variables(_, specs)) => add_specs(
-            alloc, facts, file, specs, found,
+            alloc, facts, names, file, specs, found,
         ),
         TopLevel::Declared(Decl::Constants(_, _)) => Ok(()),
         TopLevel::Declared(Decl::Types(_, _)) => Ok(()),
@@ -241,32 +264,34 @@ fn add_top(
 fn add_tops(
     alloc: Global,
     facts: &Facts<'_>,
+    names: &[&str],
     file: usize,
     tops: &[TopLevel],
     found: &mut Vec<TypedInitialization>,
 ) -> Result<(), AllocError>
     ensures { OnOk result (map initialization_of found.new.items ≡ map initialization_of found.old.items
-        ++ flat_map (top_initializations (facts_of facts.now) file) (map top_of tops.now)) }
+        ++ flat_map (top_initializations (facts_of facts.now) (texts_of names.now) file) (map top_of tops.now)) }
 {
     for top in tops {
-        add_top(alloc, facts, file, top, found)?;
+        add_top(alloc, facts, names, file, top, found)?;
     }
     Ok(())
 }
 
-/// What gives the variables of files their values, in the order of the text. An `Err` only where
-/// memory ran out.
+/// What gives the variables of files their values, by the files' names, in the order of the text. An
+/// `Err` only where memory ran out.
 pub fn initializations_in(
     alloc: Global,
     facts: &Facts<'_>,
+    names: &[&str],
     files: &[&File],
 ) -> Result<Vec<TypedInitialization>, AllocError>
-    ensures { IfOk result (λ found. map initialization_of found.items ≡ of_files (top_initializations (facts_of facts.now)) 0 (files_of files.now)) }
+    ensures { IfOk result (λ found. map initialization_of found.items ≡ of_files (top_initializations (facts_of facts.now) (texts_of names.now)) 0 (files_of files.now)) }
 {
     let mut found = Vec::new(alloc);
     for (number, file) in files.iter().enumerate() {
         let file = *file;
-        add_tops(alloc, facts, number, &file.declarations, &mut found)?;
+        add_tops(alloc, facts, names, number, &file.declarations, &mut found)?;
     }
     Ok(found)
 }

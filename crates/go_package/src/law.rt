@@ -1,5 +1,6 @@
 //! What holds of all packages.
 ghost use Rattle.std.specs.Prelude.{◌≡◌, ◌⊎◌, ◌<◌, ℕ, List, length, Option, Some, None};
+ghost use Rattle.go_text.specs.declared.edition.Edition.{Edition};
 ghost use Rattle.go_text.specs.declared.place.Place.{Place};
 ghost use Rattle.go_text.specs.declared.fault.FaultKind.{FaultKind};
 ghost use Rattle.go_ast.specs.Trees.{File};
@@ -29,22 +30,22 @@ pub fn law_some_facts()
 
 /// Each package has a first fault, or has none and is a typed package.
 pub fn law_some_fault()
-    ensures { (path : List ℕ) (files : List File) (ps : List Importable) (names : List (List ℕ))
+    ensures { (path : List ℕ) (files : List File) (ps : List Importable) (edition : Edition) (names : List (List ℕ))
         → (fault : Option (ℕ × (Place × FaultKind))) × IsFaultOf path files ps fault
-        × (fault ≡ None → (t : typed.Package) × IsTypedIn (package_in path files ps) files ps names t) }
+        × (fault ≡ None → (t : typed.Package) × IsTypedIn edition (package_in path files ps) files ps names t) }
 {}
 
 /// A package with a fault isn't a typed package, and one without is.
 pub fn law_fault_or_typed()
-    ensures either { (path : List ℕ) (files : List File) (ps : List Importable) (names : List (List ℕ))
+    ensures either { (path : List ℕ) (files : List File) (ps : List Importable) (edition : Edition) (names : List (List ℕ))
         → ((fault : ℕ × (Place × FaultKind)) × IsFaultOf path files ps (Some fault))
-        ⊎ ((t : typed.Package) × IsTypedIn (package_in path files ps) files ps names t) }
-    ensures faultless { (path : List ℕ) (files : List File) (ps : List Importable) (names : List (List ℕ)) (t : typed.Package)
-        → IsTypedIn (package_in path files ps) files ps names t → IsFaultOf path files ps None }
+        ⊎ ((t : typed.Package) × IsTypedIn edition (package_in path files ps) files ps names t) }
+    ensures faultless { (path : List ℕ) (files : List File) (ps : List Importable) (edition : Edition) (names : List (List ℕ)) (t : typed.Package)
+        → IsTypedIn edition (package_in path files ps) files ps names t → IsFaultOf path files ps None }
 {}
 
 /// A package is one typed package.
 pub fn law_one_typed()
-    ensures { (path : List ℕ) (files : List File) (ps : List Importable) (names : List (List ℕ)) (one other : typed.Package)
-        → IsTypedIn (package_in path files ps) files ps names one → IsTypedIn (package_in path files ps) files ps names other → one ≡ other }
+    ensures { (path : List ℕ) (files : List File) (ps : List Importable) (edition : Edition) (names : List (List ℕ)) (one other : typed.Package)
+        → IsTypedIn edition (package_in path files ps) files ps names one → IsTypedIn edition (package_in path files ps) files ps names other → one ≡ other }
 {}

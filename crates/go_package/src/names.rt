@@ -1,9 +1,9 @@
 //! The names of a typed package.
-ghost use Rattle.std.specs.Prelude.{◌≡◌, [], map, unwrap_or, slice_get, IfOk, string_bytes};
+ghost use Rattle.std.specs.Prelude.{◌≡◌, map, IfOk, string_bytes};
 ghost use Rattle.std.specs.Option.{option_map};
 ghost use Rattle.go_typed.specs.Views.{constant_of, name_of, variable_of};
 ghost use Rattle.go_expr.specs.Seen.{declared_of, names_of};
-ghost use Rattle.go_package.specs.Typed.{constant_in, type_in, constants_in, types_in, declared_at, variable_in, variables_in};
+ghost use Rattle.go_package.specs.Typed.{file_name, constant_in, type_in, constants_in, types_in, declared_at, variable_in, variables_in};
 ghost use Rattle.go_objects.specs.Seen.{object_of};
 
 use go_expr::known::{Declared, Names};
@@ -100,8 +100,9 @@ fn variable_in(
     }))
 }
 
-fn file_name<'a>(files: &[&'a str], number: usize) -> &'a str
-    ensures { result.now ≡ unwrap_or (slice_get (map (λ f. f.now) files.now) number) [] }
+/// The name of the file of a number.
+pub(crate) fn file_name<'a>(files: &[&'a str], number: usize) -> &'a str
+    ensures { result.now ≡ file_name (map (λ f. f.now) files.now) number }
 {
     match files.get(number) {
         Some(name) => *name,

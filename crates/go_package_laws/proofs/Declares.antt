@@ -64,7 +64,7 @@ unnamed env n before named h = elim (cases_Bool (is_some (own env n))) [
 
 module _ (w : Table) (locals : List Type') where
   -- each variable has a sound type, and its value suits it
-  abbrev Fitting : List Name → List Type' → List Type' → Type 0
+  abbrev pub Fitting : List Name → List Type' → List Type' → Type 0
   Fitting [] [] [] = Unit {0}
   Fitting (n ∷ ns) (v ∷ vs) (t ∷ ts) = Suits t v × IsSoundType w v × Fitting ns vs ts
   Fitting ns vs ts = ⊥
@@ -149,7 +149,7 @@ sourced ns f (Some t) (Some values) y h =
 
 module _ (x : Expected) (w : Table) (g : Setting) where
   -- the source of new variables, of some types
-  abbrev Made : List ℕ → List Name → List (Option Type') → Source → Type 0
+  abbrev pub Made : List ℕ → List Name → List (Option Type') → Source → Type 0
   Made d ns types s = (vs : List Type') × (types ≡ map Some vs) × IsSource g d s × Fitting w g.locals ns vs (source_types s)
 
   typed_by : (d : List ℕ) (ns : List Name) (t : Option Type') (u : Type') (values : Values) (s : Source) (b : Bool) → are_none values ≡ b → t ≡ Some u → IsSoundType w u → AreSoundValues x w g d values → variables_source ns (Some u) values ≡ Fine s
@@ -163,7 +163,7 @@ module _ (x : Expected) (w : Table) (g : Setting) where
       let suit = sound_suited x w g d (map (λ n. Some u) ns) values s (some_due w u sound ns) h (sym r ∙ made) in
       (map (λ n. u) ns, same_types t u ns is, suit.0, due_some w g.locals u sound ns (own_types values) (source_types s) suit.1)
 
-  made_by : (d : List ℕ) (sc : Scope) (spec : VarSpec) (env : Env) (t : Option Type') (values : Values) (s : Source) → IsSoundScope w g d sc → WrittenHasTexts spec.type → HaveTexts spec.values
+  pub made_by : (d : List ℕ) (sc : Scope) (spec : VarSpec) (env : Env) (t : Option Type') (values : Values) (s : Source) → IsSoundScope w g d sc → WrittenHasTexts spec.type → HaveTexts spec.values
       → (written_at sc spec.type env).known ≡ Some t → values_known sc spec.values ≡ Some values → variables_source spec.names t values ≡ Fine s → Made d spec.names (variable_types sc spec) s
   made_by d sc spec env t values s scope texts more written known made = elim spec.type as (λ ty. spec.type ≡ ty → WrittenHasTexts ty → (written_at sc ty env).known ≡ Some t → Made d spec.names (variable_types sc spec) s) [
     | None ↦ λ at tx wr. (

@@ -10,10 +10,12 @@ use Rattle.go_package.specs.Imports.{Importable}
 use Rattle.go_package.specs.Packages.{package_faults, package_in, AreFacts}
 use Rattle.go_package.proofs.Whole.{no_faults}
 use Rattle.go_check_laws.specs.Finds.{AreWhole}
+use Rattle.go_check_laws.proofs.Apart.{AreApart}
 use Rattle.go_check_laws.proofs.Known.{given, objects_known}
 use Rattle.go_check_laws.proofs.Packages.{functions_known}
 use Rattle.go_package_laws.proofs.DeclaredTexts.{FilesHaveTexts}
 use Rattle.go_package_laws.proofs.Fits.{HasFormTexts, all_firsts, all_at, files_texts}
+use Rattle.go_package_laws.proofs.Parsed.{FilesNamed}
 use Rattle.go_package_laws.proofs.Found.{LocalFiles}
 use Rattle.go_package_laws.proofs.Links.{Checked}
 
@@ -24,8 +26,8 @@ form_texts : (files : List File) → FilesHaveTexts files → (k : ℕ) (o : Obj
 form_texts files texts k o at = all_at HasFormTexts (firsts [] (objects_from 0 files)) k o (all_firsts HasFormTexts [] (objects_from 0 files) (files_texts 0 files texts)) at
 
 -- what holds of a package without fault
-pub checked : (path : List ℕ) (files : List File) (ps : List Importable) (t : Facts) → exported ps → AreFacts (package_in path files ps) t → package_faults ps t files ≡ [] → LocalFiles files → FilesHaveTexts files → Checked t files
-checked path files ps t whole are none local texts =
+pub checked : (path : List ℕ) (files : List File) (ps : List Importable) (t : Facts) → exported ps → AreFacts (package_in path files ps) t → package_faults ps t files ≡ [] → LocalFiles files → FilesHaveTexts files → FilesNamed files → AreApart [] (objects_from 0 files) → Checked t files
+checked path files ps t whole are none local texts named apart =
     let h = given path files ps t whole are none in
     let known = objects_known path files ps t whole are none in
     let objects = ap (λ (q : Package). q.objects) are.package_is in
@@ -37,7 +39,10 @@ checked path files ps t whole are none local texts =
         named = λ k o at. (form_texts files texts k o (ap (λ os. slice_get os k) (sym objects) ∙ at)).1;
       };
       objects = objects;
+      all = known;
       texts = texts;
+      named = named;
+      apart = apart;
       local = local;
       none = no_faults ps t files none;
       known = λ file f l fine. functions_known t file f (h.whole file) known l fine;

@@ -1,18 +1,21 @@
--- Packages without fault: one with nothing that comes before main, one with an initial value, one with a function init, and one that calls another's function.
-use Rattle.std.proofs.Common.{◌≡◌, ℕ, zero, suc, true, false, List, [], ◌∷◌, Option, Some, None, map, codes, refl, sym, ap, subst, arith}
+-- Packages without fault: with an initial value, with a function init, with a value that depends on itself, and one that calls another's function.
+use Rattle.std.proofs.Common.{◌≡◌, ℕ, zero, suc, List, [], ◌∷◌, ◌++◌, Option, Some, None, map, codes, refl, sym, ap, subst, arith}
 use Rattle.std.specs.Prelude.{option_map}
-use Rattle.std.specs.List.{slice_get, list_any, Contains}
+use Rattle.std.specs.Fmt.{decimal}
+use Rattle.std.specs.List.{slice_get, Contains}
 use Rattle.std.specs.Str.{chars}
 use Rattle.ucd_category.specs.GeneralCategory.{general_category}
 use Rattle.ucd_category.specs.GeneralCategoryRows.{general_category_rows}
 use Rattle.ucd_table.specs.Rows.{value_in}
+use Rattle.go_text.specs.declared.edition.Edition.TheVariants.{One}
 use Rattle.go_text.specs.declared.place.Place.{Place}
-use Rattle.go_ast.specs.Trees.{Name, name as name_expr, integer, selector, call, call_statement, simple, no_exprs, some_exprs, variables, Block, block, no_stmts, some_stmts, ImportSpec, TopLevel, declared, function, File}
+use Rattle.go_ast.specs.Trees.{Name, named as type_named, name as name_expr, integer, selector, call, call_statement, simple, no_exprs, some_exprs, variables, Block, block, no_stmts, some_stmts, ImportSpec, TopLevel, declared, function, File}
 use Rattle.ws_reach.specs.Reach.{Edge}
 use Rattle.go_typed.specs.Trees as typed_trees
-use Rattle.go_typed.specs.Trees.{Package, Function as TypedFunction, global}
-use Rattle.go_meaning.specs.Programs.{symbol_of}
-use Rattle.go_expr.specs.Known.{Declared, value, function as known_function, Names}
+use Rattle.go_typed.specs.Trees.{Initialization, Package, Function as TypedFunction, global}
+use Rattle.go_init.specs.Variables.{variable_order}
+use Rattle.go_meaning.specs.Programs.{calls, package_steps, symbol_of}
+use Rattle.go_expr.specs.Known.{Declared, value, function as known_function, Names, universe}
 use Rattle.go_expr.specs.Rules.{fine, int}
 use Rattle.go_objects.specs.Objects.{Object}
 use Rattle.go_objects.specs.Table.{rows, object_verdict, declared_in}
@@ -24,7 +27,6 @@ use Rattle.go_package.specs.Packages.{package_in, package_faults, AreFacts}
 use Rattle.go_package.specs.Typed.{typed_package, IsTypedIn}
 use Rattle.go_export.specs.Exports.{exports_of}
 use Rattle.go_import.specs.Names.{importable_of}
-use Rattle.go_package_laws.specs.Packages.{has_values, is_init, is_initialized}
 
 -- ---- what stands on nothing
 
@@ -63,6 +65,10 @@ function_named x = function_with x (block here no_stmts here)
 abbrev valued : TopLevel
 valued = declared (variables here (record { names = name (codes "x") ∷ []; type = None; values = some_exprs (integer here (codes "5")) no_exprs } ∷ []))
 
+-- var x int = x
+abbrev circular : TopLevel
+circular = declared (variables here (record { names = name (codes "x") ∷ []; type = Some (type_named here (name (codes "int"))); values = some_exprs (name_expr here (codes "x")) no_exprs } ∷ []))
+
 -- one file
 abbrev pub files_with : List ℕ → List ImportSpec → List TopLevel → List File
 files_with clause imports ds = record { «package» = name clause; imports = imports; declarations = ds } ∷ []
@@ -96,10 +102,10 @@ module _ (path : List ℕ) (files : List File) (ps : List Importable) where
   }
 
   abbrev pub typed : Names → Package
-  typed known = typed_package (facts_of known) file_names files
+  typed known = typed_package One (facts_of known) file_names files
 
   pub typed_in : (known : Names) → known ≡ map (entry known) whole.objects → map (λ n. n.0) known ≡ map (λ (o : Object). o.name.text) whole.objects → AllEmpty (rows whole) → package_faults ps (facts_of known) files ≡ []
-      → IsTypedIn whole files ps file_names (typed known)
+      → IsTypedIn One whole files ps file_names (typed known)
   typed_in known is named empty none = record { facts = facts_of known; are = are_facts known is named empty; none = none; is = refl }
 
 -- ---- packages
@@ -109,6 +115,9 @@ plain_tops = function_named (codes "main") ∷ []
 
 abbrev pub valued_tops : List TopLevel
 valued_tops = valued ∷ plain_tops
+
+abbrev pub circular_tops : List TopLevel
+circular_tops = circular ∷ plain_tops
 
 abbrev pub init_tops : List TopLevel
 init_tops = function_named (codes "init") ∷ plain_tops
@@ -120,27 +129,36 @@ module _ (path : List ℕ) where
   abbrev pub valued_known : Names
   valued_known = (codes "x", Some (value (global int (record { path = path; name = codes "x" })))) ∷ main_known
 
-  pub plain_typed : IsTypedIn (package_in path (files_of plain_tops) []) (files_of plain_tops) [] file_names (typed path (files_of plain_tops) [] main_known)
-  unfolding function_at
-  plain_typed = typed_in path (files_of plain_tops) [] main_known refl refl tt refl
+  abbrev pub a_valued : Package
+  a_valued = typed path (files_of valued_tops) [] valued_known
 
-  pub plain_is : is_initialized (typed path (files_of plain_tops) [] main_known) ≡ false
-  unfolding function_at
-  plain_is = refl
-
-  pub valued_typed : IsTypedIn (package_in path (files_of valued_tops) []) (files_of valued_tops) [] file_names (typed path (files_of valued_tops) [] valued_known)
+  pub valued_typed : IsTypedIn One (package_in path (files_of valued_tops) []) (files_of valued_tops) [] file_names a_valued
   unfolding function_at
   valued_typed = typed_in path (files_of valued_tops) [] valued_known refl refl tt refl
 
-  pub valued_is : has_values (typed path (files_of valued_tops) [] valued_known).initializations ≡ true
+  pub valued_is : (i : Initialization) × (variable_order a_valued ≡ (i ∷ [], []))
   unfolding function_at
-  valued_is = refl
+  valued_is = (_, refl)
 
-  pub init_typed : IsTypedIn (package_in path (files_of init_tops) []) (files_of init_tops) [] file_names (typed path (files_of init_tops) [] main_known)
+  abbrev pub a_circular : Package
+  a_circular = typed path (files_of circular_tops) [] valued_known
+
+  pub circular_typed : IsTypedIn One (package_in path (files_of circular_tops) []) (files_of circular_tops) [] file_names a_circular
+  unfolding function_at universe
+  circular_typed = typed_in path (files_of circular_tops) [] valued_known refl refl tt refl
+
+  pub circular_is : (i : Initialization) × (variable_order a_circular ≡ ([], i ∷ []))
+  unfolding function_at universe
+  circular_is = (_, refl)
+
+  abbrev pub an_init : Package
+  an_init = typed path (files_of init_tops) [] main_known
+
+  pub init_typed : IsTypedIn One (package_in path (files_of init_tops) []) (files_of init_tops) [] file_names an_init
   unfolding function_at
   init_typed = typed_in path (files_of init_tops) [] main_known refl refl tt refl
 
-  pub init_is : list_any is_init (typed path (files_of init_tops) [] main_known).functions ≡ true
+  pub init_is : package_steps an_init ≡ calls (symbol_of an_init (codes "init." ++ decimal 1)) ∷ []
   unfolding function_at
   init_is = refl
 
@@ -159,7 +177,7 @@ library_known = (codes "F", Some (known_function (record { path = library_path; 
 abbrev pub a_library : Package
 a_library = typed library_path library_files [] library_known
 
-pub library_typed : IsTypedIn (package_in library_path library_files []) library_files [] file_names a_library
+pub library_typed : IsTypedIn One (package_in library_path library_files []) library_files [] file_names a_library
 unfolding function_at
 library_typed = typed_in library_path library_files [] library_known refl refl tt refl
 
@@ -175,7 +193,7 @@ module _ (path : List ℕ) where
   abbrev pub a_caller : Package
   a_caller = typed path caller_files (importable_of a_library ∷ []) (main_known path)
 
-  pub caller_typed : IsTypedIn (package_in path caller_files (importable_of a_library ∷ [])) caller_files (importable_of a_library ∷ []) file_names a_caller
+  pub caller_typed : IsTypedIn One (package_in path caller_files (importable_of a_library ∷ [])) caller_files (importable_of a_library ∷ []) file_names a_caller
   unfolding function_at exports_of chars general_category value_in general_category_rows
   caller_typed = typed_in path caller_files (importable_of a_library ∷ []) (main_known path) refl refl tt refl
 
@@ -183,10 +201,10 @@ module _ (path : List ℕ) where
   unfolding function_at exports_of chars general_category value_in general_category_rows
   caller_calls = refl
 
-  pub caller_is : is_initialized a_caller ≡ false
+  pub caller_is : (variable_order a_caller).1 ≡ []
   unfolding function_at exports_of chars general_category value_in general_category_rows
   caller_is = refl
 
-pub library_is : is_initialized a_library ≡ false
+pub library_is : (variable_order a_library).1 ≡ []
 unfolding function_at
 library_is = refl

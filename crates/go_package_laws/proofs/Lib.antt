@@ -21,6 +21,8 @@ pub mod Functions
 pub mod Given
 pub mod Grammar
 pub mod Groups
+pub mod Initial
+pub mod Inits
 pub mod Instances
 pub mod Known
 pub mod Leaves
@@ -35,13 +37,14 @@ pub mod Literals
 pub mod Main
 pub mod Meant
 pub mod Numbered
+pub mod Numbers
 pub mod Once
 pub mod Operators
 pub mod Packages
 pub mod Parsed
 pub mod ParsedInstances
 pub mod ParsedTexts
-pub mod Plain
+pub mod Places
 pub mod Programs
 pub mod Related
 pub mod Selections
@@ -58,7 +61,6 @@ pub mod Strings
 pub mod Tables
 pub mod Texts
 pub mod Types
-pub mod Uninitialized
 pub mod Values
 pub mod Whole
 pub mod Written

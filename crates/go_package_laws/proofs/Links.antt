@@ -3,6 +3,7 @@ use Rattle.std.proofs.Common.{◌≡◌, ℕ, true, List, [], ◌∷◌, Option,
 use Rattle.std.specs.Prelude.{bytes_eq, option_map}
 use Rattle.std.specs.List.{slice_get, find}
 use Rattle.std.specs.Map.{lookup}
+use Rattle.go_text.specs.declared.edition.Edition.{Edition}
 use Rattle.go_scan.specs.Words.{IsWord}
 use Rattle.go_ast.specs.Trees.{TypeExpr, Function, File}
 use Rattle.go_types.specs.Types.{Type', named}
@@ -16,9 +17,10 @@ use Rattle.go_stmt.specs.Functions.{function_at}
 use Rattle.go_objects.specs.Objects.{Form, constant, type' as type_form, typed_variable, valued_variable, result_variable, function', other, Object, firsts, objects_from, objects_of}
 use Rattle.go_objects.specs.Table.{iota_in, scope_at, form_verdict, object_verdict}
 use Rattle.go_decl.specs.Faults.{Facts, context_at, function_faults, files_faults}
-use Rattle.go_package.specs.Typed.{typed_package}
-use Rattle.go_check_laws.specs.Finds.{IsKnown}
+use Rattle.go_package.specs.Typed.{top_functions, of_files, typed_package}
+use Rattle.go_check_laws.specs.Finds.{IsKnown, AreKnown}
 use Rattle.go_check_laws.specs.Locals.{IsLocalBlock}
+use Rattle.go_check_laws.proofs.Apart.{AreApart}
 use Rattle.go_meaning_laws.specs.WellTyped.{Signature, Setting, signature_at, variable_at}
 use Rattle.go_package_laws.specs.Soundness.{Table}
 use Rattle.go_package_laws.proofs.DeclaredTexts.{FilesHaveTexts}
@@ -27,13 +29,18 @@ use Rattle.go_package_laws.proofs.Tables.{Told, entry_is, object_of}
 use Rattle.go_package_laws.proofs.Once.{Once, texts, firsts_once, keys, declared_here, type_found, variable_found}
 use Rattle.go_package_laws.proofs.Fits.{is_function, all_firsts, all_at}
 use Rattle.go_package_laws.proofs.Signed.{signed}
+use Rattle.go_package_laws.proofs.Parsed.{FilesNamed}
+use Rattle.go_package_laws.proofs.Numbers.{NotNumbered, files_not_numbered, found_numbered}
 use Rattle.go_package_laws.proofs.Found.{LocalFiles, NotInit, FunctionOf, by_name, files_not_init, first_found, files_found, by_symbol}
 
 -- what is given of a package without fault
 pub record Checked (t : Facts) (files : List File) : Type 0 where
   pub told : Told t.package t.known
   pub objects : t.package.objects ≡ objects_of files
+  pub all : AreKnown t.known
   pub texts : FilesHaveTexts files
+  pub named : FilesNamed files
+  pub apart : AreApart [] (objects_from 0 files)
   pub local : LocalFiles files
   pub none : files_faults t 0 files ≡ []
   pub known : (file : ℕ) (f : Function) → IsLocalBlock f.body → function_faults t file f ≡ [] → IsKnown (function_at (context_at t file) f).known
@@ -51,9 +58,9 @@ HasTypes w p = (x : List ℕ) → w.types p.path x ≡ declared_as (lookup (byte
 abbrev pub IsIn : typed.Package → Setting → Type 0
 IsIn p g = ((x : List ℕ) → g.functions (symbol_of p x) ≡ signature_at (p ∷ []) (symbol_of p x)) × ((x : List ℕ) → g.variables (symbol_of p x) ≡ variable_at (p ∷ []) (symbol_of p x))
 
-module _ (t : Facts) (names : List (List ℕ)) (files : List File) (h : Checked t files) where
+module _ (edition : Edition) (t : Facts) (names : List (List ℕ)) (files : List File) (h : Checked t files) where
   abbrev p : typed.Package
-  p = typed_package t names files
+  p = typed_package edition t names files
 
   pub objects_once : Once (texts t.package.objects)
   objects_once = subst (λ (os : List Object). Once (texts os)) (sym h.objects) (firsts_once [] (objects_from 0 files))
@@ -63,7 +70,7 @@ module _ (t : Facts) (names : List (List ℕ)) (files : List File) (h : Checked 
 
   -- ---- variables
 
-  variable_linked : (k : ℕ) (o : Object) (u : Type') (s : Symbol) → slice_get t.package.objects k ≡ Some o → slice_get t.known k ≡ Some (o.name.text, Some (value (global u s)))
+  pub variable_linked : (k : ℕ) (o : Object) (u : Type') (s : Symbol) → slice_get t.package.objects k ≡ Some o → slice_get t.known k ≡ Some (o.name.text, Some (value (global u s)))
       → variable_at (p ∷ []) (symbol_of p o.name.text) ≡ Some u
   variable_linked k o u s there at =
       variable_found p names t.known t.package.objects [] objects_once k o u s there (declared_here t.known known_once k o.name.text (value (global u s)) at)
@@ -75,7 +82,9 @@ module _ (t : Facts) (names : List (List ℕ)) (files : List File) (h : Checked 
       let at : slice_get (firsts [] (objects_from 0 files)) k ≡ Some o = ap (λ (os : List Object). slice_get os k) (sym h.objects) ∙ there in
       let first = first_found [] (objects_from 0 files) k o at in
       let not_init = all_at NotInit (firsts [] (objects_from 0 files)) k o (all_firsts NotInit [] (objects_from 0 files) (files_not_init 0 files h.texts)) at is in
-      files_found t h.known o.name.text first.1 not_init 0 files h.texts h.local h.none o is first.2
+      let not_numbered = all_at NotNumbered (firsts [] (objects_from 0 files)) k o (all_firsts NotNumbered [] (objects_from 0 files) (files_not_numbered 0 files h.texts h.named)) at is in
+      let found = files_found t h.known o.name.text first.1 not_init 0 files h.texts h.local h.none o is first.2 in
+      (found.0, found.1, found.2, found.3, found_numbered o.name.text not_init not_numbered 1 (of_files (top_functions t) 0 files) ∙ found.4)
 
   pub function_here : (x : List ℕ) → meaning.function_at (p ∷ []) (symbol_of p x) ≡ find (by_name x) p.functions
   function_here x =

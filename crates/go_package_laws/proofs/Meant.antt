@@ -1,9 +1,10 @@
 -- Checked packages are linked, and their image means the same as their sources.
-use Rattle.std.proofs.Common.{◌≡◌, ◌≢◌, ℕ, List, [], ◌∷◌, None, map, refl, sym, subst, append-nil}
+use Rattle.std.proofs.Common.{◌≡◌, ◌≢◌, ℕ, List, [], ◌∷◌, Some, None, map, refl, sym, subst, append-nil}
 use Rattle.std.specs.List.{Contains}
 use Rattle.std.proofs.lemmas.List.Elements.{All-nil}
 use Rattle.go_ast.specs.Trees.{File}
 use Rattle.go_code.specs.Images.{Image}
+use Rattle.go_link.specs.declared.link.LinkError.TheVariants.{NoMain}
 use Rattle.go_link.specs.Links.{link_refusal}
 use Rattle.go_typed.specs.Trees.{Package}
 use Rattle.go_meaning.specs.Meaning.{Stuck}
@@ -16,9 +17,14 @@ use Rattle.go_meaning_laws.proofs.Programs.{never_stuck, means}
 use Rattle.go_gen.specs.Translation.{object_of}
 use Rattle.go_translation_laws.specs.Programs.{IsLinked, MeansTheSame, MakesSense}
 use Rattle.go_translation_laws.proofs.LinkedNames.{program_linked}
+use Rattle.go_translation_laws.proofs.Refusals.{no_main}
 use Rattle.go_translation_laws.proofs.WellTyped.{means_the_same, always_sense}
 use Rattle.go_package_laws.specs.Packages.{AreLibraries, AreProgram, AreChecked, IsNamedMain, HasMeaning}
+use Rattle.go_package_laws.proofs.Given.{named_main}
 use Rattle.go_package_laws.proofs.Programs.{packages_typed}
+
+pub packages_refused : (packages : List Package) → (IsNamedMain packages → ⊥) → link_refusal (map object_of packages) ≡ Some NoMain
+packages_refused packages other = no_main packages (λ program. other (named_main packages program))
 
 module _ (packages : List Package) (are : AreChecked packages) (named : IsNamedMain packages) where
   pub packages_linked : link_refusal (map object_of packages) ≡ None
@@ -42,6 +48,7 @@ module _ (path : List ℕ) (files : List File) (ps : List Importable) (names : L
   alone = (
     record {
       path = path;
+      edition = it.edition;
       files = files;
       names = names;
       libraries = ps;
@@ -49,9 +56,9 @@ module _ (path : List ℕ) (files : List File) (ps : List Importable) (names : L
       are_libraries = libraries;
       stand_before = All-nil (Contains []);
       sources = it.sources;
-      typed = subst (λ (qs : List Importable). IsTypedIn (package_in path files qs) files qs names p) (sym (append-nil ps)) it.typed;
+      typed = subst (λ (qs : List Importable). IsTypedIn it.edition (package_in path files qs) files qs names p) (sym (append-nil ps)) it.typed;
       new = All-nil (λ (q : Package). p.path ≢ q.path);
-      plain = it.plain;
+      ordered = it.ordered;
     },
     tt,
   )

@@ -1,11 +1,12 @@
 -- Each package of a program is well typed, and what it exports is sound, where what it imports is.
 use Rattle.std.proofs.Common.{◌≡◌, ℕ, zero, suc, true, false, Bool, List, [], ◌∷◌, ◌++◌, Option, Some, None, map, codes, append-nil, refl, sym, ap, ◌∙◌, subst, ◌⊎◌, inl, inr}
-use Rattle.std.specs.Prelude.{bytes_eq, option_map, unwrap_or, IsSome, if◌then◌else◌}
-use Rattle.std.specs.List.{All, find, slice_get, flat_map, cons_option}
+use Rattle.std.specs.Prelude.{bytes_eq, nat_eq, option_map, unwrap_or, IsSome, if◌then◌else◌}
+use Rattle.std.specs.List.{All, filter, find, slice_get, flat_map, cons_option, starts_with}
 use Rattle.std.specs.Map.{lookup}
 use Rattle.std.proofs.lemmas.Bool.{cases_Bool}
 use Rattle.std.proofs.lemmas.Slice.Eq.{bytes_eq-Decides}
 use Rattle.std.proofs.lemmas.List.Elements.{All-head, All-tail, All-nil, All-cons, All-append, All-map}
+use Rattle.go_text.specs.declared.edition.Edition.{Edition}
 use Rattle.go_text.specs.declared.place.Place.{Place}
 use Rattle.go_ast.specs.Trees.{ImportSpec, TopLevel, declared, function, Function, File}
 use Rattle.go_const.specs.declared.constant.Const.{Const}
@@ -13,9 +14,10 @@ use Rattle.go_types.specs.Types.{Type'}
 use Rattle.go_types.specs.Names.{is_exported}
 use Rattle.go_typed.specs.Trees as typed
 use Rattle.go_typed.specs.Trees.{Symbol, global}
+use Rattle.go_init.specs.Variables.{variable_order}
 use Rattle.go_symbol.specs.Symbols.{same_symbol}
 use Rattle.go_meaning.specs.Meaning.{Stored}
-use Rattle.go_meaning.specs.Programs.{symbol_of, package_functions, first_variables, HasMain}
+use Rattle.go_meaning.specs.Programs.{symbol_of, package_functions, first_variables, package_steps, HasMain}
 use Rattle.go_meaning.specs.Programs as meaning
 use Rattle.go_expr.specs.Known.{Declared, value, type', function as known_function, println, length', panic', Names, declared as known_declared, Fine}
 use Rattle.go_export.specs.Exports as exports
@@ -30,7 +32,7 @@ use Rattle.go_package.specs.Imports.{Importable, package_at, import_name, named_
 use Rattle.go_package.specs.Packages.{main_faults}
 use Rattle.go_scope.specs.Scopes.{is_blank}
 use Rattle.go_package.specs.Typed.{variable_in, variables_in, constants_in, types_in, declared_at, top_functions, of_files, package_name, typed_package}
-use Rattle.go_meaning_laws.specs.WellTyped.{Signature, Setting, IsFunction, IsStart, signature_at, variable_at}
+use Rattle.go_meaning_laws.specs.WellTyped.{Signature, Setting, IsFunction, IsStart, signature_at, variable_at, outside}
 use Rattle.go_package_laws.specs.Soundness.{Table, IsSoundType, AreSoundTypes, IsSoundDeclared, AreSoundNames}
 use Rattle.go_package_laws.proofs.SoundNames.{IsSoundScope}
 use Rattle.go_package_laws.proofs.BodyTexts.{FunctionHasTexts}
@@ -44,8 +46,11 @@ use Rattle.go_package_laws.proofs.Tables.{own_sound, table_sound}
 use Rattle.go_package_laws.proofs.Once.{itself, stored}
 use Rattle.go_package_laws.proofs.Fits.{is_function, all_firsts, all_at}
 use Rattle.go_package_laws.proofs.Found.{by_name}
-use Rattle.go_package_laws.proofs.Links.{Checked, HasTypes, IsIn, function_here, linked, function_linked}
+use Rattle.go_package_laws.proofs.Links.{Checked, HasTypes, IsIn, function_here, linked, function_linked, variable_linked}
+use Rattle.go_package_laws.proofs.Initial.{initial_start}
 use Rattle.go_package_laws.proofs.Main.{main, MainOnly, main_object}
+use Rattle.go_package_laws.proofs.Numbers.{numbered_all}
+use Rattle.go_package_laws.proofs.Inits.{EmptyInit, inits_empty, filtered, found_some}
 
 -- ---- imports
 
@@ -246,9 +251,9 @@ module _ (packages : List typed.Package) (w : Table) where
   abbrev pub IsSoundFor : typed.Package → Type 0
   IsSoundFor p = (g : Setting) (d : List ℕ) → IsWithin g → AreSoundNames w g d (names_by p.path (exports_of p))
 
-module _ (packages : List typed.Package) (w : Table) (t : Facts) (names : List (List ℕ)) (files : List File) (h : Checked t files) where
+module _ (packages : List typed.Package) (w : Table) (edition : Edition) (t : Facts) (names : List (List ℕ)) (files : List File) (h : Checked t files) where
   abbrev p : typed.Package
-  p = typed_package t names files
+  p = typed_package edition t names files
 
   module _ (own : HasOwn packages w p) (ps : List Importable) (imported : t.package.imports ≡ imports_of ps files) (sound : (g : Setting) (d : List ℕ) → IsWithin packages w g → AllExport w g d ps) where
     inside_it : (g : Setting) → IsWithin packages w g → IsIn p g
@@ -262,7 +267,7 @@ module _ (packages : List typed.Package) (w : Table) (t : Facts) (names : List (
         subst (λ (is : List (List (List ℕ × Names))). AllImports w g d (unwrap_or (slice_get is file) [])) (sym imported) (files_import w g d ps (sound g d within) files file)
 
     pub entries_sound : (g : Setting) (d : List ℕ) → IsWithin packages w g → TableSound w g d t.known
-    entries_sound g d within = table_sound expected w g d t.package t.known h.told own.3 (import_sound g d within) (linked t names files h w own.2 own.3 g (inside_it g within))
+    entries_sound g d within = table_sound expected w g d t.package t.known h.told own.3 (import_sound g d within) (linked edition t names files h w own.2 own.3 g (inside_it g within))
 
     -- names outside of functions
     pub outside_sound : (g : Setting) (d : List ℕ) → IsWithin packages w g → (file : ℕ) (iota : Option ℕ) → IsSoundScope w g d (scope_at t.package t.known file iota)
@@ -282,7 +287,7 @@ module _ (packages : List typed.Package) (w : Table) (t : Facts) (names : List (
     global_sound : (x : List ℕ) (u : Type') (s : Symbol) → declared_at t.known x ≡ Some (value (global u s)) → IsSoundType w u
     global_sound x u s is =
         let entry = entry_of t.known x (value (global u s)) is in
-        let own_it = own_sound expected w here [] t.package t.known h.told own.3 (import_sound here [] (refl, refl)) (linked t names files h w own.2 own.3 here (inside_it here (refl, refl))) entry.0 entry.1 (value (global u s)) entry.2 in
+        let own_it = own_sound expected w here [] t.package t.known h.told own.3 (import_sound here [] (refl, refl)) (linked edition t names files h w own.2 own.3 here (inside_it here (refl, refl))) entry.0 entry.1 (value (global u s)) entry.2 in
         own_it.1
 
     one_variable : (o : Object) (e : Option Declared) → declared_at t.known o.name.text ≡ e → (vs : List typed.Variable) → All SoundVariable vs → All SoundVariable (cons_option (variable_in names o e) vs)
@@ -316,7 +321,9 @@ module _ (packages : List typed.Package) (w : Table) (t : Facts) (names : List (
     SoundSigned g = AreSoundTypes w g.parameters × AreSoundTypes w g.results
 
     pub signatures_sound : All SoundSigned p.functions
-    signatures_sound = files_are t SoundSigned (λ file f texts none g is. signature_sound w packages (context_at t file) f (context_sound file) texts g is) 0 files h.texts h.none
+    signatures_sound =
+        numbered_all SoundSigned (λ f x sound. sound) 1 (of_files (top_functions t) 0 files)
+        (files_are t SoundSigned (λ file f texts none g is. signature_sound w packages (context_at t file) f (context_sound file) texts g is) 0 files h.texts h.none)
 
     variable_exported : (g : Setting) (d : List ℕ) → IsWithin packages w g → (x : List ℕ) (e : Export) → look_up_export x (map named_variable p.variables) ≡ Some e → IsSoundDeclared w g d (exported_as p.path x e)
     variable_exported g d within x e at =
@@ -334,7 +341,7 @@ module _ (packages : List typed.Package) (w : Table) (t : Facts) (names : List (
         let f = there.0 in
         let types = found_of SoundSigned (by_name x) p.functions f signatures_sound there.1 in
         let alone : signature_at (p ∷ []) (symbol_of p x) ≡ Some (record { parameters = f.parameters; results = f.results }) =
-        ap (λ (r : Option typed.Function). option_map (λ (f : typed.Function). record { parameters = f.parameters; results = f.results }) r) (function_here t names files h x ∙ there.1) in
+        ap (λ (r : Option typed.Function). option_map (λ (f : typed.Function). record { parameters = f.parameters; results = f.results }) r) (function_here edition t names files h x ∙ there.1) in
         subst (λ (e : Export). IsSoundDeclared w g d (exported_as p.path x e)) (sym there.2) ((inside_it g within).0 x ∙ alone, types.0, types.1)
 
     declared_sound : (g : Setting) (d : List ℕ) → IsWithin packages w g → (x : List ℕ) (e : Export) → look_up_export x (exports.declared_by p) ≡ Some e → IsSoundDeclared w g d (exported_as p.path x e)
@@ -371,7 +378,8 @@ module _ (packages : List typed.Package) (w : Table) (t : Facts) (names : List (
     functions_sound variables =
         let P = λ (d : meaning.Declared). IsFunction packages d.function in
         All-map P (λ (f : typed.Function). record { symbol = symbol_of p f.name; function = f }) p.functions
-        (files_are t Sound (λ file f texts none g is. (function_sound w packages (context_at t file) f refl refl (context_sound file) variables texts none g is).0) 0 files h.texts h.none)
+        (numbered_all Sound (λ f x sound. record { body = sound.body; ended = sound.ended }) 1 (of_files (top_functions t) 0 files)
+        (files_are t Sound (λ file f texts none g is. (function_sound w packages (context_at t file) f refl refl (context_sound file) variables texts none g is).0) 0 files h.texts h.none))
 
     -- ---- what a program starts with
 
@@ -399,10 +407,37 @@ module _ (packages : List typed.Package) (w : Table) (t : Facts) (names : List (
         let s = symbol_of p o.name.text in
         let verdict : object_verdict t.package t.known o ≡ Fine (known_declared (known_function s [] [])) =
         subst (λ (form : Form). form_verdict (scope_at t.package t.known o.file (iota_in form)) s form ≡ Fine (known_declared (known_function s [] []))) (sym form) refl in
-        let of = function_linked t names files h k o (known_function s [] []) found.2 (ap is_function form) verdict in
+        let of = function_linked edition t names files h k o (known_function s [] []) found.2 (ap is_function form) verdict in
         let parameters : of.0 ≡ [] = no_parameters s of.0 of.1 of.2 in
         let results : of.1 ≡ [] = no_results s of.0 of.1 of.2 in
         subst (λ (x : List ℕ). signature_at (p ∷ []) (symbol_of p x) ≡ Some (signed_by [] [])) (sym name) (unsigned (signature_at (p ∷ []) s) of.0 of.1 of.3 parameters results)
+
+    -- functions init
+    init_called : main_faults t files ≡ [] → (k : ℕ) (f : typed.Function) → slice_get p.functions k ≡ Some f → meaning.is_init f ≡ true → IsStart packages (meaning.calls (symbol_of p f.name))
+    init_called none k f at is =
+        let here = (bytes_eq-Decides f.name f.name).1 refl in
+        let found = found_some (by_name f.name) EmptyInit p.functions (inits_empty t files h.named none) k f at here in
+        let g = found.0 in
+        let name : f.name ≡ g.name = (bytes_eq-Decides f.name g.name).0 found.3 in
+        let empty = found.2 (ap (λ (x : List ℕ). starts_with nat_eq x (codes "init.")) (sym name) ∙ is) in
+        own.0 f.name
+        ∙ ap (λ (r : Option typed.Function). option_map (λ (f : typed.Function). signed_by f.parameters f.results) r) (function_here edition t names files h f.name ∙ found.1)
+        ∙ unsigned (Some (signed_by g.parameters g.results)) g.parameters g.results refl empty.0 empty.1
+
+    pub inits_start : main_faults t files ≡ [] → All (IsStart packages) (map (λ (f : typed.Function). meaning.calls (symbol_of p f.name)) (filter meaning.is_init p.functions))
+    inits_start none =
+        All-map (IsStart packages) (λ (f : typed.Function). meaning.calls (symbol_of p f.name)) (filter meaning.is_init p.functions)
+        (filtered meaning.is_init (λ (f : typed.Function). IsStart packages (meaning.calls (symbol_of p f.name))) p.functions (init_called none))
+
+    -- initial values
+    variable_stored : (k : ℕ) (o : Object) (u : Type') (s : Symbol) → slice_get t.package.objects k ≡ Some o → slice_get t.known k ≡ Some (o.name.text, Some (value (global u s))) → variable_at packages (symbol_of p o.name.text) ≡ Some u
+    variable_stored k o u s there at = own.1 o.name.text ∙ variable_linked edition t names files h k o u s there at
+
+    -- what it starts with
+    pub steps_start : main_faults t files ≡ [] → All (IsStart packages) (package_steps p)
+    steps_start none =
+        All-append (IsStart packages) (map (meaning.sets p.path) (variable_order p).0) (map (λ (f : typed.Function). meaning.calls (symbol_of p f.name)) (filter meaning.is_init p.functions))
+        (initial_start packages w edition t names files h (λ file. outside_sound (outside packages) [] (refl, refl) file None) variable_stored) (inits_start none)
 
     main_alone : (fs : List File) → files ≡ fs → p.name ≡ codes "main" → main_faults t files ≡ [] → IsStart (p ∷ []) (meaning.calls (symbol_of p main))
     main_alone [] are named none = absurd (let no : [] ≡ codes "main" = ap package_name (sym are) ∙ named in cc (no))
@@ -419,4 +454,4 @@ module _ (packages : List typed.Package) (w : Table) (t : Facts) (names : List (
     pub has_main : p.name ≡ codes "main" → main_faults t files ≡ [] → HasMain (Some p)
     has_main named none =
         let there = some_of _ (meaning.function_at (p ∷ []) (symbol_of p main)) _ (main_alone files refl named none) in
-        (named, subst IsSome (function_here t names files h main) there)
+        (named, subst IsSome (function_here edition t names files h main) there)

@@ -9,6 +9,7 @@ use Rattle.std.proofs.lemmas.Slice.Eq.{bytes_eq-Decides}
 use Rattle.ucd_category.specs.GeneralCategory.{general_category}
 use Rattle.ucd_category.specs.GeneralCategoryRows.{general_category_rows}
 use Rattle.ucd_table.specs.Rows.{value_in}
+use Rattle.go_text.specs.declared.edition.Edition.TheVariants.{One}
 use Rattle.go_ast.specs.Trees.{File}
 use Rattle.go_const.specs.declared.kind.IntKind.TheVariants as integers
 use Rattle.go_const.specs.Constants.{fits}
@@ -18,9 +19,10 @@ use Rattle.go_meaning_laws.specs.WellTyped.{is_text}
 use Rattle.go_stmt.specs.Functions.{function_at}
 use Rattle.go_export.specs.Exports.{exports_of}
 use Rattle.go_import.specs.Names.{importable_of}
+use Rattle.go_init.specs.Variables.{variable_order}
 use Rattle.go_package.specs.Packages.{package_in}
 use Rattle.go_package.specs.Typed.{IsTypedIn}
-use Rattle.go_package_laws.specs.Packages.{AreOfTexts, IsChecked, AreChecked, IsNamedMain, is_initialized}
+use Rattle.go_package_laws.specs.Packages.{AreOfTexts, IsChecked, AreChecked, IsNamedMain}
 use Rattle.go_package_laws.proofs.Instances.{file_names, library_path, library_known, main_known, typed, typed_in}
 use Rattle.go_package_laws.proofs.LexedTexts.{library_text, caller_text}
 use Rattle.go_package_laws.proofs.ParsedTexts.{library_file, library_parses, caller_file, caller_parses}
@@ -40,17 +42,18 @@ parsed_library = typed library_path library_files [] library_known
 library_texts : AreOfTexts library_files
 library_texts = ((library_text, library_parses, short_text library_text refl (let le : 22 ≤ 100 = omega arith in le)), tt)
 
-library_typed : IsTypedIn (package_in library_path library_files []) library_files [] file_names parsed_library
+library_typed : IsTypedIn One (package_in library_path library_files []) library_files [] file_names parsed_library
 unfolding function_at
 library_typed = typed_in library_path library_files [] library_known refl refl tt refl
 
-library_plain : is_initialized parsed_library ≡ false
+library_ordered : (variable_order parsed_library).1 ≡ []
 unfolding function_at
-library_plain = refl
+library_ordered = refl
 
 library_checked : IsChecked [] parsed_library
 library_checked = record {
   path = library_path;
+  edition = One;
   files = library_files;
   names = file_names;
   libraries = [];
@@ -60,7 +63,7 @@ library_checked = record {
   sources = library_texts;
   typed = library_typed;
   new = All-nil (λ (q : Package). parsed_library.path ≢ q.path);
-  plain = library_plain;
+  ordered = library_ordered;
 }
 
 -- ---- its caller
@@ -77,13 +80,13 @@ parsed_caller = typed caller_path caller_files (importable_of parsed_library ∷
 caller_texts : AreOfTexts caller_files
 caller_texts = ((caller_text, caller_parses, short_text caller_text refl (let le : 46 ≤ 100 = omega arith in le)), tt)
 
-caller_typed : IsTypedIn (package_in caller_path caller_files (importable_of parsed_library ∷ [])) caller_files (importable_of parsed_library ∷ []) file_names parsed_caller
+caller_typed : IsTypedIn One (package_in caller_path caller_files (importable_of parsed_library ∷ [])) caller_files (importable_of parsed_library ∷ []) file_names parsed_caller
 unfolding function_at exports_of chars general_category value_in general_category_rows
 caller_typed = typed_in caller_path caller_files (importable_of parsed_library ∷ []) (main_known caller_path) refl refl tt refl
 
-caller_plain : is_initialized parsed_caller ≡ false
+caller_ordered : (variable_order parsed_caller).1 ≡ []
 unfolding function_at exports_of chars general_category value_in general_category_rows
-caller_plain = refl
+caller_ordered = refl
 
 other_path : caller_path ≢ library_path
 other_path same =
@@ -93,6 +96,7 @@ other_path same =
 caller_checked : IsChecked (parsed_library ∷ []) parsed_caller
 caller_checked = record {
   path = caller_path;
+  edition = One;
   files = caller_files;
   names = file_names;
   libraries = [];
@@ -102,7 +106,7 @@ caller_checked = record {
   sources = caller_texts;
   typed = caller_typed;
   new = All-cons (λ (q : Package). parsed_caller.path ≢ q.path) parsed_library [] other_path (All-nil (λ (q : Package). parsed_caller.path ≢ q.path));
-  plain = caller_plain;
+  ordered = caller_ordered;
 }
 
 pub parsed_checked : AreChecked (parsed_library ∷ parsed_caller ∷ [])

@@ -1,10 +1,11 @@
 -- Packages without fault that import each other are well typed, and a program by the last of them.
-use Rattle.std.proofs.Common.{◌≡◌, ℕ, zero, suc, Bool, true, false, List, [], ◌∷◌, ◌++◌, Option, Some, None, map, codes, length, ◌-◌, refl, sym, ap, ◌∙◌, subst, inl, inr}
+use Rattle.std.proofs.Common.{◌≡◌, ℕ, zero, suc, Bool, true, List, [], ◌∷◌, ◌++◌, Option, Some, None, map, codes, length, ◌-◌, refl, sym, ap, subst, inl, inr}
 use Rattle.std.specs.Prelude.{bytes_eq}
 use Rattle.std.specs.Map.{lookup}
-use Rattle.std.specs.List.{All, Contains, filter, find, flat_map, slice_get}
+use Rattle.std.specs.List.{All, Contains, find, flat_map, slice_get}
 use Rattle.std.proofs.lemmas.Bool.{cases_Bool}
 use Rattle.std.proofs.lemmas.List.Elements.{All-head, All-tail, All-nil, All-cons, All-append, All-contains}
+use Rattle.go_text.specs.declared.edition.Edition.{Edition}
 use Rattle.ws_reach.proofs.Reached.{contains_get, get_contains}
 use Rattle.go_ast.specs.Trees.{File}
 use Rattle.go_typed.specs.Trees as typed
@@ -21,21 +22,21 @@ use Rattle.go_package.specs.Typed.{typed_package}
 use Rattle.go_export.specs.Exports.{Exports, exports_of}
 use Rattle.go_import.specs.Names.{declared_as, names_by, importable_of}
 use Rattle.go_check_laws.specs.Finds.{AreWhole}
+use Rattle.go_check_laws.proofs.Apart.{parsed_apart}
 use Rattle.go_meaning_laws.specs.WellTyped.{Setting, IsFunction, IsStart, IsWellTyped}
 use Rattle.go_package_laws.specs.Soundness.{Table, IsSoundType}
-use Rattle.go_package_laws.specs.Packages.{AreLibraries, IsChecked, AreCheckedBehind, AreChecked, IsNamedMain, is_initialized}
+use Rattle.go_package_laws.specs.Packages.{AreLibraries, IsChecked, AreCheckedBehind, AreChecked, IsNamedMain}
 use Rattle.go_package_laws.proofs.Types.{whole_type}
 use Rattle.go_package_laws.proofs.Forms.{mapped_is}
 use Rattle.go_package_laws.proofs.Functions.{SoundPackageVariables}
 use Rattle.go_package_laws.proofs.Whole.{expected}
 use Rattle.go_package_laws.proofs.Faultless.{checked}
 use Rattle.go_package_laws.proofs.Grammar.{local_files}
-use Rattle.go_package_laws.proofs.Parsed.{files_have, files_parsed}
+use Rattle.go_package_laws.proofs.Parsed.{files_have, files_named, files_parsed}
 use Rattle.go_package_laws.proofs.Libraries.{library_sound, libraries_whole}
 use Rattle.go_package_laws.proofs.Links.{Checked}
 use Rattle.go_package_laws.proofs.Main.{main}
-use Rattle.go_package_laws.proofs.Plain.{no_inits}
-use Rattle.go_package_laws.proofs.Packages.{AllExport, IsWithin, HasOwn, IsSoundFor, found_of, stored_sound, exports_sound, functions_sound, main_start, has_main}
+use Rattle.go_package_laws.proofs.Packages.{AllExport, IsWithin, HasOwn, IsSoundFor, found_of, stored_sound, exports_sound, functions_sound, steps_start, main_start, has_main}
 use Rattle.go_package_laws.proofs.Listed.{table_of, differ, has_own}
 
 both_none : {A : Type 0} (xs ys : List A) → xs ++ ys ≡ [] → (xs ≡ []) × (ys ≡ [])
@@ -70,16 +71,16 @@ imported_whole (q ∷ qs) = (names_whole q.path (exports_of q), imported_whole q
 module _ (packages : List typed.Package) (w : Table) where
   -- what is known of a package that was checked
   pub record Good (p : typed.Package) : Type 0 where
+    pub edition : Edition
     pub facts : Facts
     pub names : List (List ℕ)
     pub files : List File
     pub given : Checked facts files
-    pub is : p ≡ typed_package facts names files
-    pub own : HasOwn packages w (typed_package facts names files)
+    pub is : p ≡ typed_package edition facts names files
+    pub own : HasOwn packages w (typed_package edition facts names files)
     pub imports : List Importable
     pub are : facts.package.imports ≡ imports_of imports files
     pub sound : (g : Setting) (d : List ℕ) → IsWithin packages w g → AllExport w g d imports
-    pub inits : filter meaning.is_init (typed_package facts names files).functions ≡ []
     pub mains : main_faults facts files ≡ []
 
   -- ---- imports
@@ -106,21 +107,21 @@ module _ (packages : List typed.Package) (w : Table) where
       let whole = more_whole it.libraries (map importable_of it.imported) (libraries_whole it.libraries it.are_libraries) (imported_whole it.imported) in
       let rest = both_none (each_file (file_faults ps t) 0 it.files) (constants_faults t ++ main_faults t it.files) it.typed.none in
       record {
+        edition = it.edition;
         facts = t;
         names = it.names;
         files = it.files;
-        given = checked it.path it.files ps t whole it.typed.are it.typed.none (local_files it.files (files_parsed it.files it.sources)) (files_have it.files it.sources);
+        given = checked it.path it.files ps t whole it.typed.are it.typed.none (local_files it.files (files_parsed it.files it.sources)) (files_have it.files it.sources) (files_named it.files it.sources) (parsed_apart it.files (files_parsed it.files it.sources));
         is = it.typed.is;
         own = subst (HasOwn packages w) it.typed.is own;
         imports = ps;
         are = ap (λ (q : Package). q.imports) it.typed.are.package_is;
         sound = λ g d within. more_export it.libraries (map importable_of it.imported) g d (libraries_export it.libraries it.are_libraries g d) (imported_export before it.imported sound it.stand_before g d within);
-        inits = no_inits (typed_package t it.names it.files) (subst (λ (q : typed.Package). is_initialized q ≡ false) it.typed.is it.plain);
         mains = (both_none (constants_faults t) (main_faults t it.files) rest.1).1;
       }
 
   good_exports : (p : typed.Package) → Good p → IsSoundFor packages w p
-  good_exports p h = subst (IsSoundFor packages w) (sym h.is) (exports_sound packages w h.facts h.names h.files h.given h.own h.imports h.are h.sound)
+  good_exports p h = subst (IsSoundFor packages w) (sym h.is) (exports_sound packages w h.edition h.facts h.names h.files h.given h.own h.imports h.are h.sound)
 
   sound_behind : (before : List typed.Package) (p : typed.Package) → ((q : typed.Package) → Contains before q → IsSoundFor packages w q) → IsSoundFor packages w p
       → (k : ℕ) (q : typed.Package) → slice_get (p ∷ before) k ≡ Some q → IsSoundFor packages w q
@@ -140,7 +141,7 @@ module _ (packages : List typed.Package) (w : Table) where
   SoundStored v = IsSoundType w v.of
 
   one_stored : (p : typed.Package) → Good p → All SoundStored (first_variables p)
-  one_stored p h = subst (λ (q : typed.Package). All SoundStored (first_variables q)) (sym h.is) (stored_sound packages w h.facts h.names h.files h.given h.own h.imports h.are h.sound)
+  one_stored p h = subst (λ (q : typed.Package). All SoundStored (first_variables q)) (sym h.is) (stored_sound packages w h.edition h.facts h.names h.files h.given h.own h.imports h.are h.sound)
 
   all_stored : (ps : List typed.Package) → All Good ps → All SoundStored (flat_map first_variables ps)
   all_stored [] h = All-nil SoundStored
@@ -157,40 +158,40 @@ module _ (packages : List typed.Package) (w : Table) where
     SoundFunction d = IsFunction packages d.function
 
     one_functions : (p : typed.Package) → Good p → All SoundFunction (package_functions p)
-    one_functions p h = subst (λ (q : typed.Package). All SoundFunction (package_functions q)) (sym h.is) (functions_sound packages w h.facts h.names h.files h.given h.own h.imports h.are h.sound variables_sound)
+    one_functions p h = subst (λ (q : typed.Package). All SoundFunction (package_functions q)) (sym h.is) (functions_sound packages w h.edition h.facts h.names h.files h.given h.own h.imports h.are h.sound variables_sound)
 
     all_functions : (ps : List typed.Package) → All Good ps → All SoundFunction (flat_map package_functions ps)
     all_functions [] h = All-nil SoundFunction
     all_functions (p ∷ ps) h = All-append SoundFunction (package_functions p) (flat_map package_functions ps) (one_functions p (All-head Good p ps h)) (all_functions ps (All-tail Good p ps h))
 
-    -- nothing comes before main
+    -- what comes before main
     abbrev Starts : Step → Type 0
     Starts = IsStart packages
 
-    no_steps : (p : typed.Package) → Good p → package_steps p ≡ []
-    no_steps p h = ap (λ (q : typed.Package). package_steps q) h.is ∙ ap (λ (fs : List typed.Function). map (λ (f : typed.Function). meaning.calls (symbol_of (typed_package h.facts h.names h.files) f.name)) fs) h.inits
+    one_steps : (p : typed.Package) → Good p → All Starts (package_steps p)
+    one_steps p h =
+        subst (λ (q : typed.Package). All Starts (package_steps q)) (sym h.is) (steps_start packages w h.edition h.facts h.names h.files h.given h.own h.imports h.are h.sound h.mains)
 
     first_steps : (ps : List typed.Package) → All Good ps → All Starts (flat_map package_steps ps)
     first_steps [] h = All-nil Starts
-    first_steps (p ∷ ps) h =
-        All-append Starts (package_steps p) (flat_map package_steps ps) (subst (All Starts) (sym (no_steps p (All-head Good p ps h))) (All-nil Starts)) (first_steps ps (All-tail Good p ps h))
+    first_steps (p ∷ ps) h = All-append Starts (package_steps p) (flat_map package_steps ps) (one_steps p (All-head Good p ps h)) (first_steps ps (All-tail Good p ps h))
 
     module _ (last : typed.Package) (is_last : last_package packages ≡ Some last) (named : last.name ≡ codes "main") where
       last_good : Good last
       last_good = All-contains Good packages last good (get_contains packages (length packages - 1) last is_last)
 
-      named_so : (typed_package last_good.facts last_good.names last_good.files).name ≡ codes "main"
+      named_so : (typed_package last_good.edition last_good.facts last_good.names last_good.files).name ≡ codes "main"
       named_so = subst (λ (q : typed.Package). q.name ≡ codes "main") last_good.is named
 
       main_called : IsStart packages (meaning.calls (symbol_of last main))
       main_called =
           let h = last_good in
-          subst (λ (q : typed.Package). IsStart packages (meaning.calls (symbol_of q main))) (sym h.is) (main_start packages w h.facts h.names h.files h.given h.own h.imports h.are h.sound named_so h.mains)
+          subst (λ (q : typed.Package). IsStart packages (meaning.calls (symbol_of q main))) (sym h.is) (main_start packages w h.edition h.facts h.names h.files h.given h.own h.imports h.are h.sound named_so h.mains)
 
       main_there : HasMain (Some last)
       main_there =
           let h = last_good in
-          subst (λ (q : typed.Package). HasMain (Some q)) (sym h.is) (has_main packages w h.facts h.names h.files h.given h.own h.imports h.are h.sound named_so h.mains)
+          subst (λ (q : typed.Package). HasMain (Some q)) (sym h.is) (has_main packages w h.edition h.facts h.names h.files h.given h.own h.imports h.are h.sound named_so h.mains)
 
       all_typed : IsWellTyped packages × IsProgram packages
       all_typed =

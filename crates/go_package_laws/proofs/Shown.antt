@@ -28,11 +28,11 @@ use Rattle.go_meaning.specs.Choices.{cell_of}
 use Rattle.go_meaning_laws.specs.WellTyped.{Setting, signature_at, variable_at}
 use Rattle.go_export.specs.Exports.{Export, named_constant, named_type, named_variable, named_function, declared_by, exports_of}
 use Rattle.go_export.specs.Exports as exports
-use Rattle.go_export.specs.Writable.{kind_of, value_kind, IsSmall, IsValue, IsShown}
+use Rattle.go_export.specs.Writable.{kind_of, value_kind, IsValue, IsShown}
 use Rattle.go_export.proofs.Found.{shown}
 use Rattle.go_package.specs.Typed.{constants_in, types_in, typed_package}
 use Rattle.go_package_laws.specs.Soundness.{Table, IsNamedField, IsSoundType, AreSoundFields, AreSoundTypes, is_of_kind, IsSoundValue}
-use Rattle.go_package_laws.specs.Packages.{AreChecked, is_plain, HavePlainPaths, AreSmall}
+use Rattle.go_package_laws.specs.Packages.{AreChecked, is_plain, HavePlainPaths}
 use Rattle.go_package_laws.proofs.Dots.{dot}
 use Rattle.go_package_laws.proofs.Entries.{TableSound}
 use Rattle.go_package_laws.proofs.Packages.{entries_sound, variables_sound, signatures_sound}
@@ -149,21 +149,21 @@ module _ (packages : List typed.Package) where
   untyped_kind kinds.String (Text text) h = refl
   untyped_kind kind c h = absurd (true≢false (sym h))
 
-  valued : (t : Type') (c : Const) → is_of t (single (cell_of c)) ≡ true → IsSmall c → IsValue t c
-  valued (basic b) c h small = record { of = b; is = refl; kind = basic_kind b c h; small = small }
-  valued (array n t) c h small = absurd (true≢false (sym h))
-  valued (struct fs) c h small = absurd (true≢false (sym h))
-  valued (named p x t) c h small = (let below = valued t c h small in record { of = below.of; is = below.is; kind = below.kind; small = below.small })
+  valued : (t : Type') (c : Const) → is_of t (single (cell_of c)) ≡ true → IsValue t c
+  valued (basic b) c h = record { of = b; is = refl; kind = basic_kind b c h }
+  valued (array n t) c h = absurd (true≢false (sym h))
+  valued (struct fs) c h = absurd (true≢false (sym h))
+  valued (named p x t) c h = (let below = valued t c h in record { of = below.of; is = below.is; kind = below.kind })
 
-  constant_shown : (g : Setting) (d : List ℕ) (t : Type') (c : Const) → IsSoundValue w g d (typed.constant t c) → IsSmall c → IsShown (exports.constant t c)
-  constant_shown g d t c (inl (kind, u, is, of)) small =
+  constant_shown : (g : Setting) (d : List ℕ) (t : Type') (c : Const) → IsSoundValue w g d (typed.constant t c) → IsShown (exports.constant t c)
+  constant_shown g d t c (inl (kind, u, is, of)) =
       let type : t ≡ basic (basics.Untyped kind) = cc (is) in
       let same : c ≡ u = cc (is) in (
         subst IsWritable (sym type) tt,
-        subst (λ (t : Type'). IsValue t c) (sym type) (record { of = basics.Untyped kind; is = refl; kind = untyped_kind kind c (ap (is_of_kind kind) same ∙ of); small = small }),
+        subst (λ (t : Type'). IsValue t c) (sym type) (record { of = basics.Untyped kind; is = refl; kind = untyped_kind kind c (ap (is_of_kind kind) same ∙ of) }),
       )
-  constant_shown g d t c (inr (inl (of, sound))) small = (writable t sound, valued t c of.0 small)
-  constant_shown g d t c (inr (inr (of, is, none))) small = absurd (let no : Some c ≡ None = none in cc (no))
+  constant_shown g d t c (inr (inl (of, sound))) = (writable t sound, valued t c of.0)
+  constant_shown g d t c (inr (inr (of, is, none))) = absurd (let no : Some c ≡ None = none in cc (no))
 
   -- ---- what a package declares
 
@@ -173,14 +173,14 @@ module _ (packages : List typed.Package) where
   next : (g : Setting) (d : List ℕ) (n : List ℕ × Option Declared) (known : Names) → TableSound w g d (n ∷ known) → TableSound w g d known
   next g d n known h k x e at = h (suc k) x e at
 
-  constants_shown : (g : Setting) (d : List ℕ) (known : Names) → TableSound w g d known → AreSmall (constants_in known) → All Shown (map named_constant (constants_in known))
-  constants_shown g d [] h small = All-nil Shown
-  constants_shown g d ((x, Some (value (typed.constant t c))) ∷ known) h small =
+  constants_shown : (g : Setting) (d : List ℕ) (known : Names) → TableSound w g d known → All Shown (map named_constant (constants_in known))
+  constants_shown g d [] h = All-nil Shown
+  constants_shown g d ((x, Some (value (typed.constant t c))) ∷ known) h =
       let rest = constants_in known in
       All-cons Shown (x, exports.constant t c) (map named_constant rest)
-      (constant_shown g d t c (h 0 x (value (typed.constant t c)) refl) (All-head (λ (c : List ℕ × (Type' × Const)). IsSmall (c.1).1) (x, (t, c)) rest small))
-      (constants_shown g d known (next g d _ known h) (All-tail (λ (c : List ℕ × (Type' × Const)). IsSmall (c.1).1) (x, (t, c)) rest small))
-  constants_shown g d ((x, v) ∷ known) h small = constants_shown g d known (next g d (x, v) known h) small
+      (constant_shown g d t c (h 0 x (value (typed.constant t c)) refl))
+      (constants_shown g d known (next g d _ known h))
+  constants_shown g d ((x, v) ∷ known) h = constants_shown g d known (next g d (x, v) known h)
 
   types_shown : (g : Setting) (d : List ℕ) (known : Names) → TableSound w g d known → All Shown (map named_type (types_in known))
   types_shown g d [] h = All-nil Shown
@@ -207,14 +207,14 @@ module _ (packages : List typed.Package) where
   abbrev here : Setting
   here = record { functions = signature_at packages; variables = variable_at packages; locals = []; results = []; breaks = false; continues = false }
 
-  declared_shown : (p : typed.Package) → Good packages w p → AreSmall p.constants → All IsShown (values_of (declared_by p))
-  declared_shown p h small =
-      let q = typed_package h.facts h.names h.files in
-      let table = entries_sound packages w h.facts h.names h.files h.given h.own h.imports h.are h.sound here [] (refl, refl) in
-      let constants = constants_shown here [] h.facts.known table (subst (λ (p : typed.Package). AreSmall p.constants) h.is small) in
+  declared_shown : (p : typed.Package) → Good packages w p → All IsShown (values_of (declared_by p))
+  declared_shown p h =
+      let q = typed_package h.edition h.facts h.names h.files in
+      let table = entries_sound packages w h.edition h.facts h.names h.files h.given h.own h.imports h.are h.sound here [] (refl, refl) in
+      let constants = constants_shown here [] h.facts.known table in
       let types = types_shown here [] h.facts.known table in
-      let variables = variables_shown q.variables (variables_sound packages w h.facts h.names h.files h.given h.own h.imports h.are h.sound) in
-      let functions = functions_shown q.functions (signatures_sound packages w h.facts h.names h.files h.given h.own h.imports h.are h.sound) in
+      let variables = variables_shown q.variables (variables_sound packages w h.edition h.facts h.names h.files h.given h.own h.imports h.are h.sound) in
+      let functions = functions_shown q.functions (signatures_sound packages w h.edition h.facts h.names h.files h.given h.own h.imports h.are h.sound) in
       let cs = map named_constant q.constants in
       let ts = map named_type q.types in
       let vs = map named_variable q.variables in
@@ -222,8 +222,8 @@ module _ (packages : List typed.Package) where
       let all = All-append Shown (cs ++ ts ++ vs) fs (All-append Shown (cs ++ ts) vs (All-append Shown cs ts constants types) variables) functions in
       subst (λ (p : typed.Package). All IsShown (values_of (declared_by p))) (sym h.is) (All-map IsShown (λ (e : List ℕ × Export). e.1) (declared_by q) all)
 
-pub checked_shown : (packages : List typed.Package) → AreChecked packages → HavePlainPaths packages → (k : ℕ) (p : typed.Package) → slice_get packages k ≡ Some p → AreSmall p.constants → All IsShown (values_of (exports_of p))
-checked_shown packages h plain k p at small =
+pub checked_shown : (packages : List typed.Package) → AreChecked packages → HavePlainPaths packages → (k : ℕ) (p : typed.Package) → slice_get packages k ≡ Some p → All IsShown (values_of (exports_of p))
+checked_shown packages h plain k p at =
     let each : (k : ℕ) (q : typed.Package) → slice_get packages k ≡ Some q → is_plain q.path ≡ true = λ k q at. All-contains (λ (q : typed.Package). is_plain q.path ≡ true) packages q plain (get_contains packages k q at) in
     let good = all_good packages is_plain h each in
-    shown p (declared_shown packages p (All-contains (Good packages (table_of packages is_plain)) packages p good (get_contains packages k p at)) small)
+    shown p (declared_shown packages p (All-contains (Good packages (table_of packages is_plain)) packages p good (get_contains packages k p at)))

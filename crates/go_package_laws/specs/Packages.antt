@@ -1,34 +1,19 @@
 -- What is asked of the files of packages and of what they import, so that their typed trees are well typed.
-use Rattle.std.specs.Prelude.{◌≡◌, ◌≢◌, ℕ, nat_eq, Bool, true, false, not, ◌||◌, List, [], ◌∷◌, ◌++◌, map, codes, Some, bytes_eq}
-use Rattle.std.specs.List.{All, Contains, list_all, list_any, starts_with}
+use Rattle.std.specs.Prelude.{◌≡◌, ◌≢◌, ℕ, nat_eq, Bool, true, not, ◌||◌, List, [], ◌∷◌, ◌++◌, map, codes, Some}
+use Rattle.std.specs.List.{All, Contains, list_all}
+use Rattle.go_text.specs.declared.edition.Edition.{Edition}
 use Rattle.go_ast.specs.Parse.{Derived, IsParse}
 use Rattle.go_ast.specs.Trees.{File}
-use Rattle.go_const.specs.declared.constant.Const.{Const}
-use Rattle.go_types.specs.Types.{Type'}
-use Rattle.go_typed.specs.Trees.{Function, Initialization, Package}
+use Rattle.go_typed.specs.Trees.{Package}
+use Rattle.go_init.specs.Variables.{variable_order}
 use Rattle.go_code.specs.declared.ending.Ending.{Ending}
 use Rattle.go_meaning.specs.Programs.{SourceMeaning, last_package}
 use Rattle.go_expr.specs.Known.{library}
 use Rattle.go_import.specs.Names.{importable_of}
-use Rattle.go_export.specs.Writable.{IsSmall}
 use Rattle.go_meaning_laws.specs.WellTyped.{is_text}
 use Rattle.go_package.specs.Imports.{Importable}
 use Rattle.go_package.specs.Packages.{package_in}
 use Rattle.go_package.specs.Typed.{IsTypedIn}
-
--- ---- what isn't compiled yet: https://go.dev/ref/spec#Package_initialization
-
-abbrev pub has_values : List Initialization → Bool
-has_values is = elim is [ [] ↦ false | i ∷ others ↦ true ]
-
--- by its name in the source, or in a typed package of a later stage
-abbrev pub is_init : Function → Bool
-is_init f = bytes_eq f.name (codes "init") || starts_with nat_eq f.name (codes "init.")
-
--- Something comes before main: a variable has an initial value, or there is a function init. What sources mean leaves both out, and so do
--- images: of such a package nothing is said.
-abbrev pub is_initialized : Package → Bool
-is_initialized p = has_values p.initializations || list_any is_init p.functions
 
 -- ---- what may be imported
 
@@ -44,20 +29,22 @@ abbrev pub AreOfTexts : List File → Type 0
 AreOfTexts [] = Unit {0}
 AreOfTexts (f ∷ fs) = ((text : List ℕ) × IsParse text (Derived f) × (is_text text ≡ true)) × AreOfTexts fs
 
--- The program is the typed package of files without fault, to which some texts are parsed. It is named main, and nothing comes before its
--- function main.
+-- The program is the typed package of files without fault, to which some texts are parsed. Its variables get their values in some order, and
+-- it is named main.
 pub record AreProgram (path : List ℕ) (files : List File) (ps : List Importable) (names : List (List ℕ)) (p : Package) : Type 0 where
+  pub edition : Edition
   pub sources : AreOfTexts files
-  pub typed : IsTypedIn (package_in path files ps) files ps names p
-  pub plain : is_initialized p ≡ false
+  pub typed : IsTypedIn edition (package_in path files ps) files ps names p
+  pub ordered : (variable_order p).1 ≡ []
   pub named : p.name ≡ codes "main"
 
 -- ---- packages that import each other
 
 -- A package behind others: some texts are parsed to its files, which have no fault. It may import libraries, and of the packages before it
--- those that it was checked with; none of them has its path. Nothing comes before its functions are called.
+-- those that it was checked with; none of them has its path. Its variables get their values in some order.
 pub record IsChecked (before : List Package) (p : Package) : Type 0 where
   pub path : List ℕ
+  pub edition : Edition
   pub files : List File
   pub names : List (List ℕ)
   pub libraries : List Importable
@@ -65,9 +52,9 @@ pub record IsChecked (before : List Package) (p : Package) : Type 0 where
   pub are_libraries : AreLibraries libraries
   pub stand_before : All (Contains before) imported
   pub sources : AreOfTexts files
-  pub typed : IsTypedIn (package_in path files (libraries ++ map importable_of imported)) files (libraries ++ map importable_of imported) names p
+  pub typed : IsTypedIn edition (package_in path files (libraries ++ map importable_of imported)) files (libraries ++ map importable_of imported) names p
   pub new : All (λ (q : Package). p.path ≢ q.path) before
-  pub plain : is_initialized p ≡ false
+  pub ordered : (variable_order p).1 ≡ []
 
 -- each of them behind some packages, the last of which comes first
 abbrev pub AreCheckedBehind : List Package → List Package → Type 0
@@ -90,10 +77,6 @@ is_plain path = list_all (λ b. not (nat_eq b 32 || nat_eq b 125)) path
 -- all stand at such paths
 abbrev pub HavePlainPaths : List Package → Type 0
 HavePlainPaths packages = All (λ (p : Package). is_plain p.path ≡ true) packages
-
--- integers among constants have 128 bits
-abbrev pub AreSmall : List (List ℕ × (Type' × Const)) → Type 0
-AreSmall constants = All (λ c. IsSmall (c.1).1) constants
 
 -- packages that are given so many ticks have a meaning
 abbrev pub HasMeaning : List Package → ℕ → Type 0

@@ -1,13 +1,16 @@
 //! What holds of the typed trees that the checker makes.
-ghost use Rattle.std.specs.Prelude.{◌≡◌, ◌≢◌, ℕ, true, false, List, [], ◌∷◌, map, None, codes};
-ghost use Rattle.std.specs.List.{All, Contains, list_any};
+ghost use Rattle.std.specs.Prelude.{◌≡◌, ◌≢◌, ℕ, List, [], ◌∷◌, map, Some, None, codes};
+ghost use Rattle.std.specs.List.{All, Contains};
 ghost use Rattle.std.specs.Map.{values_of};
+ghost use Rattle.go_text.specs.declared.edition.Edition.TheVariants.{One};
 ghost use Rattle.go_ast.specs.Trees.{File};
 ghost use Rattle.go_code.specs.Images.{Image};
+ghost use Rattle.go_link.specs.declared.link.LinkError.TheVariants.{NoMain};
 ghost use Rattle.go_link.specs.Links.{link_refusal};
-ghost use Rattle.go_typed.specs.Trees.{Package, Function, no_exprs, no_stmts, some_stmts, run as run_call};
+ghost use Rattle.go_typed.specs.Trees.{Initialization, Package, Function, no_exprs, no_stmts, some_stmts, run as run_call};
 ghost use Rattle.go_meaning.specs.Meaning.{Stuck};
-ghost use Rattle.go_meaning.specs.Programs.{IsProgram, run, symbol_of};
+ghost use Rattle.go_init.specs.Variables.{variable_order};
+ghost use Rattle.go_meaning.specs.Programs.{IsProgram, calls, package_steps, run, symbol_of};
 ghost use Rattle.go_import.specs.Names.{importable_of};
 ghost use Rattle.go_export.specs.Exports.{exports_of};
 ghost use Rattle.go_export.specs.Writable.{IsShown};
@@ -17,11 +20,11 @@ ghost use Rattle.go_package.specs.Typed.{IsTypedIn};
 ghost use Rattle.go_meaning_laws.specs.WellTyped.{IsWellTyped};
 ghost use Rattle.go_gen.specs.Translation.{object_of};
 ghost use Rattle.go_translation_laws.specs.Programs.{IsLinked, MeansTheSame, MakesSense};
-ghost use Rattle.go_package_laws.specs.Packages.{AreLibraries, AreProgram, AreChecked, IsNamedMain, HavePlainPaths, AreSmall, HasMeaning, has_values, is_init, is_initialized};
+ghost use Rattle.go_package_laws.specs.Packages.{AreLibraries, AreProgram, AreChecked, IsNamedMain, HavePlainPaths, HasMeaning};
 
 /// Packages whose files have no fault, each checked with packages that stand before it, are well
-/// typed, and a program where the last is named main: their paths differ, no variable has an initial
-/// value, and there is no function init.
+/// typed, and so is what comes before main; and they are a program where the last is named main.
+/// Their paths differ, and the variables of each get their values in some order.
 pub fn law_checked_packages_are_well_typed()
     ensures { (packages : List Package) → AreChecked packages → IsNamedMain packages → IsWellTyped packages × IsProgram packages }
 {}
@@ -32,10 +35,12 @@ pub fn law_checked_program_is_never_stuck()
     ensures means { (packages : List Package) (ticks : ℕ) → AreChecked packages → IsNamedMain packages → HasMeaning packages ticks }
 {}
 
-/// Such a program is linked. Whatever its number of ticks, its image prints and ends as its sources
-/// mean and in no other way, and its code makes sense.
+/// Such a program is linked, and checked packages of which the last isn't named main are refused for
+/// that. Whatever its number of ticks, its image prints and ends as its sources mean and in no other
+/// way, and its code makes sense.
 pub fn law_checked_program_means_its_sources()
     ensures linked { (packages : List Package) → AreChecked packages → IsNamedMain packages → link_refusal (map object_of packages) ≡ None }
+    ensures refused { (packages : List Package) → AreChecked packages → (IsNamedMain packages → ⊥) → link_refusal (map object_of packages) ≡ Some NoMain }
     ensures same { (packages : List Package) (image : Image)
         → AreChecked packages → IsNamedMain packages → IsLinked packages image → MeansTheSame packages image }
     ensures sense { (packages : List Package) (image : Image) (ticks : ℕ)
@@ -43,10 +48,10 @@ pub fn law_checked_program_means_its_sources()
 {}
 
 /// What such a package exports can be shown, so that the text of its summary tells it, where no path
-/// has a space or a closing brace and the integers of its constants have 128 bits: names hold no
-/// space, closing brace or dot, and each constant is one of its type.
+/// has a space or a closing brace: names hold no space, closing brace or dot, and each constant is
+/// one of its type.
 pub fn law_checked_packages_are_shown()
-    ensures { (packages : List Package) (p : Package) → AreChecked packages → HavePlainPaths packages → Contains packages p → AreSmall p.constants
+    ensures { (packages : List Package) (p : Package) → AreChecked packages → HavePlainPaths packages → Contains packages p
         → All IsShown (values_of (exports_of p)) }
 {}
 
@@ -57,24 +62,24 @@ pub fn law_one_checked_package()
         → AreLibraries ps → AreProgram path files ps names p → AreChecked (p ∷ []) × IsNamedMain (p ∷ []) }
 {}
 
-/// Files named main without fault can have nothing that comes before main, an initial value, or a
-/// function init: the laws above speak of the first alone.
+/// Files named main without fault can have an initial value, or a function init, which come before
+/// main. A value can depend on itself, too: of such a package the laws above say nothing.
 pub fn law_packages_may_be_initialized()
-    ensures plain { (path : List ℕ) → (files : List File) × (names : List (List ℕ)) × (p : Package)
-        × IsTypedIn (package_in path files []) files [] names p × (p.name ≡ codes "main") × (is_initialized p ≡ false) }
-    ensures valued { (path : List ℕ) → (files : List File) × (names : List (List ℕ)) × (p : Package)
-        × IsTypedIn (package_in path files []) files [] names p × (p.name ≡ codes "main") × (has_values p.initializations ≡ true) }
-    ensures init { (path : List ℕ) → (files : List File) × (names : List (List ℕ)) × (p : Package)
-        × IsTypedIn (package_in path files []) files [] names p × (p.name ≡ codes "main") × (list_any is_init p.functions ≡ true) }
+    ensures valued { (path : List ℕ) → (files : List File) × (names : List (List ℕ)) × (p : Package) × (i : Initialization)
+        × IsTypedIn One (package_in path files []) files [] names p × (p.name ≡ codes "main") × (variable_order p ≡ (i ∷ [], [])) }
+    ensures init { (path : List ℕ) → (files : List File) × (names : List (List ℕ)) × (p : Package) × (x : List ℕ)
+        × IsTypedIn One (package_in path files []) files [] names p × (p.name ≡ codes "main") × (package_steps p ≡ calls (symbol_of p x) ∷ []) }
+    ensures circular { (path : List ℕ) → (files : List File) × (names : List (List ℕ)) × (p : Package) × (i : Initialization)
+        × IsTypedIn One (package_in path files []) files [] names p × (p.name ≡ codes "main") × (variable_order p ≡ ([], i ∷ [])) }
 {}
 
-/// A package named main without fault can call a function of another without fault that it imports,
-/// where neither has an initial value or a function init. No list of checked packages has one twice.
+/// A package named main without fault can call a function of another without fault that it imports.
+/// No list of checked packages has one twice.
 pub fn law_packages_may_import()
     ensures calls { (path : List ℕ) → (others files : List File) × (names : List (List ℕ)) × (q p : Package)
-        × IsTypedIn (package_in q.path others []) others [] names q
-        × IsTypedIn (package_in path files (importable_of q ∷ [])) files (importable_of q ∷ []) names p
-        × (is_initialized q ≡ false) × (is_initialized p ≡ false) × (p.name ≡ codes "main")
+        × IsTypedIn One (package_in q.path others []) others [] names q
+        × IsTypedIn One (package_in path files (importable_of q ∷ [])) files (importable_of q ∷ []) names p
+        × ((variable_order q).1 ≡ []) × ((variable_order p).1 ≡ []) × (p.name ≡ codes "main")
         × ((x : List ℕ) × (map (λ (f : Function). f.body) p.functions ≡ some_stmts (run_call [] (symbol_of q x) no_exprs) no_stmts ∷ [])) }
     ensures once { (p : Package) → AreChecked (p ∷ p ∷ []) → ⊥ }
 {}

@@ -19,6 +19,7 @@ use go_package::law::{
     law_some_fault,
 };
 use go_package::typed::typed;
+use go_text::edition::Edition;
 use std::alloc::{AllocError, Global};
 
 // A package that is checked: its path, its files, and what they may import.
@@ -68,7 +69,14 @@ fn answer(alloc: Global, sources: &Sources) -> Result<String, AllocError> {
 // How many constants, types, variables, initial values and functions the typed package has.
 fn counted(alloc: Global, row: &Row<'_>) -> Result<String, AllocError> {
     let names = ["a.go", "b.go"];
-    let typed = typed(alloc, row.path, &names, &row.files, &row.packages);
+    let typed = typed(
+        alloc,
+        row.path,
+        Edition::One,
+        &names,
+        &row.files,
+        &row.packages,
+    );
     let Ok(typed) = typed else {
         return Err(AllocError);
     };

@@ -1,5 +1,6 @@
 //! Reads a file.
 ghost use Rattle.std.specs.Prelude.{◌≡◌, ◌<◌, ◌^◌, ℕ, List, length, IfOk, Err};
+ghost use Rattle.go_text.specs.declared.edition.Edition.TheVariants.{One};
 ghost use Rattle.go_text.specs.declared.fault.FaultKind.{FaultKind as AKind};
 ghost use Rattle.go_text.specs.declared.place.Place.{Place as APlace};
 ghost use Rattle.go_text.specs.Faults.{fault_number};
@@ -16,6 +17,7 @@ use go_pexpr::parser::{Fault, Parser, Refusal};
 use go_scan::fault::{ScanError, ScanFault};
 use go_scan::scanner::scan;
 use go_scan::token::Token;
+use go_text::edition::Edition;
 use go_text::fault::FaultKind;
 use go_text::place::{Place, place_at};
 use go_text::source::Source;
@@ -103,14 +105,15 @@ pub fn parse(alloc: Global, source: &Source) -> Result<File, ParseError>
     }
 }
 
-/// A source with the file that its text is. An `Err` has the fault by which the text is no file, and its place, or says
+/// A source with the file that its text is in the first edition. An `Err` has the fault by which the text is no file, and its place, or says
 /// that memory ran out.
 pub fn parse_source(alloc: Global, source: Source) -> Result<Parsed, ParseError>
     ensures name { IfOk result (λ parsed. parsed.name ≡ source.name) }
     ensures text { IfOk result (λ parsed. parsed.text ≡ source.text) }
+    ensures edition { IfOk result (λ parsed. parsed.edition ≡ One) }
     ensures err { (kind : AKind) (place : APlace) → result ≡ Err (ParseError.Fault kind place) → IsParse source.text (Stopped kind place) }
 {
     let file = parse(alloc, &source)?;
     let file = Arc::new(alloc, file)?;
-    Ok(Parsed::of(source, file))
+    Ok(Parsed::of(source, Edition::One, file))
 }

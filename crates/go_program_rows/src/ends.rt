@@ -1,9 +1,10 @@
 //! How programs end, in words.
 use go_code::ending::{Ending, PanicKind};
-use go_run::answer::Answer;
 use go_text::fault::Fault;
 use go_vm::run::Outcome;
 use std::alloc::{AllocError, Global};
+use ws_report::{Report, Verdict};
+use ws_run::answer::Answer;
 
 /// How a program ended.
 fn tell_ending(told: &mut Vec<u8>, ending: &Ending) -> Result<(), AllocError> {
@@ -40,6 +41,16 @@ fn tell_fault(alloc: Global, told: &mut Vec<u8>, fault: &Fault) -> Result<(), Al
     told.extend_from_slice(line.as_str().as_bytes())
 }
 
+/// The faults of a report.
+fn tell_report(alloc: Global, told: &mut Vec<u8>, report: &Report) -> Result<(), AllocError> {
+    for (_, verdict) in &report.directories {
+        if let Verdict::Faulty(fault) = verdict {
+            tell_fault(alloc, told, fault)?;
+        }
+    }
+    Ok(())
+}
+
 /// What came of a program.
 pub(crate) fn tell_answer(
     alloc: Global,
@@ -48,8 +59,8 @@ pub(crate) fn tell_answer(
 ) -> Result<(), AllocError> {
     match answer {
         Answer::Ran(outcome) => tell_outcome(told, outcome),
-        Answer::Faulty(fault) => tell_fault(alloc, told, fault),
-        Answer::Initialized => told.extend_from_slice(b"not compiled yet\n"),
+        Answer::Faulty(report) => tell_report(alloc, told, report),
+        Answer::NoPackage => told.extend_from_slice(b"no package\n"),
         Answer::NoMain => told.extend_from_slice(b"no main\n"),
     }
 }

@@ -1,9 +1,17 @@
 //! One program: its name, what it prints, and how it ends.
 use crate::ends::tell_answer;
-use go_run::run::run_sources;
-use go_text::source::Source;
-use go_text::text::TextError;
+use go_text::text::{Text, TextError};
 use std::alloc::{AllocError, Global};
+use std::sync::Wait;
+use std::thread::Threads;
+use ws_path::FilePath;
+use ws_run::run::run_files;
+
+/// A row's directory.
+const DIRECTORY: &str = "main";
+
+/// How many workers build a row.
+const WORKERS: u64 = 1;
 
 /// The name, the ticks and the text of a row; none where it has no such header.
 fn parts_of(row: &str) -> Option<(&str, u64, &str)> {
@@ -16,40 +24,57 @@ fn parts_of(row: &str) -> Option<(&str, u64, &str)> {
 }
 
 /// What a row's program does, behind its name.
-pub(crate) fn tell_row(alloc: Global, told: &mut Vec<u8>, row: &str) -> Result<(), AllocError> {
+pub(crate) fn tell_row<R: Threads + Wait + Sync>(
+    rt: &R,
+    alloc: Global,
+    told: &mut Vec<u8>,
+    row: &str,
+) -> Result<(), AllocError> {
     let Some((name, ticks, text)) = parts_of(row) else {
         return told.extend_from_slice(b"no row\n");
     };
     told.extend_from_slice(name.as_bytes())?;
     told.push(b'\n')?;
-    match sources_of(alloc, text)? {
-        Some(sources) => tell_sources(alloc, told, &sources, ticks),
+    match files_of(alloc, text)? {
+        Some(files) => tell_files(rt, alloc, told, files, ticks),
         None => told.extend_from_slice(b"no text\n"),
     }
 }
 
-/// The files of a row; none where one is no text.
-fn sources_of(alloc: Global, text: &str) -> Result<Option<Vec<Source>>, AllocError> {
-    let mut sources = Vec::new(alloc);
-    for text in text.split("---- next\n") {
-        let name = String::from_str(alloc, "main.go")?;
-        let text = String::from_str(alloc, text)?;
-        match Source::new(alloc, name, text) {
-            Ok(source) => sources.push(source)?,
-            Err(TextError::Memory) => return Err(AllocError),
-            Err(_) => return Ok(None),
-        }
+/// The file of a number and a text; none where it is no text. Names of two digits are in order.
+fn file_of(alloc: Global, number: u8, text: &str) -> Result<Option<(FilePath, Text)>, AllocError> {
+    let Some(path) = FilePath::new(format!(in alloc; "{}/{}.go", DIRECTORY, number)?) else {
+        return Ok(None);
+    };
+    match Text::new(alloc, String::from_str(alloc, text)?) {
+        Ok(text) => Ok(Some((path, text))),
+        Err(TextError::Memory) => Err(AllocError),
+        Err(_) => Ok(None),
     }
-    Ok(Some(sources))
 }
 
-/// What the program of some sources does.
-fn tell_sources(
+/// The files of a row; none where one is no text.
+fn files_of(alloc: Global, text: &str) -> Result<Option<Vec<(FilePath, Text)>>, AllocError> {
+    let mut files = Vec::new(alloc);
+    let mut number: u8 = 10;
+    for text in text.split("---- next\n") {
+        let Some(file) = file_of(alloc, number, text)? else {
+            return Ok(None);
+        };
+        files.push(file)?;
+        number = number.saturating_add(1);
+    }
+    Ok(Some(files))
+}
+
+/// What the program of some files does.
+fn tell_files<R: Threads + Wait + Sync>(
+    rt: &R,
     alloc: Global,
     told: &mut Vec<u8>,
-    sources: &[Source],
+    files: Vec<(FilePath, Text)>,
     ticks: u64,
 ) -> Result<(), AllocError> {
-    let answer = run_sources(alloc, sources, ticks)?;
+    let answer = run_files(rt, alloc, files, DIRECTORY, ticks, WORKERS)?;
     tell_answer(alloc, told, &answer)
 }

@@ -8,6 +8,6 @@ use std::io::Write;
 
 fn main(rt: HostRuntime) -> io::Result<()> {
     let table = io::read_to_string(rt.alloc(), rt.stdin())?;
-    let told = tell_table(rt.alloc(), &table)?;
+    let told = tell_table(&rt, rt.alloc(), &table)?;
     rt.stdout().write_all(&told)
 }

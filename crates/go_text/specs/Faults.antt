@@ -2,7 +2,7 @@
 use Rattle.std.specs.Prelude.{ℕ, List, codes}
 use Rattle.go_text.specs.declared.place.Place.{Place}
 use Rattle.go_text.specs.declared.fault.FaultKind.{FaultKind}
-use Rattle.go_text.specs.declared.fault.FaultKind.TheVariants.{Scan, LeftOut, Parse, Deep, Size, PackageName, NoImport, Cycle, Program, Redeclared, Undeclared, UnusedImport, Mismatch, Range, Constant, DivideByZero, Index, NoReturn, Assign, Count, Recursive, Main, Branch, Unexported}
+use Rattle.go_text.specs.declared.fault.FaultKind.TheVariants.{Scan, LeftOut, Parse, Deep, Size, PackageName, NoImport, Cycle, Program, Redeclared, Undeclared, UnusedImport, Mismatch, Range, Constant, DivideByZero, Index, NoReturn, Assign, Count, Recursive, InitCycle, Main, Branch, Unexported}
 
 -- the file's name, the place in it, and what is wrong there
 pub record Fault : Type 0 where
@@ -33,6 +33,7 @@ fault_code NoReturn = (18, codes "noreturn")
 fault_code Assign = (19, codes "assign")
 fault_code Count = (20, codes "count")
 fault_code Recursive = (21, codes "recursive")
+fault_code InitCycle = (22, codes "initcycle")
 fault_code Main = (23, codes "main")
 fault_code Branch = (24, codes "branch")
 fault_code Unexported = (25, codes "unexported")

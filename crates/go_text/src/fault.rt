@@ -51,6 +51,8 @@ pub enum FaultKind {
     Count,
     /// A declaration that depends on itself.
     Recursive,
+    /// A variable of a package whose first value depends on itself.
+    InitCycle,
     /// A program with no function main.
     Main,
     /// A `break`, `continue`, `fallthrough` or default case where it can't stand.
@@ -86,6 +88,7 @@ impl FaultKind {
             FaultKind::Assign => 19,
             FaultKind::Count => 20,
             FaultKind::Recursive => 21,
+            FaultKind::InitCycle => 22,
             FaultKind::Main => 23,
             FaultKind::Branch => 24,
             FaultKind::Unexported => 25,
@@ -118,6 +121,7 @@ impl FaultKind {
             FaultKind::Assign => "assign",
             FaultKind::Count => "count",
             FaultKind::Recursive => "recursive",
+            FaultKind::InitCycle => "initcycle",
             FaultKind::Main => "main",
             FaultKind::Branch => "branch",
             FaultKind::Unexported => "unexported",

@@ -186,41 +186,41 @@ module _ (image : Image) (final : Final) (starts : List Start) (packages : List 
       abbrev Onto : ℕ → List (Instr ℕ) → List Cell → ℕ → List Cell → World → Type 0
       Onto t k front m stack w = On image final depth code callers starts (places at) t k front m stack w
 
-      abbrev world : ℕ → List Stored → List ℕ → World
-      world ticks variables output = record { ticks = ticks; variables = variables; output = output }
+      abbrev world : ℕ → List Stored → List (List Value) → List ℕ → World
+      world ticks variables arrays output = record { ticks = ticks; variables = variables; arrays = arrays; output = output }
 
       -- with no more calls to be open it panics behind its tick
-      panics : depth + 0 ≡ most_open → (s : Symbol) (f : Function) → function_at packages s ≡ Some f → (vs : List Value) → are_of f.parameters vs ≡ true → (t : ℕ) (k : List (Instr ℕ)) (front : List Cell) (m : ℕ) (stack : List Cell) (ticks : ℕ) (variables : List Stored) (output : List ℕ) →
-          Onward final (λ rs w1. Onto t k front m (stack ++ flat_map flat rs) w1) (with_tick (world ticks variables output) (λ w1. Ends (Panicked Depth) w1.output)) →
-          Onto t (By_call (Call (functions s)) ∷ k) front m (stack ++ flat_map flat vs) (world ticks variables output)
-      panics level s f is vs typed t k front m stack zero variables output h known few place high long st =
-          let state : State = here image final depth code callers starts (places at) place (front ++ high) (stack ++ flat_map flat vs) (world zero variables output) in
+      panics : depth + 0 ≡ most_open → (s : Symbol) (f : Function) → function_at packages s ≡ Some f → (vs : List Value) → are_of f.parameters vs ≡ true → (t : ℕ) (k : List (Instr ℕ)) (front : List Cell) (m : ℕ) (stack : List Cell) (ticks : ℕ) (variables : List Stored) (arrays : List (List Value)) (output : List ℕ) →
+          Onward final (λ rs w1. Onto t k front m (stack ++ flat_map flat rs) w1) (with_tick (world ticks variables arrays output) (λ w1. Ends (Panicked Depth) w1.output)) →
+          Onto t (By_call (Call (functions s)) ∷ k) front m (stack ++ flat_map flat vs) (world ticks variables arrays output)
+      panics level s f is vs typed t k front m stack zero variables arrays output h known few place high long st =
+          let state : State = here image final depth code callers starts (places at) place (front ++ high) (stack ++ flat_map flat vs) (world zero variables arrays output) in
           subst (Leads image state) (sym h)
           (call_cut image state _ callers stack (flat_map flat vs) (functions s) (translated globals functions f) k refl st (ready found s f is vs typed stack) refl)
-      panics level s f is vs typed t k front m stack (suc left) variables output h known few place high long st =
-          let state : State = here image final depth code callers starts (places at) place (front ++ high) (stack ++ flat_map flat vs) (world (suc left) variables output) in
+      panics level s f is vs typed t k front m stack (suc left) variables arrays output h known few place high long st =
+          let state : State = here image final depth code callers starts (places at) place (front ++ high) (stack ++ flat_map flat vs) (world (suc left) variables arrays output) in
           let deep : most_open < depth + 1 = omega (arith, level) in
           subst (Leads image state) (sym h)
           (call_deep image state _ callers stack (flat_map flat vs) (functions s) (translated globals functions f) k left refl st (ready found s f is vs typed stack) refl deep)
 
       -- else its body is followed
-      enters : (more : ℕ) → Within more → depth + suc more ≡ most_open → (s : Symbol) (f : Function) → function_at packages s ≡ Some f → (vs : List Value) → are_of f.parameters vs ≡ true → (t : ℕ) (k : List (Instr ℕ)) (front : List Cell) (m : ℕ) (stack : List Cell) (ticks : ℕ) (variables : List Stored) (output : List ℕ) →
-          Onward final (λ rs w1. Onto t k front m (stack ++ flat_map flat rs) w1) (with_tick (world ticks variables output) (λ w1. and_then (exec_all (call_at packages more) f.body (first_locals f vs) w1) results_of)) →
-          Onto t (By_call (Call (functions s)) ∷ k) front m (stack ++ flat_map flat vs) (world ticks variables output)
-      enters more called level s f is vs typed t k front m stack zero variables output h known few place high long st =
-          let state : State = here image final depth code callers starts (places at) place (front ++ high) (stack ++ flat_map flat vs) (world zero variables output) in
+      enters : (more : ℕ) → Within more → depth + suc more ≡ most_open → (s : Symbol) (f : Function) → function_at packages s ≡ Some f → (vs : List Value) → are_of f.parameters vs ≡ true → (t : ℕ) (k : List (Instr ℕ)) (front : List Cell) (m : ℕ) (stack : List Cell) (ticks : ℕ) (variables : List Stored) (arrays : List (List Value)) (output : List ℕ) →
+          Onward final (λ rs w1. Onto t k front m (stack ++ flat_map flat rs) w1) (with_tick (world ticks variables arrays output) (λ w1. and_then (exec_all (call_at packages more) f.body (first_locals f vs) w1) results_of)) →
+          Onto t (By_call (Call (functions s)) ∷ k) front m (stack ++ flat_map flat vs) (world ticks variables arrays output)
+      enters more called level s f is vs typed t k front m stack zero variables arrays output h known few place high long st =
+          let state : State = here image final depth code callers starts (places at) place (front ++ high) (stack ++ flat_map flat vs) (world zero variables arrays output) in
           subst (Leads image state) (sym h)
           (call_cut image state _ callers stack (flat_map flat vs) (functions s) (translated globals functions f) k refl st (ready found s f is vs typed stack) refl)
-      enters more called level s f is vs typed t k front m stack (suc left) variables output h known few place high long st =
-          let state : State = here image final depth code callers starts (places at) place (front ++ high) (stack ++ flat_map flat vs) (world (suc left) variables output) in
+      enters more called level s f is vs typed t k front m stack (suc left) variables arrays output h known few place high long st =
+          let state : State = here image final depth code callers starts (places at) place (front ++ high) (stack ++ flat_map flat vs) (world (suc left) variables arrays output) in
           let shallow : depth + 1 ≤ most_open = omega (arith, level) in
           let next : depth + 1 + more ≡ most_open = omega (arith, level) in
           let caller : Frame = record { depth = depth; code = code; place = place + 1; cells = front ++ high; stack = stack } in
           let inner : Function → List (Instr ℕ) = λ g. (translated globals functions g).code in
           call_leads image state _ callers stack (flat_map flat vs) (functions s) (translated globals functions f) k left final refl st (ready found s f is vs typed stack) refl shallow
-          (function_follows bodies (call_at packages more) f (depth + 1) (caller ∷ callers) vs left (world left variables output)
+          (function_follows bodies (call_at packages more) f (depth + 1) (caller ∷ callers) vs left (world left variables arrays output)
           (called (depth + 1) (inner f) (caller ∷ callers) (slice_index (slots 0 (local_types f))) next) typed (omega arith) known
-          (onward_map final _ _ (and_then (exec_all (call_at packages more) f.body (first_locals f vs) (world left variables output)) results_of)
+          (onward_map final _ _ (and_then (exec_all (call_at packages more) f.body (first_locals f vs) (world left variables arrays output)) results_of)
           (λ rs w1 on known2 few2. on known2 (omega (arith, few, few2)) (place + 1) high long (stands_next code place _ k st)) h))
 
     by_symbol : (run : List Value → Function → World → Outcome (List Value)) (s : Symbol) (o : Option Function) → function_at packages s ≡ o → (vs : List Value) (w : World) (Q : Outcome (List Value) → Type 0) (R : Type 0) → (Q Stuck → R) → ((f : Function) → function_at packages s ≡ Some f → are_of f.parameters vs ≡ true → Q (with_tick w (run vs f)) → R) → Q (enter o vs w (run vs)) → R
@@ -234,10 +234,10 @@ module _ (image : Image) (final : Final) (starts : List Start) (packages : List 
     pub called_within : (left : ℕ) → Within left
     called_within zero depth code callers at level s t vs k front m stack w h =
         by_symbol (λ arguments f w1. Ends (Panicked Depth) w1.output) s (function_at packages s) refl vs w (Onward final (λ rs w1. On image final depth code callers starts (places at) t k front m (stack ++ flat_map flat rs) w1)) _ (λ stuck. absurd stuck)
-        (λ f is typed more. panics depth code callers at level s f is vs typed t k front m stack w.ticks w.variables w.output more) h
+        (λ f is typed more. panics depth code callers at level s f is vs typed t k front m stack w.ticks w.variables w.arrays w.output more) h
     called_within (suc left) depth code callers at level s t vs k front m stack w h =
         by_symbol (λ arguments f w1. and_then (exec_all (call_at packages left) f.body (first_locals f arguments) w1) results_of) s (function_at packages s) refl vs w (Onward final (λ rs w1. On image final depth code callers starts (places at) t k front m (stack ++ flat_map flat rs) w1)) _ (λ stuck. absurd stuck)
-        (λ f is typed more. enters depth code callers at left (called_within left) level s f is vs typed t k front m stack w.ticks w.variables w.output more) h
+        (λ f is typed more. enters depth code callers at left (called_within left) level s f is vs typed t k front m stack w.ticks w.variables w.arrays w.output more) h
 
 -- ---- bodies, for calls and for start steps
 

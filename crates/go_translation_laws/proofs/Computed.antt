@@ -1,6 +1,7 @@
 -- Small programs, computed: what their code does in the machine is what they mean.
 use Rattle.std.proofs.Common.{◌≡◌, ℕ, true, false, List, [], ◌∷◌, Option, Some, None, refl, pos}
 use Rattle.std.specs.Prelude.{codes}
+use Rattle.go_text.specs.declared.edition.Edition.TheVariants.{One}
 use Rattle.go_const.specs.declared.constant.Const.TheVariants as consts
 use Rattle.go_const.specs.declared.operator.ArithmeticOperator.TheVariants.{Add}
 use Rattle.go_const.specs.declared.operator.ComparisonOperator.TheVariants.{Less, Equal}
@@ -47,16 +48,18 @@ abbrev package_of : Function → List Package
 package_of f = record {
   path = codes "app";
   name = codes "main";
+  edition = One;
   constants = [];
   types = [];
   variables = [];
   initializations = [];
+  uses = [];
   functions = f ∷ [];
 } ∷ []
 
 -- its image, in which each call is of itself
 abbrev image_of : Function → Image
-image_of f = record { globals = []; functions = translated (λ s. 0) (λ s. 0) f ∷ []; starts = Run 0 ∷ [] }
+image_of f = record { edition = One; globals = []; functions = translated (λ s. 0) (λ s. 0) f ∷ []; starts = Run 0 ∷ [] }
 
 -- how a program is over, as the machine says it
 abbrev over : Outcome ⊤ → Option Final

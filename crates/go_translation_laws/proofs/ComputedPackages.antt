@@ -1,6 +1,7 @@
 -- Small programs of two packages, linked and computed: what the image does is what they mean.
 use Rattle.std.proofs.Common.{◌≡◌, ℕ, List, [], ◌∷◌, ◌++◌, map, Option, Some, None, refl, pos}
 use Rattle.std.specs.Prelude.{codes, ⊤}
+use Rattle.go_text.specs.declared.edition.Edition.TheVariants.{One}
 use Rattle.go_const.specs.declared.constant.Const.TheVariants as consts
 use Rattle.go_const.specs.declared.operator.ArithmeticOperator.TheVariants.{Add}
 use Rattle.go_const.specs.declared.kind.IntKind.TheVariants as integers
@@ -43,10 +44,12 @@ abbrev lib : Package
 lib = record {
   path = codes "lib";
   name = codes "lib";
+  edition = One;
   constants = [];
   types = [];
   variables = variable (codes "a") three ∷ variable (codes "x") int ∷ [];
   initializations = [];
+  uses = [];
   functions = record {
     name = codes "add";
     parameters = int ∷ [];
@@ -67,10 +70,12 @@ abbrev app : Package
 app = record {
   path = codes "app";
   name = codes "main";
+  edition = One;
   constants = [];
   types = [];
   variables = variable (codes "y") int ∷ variable (codes "x") int ∷ [];
   initializations = [];
+  uses = [];
   functions = record { name = codes "add"; parameters = []; results = []; locals = []; body = pack_stmts [] } ∷ record {
     name = codes "main";
     parameters = [];

@@ -7,20 +7,22 @@ use Rattle.std.proofs.lemmas.List.{map-append, length-map}
 use Rattle.std.proofs.lemmas.List.Folds.{find_at}
 use Rattle.std.proofs.lemmas.Option.{slice_get-map}
 use Rattle.go_code.specs.declared.image.Start.{Start}
-use Rattle.go_code.specs.declared.image.Start.TheVariants.{Function as Run}
+use Rattle.go_code.specs.declared.image.Start.TheVariants.{Setup as Set_up, Function as Run}
 use Rattle.go_code.specs.Functions as in_code
 use Rattle.go_code.specs.Images.{Image}
 use Rattle.go_code.specs.Packages.{Object, PackageFunction, PackageVariable}
 use Rattle.go_symbol.specs.Symbols as symbols
 use Rattle.go_symbol.specs.Symbols.{same_symbol}
-use Rattle.go_link.specs.Links.{Held, symbol_of as code_symbol, names, variables, place_in, number_of, numbers, linked_function, zeros_of as object_zeros, is_init as is_object_init, package_starts, main_start, last_package as last_object, linked}
-use Rattle.go_typed.specs.Trees.{Symbol, Function, Variable, Package}
+use Rattle.go_link.specs.Links.{Held, symbol_of as code_symbol, names, variables, place_in, number_of, numbers, linked_function, linked_setup, zeros_of as object_zeros, is_init as is_object_init, package_starts, main_start, last_package as last_object, linked}
+use Rattle.go_typed.specs.Trees.{Symbol, Function, Initialization, Variable, Package}
+use Rattle.go_init.specs.Variables.{variable_order}
 use Rattle.go_meaning.specs.Values.{flat, zero_of}
-use Rattle.go_meaning.specs.Programs.{Declared, symbol_of, package_functions, function_at, is_init, last_package, Step, calls, package_steps, main_steps, start_steps, first_variables}
-use Rattle.go_gen.specs.Translation.{translated, symbol_code, translated_function, translated_variable, object_of}
+use Rattle.go_meaning.specs.Programs.{Declared, symbol_of, package_functions, function_at, is_init, last_package, Step, sets, calls, package_steps, main_steps, start_steps, first_variables}
+use Rattle.go_gen.specs.Translation.{translated, symbol_code, translated_function, translated_variable, translated_setup, object_of}
 use Rattle.go_translation_laws.proofs.Runs.{held}
 use Rattle.go_translation_laws.proofs.FirstVariables.{stored_first, held_behind}
 use Rattle.go_translation_laws.proofs.ReferredBodies.{function_referred}
+use Rattle.go_translation_laws.proofs.Setups.{setup_referred}
 
 -- ---- places of names
 
@@ -109,44 +111,61 @@ found_linked packages s f e =
 -- ---- start steps
 
 -- the image's step for one of the source
-abbrev pub start_of : (Symbol → ℕ) → Step → Start
-start_of number (calls s) = Run (number s)
+abbrev pub start_of : (Symbol → ℕ) → (Symbol → ℕ) → Step → Start
+start_of globals number (sets path i) = Set_up (translated_setup globals number path i)
+start_of globals number (calls s) = Run (number s)
 
 -- an element that is kept or not
 kept : {A B : Type 0} (b : Bool) (h : A → B) (x : A) (xs : List A) → map h (cond b (x ∷ xs) xs) ≡ cond b (h x ∷ map h xs) (map h xs)
 kept true h x xs = refl
 kept false h x xs = refl
 
-inits_linked : (typed : Package) (number : Symbol → ℕ) (fs : List Function) → map (λ (f : PackageFunction). Run (number (symbol_of typed f.name))) (filter is_object_init (map translated_function fs)) ≡ map (start_of number) (map (λ f. calls (symbol_of typed f.name)) (filter is_init fs))
-inits_linked typed number [] = refl
-inits_linked typed number (f ∷ fs) =
+inits_linked : (typed : Package) (globals number : Symbol → ℕ) (fs : List Function) → map (λ (f : PackageFunction). Run (number (symbol_of typed f.name))) (filter is_object_init (map translated_function fs)) ≡ map (start_of globals number) (map (λ f. calls (symbol_of typed f.name)) (filter is_init fs))
+inits_linked typed globals number [] = refl
+inits_linked typed globals number (f ∷ fs) =
     kept (is_init f) (λ (g : PackageFunction). Run (number (symbol_of typed g.name))) (translated_function f) (filter is_object_init (map translated_function fs))
-    ∙ ap (λ l. cond (is_init f) (Run (number (symbol_of typed f.name)) ∷ l) l) (inits_linked typed number fs)
-    ∙ sym (ap (map (start_of number)) (kept (is_init f) (λ (g : Function). calls (symbol_of typed g.name)) f (filter is_init fs)) ∙ kept (is_init f) (start_of number) (calls (symbol_of typed f.name)) (map (λ (g : Function). calls (symbol_of typed g.name)) (filter is_init fs)))
+    ∙ ap (λ l. cond (is_init f) (Run (number (symbol_of typed f.name)) ∷ l) l) (inits_linked typed globals number fs)
+    ∙ sym (ap (map (start_of globals number)) (kept (is_init f) (λ (g : Function). calls (symbol_of typed g.name)) f (filter is_init fs)) ∙ kept (is_init f) (start_of globals number) (calls (symbol_of typed f.name)) (map (λ (g : Function). calls (symbol_of typed g.name)) (filter is_init fs)))
+
+-- a package's setups
+setups_linked : (all : List symbols.Symbol) (held : List Held) (path : List ℕ) (is : List Initialization) → map (linked_setup all held) (map (translated_setup symbol_code symbol_code path) is) ≡ map (start_of (λ s. place_in held (symbol_code s)) (λ s. number_of all (symbol_code s))) (map (sets path) is)
+setups_linked all held path [] = refl
+setups_linked all held path (i ∷ is) =
+    ap (λ s. Set_up s ∷ map (linked_setup all held) (map (translated_setup symbol_code symbol_code path) is)) (setup_referred (numbers all held) symbol_code symbol_code path i)
+    ∙ ap (λ l. Set_up (translated_setup (λ s. place_in held (symbol_code s)) (λ s. number_of all (symbol_code s)) path i) ∷ l) (setups_linked all held path is)
+
+package_linked : (all : List symbols.Symbol) (held : List Held) (p : Package) → package_starts all held (object_of p) ≡ map (start_of (λ s. place_in held (symbol_code s)) (λ s. number_of all (symbol_code s))) (package_steps p)
+package_linked all held p =
+    let globals : Symbol → ℕ = λ s. place_in held (symbol_code s) in
+    let number : Symbol → ℕ = λ s. number_of all (symbol_code s) in
+    let inits : List Step = map (λ (f : Function). calls (symbol_of p f.name)) (filter is_init p.functions) in
+    ap (λ l. l ++ map (λ (f : PackageFunction). Run (number (symbol_of p f.name))) (filter is_object_init (map translated_function p.functions))) (setups_linked all held p.path (variable_order p).0)
+    ∙ ap (λ l. map (start_of globals number) (map (sets p.path) (variable_order p).0) ++ l) (inits_linked p globals number p.functions)
+    ∙ sym (map-append (start_of globals number) (map (sets p.path) (variable_order p).0) inits)
 
 -- package by package
-steps_linked : (all : List symbols.Symbol) (held : List Held) (packages : List Package) → flat_map (package_starts all held) (objects_of packages) ≡ map (start_of (λ s. number_of all (symbol_code s))) (flat_map package_steps packages)
+steps_linked : (all : List symbols.Symbol) (held : List Held) (packages : List Package) → flat_map (package_starts all held) (objects_of packages) ≡ map (start_of (λ s. place_in held (symbol_code s)) (λ s. number_of all (symbol_code s))) (flat_map package_steps packages)
 steps_linked all held [] = refl
 steps_linked all held (p ∷ packages) =
-    let number : Symbol → ℕ = λ s. number_of all (symbol_code s) in
-    ap (λ l. l ++ flat_map (package_starts all held) (objects_of packages)) (inits_linked p number p.functions)
-    ∙ ap (λ l. map (start_of number) (package_steps p) ++ l) (steps_linked all held packages)
-    ∙ sym (map-append (start_of number) (package_steps p) (flat_map package_steps packages))
+    let start : Step → Start = start_of (λ s. place_in held (symbol_code s)) (λ s. number_of all (symbol_code s)) in
+    ap (λ l. l ++ flat_map (package_starts all held) (objects_of packages)) (package_linked all held p)
+    ∙ ap (λ l. map start (package_steps p) ++ l) (steps_linked all held packages)
+    ∙ sym (map-append start (package_steps p) (flat_map package_steps packages))
 
 -- the last package's object is the last
 pub last_linked : (packages : List Package) → last_object (objects_of packages) ≡ option_map object_of (last_package packages)
 last_linked packages = ap (λ n. slice_get (objects_of packages) (n - 1)) (length-map packages object_of) ∙ slice_get-map object_of packages (length packages - 1)
 
-main_linked : (all : List symbols.Symbol) (o : Option Package) → main_start all (option_map object_of o) ≡ map (start_of (λ s. number_of all (symbol_code s))) (main_steps o)
-main_linked all None = refl
-main_linked all (Some p) = refl
+main_linked : (all : List symbols.Symbol) (globals : Symbol → ℕ) (o : Option Package) → main_start all (option_map object_of o) ≡ map (start_of globals (λ s. number_of all (symbol_code s))) (main_steps o)
+main_linked all globals None = refl
+main_linked all globals (Some p) = refl
 
-starts_linked : (packages : List Package) → (linked (objects_of packages)).starts ≡ map (start_of (linked_number packages)) (start_steps packages)
+starts_linked : (packages : List Package) → (linked (objects_of packages)).starts ≡ map (start_of (slot_in packages) (linked_number packages)) (start_steps packages)
 starts_linked packages =
     let all = names (objects_of packages) in
     ap (λ l. l ++ main_start all (last_object (objects_of packages))) (steps_linked all (variables (objects_of packages)) packages)
-    ∙ ap (λ l. map (start_of (linked_number packages)) (flat_map package_steps packages) ++ l) (ap (main_start all) (last_linked packages) ∙ main_linked all (last_package packages))
-    ∙ sym (map-append (start_of (linked_number packages)) (flat_map package_steps packages) (main_steps (last_package packages)))
+    ∙ ap (λ l. map (start_of (slot_in packages) (linked_number packages)) (flat_map package_steps packages) ++ l) (ap (main_start all) (last_linked packages) ∙ main_linked all (slot_in packages) (last_package packages))
+    ∙ sym (map-append (start_of (slot_in packages) (linked_number packages)) (flat_map package_steps packages) (main_steps (last_package packages)))
 
 -- ---- package variables
 
@@ -164,10 +183,10 @@ globals_linked (p ∷ packages) =
 
 -- ---- together
 
--- the image's start steps call what the start of the packages calls, its globals are the cells of their variables, and their functions
+-- the image's start steps are those of the start of the packages, its globals are the cells of their variables, and their functions
 -- have these numbers
 pub record Starts (packages : List Package) (image : Image) (globals numbers : Symbol → ℕ) : Type 0 where
-  pub starts : image.starts ≡ map (start_of numbers) (start_steps packages)
+  pub starts : image.starts ≡ map (start_of globals numbers) (start_steps packages)
   pub globals_held : image.globals ≡ held (flat_map first_variables packages)
   pub found : (s : Symbol) (f : Function) → function_at packages s ≡ Some f → slice_get image.functions (numbers s) ≡ Some (translated globals numbers f)
 

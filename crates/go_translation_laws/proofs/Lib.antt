@@ -4,6 +4,7 @@ pub mod Assignments
 pub mod Calls
 pub mod Computed
 pub mod ComputedPackages
+pub mod ComputedSetups
 pub mod Counters
 pub mod Defines
 pub mod Expressions

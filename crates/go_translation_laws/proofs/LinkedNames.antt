@@ -1,26 +1,26 @@
 -- The linker finds all that well typed packages refer to: where they are a program, they are linked.
-use Rattle.std.proofs.Common.{◌≡◌, Bool, true, false, not, ◌||◌, List, [], ◌∷◌, ◌++◌, map, Option, Some, None, refl, sym, ap, ◌∙◌, cond, append-nil}
+use Rattle.std.proofs.Common.{◌≡◌, ℕ, Bool, true, false, not, ◌||◌, List, [], ◌∷◌, ◌++◌, map, Option, Some, None, refl, sym, ap, ◌∙◌, cond}
 use Rattle.std.specs.Prelude.{is_some, if◌then◌else◌}
-use Rattle.std.specs.List.{All, find, flat_map, list_any}
+use Rattle.std.specs.List.{All, filter, find, flat_map, list_any}
 use Rattle.std.specs.Option.{option_map}
-use Rattle.std.proofs.lemmas.List.Concat.{flat_map-append}
-use Rattle.std.proofs.lemmas.List.Elements.{All-head, All-tail}
-use Rattle.go_code.specs.declared.instr.Instr.{Instr}
+use Rattle.std.proofs.lemmas.List.Elements.{All-nil, All-cons, All-head, All-tail}
+use Rattle.go_code.specs.Functions.{Setup}
 use Rattle.go_code.specs.Packages.{PackageFunction}
 use Rattle.go_symbol.specs.Symbols as symbols
 use Rattle.go_link.specs.declared.link.LinkError.{LinkError}
 use Rattle.go_link.specs.declared.link.LinkError.TheVariants.{NoMain, NameMissing}
 use Rattle.go_symbol.specs.Symbols.{same_symbol}
 use Rattle.go_link.specs.Links.{Held, names, variables, is_missing, code_of, name_missing, has_main, link_refusal}
-use Rattle.go_typed.specs.Trees.{Function, Package}
+use Rattle.go_typed.specs.Trees.{Function, Initialization, Package}
+use Rattle.go_init.specs.Variables.{variable_order}
 use Rattle.go_meaning.specs.Meaning.{Stored}
-use Rattle.go_meaning.specs.Programs.{Declared, package_functions, first_variables, IsProgram}
-use Rattle.go_gen.specs.Translation.{symbol_code, translated, translated_function, object_of}
-use Rattle.go_meaning_laws.specs.WellTyped.{setting, IsFunction, IsWellTyped}
+use Rattle.go_meaning.specs.Programs.{Declared, symbol_of, package_functions, first_variables, is_init, last_package, Step, sets, calls, package_steps, main_steps, IsProgram}
+use Rattle.go_gen.specs.Translation.{symbol_code, translated_function, translated_setup, object_of}
+use Rattle.go_meaning_laws.specs.WellTyped.{Setting, setting, outside, signature_at, variable_at, IsFunction, IsStart, IsWellTyped}
 use Rattle.go_translation_laws.proofs.FirstVariables.{placed, variables_linked}
 use Rattle.go_translation_laws.proofs.Images.{objects_of, all_functions, declared_in, symbol_in, names_linked}
 use Rattle.go_translation_laws.proofs.Named.{Present, Named, Callable, both_named}
-use Rattle.go_translation_laws.proofs.NamedBodies.{function_calls_named}
+use Rattle.go_translation_laws.proofs.NamedBodies.{function_calls_named, setup_named}
 use Rattle.go_translation_laws.proofs.Refusals.{has_main_if}
 
 -- ---- what is referred to
@@ -48,49 +48,69 @@ made_if h g None x e = absurd (cc)
 made_if h g (Some a) x e = refl
 
 -- a function that has a signature in the program, and a variable that has a type, is one of the objects'
-called : (packages : List Package) (f : Function) → Callable (present packages) symbol_code symbol_code (setting packages f)
-called packages f = (
+called : (packages : List Package) (g : Setting) → g.functions ≡ signature_at packages → g.variables ≡ variable_at packages → Callable (present packages) symbol_code symbol_code g
+called packages g functions held = (
   (λ s x e.
       let is : Declared → Bool = λ d. same_symbol s d.symbol in
       ap (list_any (same_symbol (symbol_code s))) (names_linked packages)
       ∙ any_found is (same_symbol (symbol_code s)) symbol_in (λ d. refl) (all_functions packages)
-      ∙ made_if (λ (d : Declared). d.function) (λ (g : Function). record { parameters = g.parameters; results = g.results }) (find is (all_functions packages)) x e),
+      ∙ made_if (λ (d : Declared). d.function) (λ (f : Function). record { parameters = f.parameters; results = f.results }) (find is (all_functions packages)) x (sym (ap (λ h. h s) functions) ∙ e)),
   (λ s t e.
       let is : Stored → Bool = λ x. same_symbol s x.symbol in
       let of : Held → Bool = λ v. same_symbol (symbol_code s) v.0 in
       ap (list_any of) (variables_linked packages)
       ∙ any_found is of placed (λ x. refl) (flat_map first_variables packages)
-      ∙ some_if (λ (x : Stored). x.of) (find is (flat_map first_variables packages)) t e),
+      ∙ some_if (λ (x : Stored). x.of) (find is (flat_map first_variables packages)) t (sym (ap (λ h. h s) held) ∙ e)),
 )
 
 -- ---- the code of objects
 
-abbrev code_in : Declared → List (Instr symbols.Symbol)
-code_in d = (translated symbol_code symbol_code d.function).code
+all_before : {X : Type 0} (P : X → Type 0) (xs ys : List X) → All P (xs ++ ys) → All P xs
+all_before P [] ys h = All-nil P
+all_before P (x ∷ xs) ys h = All-cons P x xs (All-head P x (xs ++ ys) h) (all_before P xs ys (All-tail P x (xs ++ ys) h))
 
-code_each : (typed : Package) (fs : List Function) → flat_map (λ (f : PackageFunction). f.function.code) (map translated_function fs) ≡ flat_map code_in (map (declared_in typed) fs)
-code_each typed [] = refl
-code_each typed (f ∷ fs) = ap (λ l. (translated symbol_code symbol_code f).code ++ l) (code_each typed fs)
+all_behind : {X : Type 0} (P : X → Type 0) (xs ys : List X) → All P (xs ++ ys) → All P ys
+all_behind P [] ys h = h
+all_behind P (x ∷ xs) ys h = all_behind P xs ys (All-tail P x (xs ++ ys) h)
 
-code_linked : (packages : List Package) → flat_map code_of (objects_of packages) ≡ flat_map code_in (all_functions packages)
-code_linked [] = refl
-code_linked (p ∷ packages) =
-    ap (λ l. l ++ flat_map code_of (objects_of packages)) (append-nil (flat_map (λ (f : PackageFunction). f.function.code) (map translated_function p.functions)) ∙ code_each p p.functions)
-    ∙ ap (λ l. flat_map code_in (package_functions p) ++ l) (code_linked packages)
-    ∙ sym (flat_map-append code_in (package_functions p) (all_functions packages))
+module _ (packages : List Package) where
+  abbrev IsSound : Declared → Type 0
+  IsSound d = IsFunction packages d.function
 
-codes_named : (packages : List Package) (ds : List Declared) → All (λ (d : Declared). IsFunction packages d.function) ds → Named (present packages) (flat_map code_in ds)
-codes_named packages [] h = refl
-codes_named packages (d ∷ ds) h =
-    let IsSound : Declared → Type 0 = λ d. IsFunction packages d.function in
-    both_named (present packages) (code_in d) (flat_map code_in ds)
-    (function_calls_named (present packages) packages symbol_code symbol_code d.function (called packages d.function) (All-head IsSound d ds h))
-    (codes_named packages ds (All-tail IsSound d ds h))
+  abbrev IsSet : Step → Type 0
+  IsSet = IsStart packages
+
+  functions_named : (typed : Package) (fs : List Function) → All IsSound (map (declared_in typed) fs) → Named (present packages) (flat_map (λ (f : PackageFunction). f.function.code) (map translated_function fs))
+  functions_named typed [] h = refl
+  functions_named typed (f ∷ fs) h =
+      let rest = map (declared_in typed) fs in
+      both_named (present packages) (translated_function f).function.code _
+      (function_calls_named (present packages) packages symbol_code symbol_code f (called packages (setting packages f) refl refl) (All-head IsSound (declared_in typed f) rest h))
+      (functions_named typed fs (All-tail IsSound (declared_in typed f) rest h))
+
+  setups_named : (path : List ℕ) (is : List Initialization) → All IsSet (map (sets path) is) → Named (present packages) (flat_map (λ (s : Setup symbols.Symbol). s.code) (map (translated_setup symbol_code symbol_code path) is))
+  setups_named path [] h = refl
+  setups_named path (i ∷ is) h =
+      let rest = map (sets path) is in
+      both_named (present packages) (translated_setup symbol_code symbol_code path i).code _
+      (setup_named (present packages) packages symbol_code symbol_code path i (called packages (outside packages) refl refl) (All-head IsSet (sets path i) rest h))
+      (setups_named path is (All-tail IsSet (sets path i) rest h))
+
+  codes_named : (ps : List Package) → All IsSound (all_functions ps) → All IsSet (flat_map package_steps ps) → Named (present packages) (flat_map code_of (objects_of ps))
+  codes_named [] h k = refl
+  codes_named (p ∷ ps) h k =
+      let set : List Step = map (sets p.path) (variable_order p).0 in
+      let inits : List Step = map (λ (f : Function). calls (symbol_of p f.name)) (filter is_init p.functions) in
+      both_named (present packages) (code_of (object_of p)) (flat_map code_of (objects_of ps))
+      (both_named (present packages) (flat_map (λ (f : PackageFunction). f.function.code) (map translated_function p.functions)) _
+      (functions_named p p.functions (all_before IsSound (package_functions p) (all_functions ps) h))
+      (setups_named p.path (variable_order p).0 (all_before IsSet set inits (all_before IsSet (package_steps p) (flat_map package_steps ps) k))))
+      (codes_named ps (all_behind IsSound (package_functions p) (all_functions ps) h) (all_behind IsSet (package_steps p) (flat_map package_steps ps) k))
 
 -- no name is missing
 pub names_found : (packages : List Package) → IsWellTyped packages → name_missing (objects_of packages) ≡ false
 names_found packages well =
-    ap (list_any (is_missing (present packages).0 (present packages).1)) (code_linked packages) ∙ codes_named packages (all_functions packages) well.functions
+    codes_named packages packages well.functions (all_before (IsStart packages) (flat_map package_steps packages) (main_steps (last_package packages)) well.start)
 
 -- ---- the linker's answer
 

@@ -79,7 +79,7 @@ module _ (all : Present) where
   call_named s e = rw e refl
 
   -- an access to a variable that there is
-  global_named : (i : AccessInstr symbols.Symbol) → list_any (λ v. same_symbol (place_of i) v.0) all.1 ≡ true → Named all (On_globals i ∷ [])
+  pub global_named : (i : AccessInstr symbols.Symbol) → list_any (λ v. same_symbol (place_of i) v.0) all.1 ≡ true → Named all (On_globals i ∷ [])
   global_named i e = rw e refl
 
   module _ (p : Places symbols.Symbol) (g : Setting) (d : List ℕ) (there : Callable all p.globals p.functions g) where

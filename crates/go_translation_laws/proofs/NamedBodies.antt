@@ -8,15 +8,17 @@ use Rattle.go_types.specs.Relations.{underlying}
 use Rattle.go_types.specs.Sizes.{cells}
 use Rattle.go_code.specs.declared.instr.Instr.{Instr}
 use Rattle.go_code.specs.declared.instr.Instr.TheVariants.{Output as To_output}
+use Rattle.go_code.specs.declared.instr.AccessInstr.TheVariants.{Store}
 use Rattle.go_code.specs.declared.instr.OutputInstr.TheVariants.{Print}
 use Rattle.go_symbol.specs.Symbols as symbols
 use Rattle.go_typed.specs.declared.expression.Operator.TheVariants.{Arithmetic as arithmetic, Comparison as comparison}
 use Rattle.go_typed.specs.Trees as trees
-use Rattle.go_typed.specs.Trees.{Symbol, Expr, Exprs, no_exprs, some_exprs, Stmt, Stmts, no_stmts, some_stmts, Clauses, no_clauses, clause, results, expr_type, Package}
+use Rattle.go_typed.specs.Trees.{Symbol, Expr, Exprs, no_exprs, some_exprs, Stmt, Stmts, no_stmts, some_stmts, Clauses, no_clauses, clause, results, expr_type, Initialization, Package}
 use Rattle.go_meaning.specs.Choices.{binary_operators}
-use Rattle.go_gen.specs.Translation.{Places, total, slots, expr_temps, source_counts, source_temps, left_temps, lefts_temps, operators_code, load, store, expr_code, source_code, lefts_operands, keeps_code, keep_code, left_operands, take_code, give_code, exprs_code, expr_counts, case_temps, cases_temps, condition_code, stmt_temps, stmts_temps, if_code, loop_code, begin_code, counted_code, count_code, within_code, cases_code, joined, tests_code, leave_code, stmt_code, stmts_code, bodies_code, local_types, translated}
-use Rattle.go_meaning_laws.specs.WellTyped.{Setting, AreExprs, IsConditionOrNone, IsStmt, AreStmts, AreClauses, after, first, in_loop, in_clause, in_post, numbers, setting, IsFunction}
-use Rattle.go_translation_laws.proofs.Named.{Present, Named, Callable, both_named, then_named, operators_named, expr_named, exprs_named, source_named, left_named, lefts_named, take_named, give_named, keep_named, keeps_named, gives_named, defines_named}
+use Rattle.go_meaning.specs.Programs.{sets}
+use Rattle.go_gen.specs.Translation.{Places, total, slots, expr_temps, source_counts, source_temps, left_temps, lefts_temps, operators_code, load, store, expr_code, source_code, lefts_operands, keeps_code, keep_code, left_operands, take_code, give_code, exprs_code, expr_counts, case_temps, cases_temps, condition_code, stmt_temps, stmts_temps, if_code, loop_code, begin_code, counted_code, count_code, within_code, cases_code, joined, tests_code, leave_code, stmt_code, stmts_code, bodies_code, local_types, translated, sets_code, no_locals, translated_setup}
+use Rattle.go_meaning_laws.specs.WellTyped.{Setting, outside, source_types, AreGiven, IsStart, AreExprs, IsConditionOrNone, IsStmt, AreStmts, AreClauses, after, first, in_loop, in_clause, in_post, numbers, setting, IsFunction}
+use Rattle.go_translation_laws.proofs.Named.{Present, Named, Callable, both_named, then_named, operators_named, expr_named, exprs_named, source_named, left_named, lefts_named, take_named, give_named, keep_named, keeps_named, gives_named, defines_named, global_named}
 
 module _ (all : Present) where
   abbrev Code : Type 0
@@ -176,3 +178,22 @@ module _ (all : Present) where
       let size : ℕ = total (local_types f) in
       let p : Places symbols.Symbol = record { locals = slice_index (slots 0 (local_types f)); globals = globals; functions = functions } in
       both_named all (stmts_code p size f.body 0 0) _ (stmts_named p (setting packages f) (first (length f.parameters)) there size f.body 0 0 h.body) refl
+
+  -- ---- setups
+
+  sets_named : (p : Places symbols.Symbol) (g : Setting) → Callable all p.globals p.functions g → (path : List ℕ) (os : List (Option (List ℕ))) (counts : List ℕ) (ts : List Type') → AreGiven (λ x. g.variables (record { path = path; name = x })) os ts → Named all (sets_code p path os counts)
+  sets_named p g there path [] counts ts h = refl
+  sets_named p g there path (o ∷ os) [] ts h = refl
+  sets_named p g there path (o ∷ os) (n ∷ counts) [] h = absurd h
+  sets_named p g there path (None ∷ os) (n ∷ counts) (t ∷ ts) h = both_named all (sets_code p path os counts) _ (sets_named p g there path os counts ts h) refl
+  sets_named p g there path (Some x ∷ os) (n ∷ counts) (t ∷ ts) h =
+      let s : Symbol = record { path = path; name = x } in
+      let given = h.0 in
+      both_named all (sets_code p path os counts) _ (sets_named p g there path os counts ts h.1) (global_named all (Store (p.globals s) n) (there.1 s given.0 given.1))
+
+  -- the code that gives package variables values of their types
+  pub setup_named : (packages : List Package) (globals functions : Symbol → symbols.Symbol) (path : List ℕ) (i : Initialization) → Callable all globals functions (outside packages) → IsStart packages (sets path i) → Named all (translated_setup globals functions path i).code
+  setup_named packages globals functions path i there h =
+      let p : Places symbols.Symbol = no_locals globals functions in
+      both_named all (source_code p 0 i.source) _ (source_named all p (outside packages) [] there 0 i.source h.0)
+      (both_named all (sets_code p path i.variables (source_counts i.source)) _ (sets_named p (outside packages) there path i.variables (source_counts i.source) (source_types i.source) h.1) refl)

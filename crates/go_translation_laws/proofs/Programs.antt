@@ -14,10 +14,10 @@ use Rattle.go_code.specs.Machine.{State, Goes, Stops, Leads, LeadsFrom, MachineM
 use Rattle.go_code.proofs.Follows.{start_leads, start_cut, ended_leads}
 use Rattle.go_code.proofs.Steps.{meaning_once}
 use Rattle.go_link.specs.Links.{linked}
-use Rattle.go_typed.specs.Trees.{Symbol, Function, Package}
+use Rattle.go_typed.specs.Trees.{Symbol, Function, Initialization, Package}
 use Rattle.go_meaning.specs.Values.{Value, are_of}
 use Rattle.go_meaning.specs.Meaning.{Stored, World, Outcome, Gives, Ends, Stuck, and_then, with_tick, exec_all}
-use Rattle.go_meaning.specs.Programs.{results_of, enter, first_locals, function_at, call_at, most_open, IsProgram, Step, calls, start_steps, step, step_all, first_world, IsOver, run, SourceMeaning}
+use Rattle.go_meaning.specs.Programs.{results_of, enter, first_locals, function_at, call_at, most_open, IsProgram, Step, sets, calls, start_steps, step, step_all, first_world, IsOver, run, SourceMeaning}
 use Rattle.go_gen.specs.Translation.{total, translated}
 use Rattle.go_translation_laws.proofs.Runs.{Onward, onward_then, onward_map, Sized, held, global_at}
 use Rattle.go_translation_laws.proofs.Images.{objects_of, start_of, Starts, slot_in, linked_number, links_starts}
@@ -46,11 +46,18 @@ BodiesLead image final packages globals numbers n =
       output = w.output;
     }) final
 
+-- the machine follows a start step that sets package variables, whose calls are the first open ones
+abbrev pub SetupsLead : Image → Final → List Package → (Symbol → ℕ) → (Symbol → ℕ) → ℕ → Type 0
+SetupsLead image final packages globals numbers n =
+    (starts : List Start) (path : List ℕ) (i : Initialization) (t : ℕ) (w : World) → Lies globals w → w.ticks ≤ t →
+    Onward final (λ done w1. Lies globals w1 → w1.ticks ≤ t → Leads image (between starts w1) final) (step (call_at packages (suc n)) (sets path i) w) →
+    Leads image (between (start_of globals numbers (sets path i) ∷ starts) w) final
+
 no_cells : (ts : List Type') → are_of ts [] ≡ true → total ts ≡ 0
 no_cells [] e = refl
 no_cells (t ∷ ts) e = cc
 
-module _ (image : Image) (final : Final) (packages : List Package) (globals numbers : Symbol → ℕ) (found : (s : Symbol) (f : Function) → function_at packages s ≡ Some f → slice_get image.functions (numbers s) ≡ Some (translated globals numbers f)) (n : ℕ) (bodies : BodiesLead image final packages globals numbers n) where
+module _ (image : Image) (final : Final) (packages : List Package) (globals numbers : Symbol → ℕ) (found : (s : Symbol) (f : Function) → function_at packages s ≡ Some f → slice_get image.functions (numbers s) ≡ Some (translated globals numbers f)) (n : ℕ) (bodies : BodiesLead image final packages globals numbers n) (setups : SetupsLead image final packages globals numbers n) where
   abbrev runs_body : Function → World → Outcome (List Value)
   runs_body f w = and_then (exec_all (call_at packages n) f.body (first_locals f []) w) results_of
 
@@ -59,13 +66,13 @@ module _ (image : Image) (final : Final) (packages : List Package) (globals numb
   Followed t starts goes_on = (w : World) → goes_on w → Lies globals w → w.ticks ≤ t → Leads image (between starts w) final
 
   -- a called function that is there, with ticks left or without
-  ticked : (t : ℕ) (starts : List Start) (goes_on : World → Type 0) → Followed t starts goes_on → (s : Symbol) (f : Function) → function_at packages s ≡ Some f → are_of f.parameters [] ≡ true → (ticks : ℕ) (variables : List Stored) (output : List ℕ) → ticks ≤ t → Lies globals (record { ticks = ticks; variables = variables; output = output }) → Onward final (λ results. goes_on) (with_tick (record { ticks = ticks; variables = variables; output = output }) (runs_body f)) → Leads image (between (Run (numbers s) ∷ starts) (record { ticks = ticks; variables = variables; output = output })) final
-  ticked t starts goes_on rest s f is typed zero variables output few lies h =
-      let state = between (Run (numbers s) ∷ starts) (record { ticks = zero; variables = variables; output = output }) in
+  ticked : (t : ℕ) (starts : List Start) (goes_on : World → Type 0) → Followed t starts goes_on → (s : Symbol) (f : Function) → function_at packages s ≡ Some f → are_of f.parameters [] ≡ true → (ticks : ℕ) (variables : List Stored) (arrays : List (List Value)) (output : List ℕ) → ticks ≤ t → Lies globals (record { ticks = ticks; variables = variables; arrays = arrays; output = output }) → Onward final (λ results. goes_on) (with_tick (record { ticks = ticks; variables = variables; arrays = arrays; output = output }) (runs_body f)) → Leads image (between (Run (numbers s) ∷ starts) (record { ticks = ticks; variables = variables; arrays = arrays; output = output })) final
+  ticked t starts goes_on rest s f is typed zero variables arrays output few lies h =
+      let state = between (Run (numbers s) ∷ starts) (record { ticks = zero; variables = variables; arrays = arrays; output = output }) in
       subst (Leads image state) (sym h) (start_cut image state (numbers s) (translated globals numbers f) starts refl refl (found s f is) (no_cells f.parameters typed) refl)
-  ticked t starts goes_on rest s f is typed (suc left) variables output few lies h =
-      let w : World = record { ticks = left; variables = variables; output = output } in
-      start_leads image (between (Run (numbers s) ∷ starts) (record { ticks = suc left; variables = variables; output = output })) (numbers s) (translated globals numbers f) starts left final refl refl (found s f is) (no_cells f.parameters typed) refl
+  ticked t starts goes_on rest s f is typed (suc left) variables arrays output few lies h =
+      let w : World = record { ticks = left; variables = variables; arrays = arrays; output = output } in
+      start_leads image (between (Run (numbers s) ∷ starts) (record { ticks = suc left; variables = variables; arrays = arrays; output = output })) (numbers s) (translated globals numbers f) starts left final refl refl (found s f is) (no_cells f.parameters typed) refl
       (bodies starts f t w typed (omega (arith, few)) lies
       (onward_map final (λ results. goes_on) _ (runs_body f w) (λ rs w1 g. rest w1 g) h))
 
@@ -75,14 +82,18 @@ module _ (image : Image) (final : Final) (packages : List Package) (globals numb
   called t starts goes_on rest s (Some f) is w few lies h = by_test (are_of f.parameters []) refl h
     where
       by_test : (b : Bool) → are_of f.parameters [] ≡ b → Onward final (λ results. goes_on) (if b then with_tick w (runs_body f) else Stuck) → Leads image (between (Run (numbers s) ∷ starts) w) final
-      by_test true e h = ticked t starts goes_on rest s f is e w.ticks w.variables w.output few lies h
+      by_test true e h = ticked t starts goes_on rest s f is e w.ticks w.variables w.arrays w.output few lies h
       by_test false e h = absurd h
 
-  steps_run : (t : ℕ) (steps : List Step) (w : World) → Onward final (λ done w1. final ≡ Ends_with Ended w1.output) (step_all (call_at packages (suc n)) steps w) → Lies globals w → w.ticks ≤ t → Leads image (between (map (start_of numbers) steps) w) final
+  steps_run : (t : ℕ) (steps : List Step) (w : World) → Onward final (λ done w1. final ≡ Ends_with Ended w1.output) (step_all (call_at packages (suc n)) steps w) → Lies globals w → w.ticks ≤ t → Leads image (between (map (start_of globals numbers) steps) w) final
   steps_run t [] w h lies few = subst (Leads image (between [] w)) (sym h) (ended_leads image (between [] w) refl refl)
+  steps_run t (sets path i ∷ steps) w h lies few =
+      setups (map (start_of globals numbers) steps) path i t w lies few
+      (onward_map final _ _ (step (call_at packages (suc n)) (sets path i) w) (λ done w1 more lies1 few1. steps_run t steps w1 more lies1 few1)
+      (onward_then final _ (step (call_at packages (suc n)) (sets path i) w) _ h))
   steps_run t (calls s ∷ steps) w h lies few =
       let goes_on : World → Type 0 = λ w1. Onward final (λ done w2. final ≡ Ends_with Ended w2.output) (step_all (call_at packages (suc n)) steps w1) in
-      called t (map (start_of numbers) steps) goes_on (steps_run t steps) s (function_at packages s) refl w few lies
+      called t (map (start_of globals numbers) steps) goes_on (steps_run t steps) s (function_at packages s) refl w few lies
       (onward_then final (λ done. goes_on) (call_at packages (suc n) s [] w) (λ results w1. Gives tt w1)
       (onward_then final _ (step (call_at packages (suc n)) (calls s) w) _ h))
 
@@ -103,7 +114,8 @@ begins : (image : Image) (ticks : ℕ) (final : Final) → list_all cell_fits im
 begins image ticks final known l = subst (λ b. LeadsFrom image (if b then Goes (started image ticks) else Stops BadCode) final) (sym known) l
 
 -- what packages mean their image does
-module _ (packages : List Package) (image : Image) (bodies : (final : Final) → BodiesLead image final packages (slot_in packages) (linked_number packages) 999) where
+module _ (packages : List Package) (image : Image) (bodies : (final : Final) → BodiesLead image final packages (slot_in packages) (linked_number packages) 999)
+    (setups : (final : Final) → SetupsLead image final packages (slot_in packages) (linked_number packages) 999) where
   starts_follow : (ticks : ℕ) (ending : Ending) (output : List ℕ) → Starts packages image (slot_in packages) (linked_number packages) → IsOver (run packages ticks) ending output → MachineMeaning image ticks (Ends_with ending output)
   starts_follow ticks ending output s h =
       let final : Final = Ends_with ending output in
@@ -112,7 +124,7 @@ module _ (packages : List Package) (image : Image) (bodies : (final : Final) →
       begins image ticks final (ap (list_all cell_fits) s.globals_held ∙ variables_known packages)
       (subst (λ globals. Leads image (record { frames = []; starts = image.starts; globals = globals; ticks = ticks; output = [] }) final) (sym s.globals_held)
       (subst (λ starts. Leads image (between starts w) final) (sym s.starts)
-      (steps_run image final packages (slot_in packages) (linked_number packages) s.found 999 (bodies final) ticks (start_steps packages) w
+      (steps_run image final packages (slot_in packages) (linked_number packages) s.found 999 (bodies final) (setups final) ticks (start_steps packages) w
       (over_onward (step_all (call_at packages (suc 999)) (start_steps packages) w) ending output meant)
       (variables_sized packages, variables_lie packages) (omega arith))))
 

@@ -12,19 +12,19 @@ use Rattle.go_code.specs.declared.instr.Instr.TheVariants.{Frame as In_frame, Gl
 use Rattle.go_code.specs.declared.instr.CallInstr.TheVariants.{Return}
 use Rattle.go_code.specs.declared.instr.FrameInstr.TheVariants.{Pop}
 use Rattle.go_code.specs.Accesses.{cells_with, stored}
-use Rattle.go_code.specs.Referred.{Changes, refer}
+use Rattle.go_code.specs.Referred.{Changes, refer, refer_setup}
 use Rattle.go_code.specs.Finals.{Final}
 use Rattle.go_code.specs.Images.{Image}
 use Rattle.go_code.specs.Machine.{Frame, State, Leads, most_open, opened}
 use Rattle.go_code.proofs.Follows.{split_row, setup_leads}
 use Rattle.go_code.proofs.FollowsInside.{global_leads}
 use Rattle.go_code.proofs.Stands.{stands_next, stands_whole}
-use Rattle.go_typed.specs.Trees.{Symbol, Source, Function, Package}
+use Rattle.go_typed.specs.Trees.{Symbol, Source, Function, Initialization, Package}
 use Rattle.go_meaning.specs.Values.{Value, flat, is_of}
 use Rattle.go_symbol.specs.Symbols.{same_symbol}
-use Rattle.go_meaning.specs.Meaning.{Stored, World, Outcome, Gives, Calls, and_then, if_known, with_global, source}
+use Rattle.go_meaning.specs.Meaning.{Stored, World, Outcome, Gives, Calls, and_then, if_known, with_global, all_put, source}
 use Rattle.go_meaning.specs.Programs.{function_at, call_at}
-use Rattle.go_gen.specs.Translation.{Places, slots, source_counts, source_temps, source_code, translated}
+use Rattle.go_gen.specs.Translation.{Places, slots, source_counts, source_temps, source_code, set_code, sets_code, setup_code, no_locals, translated, translated_setup}
 use Rattle.go_translation_laws.proofs.Frames.{write_row}
 use Rattle.go_translation_laws.proofs.Runs.{Onward, onward_map, onward_then, here, Sits, held, On, on_as, on_stack}
 use Rattle.go_translation_laws.proofs.Exprs.{lengths}
@@ -35,23 +35,9 @@ use Rattle.go_translation_laws.proofs.Referred.{referred, joins, Refers, source_
 use Rattle.go_translation_laws.proofs.Sources.{gives_back}
 use Rattle.go_translation_laws.proofs.Calls.{nought, replicate_long, BodiesRun, Lies, called_within}
 
--- the code: each into its variable's cells, a blank one is dropped
-abbrev pub set_code : {R : Type 0} → Places R → List ℕ → Option (List ℕ) → ℕ → Instr R
-set_code {R} p path None n = In_frame (Pop n)
-set_code {R} p path (Some x) n = On_globals (Store (p.globals (record { path = path; name = x })) n)
-
-abbrev pub sets_code : {R : Type 0} → Places R → List ℕ → List (Option (List ℕ)) → List ℕ → List (Instr R)
-sets_code {R} p path [] counts = []
-sets_code {R} p path (o ∷ os) [] = []
-sets_code {R} p path (o ∷ os) (n ∷ counts) = sets_code p path os counts ++ set_code p path o n ∷ []
-
 -- the meaning: the last first, for the variables of the package at a path
 abbrev pub all_set : List ℕ → List (Option (List ℕ)) → List Value → List Stored → Option (List Stored)
-all_set path [] [] vars = Some vars
-all_set path [] (v ∷ vs) vars = None
-all_set path (o ∷ os) [] vars = None
-all_set path (None ∷ os) (v ∷ vs) vars = all_set path os vs vars
-all_set path (Some x ∷ os) (v ∷ vs) vars = option_and_then (λ vars1. with_global vars1 (record { path = path; name = x }) v) (all_set path os vs vars)
+all_set path = all_put (λ variables x. with_global variables (record { path = path; name = x }))
 
 -- a variable that can be given a value has one
 record Had (variables : List Stored) (s : Symbol) : Type 0 where
@@ -123,29 +109,21 @@ module _ (image : Image) (final : Final) (depth : ℕ) (code : List (Instr ℕ))
 
 -- ---- a start step that sets variables
 
--- the code of a start step that gives package variables the values of a source
-abbrev pub setup_code : {R : Type 0} → Places R → List ℕ → Source → List (Option (List ℕ)) → List (Instr R)
-setup_code {R} p path s ss = source_code p 0 s ++ (sets_code p path ss (source_counts s) ++ By_call (Return 0) ∷ [])
-
--- what it means
+-- what a start step that sets variables means
 abbrev pub variables_set : Calls → List ℕ → Source → List (Option (List ℕ)) → World → Outcome ⊤
 variables_set calls path s ss w = and_then (source calls s [] w) (λ vs w1. and_then (if_known (all_set path ss vs w1.variables) w1) (λ variables w2. Gives tt (record w2 { variables = variables })))
 
 module _ (image : Image) (final : Final) (starts : List Start) (packages : List Package) (globals functions : Symbol → ℕ) where
-  -- there are no local variables
-  abbrev pub no_locals : Places ℕ
-  no_locals = record { locals = slice_index (slots 0 []); globals = globals; functions = functions }
-
   -- between two start steps
   abbrev over : World → State
   over w = record { frames = []; starts = starts; globals = held w.variables; ticks = w.ticks; output = w.output }
 
   -- from the first instruction of a setup's frame
-  pub setup_follows : (calls : Calls) (path : List ℕ) (s : Source) (ss : List (Option (List ℕ))) → AllCalled image final 0 (setup_code no_locals path s ss) [] starts no_locals calls → (t : ℕ) (w : World) → Lies image final packages globals functions w → w.ticks ≤ t →
+  pub setup_follows : (calls : Calls) (path : List ℕ) (s : Source) (ss : List (Option (List ℕ))) → AllCalled image final 0 (setup_code (no_locals globals functions) path s ss) [] starts (no_locals globals functions) calls → (t : ℕ) (w : World) → Lies image final packages globals functions w → w.ticks ≤ t →
       Onward final (λ done w1. Lies image final packages globals functions w1 → w1.ticks ≤ t → Leads image (over w1) final) (variables_set calls path s ss w) →
-      Leads image (record { frames = opened 0 (setup_code no_locals path s ss) (source_temps s) [] ∷ []; starts = starts; globals = held w.variables; ticks = w.ticks; output = w.output }) final
+      Leads image (record { frames = opened 0 (setup_code (no_locals globals functions) path s ss) (source_temps s) [] ∷ []; starts = starts; globals = held w.variables; ticks = w.ticks; output = w.output }) final
   setup_follows calls path s ss called t w known few h =
-      let p : Places ℕ = no_locals in
+      let p : Places ℕ = no_locals globals functions in
       let code : List (Instr ℕ) = setup_code p path s ss in
       let temps : ℕ = source_temps s in
       let return : List (Instr ℕ) = By_call (Return 0) ∷ [] in
@@ -166,14 +144,14 @@ module _ (image : Image) (final : Final) (starts : List Start) (packages : List 
       (runs known few 0 (replicate temps nought) (replicate_long temps nought) (stands_whole code))
 
   -- from the start step, where the image has each function's code by its number; a setup is no open call
-  pub sets_lead : ((f : Symbol) (g : Function) → function_at packages f ≡ Some g → slice_get image.functions (functions f) ≡ Some (translated globals functions g)) → BodiesRun image final starts packages globals functions → (path : List ℕ) (s : Source) (ss : List (Option (List ℕ))) (t : ℕ) (w : World) → Lies image final packages globals functions w → w.ticks ≤ t →
-      Onward final (λ done w1. Lies image final packages globals functions w1 → w1.ticks ≤ t → Leads image (over w1) final) (variables_set (call_at packages most_open) path s ss w) →
-      Leads image (record { frames = []; starts = Set_up (record { cells = source_temps s; code = setup_code no_locals path s ss }) ∷ starts; globals = held w.variables; ticks = w.ticks; output = w.output }) final
-  sets_lead found bodies path s ss t w known few h =
-      let code : List (Instr ℕ) = setup_code no_locals path s ss in
+  pub sets_lead : ((f : Symbol) (g : Function) → function_at packages f ≡ Some g → slice_get image.functions (functions f) ≡ Some (translated globals functions g)) → BodiesRun image final starts packages globals functions → (left : ℕ) → left ≡ most_open → (path : List ℕ) (s : Source) (ss : List (Option (List ℕ))) (t : ℕ) (w : World) → Lies image final packages globals functions w → w.ticks ≤ t →
+      Onward final (λ done w1. Lies image final packages globals functions w1 → w1.ticks ≤ t → Leads image (over w1) final) (variables_set (call_at packages left) path s ss w) →
+      Leads image (record { frames = []; starts = Set_up (record { cells = source_temps s; code = setup_code (no_locals globals functions) path s ss }) ∷ starts; globals = held w.variables; ticks = w.ticks; output = w.output }) final
+  sets_lead found bodies left same path s ss t w known few h =
+      let code : List (Instr ℕ) = setup_code (no_locals globals functions) path s ss in
       setup_leads image (record { frames = []; starts = Set_up (record { cells = source_temps s; code = code }) ∷ starts; globals = held w.variables; ticks = w.ticks; output = w.output }) (record { cells = source_temps s; code = code }) starts final refl refl
-      (setup_follows (call_at packages most_open) path s ss
-      (called_within image final starts packages globals functions found bodies most_open 0 code [] (slice_index (slots 0 [])) (omega arith))
+      (setup_follows (call_at packages left) path s ss
+      (called_within image final starts packages globals functions found bodies left 0 code [] (slice_index (slots 0 [])) (omega (arith, same)))
       t w known few h)
 
 -- ---- other references
@@ -188,8 +166,12 @@ module _ {R S : Type 0} (g : Changes R S) (p : Places R) (path : List ℕ) where
   sets_referred (o ∷ os) [] = refl
   sets_referred (o ∷ os) (n ∷ counts) = joins (refer g) (sets_code p path os counts) _ (sets_referred os counts) (ap (λ i. i ∷ []) (set_referred o n))
 
-  -- the code of a start step with other references
-  pub setup_referred : (s : Source) (os : List (Option (List ℕ))) → Refers g (setup_code p path s os) (setup_code (referred g p) path s os)
-  setup_referred s os =
+  code_referred : (s : Source) (os : List (Option (List ℕ))) → Refers g (setup_code p path s os) (setup_code (referred g p) path s os)
+  code_referred s os =
       joins (refer g) (source_code p 0 s) _ (source_referred g p 0 s)
       (joins (refer g) (sets_code p path os (source_counts s)) _ (sets_referred os (source_counts s)) refl)
+
+-- a setup with other references
+pub setup_referred : {R S : Type 0} (g : Changes R S) (globals functions : Symbol → R) (path : List ℕ) (i : Initialization) → refer_setup g (translated_setup globals functions path i) ≡ translated_setup (λ s. g.variables (globals s)) (λ s. g.functions (functions s)) path i
+setup_referred {R} {S} g globals functions path i =
+    ap (λ (code : List (Instr S)). record { cells = source_temps i.source; code = code }) (code_referred g (no_locals globals functions) path i.source i.variables)

@@ -1,6 +1,7 @@
 -- Typed trees as values: what a checked package holds, with names resolved, constants folded and types written out. They have no
 -- places and no parentheses: a checked package has no faults to report.
 use Rattle.std.specs.Prelude.{ℕ, Bool, List, [], ◌∷◌, Option}
+use Rattle.go_text.specs.declared.edition.Edition.{Edition}
 use Rattle.go_text.specs.declared.place.Place.{Place}
 use Rattle.go_const.specs.declared.constant.Const.{Const}
 use Rattle.go_const.specs.declared.operator.UnaryOperator.{UnaryOperator}
@@ -103,20 +104,26 @@ pub record Variable : Type 0 where
   pub file : List ℕ
   pub place : Place
 
--- variables of a package that get values together, a blank one has no name, and the package's variables and functions that stand in the values
+-- Variables of a package that get values together, a blank one has no name; the file that they stand in and the place of the first; and the
+-- package's variables and functions that stand in the values.
 pub record Initialization : Type 0 where
   pub variables : List (Option (List ℕ))
+  pub file : List ℕ
+  pub place : Place
   pub source : Source
   pub references : List (List ℕ)
 
--- a package: its path, its name, and what it declares, in declaration order
+-- A package: its path, its name, the edition of its files, and what it declares, in declaration order. Each function stands under `uses` too, with
+-- the package's variables and functions that stand in its text.
 pub record Package : Type 0 where
   pub path : List ℕ
   pub name : List ℕ
+  pub edition : Edition
   pub constants : List (List ℕ × (Type' × Const))
   pub types : List (List ℕ × Type')
   pub variables : List Variable
   pub initializations : List Initialization
+  pub uses : List (List ℕ × List (List ℕ))
   pub functions : List Function
 
 -- the type of an expression

@@ -24,6 +24,7 @@ use Rattle.go_typed.specs.declared.package.TypedName.{TypedName}
 use Rattle.go_typed.specs.declared.package.TypedVariable.{TypedVariable}
 use Rattle.go_typed.specs.declared.package.TypedInitialization.{TypedInitialization}
 use Rattle.go_typed.specs.declared.package.TypedFunction.{TypedFunction}
+use Rattle.go_typed.specs.declared.package.TypedUses.{TypedUses}
 use Rattle.go_typed.specs.declared.package.Typed.{Typed}
 
 -- an expression of a kind and a type, and rows of them
@@ -133,9 +134,14 @@ variable_of v = record { name = string_bytes v.name; of = type_of v.of; file = s
 abbrev pub initialization_of : TypedInitialization → trees.Initialization
 initialization_of i = record {
   variables = map (option_map string_bytes) i.variables.items;
+  file = string_bytes i.file;
+  place = i.place;
   source = source_of i.source;
   references = map string_bytes i.references.items;
 }
+
+abbrev pub uses_of : TypedUses → List ℕ × List (List ℕ)
+uses_of u = (string_bytes u.function, map string_bytes u.references.items)
 
 abbrev pub function_of : TypedFunction → trees.Function
 function_of f = record {
@@ -150,9 +156,11 @@ abbrev pub typed_of : Typed → trees.Package
 typed_of t = record {
   path = string_bytes t.path;
   name = string_bytes t.name;
+  edition = t.edition;
   constants = map constant_of t.constants.items;
   types = map name_of t.types.items;
   variables = map variable_of t.variables.items;
   initializations = map initialization_of t.initializations.items;
+  uses = map uses_of t.uses.items;
   functions = map function_of t.functions.items;
 }

@@ -2,6 +2,7 @@
 
 use crate::statement::{TypedSource, TypedStmt};
 use go_const::constant::Const;
+use go_text::edition::Edition;
 use go_text::place::Place;
 use go_types::types::GoType;
 
@@ -45,9 +46,23 @@ pub struct TypedVariable {
 pub struct TypedInitialization {
     /// Their names; a blank one has none.
     pub variables: Vec<Option<String>>,
+    /// The name of the file that declares them.
+    pub file: String,
+    /// The place of the first of their names there.
+    pub place: Place,
     /// Their values.
     pub source: TypedSource,
     /// The names of the package's variables and functions that stand in the values.
+    pub references: Vec<String>,
+}
+
+/// What stands in the text of a function.
+/// [Package initialization](https://go.dev/ref/spec#Package_initialization)
+#[derive(Drop)]
+pub struct TypedUses {
+    /// The function's name.
+    pub function: String,
+    /// The names of the package's variables and functions that stand in its text.
     pub references: Vec<String>,
 }
 
@@ -73,6 +88,8 @@ pub struct Typed {
     pub path: String,
     /// The name in its package clauses.
     pub name: String,
+    /// The edition of the language that its files are written in.
+    pub edition: Edition,
     /// Its constants, in declaration order.
     pub constants: Vec<TypedConstant>,
     /// Its types, in declaration order.
@@ -81,6 +98,8 @@ pub struct Typed {
     pub variables: Vec<TypedVariable>,
     /// What gives its variables their values, in declaration order.
     pub initializations: Vec<TypedInitialization>,
+    /// What its named functions use, in declaration order.
+    pub uses: Vec<TypedUses>,
     /// Its functions, in declaration order.
     pub functions: Vec<TypedFunction>,
 }

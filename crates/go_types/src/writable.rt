@@ -1,6 +1,6 @@
 //! Which types' texts tell them: names in them are spelled without what parts the text.
 ghost use Rattle.std.specs.Prelude.{◌≡◌, Some, option_map, string_bytes};
-ghost use Rattle.std.specs.Bool.{OnTrue};
+ghost use Rattle.std.specs.Bool.{Decides};
 ghost use Rattle.go_types.specs.Views.{type_of, fields_in};
 ghost use Rattle.go_types.specs.Texts.{Lacks, IsSpelled, IsWritable, AreWritable};
 
@@ -8,7 +8,7 @@ use crate::types::{Field, GoType};
 
 /// Whether no byte of a text is this one.
 fn lacks(text: &[u8], byte: u8) -> bool
-    ensures { OnTrue result (Lacks byte text.now) }
+    ensures { Decides result (Lacks byte text.now) }
 {
     for b in text {
         if *b == byte {
@@ -20,14 +20,14 @@ fn lacks(text: &[u8], byte: u8) -> bool
 
 /// Whether no space and no closing brace stand in a text.
 fn is_plain(text: &[u8]) -> bool
-    ensures { OnTrue result (Lacks 32 text.now × Lacks 125 text.now) }
+    ensures { Decides result (Lacks 32 text.now × Lacks 125 text.now) }
 {
     lacks(text, b' ') && lacks(text, b'}')
 }
 
 /// Whether a name of a package is spelled so that its text tells it.
 fn is_named(path: &str, name: &str) -> bool
-    ensures { OnTrue result (IsSpelled (Some path.now) name.now) }
+    ensures { Decides result (IsSpelled (Some path.now) name.now) }
 {
     if !is_plain(path.as_bytes()) || !is_plain(name.as_bytes()) {
         return false;
@@ -37,7 +37,7 @@ fn is_named(path: &str, name: &str) -> bool
 
 /// Whether a field's name is.
 fn is_spelled(owner: &Option<String>, name: &str) -> bool
-    ensures { OnTrue result (IsSpelled (option_map string_bytes owner.now) name.now) }
+    ensures { Decides result (IsSpelled (option_map string_bytes owner.now) name.now) }
 {
     match owner {
         Some(path) => is_named(path, name),
@@ -48,7 +48,7 @@ fn is_spelled(owner: &Option<String>, name: &str) -> bool
 /// Whether all names in a type are.
 #[cycle(writable)]
 fn is_written(of: &GoType) -> bool
-    ensures { OnTrue result (IsWritable (type_of of.now)) }
+    ensures { Decides result (IsWritable (type_of of.now)) }
 {
     match of {
         GoType::Basic(_) => true,
@@ -66,7 +66,7 @@ fn is_written(of: &GoType) -> bool
 /// Whether all names in fields are.
 #[cycle(writable)]
 fn are_written(fields: &[Field]) -> bool
-    ensures { OnTrue result (AreWritable (fields_in fields.now)) }
+    ensures { Decides result (AreWritable (fields_in fields.now)) }
 {
     for field in fields {
         if !is_spelled(&field.package, &field.name) || !is_written(&field.of) {
@@ -78,7 +78,7 @@ fn are_written(fields: &[Field]) -> bool
 
 /// Whether a type's text tells it.
 pub fn is_writable(of: &GoType) -> bool
-    ensures { OnTrue result (IsWritable (type_of of.now)) }
+    ensures { Decides result (IsWritable (type_of of.now)) }
 {
     is_written(of)
 }

@@ -99,7 +99,12 @@ fn in_body<'a>(
     outside(alloc, &hidden, &names)
 }
 
-fn in_function<'a>(alloc: Global, function: &'a Function) -> Result<Vec<UsedName<'a>>, AllocError>
+/// The names that a function uses where nothing in it declares them, those of its parameters' and
+/// results' types among them. An `Err` only where memory ran out.
+pub fn names_in_function<'a>(
+    alloc: Global,
+    function: &'a Function,
+) -> Result<Vec<UsedName<'a>>, AllocError>
     ensures { IfOk result (λ names. map used names.items ≡ in_function (function_of function.now)) }
 {
     let parameters = in_parameters(alloc, &function.parameters)?;
@@ -115,7 +120,7 @@ fn in_top<'a>(alloc: Global, top: &'a TopLevel) -> Result<Vec<UsedName<'a>>, All
         TopLevel::Declared(Decl::Constants(_, specs)) => in_all_consts(alloc, specs),
         TopLevel::Declared(Decl::Variables(_, specs)) => in_all_vars(alloc, specs),
         TopLevel::Declared(Decl::Types(_, specs)) => in_all_types(alloc, specs),
-        TopLevel::Function(function) => in_function(alloc, function),
+        TopLevel::Function(function) => names_in_function(alloc, function),
     }
 }
 

@@ -1,6 +1,7 @@
 pub mod Coming
 pub mod Decoding
 pub mod Handed
+pub mod Lifting
 pub mod Numbers
 pub mod Pushing
 pub mod Readings

@@ -6,4 +6,5 @@ pub mod View
 pub mod Ahead
 pub mod Trees
 pub mod Coming
+pub mod Flats
 pub mod Readings

@@ -4,6 +4,7 @@
 mod ahead;
 mod arithmetic;
 mod decode;
+mod flat;
 mod frames;
 mod inside;
 mod line;
@@ -13,5 +14,6 @@ mod place;
 mod program;
 mod row;
 pub mod run;
+mod slots;
 mod tree;
 mod value;

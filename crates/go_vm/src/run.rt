@@ -10,6 +10,7 @@ ghost use Rattle.go_vm.specs.declared.run.RunError.TheVariants.{Memory};
 
 use crate::ahead::obey_ahead;
 use crate::decode::Coded;
+use crate::flat::{Pace, run_flat};
 use crate::frames::Frames;
 use crate::machine::{Begun, Exit, Flow, World, begin_function, one_step};
 use crate::program::Program;
@@ -19,6 +20,7 @@ use go_code::cell::Cell;
 use go_code::ending::Ending;
 use go_code::image::{Image, Start};
 use go_code::setup::Setup;
+use go_decode::decode::signatures_of;
 use std::alloc::{AllocError, Global};
 use std::marker::Model;
 use thiserror::Error;
@@ -102,7 +104,9 @@ fn finish<'a>(
 ) -> Result<Exit, AllocError>
     ensures { IfOk result (λ exit. IsLeft image.now (λ starts. state_of frames.entry starts world.old) exit world.new) }
 {
+    let mut pace = Pace::new(alloc);
     loop {
+        run_flat(alloc, &mut frames, &mut world.ticks, &mut pace)?;
         match advance(alloc, &mut frames, world, image)? {
             Flow::GoesOn => {}
             Flow::Leaves(exit) => return Ok(exit),
@@ -119,7 +123,7 @@ fn run_setup(
 ) -> Result<Exit, AllocError>
     ensures { IfOk result (λ exit. IsLeft image.now (λ starts. between (Set_up setup.now ∷ starts) world.old) exit world.new) }
 {
-    let code = Coded::new(alloc, setup.code())?;
+    let code = Coded::new(alloc, &[], setup.code(), setup.cells())?;
     let frames = Frames::open(alloc, 0, &code, setup.cells())?;
     finish(alloc, frames, world, image)
 }
@@ -202,7 +206,8 @@ pub fn run(alloc: Global, image: &Image, ticks: u64) -> Result<Outcome, RunError
         ticks,
         output: Vec::new(alloc),
     };
-    let program = Program::new(alloc, image)?;
+    let signatures = signatures_of(alloc, image.functions())?;
+    let program = Program::new(alloc, image, signatures.as_slice())?;
     run_starts(alloc, &program, image.starts(), world)
 }
 

@@ -7,7 +7,7 @@ use Rattle.goset_run.specs.declared.words.Request.{Request}
 -- ---- texts, for which one word alone asks
 
 abbrev pub usage : List ℕ
-usage = codes "usage: ./goset --run [--ticks N] FILE..\n"
+usage = codes "usage: ./goset --run [--ticks N] FILE.. | FOLDER\n"
 
 abbrev pub version : List ℕ
 version = codes "goset 0.1.0\n"

@@ -13,6 +13,8 @@ pub enum Unread {
     Long,
     /// Its bytes are no text.
     NoText,
+    /// It has no path in a workspace.
+    NoPath,
     /// It can't be read for another reason.
     Other,
 }
@@ -27,6 +29,7 @@ impl Unread {
             Unread::NoText => {
                 "not a text: it is UTF-8 without NUL, with a byte order mark at its start alone"
             }
+            Unread::NoPath => "not a path of a Go file, as docs/SCRIPT.md has them",
             Unread::Other => "can't be read",
         }
     }

@@ -1,4 +1,4 @@
-//! `goset_run`: runs the Go program of one package that some files are.
+//! `goset_run`: runs the Go program that some files are, or those of a folder.
 #![tactic(auto)]
 
 mod failure;
@@ -6,18 +6,24 @@ mod files;
 mod words;
 
 use failure::Failure;
-use files::read_sources;
-use go_run::answer::Answer;
-use go_run::run::run_sources;
+use files::{Workspace, read_workspace};
+use std::alloc::Global;
 use std::io::Write;
 use std::process::ExitCode;
+use std::sync::Wait;
+use std::thread::Threads;
 use std::{env, io};
 use words::{Request, USAGE, read_words, text_asked};
+use ws_run::answer::{Answer, Folder};
+use ws_run::run::run_files;
+
+/// How many workers build.
+const WORKERS: u64 = 4;
 
 /// Writes what comes of a program, and returns its status. What standard error doesn't take
 /// changes no status.
-fn tell(rt: &HostRuntime, answer: &Answer) -> Result<u8, Failure> {
-    let complaint = answer.complaint(rt.alloc())?;
+fn tell(rt: &HostRuntime, answer: &Answer, folders: &[Folder]) -> Result<u8, Failure> {
+    let complaint = answer.complaint(rt.alloc(), folders)?;
     rt.stdout().write_all(answer.output())?;
     let _ = rt.stderr().write_all(&complaint);
     Ok(answer.status())
@@ -32,22 +38,28 @@ fn words_of(rt: &HostRuntime) -> Result<Vec<String>, Failure> {
     }
 }
 
-/// Does what the words ask for, and returns the status.
-fn run(rt: &HostRuntime) -> Result<u8, Failure> {
+/// What is to be run, and for how many ticks.
+#[derive(Drop)]
+struct Task {
+    workspace: Workspace,
+    ticks: u64,
+}
+
+/// What the words ask to be run; none where they ask for a text, which is written.
+fn asked(rt: &HostRuntime) -> Result<Option<Task>, Failure> {
     let words = words_of(rt)?;
     let [_, words @ ..] = words.as_slice() else {
         return Err(Failure::Words);
     };
     if let Some(text) = text_asked(words) {
         rt.stdout().write_all(text.as_bytes())?;
-        return Ok(0);
+        return Ok(None);
     }
     let Some(Request { ticks, files }) = read_words(words) else {
         return Err(Failure::Words);
     };
-    let sources = read_sources(rt, files)?;
-    let answer = run_sources(rt.alloc(), &sources, ticks)?;
-    tell(rt, &answer)
+    let workspace = read_workspace(rt, files)?;
+    Ok(Some(Task { workspace, ticks }))
 }
 
 /// Says why nothing is run or told, as far as standard error takes it, and returns the status.
@@ -64,8 +76,33 @@ fn fail(rt: &HostRuntime, failure: &Failure) -> u8 {
     status
 }
 
+/// What comes of a workspace, and its folders.
+fn answer<R: Threads + Wait + Sync>(
+    rt: &R,
+    alloc: Global,
+    task: Task,
+) -> Result<(Answer, Vec<Folder>), Failure> {
+    let Task { workspace, ticks } = task;
+    let Workspace {
+        files,
+        directory,
+        folders,
+    } = workspace;
+    let answer = run_files(rt, alloc, files, directory.as_str(), ticks, WORKERS)?;
+    Ok((answer, folders))
+}
+
 fn main(rt: HostRuntime) -> ExitCode {
-    let status = match run(&rt) {
+    let asked = asked(&rt);
+    let told = match asked {
+        Ok(None) => Ok(0),
+        Ok(Some(task)) => match answer(&rt, rt.alloc(), task) {
+            Ok((answer, folders)) => tell(&rt, &answer, &folders),
+            Err(failure) => Err(failure),
+        },
+        Err(failure) => Err(failure),
+    };
+    let status = match told {
         Ok(status) => status,
         Err(failure) => fail(&rt, &failure),
     };

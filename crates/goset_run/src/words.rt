@@ -6,7 +6,7 @@ ghost use Rattle.goset_run.specs.Words.{text_of, text_asked, is_file, are_files,
 use ws_command::lines::number;
 
 /// How the program is started.
-pub const USAGE: &str = "usage: ./goset --run [--ticks N] FILE..\n";
+pub const USAGE: &str = "usage: ./goset --run [--ticks N] FILE.. | FOLDER\n";
 
 /// Which program it is.
 const VERSION: &str = "goset 0.1.0\n";

@@ -5,6 +5,8 @@ use Rattle.std.specs.Arc.{arc_value}
 use Rattle.std.proofs.Common.{ap, ◌∙◌}
 use Rattle.std.specs.List.{All}
 use Rattle.std.proofs.lemmas.List.Elements.{All-head, All-tail}
+use Rattle.go_text.specs.declared.edition.Edition.{Edition}
+use Rattle.go_text.specs.declared.edition.Edition.TheVariants.{One}
 use Rattle.go_ast.specs.Parse.{Parsed}
 use Rattle.go_export.specs.Summaries.{Summary}
 use Rattle.go_export.specs.Writable.{IsWritten}
@@ -42,4 +44,9 @@ same_imports (s ∷ ss) (t ∷ ts) p q e =
 -- files are told by their names and texts
 pub parsed_again : (files : List Parsed) → map parsed_of (map source_of files) ≡ files
 parsed_again [] = refl
-parsed_again (file ∷ files) = ap (λ (fs : List Parsed). file ∷ fs) (parsed_again files)
+parsed_again (file ∷ files) =
+    let same : parsed_of (source_of file) ≡ file = ap (λ e. record { name = file.name; text = file.text; edition = e }) (only_one file.edition) in
+    ap (λ (f : Parsed). f ∷ map parsed_of (map source_of files)) same ∙ ap (λ (fs : List Parsed). file ∷ fs) (parsed_again files)
+  where
+    only_one : (e : Edition) → One ≡ e
+    only_one One = refl

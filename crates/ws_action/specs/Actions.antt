@@ -9,6 +9,7 @@ use Rattle.std.specs.Cmp.Lexicographic.{slice_cmp}
 use Rattle.sha2.specs.Sha256.{sha256}
 use Rattle.go_text.specs.Named.{Source}
 use Rattle.go_ast.specs.Trees.{Name, File, ImportSpec}
+use Rattle.go_text.specs.declared.edition.Edition.TheVariants.{One}
 use Rattle.go_ast.specs.Parse.{Parsed, Derived, IsParse, IsPackage, IsNamed, IsOther}
 use Rattle.go_export.specs.Fields.{be, field}
 use Rattle.go_export.specs.Summaries.{Summary, summary_text}
@@ -40,7 +41,7 @@ source_of file = (file.name, file.text)
 
 -- and back
 abbrev pub parsed_of : Named → Parsed
-parsed_of n = record { name = n.0; text = n.1 }
+parsed_of n = record { name = n.0; text = n.1; edition = One }
 
 -- so is a source's
 abbrev pub named_source : Source → Named

@@ -1,3 +1,4 @@
+pub mod Alone
 pub mod Carry
 pub mod Counts
 pub mod Crossing

@@ -1,19 +1,25 @@
 //! What a board came to.
-ghost use Rattle.std.specs.Prelude.{◌≡◌, IfSome, IfNone, None, Some};
-ghost use Rattle.std.specs.List.{count_by};
+ghost use Rattle.std.specs.Prelude.{◌≡◌, IfOk, IfSome, IfNone, None, Some, true};
+ghost use Rattle.std.specs.List.{count_by, list_any};
+ghost use Rattle.ws_map.specs.Kept.{joined};
 ghost use Rattle.ws_action.specs.Actions.{Action as AnAction};
 ghost use Rattle.ws_cache.specs.Compiles.{Compiles, compiled_of};
-ghost use Rattle.ws_board.specs.Machine.{is_finish, status_at, action_at};
+ghost use Rattle.ws_cache.specs.Joined.{lesser};
+ghost use Rattle.ws_board.specs.Machine.{is_finish, is_idle, status_at, action_at, IsHistory};
 ghost use Rattle.ws_board.specs.Calls.{result_of, result_at};
+ghost use Rattle.ws_board.specs.Histories.{AreSettled, IsTakenOnce};
 ghost use Rattle.ws_board.specs.Carrying.{held_by, standings_of};
 
 use crate::carrying::{Holds, held};
 use crate::rule::{Standings, action_at, status_at};
 use crate::work::{Event, Job, Status};
+use std::alloc::AllocError;
 use std::marker::Model;
 use ws_cache::{Cache, Outcome};
+use ws_version::Join;
 
-/// The jobs of a board, where they stand, the entries that came of them, and the history.
+/// The jobs of a board, where they stand, the entries that came of them, and the history, which is
+/// legal from the opening, and in which a hand was told that nothing is left to do.
 #[derive(Drop)]
 pub struct Built {
     jobs: Vec<Job>,
@@ -24,7 +30,10 @@ pub struct Built {
 }
 
 impl Model for Built {
+    ghost use Rattle.std.specs.Prelude.{◌≡◌, true};
+    ghost use Rattle.std.specs.List.{list_any};
     ghost use Rattle.ws_board.specs.Work as work;
+    ghost use Rattle.ws_board.specs.Machine as machine;
     ghost use Rattle.ws_board.specs.Carrying.{standings_of};
 
     ghost Value = { work.Seen };
@@ -32,6 +41,9 @@ impl Model for Built {
     ghost coded = { work.seen_code };
 
     ghost view = { λ a. record { opening = record { jobs = a.jobs.items; cache = a.opened }; state = record { standings = standings_of a.standings; added = a.added }; history = a.history.items } };
+
+    ghost invariant = { λ a. machine.IsHistory (record { jobs = a.jobs.items; cache = a.opened }) a.history.items (record { standings = standings_of a.standings; added = a.added })
+        × (list_any machine.is_idle a.history.items ≡ true) };
 }
 
 /// What compiling the action of the job with that number gives, if the job is done.
@@ -57,6 +69,8 @@ impl Built {
         added: Cache,
         history: Vec<Event>,
     ) -> Built
+        requires legal { IsHistory (record { jobs = jobs.items; cache = opened }) history.items (record { standings = standings_of standings; added = added }) }
+        requires idled { list_any is_idle history.items ≡ true }
         ensures { result ≡ record { opening = record { jobs = jobs.items; cache = opened }; state = record { standings = standings_of standings; added = added }; history = history.items } }
     {
         Built {
@@ -95,9 +109,14 @@ impl Built {
             .count()
     }
 
-    /// What happened, the first event first.
+    /// What happened, the first event first. Where imports lead down, each job is done or blocked; and
+    /// what was taken was taken again only where it was given back between.
     pub fn history(&self) -> &[Event]
-        ensures { result.now ≡ self.now.history }
+        ensures is { result.now ≡ self.now.history }
+        ensures legal { IsHistory self.now.opening result.now self.now.state }
+        ensures idled { list_any is_idle result.now ≡ true }
+        ensures settled { AreSettled self.now }
+        ensures once { IsTakenOnce self.now }
     {
         self.history.as_slice()
     }
@@ -107,5 +126,22 @@ impl Built {
         ensures { result ≡ self.state.added }
     {
         self.added
+    }
+
+    /// All entries: those of the opening, and those that were added. An `Err` only where memory ran
+    /// out.
+    pub fn into_cache(self) -> Result<Cache, AllocError>
+        ensures { IfOk result (λ cache. cache ≡ joined lesser self.opening.cache self.state.added) }
+    {
+        let Built {
+            jobs: _,
+            opened,
+            standings: _,
+            added,
+            history: _,
+        } = self;
+        let mut cache = opened;
+        cache.merge(&added)?;
+        Ok(cache)
     }
 }

@@ -12,10 +12,11 @@ ghost use Rattle.ws_cache.specs.Held.{CacheStandsFor};
 ghost use Rattle.ws_cache.specs.Joined.{lesser};
 ghost use Rattle.ws_board.specs.Work.{Job as AJob};
 ghost use Rattle.ws_board.specs.declared.work.Event.TheVariants as event;
-ghost use Rattle.ws_board.specs.Machine.{is_idle, is_back_of, status_at, action_at, IsRunBy};
+ghost use Rattle.ws_board.specs.Machine.{is_open, is_idle, is_back_of, status_at, action_at, IsRunBy};
 ghost use Rattle.ws_board.specs.Carrying.{standings_of, IsFinished};
 ghost use Rattle.ws_board.specs.Calls.{IsFresh, Happens, TakeStep, result_at};
 ghost use Rattle.ws_board.specs.Ends.{AreFinished, AddsOwn, ComesToEnds, ShowsEnds, IsRanked, AreEnds, End};
+ghost use Rattle.ws_board.specs.Histories.{RunsAlone};
 
 use carrying::{Holds, carry, opened_standings};
 pub use ending::Built;
@@ -226,6 +227,18 @@ impl Board {
         }
         self.back(hand, task);
         true
+    }
+
+    /// How many jobs are neither done nor blocked. At no moment do two jobs run that have one id.
+    pub fn left(&self) -> usize
+        ensures is { result ≡ count_by is_open self.now.state.standings.statuses }
+        ensures alone { RunsAlone self.now.state.standings }
+    {
+        self.standings
+            .statuses
+            .iter()
+            .filter(|status| status.is_open())
+            .count()
     }
 
     /// Whether a hand was told that nothing is left to do.

@@ -3,7 +3,7 @@ use denote.Param.Send.{IsSend, IsSync, recorded_send, recorded_sync, sendable}
 use Rattle.std.proofs.Crossing.{crosses}
 use Rattle.std.proofs.MapsCrossing as maps
 use Rattle.go_text.proofs.fault.Fault.TheSendSync as faults
-use Rattle.go_code.proofs.object.Object.TheSendSync as objects
+use Rattle.go_packed.proofs.packed.Packed.TheSendSync as packed
 use Rattle.go_export.proofs.Crossing.{summary_send, summary_sync}
 use Rattle.ws_action.proofs.Crossing.{origin_send, origin_sync}
 use Rattle.ws_cache.specs.contracts.Outcome as outcome
@@ -11,10 +11,10 @@ use Rattle.ws_cache.specs.contracts.Entry as entry
 use Rattle.ws_cache.specs.contracts.Cache as cache
 
 outcome_field_send : IsSend (outcome.the_field).row
-outcome_field_send = search (summary_send, summary_sync, objects.the_send, objects.the_sync, faults.the_send, crosses, maps.crosses, sendable) depth 20
+outcome_field_send = search (summary_send, summary_sync, packed.the_send, packed.the_sync, faults.the_send, crosses, maps.crosses, sendable) depth 20
 
 outcome_field_sync : IsSync (outcome.the_field).row
-outcome_field_sync = search (summary_send, summary_sync, objects.the_send, objects.the_sync, faults.the_sync, crosses, maps.crosses, sendable) depth 20
+outcome_field_sync = search (summary_send, summary_sync, packed.the_send, packed.the_sync, faults.the_sync, crosses, maps.crosses, sendable) depth 20
 
 outcome_send : IsSend outcome.the_row
 outcome_send = recorded_send (outcome.the_field).row _ _ (outcome.the_type).to_one outcome_field_send

@@ -1,27 +1,21 @@
 -- Files come to one thing, and so does compiling an action; what is held for an action is what its files come to.
-use Rattle.std.proofs.Common.{◌≡◌, ℕ, Some, None, Option, List, map, sym, ap, subst, ◌∙◌, inl, inr}
-use Rattle.std.specs.List.{All, slice_get}
+use Rattle.std.proofs.Common.{◌≡◌, ℕ, List, [], ◌∷◌, map, sym, ap, subst, ◌∙◌, inl, inr}
+use Rattle.std.specs.List.{All}
 use Rattle.go_text.specs.Faults.{Fault}
 use Rattle.go_text.specs.declared.fault.FaultKind.{FaultKind}
 use Rattle.go_text.specs.declared.place.Place.{Place}
 use Rattle.go_ast.specs.Parse.{Parsed}
-use Rattle.go_typed.specs.Trees.{Package}
+use Rattle.go_typed.specs.Trees.{Initialization, Package}
+use Rattle.go_init.specs.Variables.{variable_order}
 use Rattle.go_gen.specs.Translation.{object_of}
 use Rattle.go_package.specs.Imports.{Importable}
 use Rattle.go_import.specs.Names.{importable_by}
 use Rattle.go_export.specs.Summaries.{Summary, summary_of}
 use Rattle.go_export.specs.Writable.{IsWritten}
-use Rattle.go_check.specs.Checked.{AreTyped}
 use Rattle.go_check.proofs.One as front
-use Rattle.go_check.proofs.One.{one_trees}
 use Rattle.ws_action.specs.Actions.{Action, action_of, parsed_of, source_of}
 use Rattle.ws_action.proofs.Imports.{same_imports, parsed_again}
-use Rattle.ws_cache.specs.LeftOut.{left_out}
-use Rattle.ws_cache.specs.Compiles.{AreGood, AreLeftOut, AreFaulty, Compiled, Good, Faulty, IsResult, Compiles}
-
-told : {A : Type 0} → A → Option A → A
-told other (Some x) = x
-told other None = other
+use Rattle.ws_cache.specs.Compiles.{AreGood, AreCircular, AreFaulty, Compiled, Good, Faulty, IsResult, Compiles}
 
 abbrev fault_by : List ℕ → Place → FaultKind → Fault
 fault_by file place kind = record { file = file; place = place; kind = kind }
@@ -30,40 +24,40 @@ same_fault : (a b : Fault) → a.file ≡ b.file → a.place ≡ b.place → a.k
 same_fault a b file place kind =
     ap (λ x. fault_by x a.place a.kind) file ∙ ap (λ x. fault_by b.file x a.kind) place ∙ ap (λ x. fault_by b.file b.place x) kind
 
+first_same : {A : Type 0} (x y : A) (xs ys : List A) → x ∷ xs ≡ y ∷ ys → x ≡ y
+first_same x y xs ys e = cc (e)
+
 -- ---- of files
 
 module _ (path : List ℕ) (files : List Parsed) (imports : List Importable) where
   pub one_good : (a b : Package) → AreGood path files imports a → AreGood path files imports b → a ≡ b
   one_good a b g h = front.one_typed path files imports a b g.are h.are
 
-  -- typed files have the same forms that aren't translated
-  same_left_out : (a b : Package) (g : AreTyped path files imports a) (h : AreTyped path files imports b) → left_out g.trees ≡ left_out h.trees
-  same_left_out a b g h = ap left_out (one_trees files g.trees h.trees g.parse h.parse)
-
-  left_out_or_good : (fault : Fault) (typed : Package) → AreLeftOut path files imports fault → AreGood path files imports typed → ⊥
-  left_out_or_good fault typed g h =
-      let e : Some (g.number, fault.place) ≡ None = sym g.first ∙ same_left_out g.typed typed g.are h.are ∙ h.whole in
+  circular_or_good : (fault : Fault) (typed : Package) → AreCircular path files imports fault → AreGood path files imports typed → ⊥
+  circular_or_good fault typed g h =
+      let same = front.one_typed path files imports g.typed typed g.are h.are in
+      let e : (g.at).0 ∷ (g.at).1 ≡ [] = sym (g.at).2 ∙ ap (λ (p : Package). (variable_order p).1) same ∙ h.ordered in
       absurd (cc (e))
 
   pub not_both : (fault : Fault) (typed : Package) → AreFaulty path files imports fault → AreGood path files imports typed → ⊥
   not_both fault typed (inl g) h = front.not_both path files imports typed fault h.are g
-  not_both fault typed (inr g) h = left_out_or_good fault typed g h
+  not_both fault typed (inr g) h = circular_or_good fault typed g h
 
-  one_left_out : (a b : Fault) → AreLeftOut path files imports a → AreLeftOut path files imports b → a ≡ b
-  unfolding told
-  one_left_out a b g h =
-      let e : Some (g.number, a.place) ≡ Some (h.number, b.place) = sym g.first ∙ same_left_out g.typed h.typed g.are h.are ∙ h.first in
-      let parts : (g.number, a.place) ≡ (h.number, b.place) = ap (told (g.number, a.place)) e in
-      let number : g.number ≡ h.number = ap (λ (x : ℕ × Place). x.0) parts in
-      let place : a.place ≡ b.place = ap (λ (x : ℕ × Place). x.1) parts in
-      let file : a.file ≡ b.file = ap (told a.file) (sym g.name ∙ ap (slice_get (map (λ (f : Parsed). f.name) files)) number ∙ h.name) in
+  one_circular : (a b : Fault) → AreCircular path files imports a → AreCircular path files imports b → a ≡ b
+  one_circular a b g h =
+      let same = front.one_typed path files imports g.typed h.typed g.are h.are in
+      let one = g.at in
+      let two = h.at in
+      let first : one.0 ≡ two.0 = first_same one.0 two.0 one.1 two.1 (sym one.2 ∙ ap (λ (p : Package). (variable_order p).1) same ∙ two.2) in
+      let file : a.file ≡ b.file = sym one.3 ∙ ap (λ (i : Initialization). i.file) first ∙ two.3 in
+      let place : a.place ≡ b.place = sym one.4 ∙ ap (λ (i : Initialization). i.place) first ∙ two.4 in
       same_fault a b file place (g.kind ∙ sym h.kind)
 
   pub one_faulty : (a b : Fault) → AreFaulty path files imports a → AreFaulty path files imports b → a ≡ b
   one_faulty a b (inl g) (inl h) = front.one_fault path files imports a b g h
   one_faulty a b (inl g) (inr h) = absurd (front.not_both path files imports h.typed a h.are g)
   one_faulty a b (inr g) (inl h) = absurd (front.not_both path files imports g.typed b g.are h)
-  one_faulty a b (inr g) (inr h) = one_left_out a b g h
+  one_faulty a b (inr g) (inr h) = one_circular a b g h
 
   pub one_result : (a b : Compiled) → IsResult path files imports a → IsResult path files imports b → a ≡ b
   one_result (Faulty f) (Faulty g) h k = ap Faulty (one_faulty f g h k)

@@ -1,12 +1,13 @@
 -- What the files of a package come to when they are compiled, and what compiling an action gives.
-use Rattle.std.specs.Prelude.{◌≡◌, ◌⊎◌, ℕ, List, map, Some, None}
+use Rattle.std.specs.Prelude.{◌≡◌, ◌⊎◌, ℕ, List, [], map}
 use Rattle.std.specs.Arc.{arc_value}
-use Rattle.std.specs.List.{All, slice_get}
+use Rattle.std.specs.List.{All}
 use Rattle.go_text.specs.Faults.{Fault}
-use Rattle.go_text.specs.declared.fault.FaultKind.TheVariants.{LeftOut}
+use Rattle.go_text.specs.declared.fault.FaultKind.TheVariants.{InitCycle}
 use Rattle.go_ast.specs.Parse.{Parsed}
 use Rattle.go_code.specs.Packages.{Object}
 use Rattle.go_typed.specs.Trees.{Package}
+use Rattle.go_init.specs.Variables.{variable_order, IsCycleAt}
 use Rattle.go_package.specs.Imports.{Importable}
 use Rattle.go_check.specs.Checked.{AreTyped, HaveFault}
 use Rattle.go_gen.specs.Translation.{object_of}
@@ -14,29 +15,26 @@ use Rattle.go_import.specs.Names.{importable_by}
 use Rattle.go_export.specs.Summaries.{Summary, summary_of}
 use Rattle.go_export.specs.Writable.{IsWritten}
 use Rattle.ws_action.specs.Actions.{Action, parsed_of, import_of}
-use Rattle.ws_cache.specs.LeftOut.{left_out}
 use Rattle.ws_cache.specs.declared.Outcome.{Outcome}
 use Rattle.ws_cache.specs.declared.Outcome.TheVariants as outcome
 
 -- ---- files at a path, which may import fmt and these packages
 
--- they are this typed package, and have no form that isn't translated yet
+-- they are this typed package, and its variables get their values in some order
 pub record AreGood (path : List ℕ) (files : List Parsed) (imports : List Importable) (typed : Package) : Type 0 where
   pub are : AreTyped path files imports typed
-  pub whole : left_out are.trees ≡ None
+  pub ordered : (variable_order typed).1 ≡ []
 
--- they are a typed package, and this is the first form that isn't translated yet
-pub record AreLeftOut (path : List ℕ) (files : List Parsed) (imports : List Importable) (fault : Fault) : Type 0 where
+-- they are a typed package, and values of variables depend on themselves: this tells where the first of those that are left over stands
+pub record AreCircular (path : List ℕ) (files : List Parsed) (imports : List Importable) (fault : Fault) : Type 0 where
   pub typed : Package
   pub are : AreTyped path files imports typed
-  pub number : ℕ
-  pub name : slice_get (map (λ f. f.name) files) number ≡ Some fault.file
-  pub first : left_out are.trees ≡ Some (number, fault.place)
-  pub kind : fault.kind ≡ LeftOut
+  pub at : IsCycleAt typed fault.file fault.place
+  pub kind : fault.kind ≡ InitCycle
 
--- this is reported of them: their package's first fault, or else what isn't translated yet
+-- this is reported of them: their package's first fault, or else a variable whose value depends on itself
 abbrev pub AreFaulty : List ℕ → List Parsed → List Importable → Fault → Type 0
-AreFaulty path files imports fault = HaveFault path files imports fault ⊎ AreLeftOut path files imports fault
+AreFaulty path files imports fault = HaveFault path files imports fault ⊎ AreCircular path files imports fault
 
 -- what is kept: what importers know of a good package, and its object; or the fault to report
 pub data Compiled : Type 0 where

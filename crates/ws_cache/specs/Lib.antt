@@ -3,4 +3,3 @@ pub mod Count
 pub mod Held
 pub mod Joined
 pub mod Laws
-pub mod LeftOut

@@ -22,8 +22,8 @@ ghost use Rattle.ws_cache.specs.Count.{compiled_count, new_actions_count};
 ghost use Rattle.ws_cache.specs.Held.{IsHeld, CacheStandsFor, id_cmp};
 ghost use Rattle.ws_cache.specs.Joined.{lesser};
 
-use go_code::object::Object;
 use go_export::summary::Summary;
+use go_packed::packed::Packed;
 use go_text::fault::Fault;
 use std::alloc::{AllocError, Global};
 use std::cmp::Ordering;
@@ -37,7 +37,7 @@ use ws_version::Join;
 #[derive(Drop)]
 pub enum Outcome {
     /// The package is good: what its importers know of it, and the object that it is translated to.
-    Good(Arc<Summary>, Arc<Object>),
+    Good(Arc<Summary>, Arc<Packed>),
     /// The package has the fault, which is the first to report.
     Faulty(Fault),
 }

@@ -1,3 +1,1 @@
-mod Given
 mod Results
-mod Walks

@@ -1,5 +1,7 @@
 -- Files have one plan, and writes with the same members one.
 use Rattle.std.proofs.Common.{◌≡◌, ℕ, List, [], ◌∷◌, ◌++◌, map, sym, ap, subst, ◌∙◌, refl, inl, inr}
+use Rattle.go_text.specs.declared.edition.Edition.{Edition}
+use Rattle.go_text.specs.declared.edition.Edition.TheVariants.{One}
 use Rattle.go_text.specs.Faults.{Fault}
 use Rattle.go_text.specs.declared.place.Place.{Place}
 use Rattle.go_text.specs.declared.fault.FaultKind.{FaultKind}
@@ -85,6 +87,9 @@ one_stop (x ∷ front) (y ∷ back) n t m s rest left k l p q e f b g h =
     let tails : map source_of front ++ (n, t) ∷ rest ≡ map source_of back ++ (m, s) ∷ left = cc in
     one_stop front back n t m s rest left k l p q tails f.1 b.1 g h
 
+editions : (a b : Edition) → a ≡ b
+editions One One = refl
+
 -- files parse to one list
 one_list : (ps qs : List Parsed) → map source_of ps ≡ map source_of qs → ps ≡ qs
 one_list [] [] e = refl
@@ -95,7 +100,7 @@ one_list (p ∷ ps) (q ∷ qs) e =
     let tails : map source_of ps ≡ map source_of qs = cc in
     let names : p.name ≡ q.name = ap (λ (z : Pair). z.0) heads in
     let texts : p.text ≡ q.text = ap (λ (z : Pair). z.1) heads in
-    let same : p ≡ q = λ i. record { name = names i; text = texts i } in
+    let same : p ≡ q = λ i. record { name = names i; text = texts i; edition = editions p.edition q.edition i } in
     ap (λ z. z ∷ ps) same ∙ ap (λ z. q ∷ z) (one_list ps qs tails)
 
 pub one_parsed : (files : List Pair) (ps qs : List Parsed) → AreParsed files ps → AreParsed files qs → ps ≡ qs

@@ -10,6 +10,7 @@ use Rattle.ws_version.specs.Writes.{Write}
 use Rattle.ws_register.proofs.Exists.{some_contents}
 use Rattle.ws_register.specs.Sources.{texts_of, IsSources}
 use Rattle.ws_graph.specs.Packages.{package_files}
+use Rattle.go_text.specs.declared.edition.Edition.TheVariants.{One}
 use Rattle.go_ast.specs.Trees.{Name, File}
 use Rattle.go_ast.specs.Parse.{Parse, Derived, Stopped, IsParse, IsPackage, IsNamed, Parsed}
 use Rattle.ws_graph.specs.Plan.{Planned, NoFiles, Faulty, Sound, AllParsed, AreParsed, AllNamed, HasOther, StopsIn, IsPlan, IsPlanOf}
@@ -25,10 +26,10 @@ Read files = ((parsed : List Parsed) × AreParsed files parsed) ⊎ ((fault : Fa
 
 read_one : (name text : List ℕ) (files : List (List ℕ × List ℕ)) (parse : Parse) → IsParse text parse → Read files → Read ((name, text) ∷ files)
 read_one name text files (Derived file) h (inl ps) =
-    let new : Parsed = record { name = name; text = text } in
+    let new : Parsed = record { name = name; text = text; edition = One } in
     inl (new ∷ ps.0, record { sources = ap (λ (z : List (List ℕ × List ℕ)). (name, text) ∷ z) ps.1.sources; parses = ((file, h), ps.1.parses) })
 read_one name text files (Derived file) h (inr stop) =
-    let new : Parsed = record { name = name; text = text } in
+    let new : Parsed = record { name = name; text = text; edition = One } in
     let s = stop.1 in
     inr (
       stop.0,

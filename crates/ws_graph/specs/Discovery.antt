@@ -1,5 +1,5 @@
 -- What stands between the files of directories and the plan of a build: directories by number, and the imports that lead to them.
-use Rattle.std.specs.Prelude.{◌≡◌, ◌⊎◌, ◌↔◌, ℕ, Bool, true, IsTrue, List, [], ◌∷◌, ◌++◌, map, Option, Some, None, MatchOption, Result, IfOk, Err, codes, String, string_bytes}
+use Rattle.std.specs.Prelude.{◌≡◌, ◌⊎◌, ◌↔◌, ℕ, Bool, true, false, IsTrue, List, [], ◌∷◌, ◌++◌, map, Option, Some, None, MatchOption, Result, IfOk, Ok, Err, codes, String, string_bytes}
 use Rattle.std.specs.List.{AllByRecursion, AllZip, Contains, slice_get}
 use Rattle.std.specs.List.Sorted.{IsStrictlySortedBy, IsStrictlyIncreasing}
 use Rattle.std.specs.Global.{Global, Vec}
@@ -27,7 +27,7 @@ use Rattle.ws_graph.specs.declared.target.Target.{Target}
 use Rattle.ws_graph.specs.declared.wave.Found.{Found}
 use Rattle.ws_graph.specs.declared.waiting.Waiting.{Waiting}
 use Rattle.ws_graph.specs.declared.FileError.{FileError}
-use Rattle.ws_graph.specs.declared.FileError.TheVariants.{Stopped}
+use Rattle.ws_graph.specs.declared.FileError.TheVariants.{Stopped, Memory}
 use Rattle.ws_graph.specs.declared.link.Links.{Links}
 
 -- the sources that are held
@@ -124,6 +124,10 @@ StopsAs source fault = (kind : FaultKind) × (place : Place) × IsParse source.t
 pub record ComesTo (source : Source) (result : Result Parsed FileError) : Type 0 where
   pub parsed : IfOk result (IsFileOf source)
   pub stopped : (fault : Fault) → result ≡ Err (Stopped fault) → StopsAs source fault
+
+-- memory ran out there
+abbrev pub is_refused : Result Parsed FileError → Bool
+is_refused result = elim result [ Ok p ↦ false | Err e ↦ elim e [ Memory ↦ true | Stopped fault ↦ false ] ]
 
 -- a directory has files, and waits with them
 pub record IsWaiting (sources : Sources) (waiting : Waiting) : Type 0 where

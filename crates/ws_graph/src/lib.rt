@@ -1,17 +1,18 @@
 //! Plans: what becomes of the files of a directory before anything is compiled.
 #![tactic(auto)]
 
-ghost use Rattle.std.specs.Prelude.{◌≡◌, ◌≢◌, ℕ, List, [], IfOk, IfSome, IfNone, Err, map};
+ghost use Rattle.std.specs.Prelude.{◌≡◌, ◌≢◌, ℕ, true, List, [], IfOk, IfSome, IfNone, Err, map};
 ghost use Rattle.std.specs.Bool.{OnTrue, OnFalse};
-ghost use Rattle.std.specs.List.{AllZip};
+ghost use Rattle.std.specs.List.{AllZip, list_any};
 ghost use Rattle.go_text.specs.Faults.{Fault as AFault};
+ghost use Rattle.go_text.specs.Named.{Source as ASource};
 ghost use Rattle.ws_version.specs.Writes.{Write};
 ghost use Rattle.ws_map.specs.Kept.{SameMembers};
 ghost use Rattle.ws_register.specs.Sources.{pair_of};
 ghost use Rattle.go_ast.specs.Parse.{IsNamed, IsOther};
 ghost use Rattle.ws_graph.specs.Plan.{Planned, NoFiles, AreParsed, AllNamed, HasOther, StopsIn, IsPlan, IsPlanOf};
 ghost use Rattle.ws_graph.specs.Node.{planned_of};
-ghost use Rattle.ws_graph.specs.Discovery.{ComesTo};
+ghost use Rattle.ws_graph.specs.Discovery.{ComesTo, is_refused};
 ghost use Rattle.ws_graph.specs.declared.FileError.TheVariants.{Memory};
 
 use go_ast::parsed::Parsed;
@@ -86,11 +87,37 @@ fn parsed_files(
     ensures ok { IfOk result (λ parsed. AreParsed (map pair_of files.items) parsed.items) }
     ensures stopped { (fault : AFault) → result ≡ Err (FileError.Stopped fault) → StopsIn (map pair_of files.items) fault }
 {
+    let each = each_parsed(rt, alloc, files)?;
+    gathered(alloc, each)
+}
+
+// What files come to, in their order. Where memory ran out at any of them it did at all, whichever
+// stops first.
+fn gathered(alloc: Global, each: Vec<Result<Parsed, FileError>>) -> Result<Vec<Parsed>, FileError>
+    ensures ok { (files : List ASource) → AllZip ComesTo files each.items → IfOk result (λ parsed. AreParsed (map pair_of files) parsed.items) }
+    ensures stopped { (files : List ASource) (fault : AFault) → AllZip ComesTo files each.items → result ≡ Err (FileError.Stopped fault) → StopsIn (map pair_of files) fault }
+    ensures refused { list_any is_refused each.items ≡ true → result ≡ Err FileError.Memory }
+{
+    if any_refused(each.as_slice()) {
+        return Err(FileError::Memory);
+    }
     let mut all = Vec::new(alloc);
-    for parsed in each_parsed(rt, alloc, files)? {
+    for parsed in each {
         all.push(parsed?)?;
     }
     Ok(all)
+}
+
+// Whether memory ran out at one of them.
+fn any_refused(each: &[Result<Parsed, FileError>]) -> bool
+    ensures { result ≡ list_any is_refused each.now }
+{
+    for parsed in each {
+        if let Err(FileError::Memory) = parsed {
+            return true;
+        }
+    }
+    false
 }
 
 // The files, each parsed by itself, in their order. They are parsed by as many threads as there are

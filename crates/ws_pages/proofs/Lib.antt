@@ -4,4 +4,5 @@ pub mod Joined
 pub mod Order
 pub mod Places
 pub mod Searching
+pub mod Shared
 pub mod Walks

@@ -1,5 +1,6 @@
 -- The writes of a list of pages.
-use Rattle.std.specs.Prelude.{◌≡◌, ℕ, ◌+◌, List, ◌++◌, take, drop, Option, MatchOption, Vec}
+use Rattle.std.specs.Prelude.{◌≡◌, ℕ, ◌+◌, List, [], ◌++◌, take, drop, Option, None, Some, MatchOption, Vec}
+use Rattle.std.specs.Arc.{arc_value}
 use Rattle.std.specs.declared.sync.Arc.{Arc}
 use Rattle.std.specs.List.{flat_map}
 use Rattle.ws_version.specs.Writes.{Write}
@@ -13,7 +14,12 @@ writes_of page = values page.writes.items
 abbrev pub all_writes : {Z : Type 0} → List (Arc Page Z) → List Write
 all_writes pages = flat_map writes_of (values pages)
 
--- those too, but with these in the place of one page's
+-- those of a list of pages, where there is one
+abbrev pub listed_writes : {X Y Z : Type 0} → Option (Arc (Vec (Arc Page Z) Y) X) → List Write
+listed_writes None = []
+listed_writes (Some pages) = all_writes (arc_value pages).items
+
+-- those of all pages, but with these in the place of one page's
 abbrev pub with_page : {Z : Type 0} → List (Arc Page Z) → ℕ → List Write → List Write
 with_page pages at writes = all_writes (take at pages) ++ (writes ++ all_writes (drop (at + 1) pages))
 

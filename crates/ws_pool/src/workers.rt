@@ -1,5 +1,5 @@
 //! Workers in threads, who take a board's jobs from behind its lock.
-ghost use Rattle.std.specs.Prelude.{◌≡◌, ◌<◌, All, List, [], None, IfOk, IfSome, max, min, vec_len};
+ghost use Rattle.std.specs.Prelude.{◌≡◌, ◌<◌, ◌≤◌, All, List, [], length, None, IfOk, IfSome, max, min, vec_len};
 ghost use Rattle.std.specs.Bool.{OnTrue};
 ghost use Rattle.ws_action.specs.Actions.{Action as AnAction};
 ghost use Rattle.ws_board.specs.Ends.{AreFinished, ComesToEnds};
@@ -78,22 +78,45 @@ fn work<L: Desk, G: Gate, R: Wait>(
 fn work_all<L: Desk + Send + Sync, G: Gate, R: Threads + Wait + Sync>(
     rt: &R,
     board: &SharedBoard<L>,
-    hands: &mut Vec<SharedHand<L>>,
+    hands: &mut [SharedHand<L>],
     gate: &G,
 )
-    requires rest { All (λ hand. hand.runs ≡ None) hands.old.items }
-    requires some { 0 < vec_len hands.old }
-    ensures { vec_len hands.new ≡ vec_len hands.old }
+    requires rest { All (λ hand. hand.runs ≡ None) hands.old }
+    requires some { 0 < length hands.old }
 {
     let threads = hands.len();
     thread::for_each_mut(
         rt,
-        hands.as_mut_slice(),
+        hands,
         threads,
         &|_, hand: &mut SharedHand<L>|
             requires { hand.old.runs ≡ None }
         { work(rt, board, hand, gate) },
     );
+}
+
+// So many of the hands at once. The others make nothing.
+fn work_by<L: Desk + Send + Sync, G: Gate, R: Threads + Wait + Sync>(
+    rt: &R,
+    board: &SharedBoard<L>,
+    hands: &mut Vec<SharedHand<L>>,
+    count: usize,
+    gate: &G,
+)
+    requires rest { All (λ hand. hand.runs ≡ None) hands.old.items }
+    requires some { 0 < count }
+    requires within { count ≤ vec_len hands.old }
+    ensures { vec_len hands.new ≡ vec_len hands.old }
+{
+    let (first, _) = hands.as_mut_slice().split_at_mut(count);
+    work_all(rt, board, first, gate);
+}
+
+// No more workers than there are jobs, and one at least.
+fn needed(workers: u64, jobs: usize) -> u64
+    ensures { result ≡ min workers (max jobs 1) }
+{
+    workers.min(jobs.max(1) as u64)
 }
 
 fn run_jobs<L: Desk + Send + Sync, G: Gate, R: Threads + Wait + Sync>(
@@ -113,26 +136,22 @@ fn run_jobs<L: Desk + Send + Sync, G: Gate, R: Threads + Wait + Sync>(
     ensures ends { IfOk result (λ built. ComesToEnds built []) }
 {
     let (board, mut hands) = SharedBoard::<L>::open(alloc, jobs, cache, workers, blanks)?;
-    work_all(rt, &board, &mut hands, gate);
+    // A hand more than there are jobs left would find nothing to do.
+    let count = needed(workers, board.left(rt));
+    work_by(rt, &board, &mut hands, count as usize, gate);
     let board = board.close(hands);
     // Who ended for want of memory was never told that nothing is left.
-    if !board.has_idled() || (board.idles() as u64) < workers {
+    if !board.has_idled() || (board.idles() as u64) < count {
         return Err(AllocError);
     }
     Ok(board.built())
 }
 
-// No more workers than there are jobs, and one at least.
-fn needed(workers: u64, jobs: usize) -> u64
-    ensures { result ≡ min workers (max jobs 1) }
-{
-    workers.min(jobs.max(1) as u64)
-}
-
 /// Runs all jobs over the cache by that many workers, or by one a job where there are fewer jobs:
-/// the first on the calling thread, each other in a thread of its own where one can be had. Each
-/// job comes to its end, whatever the workers, the gate and the order of events. Nothing is
-/// compiled under the lock. An `Err` where a worker was refused memory.
+/// the first on the calling thread, the others in threads of their own, no more than there are jobs
+/// that the cache leaves open, where they can be had. Each job comes to its end, whatever the
+/// workers, the gate and the order of events. Nothing is compiled under the lock. An `Err` where a
+/// worker was refused memory.
 pub fn build_jobs<G: Gate, R: Threads + Wait + Sync>(
     rt: &R,
     alloc: Global,

@@ -1,5 +1,5 @@
 -- The packages of a plan, in their order, are without fault behind those that stand before.
-use Rattle.std.proofs.Common.{◌≡◌, ◌≢◌, ℕ, ◌<◌, List, [], ◌∷◌, length, map, Some, refl, sym, ap, subst, ◌∙◌, arith}
+use Rattle.std.proofs.Common.{◌≡◌, ◌≢◌, ℕ, ◌<◌, List, [], ◌∷◌, ◌++◌, length, map, Some, refl, sym, ap, subst, ◌∙◌, arith}
 use Rattle.std.specs.Option.{option_map}
 use Rattle.std.specs.List.{All, Contains, slice_get}
 use Rattle.std.proofs.lemmas.List.{length-map}
@@ -8,13 +8,12 @@ use Rattle.std.proofs.lemmas.Option.{slice_get-map}
 use Rattle.go_ast.specs.Parse.{Parsed}
 use Rattle.go_ast.specs.Trees.{File}
 use Rattle.go_typed.specs.Trees.{Package}
-use Rattle.go_check.specs.Checked.{fmt}
+use Rattle.go_check.specs.Checked.{edition_of, fmt}
 use Rattle.go_import.specs.Names.{importable_of}
 use Rattle.go_init.specs.Packages.{package_order}
-use Rattle.go_init.proofs.Orders.{behind, once}
+use Rattle.go_init.proofs.Orders as orders
 use Rattle.go_package_laws.specs.Packages.{AreOfTexts, IsChecked, AreChecked}
 use Rattle.go_package_laws.proofs.Given.{AreBefore, checked_each}
-use Rattle.go_package_laws.proofs.Uninitialized.{uninitialized}
 use Rattle.ws_reach.specs.Reach.{Edge}
 use Rattle.ws_version.specs.Writes.{Write}
 use Rattle.ws_register.specs.Sources.{HasFiles}
@@ -27,7 +26,6 @@ use Rattle.ws_replica.specs.Reports.{Fate, Good, fate_at, ArePackages, IsReady, 
 use Rattle.ws_replica.proofs.Numbered.{at_member, member_at}
 use Rattle.ws_replica.proofs.OneBuild.{fate_of, at_fate}
 use Rattle.ws_replica.proofs.OrderedPackages.{one_number, cut_at, number_of, package_of, one_good}
-use Rattle.ws_replica.proofs.PlainTrees.{plain_files}
 use Rattle.ws_replica.proofs.PlanMakes.{package_at}
 use Rattle.ws_replica.proofs.SourceTexts.{files_are_text, trees_are_of_texts}
 use Rattle.ws_replica.proofs.TargetPieces.{plan_inside}
@@ -36,28 +34,30 @@ all_members : (P : Package → Type 0) (ps : List Package) → ((p : Package) �
 all_members P [] h = All-nil P
 all_members P (p ∷ ps) h = All-cons P p ps (h p (at_head ps p p refl)) (all_members P ps (λ q c. h q (later p ps q c)))
 
-abbrev rows_of : List Directory → List (List ℕ)
+abbrev pub rows_of : List Directory → List (List ℕ)
 rows_of ds = map (λ (d : Directory). d.imports) ds
 
-module _ (W : List Write) (has : HasFiles W) (target : List ℕ) (ds : List Directory) (fates : List Fate) (of : IsBuildPlanOf W target ds) (are : AreFates ds fates) (packages : List Package) (order : ArePackages fates (package_order (rows_of ds)) packages) where
-  abbrev ordered : List ℕ
-  ordered = package_order (rows_of ds)
+-- numbers of good directories, each once and behind the good ones that it imports
+pub record AreOrdered (ds : List Directory) (fates : List Fate) (ordered : List ℕ) : Type 0 where
+  pub behind : (before after : List ℕ) (k j : ℕ) → ordered ≡ before ++ k ∷ after → Edge (rows_of ds) k j → j < length (rows_of ds) → (q : Package) → fate_at fates j ≡ Good q → Contains before j
+  pub once : (before after : List ℕ) (k : ℕ) → ordered ≡ before ++ k ∷ after → ¬ (Contains before k)
 
+module _ (W : List Write) (has : HasFiles W) (target : List ℕ) (ds : List Directory) (fates : List Fate) (of : IsBuildPlanOf W target ds) (are : AreFates ds fates) (numbers : List ℕ) (stand : AreOrdered ds fates numbers) (packages : List Package) (order : ArePackages fates numbers packages) where
   -- the directory of a package, at that place in their order
-  record Placed (place : ℕ) (p : Package) : Type 0 where
-    number : ℕ
-    at : slice_get ordered place ≡ Some number
-    directory : Directory
-    there : slice_get ds number ≡ Some directory
-    path : p.path ≡ directory.path
-    files : List Parsed
-    imports : List Package
-    ready : IsReady fates directory files imports
-    good : AreGood directory.path files (map importable_of imports) p
+  pub record Placed (place : ℕ) (p : Package) : Type 0 where
+    pub number : ℕ
+    pub at : slice_get numbers place ≡ Some number
+    pub directory : Directory
+    pub there : slice_get ds number ≡ Some directory
+    pub path : p.path ≡ directory.path
+    pub files : List Parsed
+    pub imports : List Package
+    pub ready : IsReady fates directory files imports
+    pub good : AreGood directory.path files (map importable_of imports) p
 
-  placed : (place : ℕ) (p : Package) → slice_get packages place ≡ Some p → Placed place p
+  pub placed : (place : ℕ) (p : Package) → slice_get packages place ≡ Some p → Placed place p
   placed place p at =
-      let k = number_of fates ordered packages order place p at in
+      let k = number_of fates numbers packages order place p at in
       let d = package_at ds fates are k.0 p k.2 in
       let f = fate_of fates ds fates are k.0 d.0 d.1 in
       let is : IsFate fates d.0 (Good p) = subst (IsFate fates d.0) (sym (at_fate fates k.0 f.fate f.at) ∙ k.2) f.is in
@@ -80,9 +80,9 @@ module _ (W : List Write) (has : HasFiles W) (target : List ℕ) (ds : List Dire
     inside j c = (let lt = plan_inside W target ds of directory among j c in omega (arith, lt, length-map ds (λ (d : Directory). d.imports)))
 
     module _ (others : List Package) (same : AreBefore packages place others) where
-      found_at : (i k : ℕ) → i < place → slice_get ordered i ≡ Some k → (q : Package) → fate_at fates k ≡ Good q → Contains others q
+      found_at : (i k : ℕ) → i < place → slice_get numbers i ≡ Some k → (q : Package) → fate_at fates k ≡ Good q → Contains others q
       found_at i k lt at q is =
-          let found = package_of fates ordered packages order i k at in
+          let found = package_of fates numbers packages order i k at in
           (same q).1 (i, lt, found.1 ∙ ap Some (one_good fates k found.0 q found.2 is))
 
       -- what it imports stands before it
@@ -91,8 +91,8 @@ module _ (W : List Write) (has : HasFiles W) (target : List ℕ) (ds : List Dire
           let at = member_at its.imports q c in
           let k = number_of fates directory.imports its.imports its.ready.good at.0 q at.1 in
           let import : Contains directory.imports k.0 = at_member directory.imports at.0 k.0 k.1 in
-          let cut = cut_at ordered place its.number its.at in
-          let before = cut.from k.0 (behind (rows_of ds) cut.before cut.after its.number k.0 cut.whole (edge k.0 import) (inside k.0 import)) in
+          let cut = cut_at numbers place its.number its.at in
+          let before = cut.from k.0 (stand.behind cut.before cut.after its.number k.0 cut.whole (edge k.0 import) (inside k.0 import) q k.2) in
           found_at before.0 k.0 before.1 before.2 q k.2
 
     -- no other before it has its path
@@ -102,11 +102,11 @@ module _ (W : List Write) (has : HasFiles W) (target : List ℕ) (ds : List Dire
         let at : slice_get (paths_of ds) second.number ≡ Some directory.path =
         slice_get-map (λ (d : Directory). d.path) ds second.number ∙ ap (option_map (λ (d : Directory). d.path)) second.there ∙ ap Some paths in
         let one : second.number ≡ its.number = one_number (paths_of ds) of.2.ascending directory.path second.number its.number at path_there in
-        let cut = cut_at ordered place its.number its.at in
-        once (rows_of ds) cut.before cut.after its.number cut.whole (cut.into other its.number lt (second.at ∙ ap Some one))
+        let cut = cut_at numbers place its.number its.at in
+        stand.once cut.before cut.after its.number cut.whole (cut.into other its.number lt (second.at ∙ ap Some one))
 
-    -- its files are texts, of which nothing is left out
-    sound : IsSound (package_files directory.path of.0) its.files
+    -- its files are texts
+    pub sound : IsSound (package_files directory.path of.0) its.files
     sound = by (of.2.planned directory among)
       where
         by : IsPlannedAs of.0 directory.path directory.planned → IsSound (package_files directory.path of.0) its.files
@@ -121,6 +121,7 @@ module _ (W : List Write) (has : HasFiles W) (target : List ℕ) (ds : List Dire
     is_checked : (others : List Package) → AreBefore packages place others → IsChecked others p
     is_checked others same = record {
       path = directory.path;
+      edition = edition_of its.files;
       files = trees;
       names = map (λ (f : Parsed). f.name) its.files;
       libraries = fmt ∷ [];
@@ -130,8 +131,16 @@ module _ (W : List Write) (has : HasFiles W) (target : List ℕ) (ds : List Dire
       sources = texts;
       typed = its.good.are.is;
       new = all_members (λ (q : Package). p.path ≢ q.path) others (λ q c. (let s = (same q).0 c in not_again s.0 q (placed s.0 q s.2) s.1));
-      plain = uninitialized directory.path trees (fmt ∷ map importable_of its.imports) (map (λ (f : Parsed). f.name) its.files) p texts (plain_files trees its.good.whole) its.good.are.is;
+      ordered = its.good.ordered;
     }
 
-  pub all_checked : AreChecked packages
-  all_checked = checked_each packages (λ place p at others same. is_checked place p (placed place p at) others same)
+  pub ordered_checked : AreChecked packages
+  ordered_checked = checked_each packages (λ place p at others same. is_checked place p (placed place p at) others same)
+
+-- in package order, where all are good
+pub all_checked : (W : List Write) → HasFiles W → (target : List ℕ) (ds : List Directory) (fates : List Fate) → IsBuildPlanOf W target ds → AreFates ds fates
+    → (packages : List Package) → ArePackages fates (package_order (rows_of ds)) packages → AreChecked packages
+all_checked W has target ds fates of are packages order = ordered_checked W has target ds fates of are (package_order (rows_of ds)) stand packages order
+  where
+    stand : AreOrdered ds fates (package_order (rows_of ds))
+    stand = record { behind = λ before after k j whole leads lt q good. orders.behind (rows_of ds) before after k j whole leads lt; once = orders.once (rows_of ds) }

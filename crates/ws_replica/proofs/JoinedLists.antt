@@ -1,6 +1,6 @@
 -- What a list and another after it join to.
-use Rattle.std.specs.Prelude.{◌≡◌, ◌<◌, ℕ, List, [], ◌∷◌, ◌++◌, length, replicate, take, drop}
-use Rattle.std.proofs.Common.{refl, sym, ap, ap₂, ◌∙◌, subst, take-append-drop}
+use Rattle.std.specs.Prelude.{◌≡◌, ◌<◌, ◌+◌, ℕ, List, [], ◌∷◌, ◌++◌, length, replicate, take, drop}
+use Rattle.std.proofs.Common.{zero, suc, refl, sym, ap, ap₂, ◌∙◌, subst, arith, get_or, take-append-drop}
 use Rattle.std.proofs.lemmas.Simd.{splat_is_map}
 use Rattle.ws_replica.specs.Joins.{joined_from, IsJoinOf, settled}
 
@@ -41,3 +41,17 @@ pub settled-replicate : {J : Type 0} (f : J → J → J) (all : List J) (joined 
 settled-replicate f [] joined is = refl
 settled-replicate f (first ∷ rest) joined is =
     ap (replicate (length (first ∷ rest))) (is first rest refl) ∙ splat_is_map (first ∷ rest) (length (first ∷ rest)) (joined_from f first rest) refl
+
+-- ---- joined one after another
+
+after_one : {J : Type 0} (f : J → J → J) (others : List J) (i : ℕ) (m all : J) → i < length others → m ≡ get_or others i m → joined_from f (f all m) (drop (suc i) others) ≡ joined_from f all (drop i others)
+after_one f [] i m all within is = absurd (omega (arith, within))
+after_one f (x ∷ xs) zero m all within is = ap (λ z. joined_from f (f all z) xs) is
+after_one f (x ∷ xs) (suc i) m all within is = after_one f xs i m all (omega (arith, within)) is
+
+one_more : (i : ℕ) → i + 1 ≡ suc i
+one_more i = omega arith
+
+pub joined_next : {J : Type 0} (f : J → J → J) (others : List J) (i : ℕ) (m all both : J) → i < length others → m ≡ get_or others i m → both ≡ f all m → joined_from f both (drop (i + 1) others) ≡ joined_from f all (drop i others)
+joined_next f others i m all both within is e =
+    ap (λ z. joined_from f z (drop (i + 1) others)) e ∙ ap (λ n. joined_from f (f all m) (drop n others)) (one_more i) ∙ after_one f others i m all within is

@@ -3,6 +3,7 @@ pub mod CheckedPackages
 pub mod Crossing
 pub mod EndFates
 pub mod Equal
+pub mod GoodPackages
 pub mod HeldIds
 pub mod HeldImages
 pub mod JoinedLists
@@ -13,11 +14,12 @@ pub mod OpenedBoards
 pub mod OpenedTargets
 pub mod Opening
 pub mod OrderedPackages
-pub mod PlainTrees
+pub mod PlainPaths
 pub mod PlanMakes
 pub mod Removals
 pub mod SettledReplicas
 pub mod SeveralPlans
+pub mod ShownPackages
 pub mod SomeBuild
 pub mod SourceTexts
 pub mod Steps

@@ -202,14 +202,14 @@ abbrev Pair : Type 0
 Pair = List ℕ × List ℕ
 
 -- each path is below those behind it
-abbrev Sorted : List Pair → Type 0
+abbrev pub Sorted : List Pair → Type 0
 Sorted [] = Unit {0}
 Sorted (s ∷ ss) = ((t : Pair) → Contains ss t → path_cmp s.0 t.0 ≡ Less) × Sorted ss
 
-abbrev Valid : List Pair → Type 0
+abbrev pub Valid : List Pair → Type 0
 Valid ss = (s : Pair) → Contains ss s → is_path s.0 ≡ true
 
-abbrev OfFile : List ℕ → List Pair → Named → Type 0
+abbrev pub OfFile : List ℕ → List Pair → Named → Type 0
 OfFile dir ss n = (t : Pair) × Contains ss t × (directory t.0 ≡ dir) × (n.0 ≡ file_name t.0)
 
 file_of : (dir : List ℕ) (s : Pair) (ss : List Pair) (b c : Bool) → is_in dir s.0 ≡ b → is_built (file_name s.0) ≡ c → (n : Named) → Contains (package_files dir (s ∷ ss)) n → (Contains (package_files dir ss) n → OfFile dir ss n) → OfFile dir (s ∷ ss) n
@@ -220,7 +220,7 @@ file_of dir s ss true true e f n c rest = elim (head_or_later {A = Pair} (named 
 file_of dir s ss true false e f n c rest = (let r = rest (subst (λ xs. Contains xs n) (files_step dir s ss true false e f) c) in (r.0, later {A = Pair} s ss r.0 r.1, r.2, r.3))
 file_of dir s ss false b e f n c rest = (let r = rest (subst (λ xs. Contains xs n) (files_step dir s ss false b e f) c) in (r.0, later {A = Pair} s ss r.0 r.1, r.2, r.3))
 
-files_from : (dir : List ℕ) (ss : List Pair) (n : Named) → Contains (package_files dir ss) n → OfFile dir ss n
+pub files_from : (dir : List ℕ) (ss : List Pair) (n : Named) → Contains (package_files dir ss) n → OfFile dir ss n
 files_from dir [] n c = absurd (none_in_empty {A = Named} n c)
 files_from dir (s ∷ ss) n c = file_of dir s ss (is_in dir s.0) (is_built (file_name s.0)) refl refl n c (λ d. files_from dir ss n d)
 
@@ -293,7 +293,7 @@ sorted_texts [] h = tt
 sorted_texts (w ∷ ws) h = sorted_step w ws w.1.text refl h (sorted_texts ws (second_part (list_below w.0 ws) (is_sorted path_cmp ws) h))
 
 -- the sources of writes ascend, and their paths are paths
-sources_good : (W : List Write) → HasFiles W → (ss : List Pair) → IsSources W ss → Sorted ss × Valid ss
+pub sources_good : (W : List Write) → HasFiles W → (ss : List Pair) → IsSources W ss → Sorted ss × Valid ss
 unfolding OfWrite
 sources_good W files ss (m, stands, is) = (
   subst Sorted (sym is) (sorted_texts (entries m) (entries_sorted m)),

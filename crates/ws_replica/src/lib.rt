@@ -1,7 +1,9 @@
 //! Replicas: what is written and what is compiled, and builds.
 #![tactic(auto)]
 
-ghost use Rattle.std.specs.Prelude.{◌≡◌, ℕ, ◌++◌, ◌∷◌, [], List, Option, IfOk, IfErr, OnOk, OnErr, Some, None, option_copied, string_bytes};
+ghost use Rattle.std.specs.Prelude.{◌≡◌, ℕ, ◌++◌, ◌∷◌, [], List, Option, IfOk, IfErr, OnOk, OnErr, Some, None, option_copied, map, string_bytes};
+ghost use Rattle.std.specs.List.{All, Contains};
+ghost use Rattle.std.specs.Map.{values_of};
 ghost use Rattle.ws_map.specs.Kept.{SameMembers};
 ghost use Rattle.ws_version.specs.Writes.{Write as AWrite, held_cmp};
 ghost use Rattle.ws_map.specs.Kept.{StandsAt, joined};
@@ -9,14 +11,20 @@ ghost use Rattle.ws_register.specs.Edits.{top, greatest_at, edit_refusal, remova
 ghost use Rattle.ws_register.specs.Sources.{HasFiles, IsShown, IsSources};
 ghost use Rattle.ws_register.specs.Texted.{texted};
 ghost use Rattle.go_code.specs.Images.{Image as AnImage};
+ghost use Rattle.go_ast.specs.Parse.{Parsed as AParsed};
+ghost use Rattle.go_export.specs.Exports.{exports_of};
+ghost use Rattle.go_export.specs.Summaries.{summary_of};
+ghost use Rattle.go_export.specs.Writable as writable;
 ghost use Rattle.go_typed.specs.Trees.{Package as APackage};
-ghost use Rattle.ws_action.specs.Actions.{Action as AnAction};
+ghost use Rattle.ws_action.specs.Actions.{Action as AnAction, MakeAction, action_of};
 ghost use Rattle.ws_action.specs.Clash.{NoClash, hashed_actions};
 ghost use Rattle.ws_cache.specs.Held.{CacheStandsFor};
+ghost use Rattle.ws_graph.specs.BuildPlan.{Directory};
 ghost use Rattle.ws_cache.specs.Joined.{lesser};
+ghost use Rattle.ws_compile.specs.Unshown.{IsUnshown};
 ghost use Rattle.ws_replica.specs.Holdings.{Replica as AReplica, ReplicaStandsFor, both};
 ghost use Rattle.ws_replica.specs.declared.BuildError.TheVariants.{Memory};
-ghost use Rattle.ws_replica.specs.Reports.{TargetBuild, IsTargetBuild, actions_of};
+ghost use Rattle.ws_replica.specs.Reports.{TargetBuild, IsTargetBuild, IsReady, Good, actions_of};
 ghost use Rattle.ws_replica.specs.Programs.{IsHeldProgram, IsImage};
 ghost use Rattle.ws_replica.specs.Builds.{refusal_of};
 
@@ -47,12 +55,12 @@ mod telling;
 /// Why there is no report.
 #[derive(Debug, Drop, Error)]
 pub enum BuildError {
-    /// No file of the directory belongs to a build.
-    #[error("no package")]
-    NoPackage,
     /// An allocation was refused.
     #[error("out of memory")]
     Memory,
+    /// No file of the directory belongs to a build.
+    #[error("no package")]
+    NoPackage,
 }
 
 impl From<PlanError> for BuildError {
@@ -273,4 +281,18 @@ pub fn law_equal_images()
 pub fn law_target_is_last()
     ensures { (W : List AWrite) (target : List ℕ) (build : TargetBuild) (edition : ℕ) (held : List AnAction) (packages : List APackage) → IsTargetBuild W target (Some build)
         → IsHeldProgram edition held build packages → (before : List APackage) × (p : APackage) × (packages ≡ before ++ p ∷ []) × (p.path ≡ target) }
+{}
+
+/// The text of its summary tells what a good package of a build exports; and the files of each
+/// directory make an action with the summaries of its imports, where those are good, which has a
+/// summary too, where it is good. So a package without a summary, and a job that is blocked for what
+/// is held, come only where hashed texts clash.
+pub fn law_built_packages_are_shown()
+    ensures shown { (W : List AWrite) (target : List ℕ) (build : TargetBuild) (p : APackage) → HasFiles W → IsTargetBuild W target (Some build)
+        → Contains build.fates (Good p) → All writable.IsShown (values_of (exports_of p)) }
+    ensures make { (W : List AWrite) (target : List ℕ) (build : TargetBuild) (d : Directory) (files : List AParsed) (imports : List APackage) → HasFiles W
+        → IsTargetBuild W target (Some build) → Contains build.directories d → IsReady build.fates d files imports → MakeAction files (map summary_of imports) }
+    ensures told { (W : List AWrite) (target : List ℕ) (build : TargetBuild) (d : Directory) (files : List AParsed) (imports : List APackage) (edition : ℕ) → HasFiles W
+        → IsTargetBuild W target (Some build) → Contains build.directories d → IsReady build.fates d files imports → All writable.IsWritten (map summary_of imports)
+        → ¬ (IsUnshown (action_of edition d.path files (map summary_of imports))) }
 {}

@@ -29,11 +29,18 @@ use ws_graph::planning::plan;
 use ws_version::Join;
 
 /// The object of a job, where it is done and good.
-fn object_of_job(board: &Board, job: usize) -> Result<Option<Arc<Object>>, AllocError>
+fn object_of_job(
+    alloc: Global,
+    board: &Board,
+    job: usize,
+) -> Result<Option<Arc<Object>>, AllocError>
     ensures { IfOk result (λ object. MatchOption object (LacksObjectAt board.now job) (λ object. IsObjectAt board.now job (arc_value object))) }
 {
     match board.result(job) {
-        Some(Outcome::Good(_, object)) => Ok(Some(object.clone()?)),
+        Some(Outcome::Good(_, packed)) => {
+            let object = packed.unpack(alloc)?;
+            Ok(Some(Arc::new(alloc, object)?))
+        }
         Some(Outcome::Faulty(_)) => Ok(None),
         None => Ok(None),
     }
@@ -50,7 +57,7 @@ fn objects_held(
 {
     let mut objects = Vec::new(alloc);
     for job in 0..count {
-        let Some(object) = object_of_job(board, job)? else {
+        let Some(object) = object_of_job(alloc, board, job)? else {
             return Ok(None);
         };
         objects.push(object)?;

@@ -49,6 +49,11 @@ impl<L: Desk> SharedBoard<L> {
         Ok((board, hands))
     }
 
+    /// How many jobs are neither done nor blocked at this moment.
+    pub fn left<R: Wait>(&self, rt: &R) -> usize {
+        self.locked.lock(rt).left()
+    }
+
     /// Gives the hand a job, and waits while none may be given but some job runs. None: nothing is
     /// ready and nothing runs. An `Err`, for want of memory, leaves the hand as it was.
     pub fn take<R: Wait>(

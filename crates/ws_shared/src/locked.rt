@@ -1,7 +1,9 @@
 //! What lies under the lock.
 ghost use Rattle.std.specs.Prelude.{◌≡◌, ◌<◌, ◌+◌, IfOk, IfErr, OnOk, OnErr};
 ghost use Rattle.std.specs.Bool.{OnTrue, OnFalse};
+ghost use Rattle.std.specs.List.{count_by};
 ghost use Rattle.ws_board.specs.declared.work.Event.TheVariants as event;
+ghost use Rattle.ws_board.specs.Machine.{is_open};
 ghost use Rattle.ws_board.specs.Calls.{IsFresh, TakeStep};
 ghost use Rattle.ws_shared.specs.Counts.{none_made, noted, counts_of};
 ghost use Rattle.ws_board.specs.Ends.{AddsOwn};
@@ -108,6 +110,13 @@ impl<L: Desk> Locked<L> {
         }
         self.books.add(mine, event);
         true
+    }
+
+    /// How many jobs are neither done nor blocked.
+    pub(super) fn left(&self) -> usize
+        ensures { result ≡ count_by is_open self.now.state.standings.statuses }
+    {
+        self.board.left()
     }
 
     /// The board, of whose history whoever has all parts knows the counts.

@@ -11,7 +11,7 @@ use Rattle.ws_script.specs.Failures.{failed_reads}
 use Rattle.ws_script.specs.Told.{Told, Grows}
 use Rattle.ws_script.specs.declared.running.SessionError.{SessionError}
 use Rattle.ws_script.specs.declared.running.SessionError.TheVariants.{Memory, Write}
-use Rattle.ws_words.specs.Statuses.{asks_text, code_of, is_asked, is_wrong, stopped}
+use Rattle.ws_words.specs.Statuses.{FailsUnasked, asks_text, code_of, is_asked, is_wrong, stopped}
 use Rattle.ws_words.specs.declared.status.Status.{Status}
 use Rattle.ws_words.specs.declared.status.Status.TheVariants.{Done, Failed, Misused}
 
@@ -110,4 +110,12 @@ only_memory k failure h none = elim h [
   | inr write ↦
       let bad : true ≡ false = sym write.1 ∙ none in
       cc
+]
+
+-- how words fail that ask for no session, where this error was told of them
+pub fails_unasked : (kinds : Kinds) (e : Error) (failure : SessionError) → HasKind kinds e
+    → (failure ≡ Memory) ⊎ ((failure ≡ Write) × (is_asked (kind_of e) ≡ true)) → FailsUnasked failure kinds
+fails_unasked kinds e failure h told = elim told [
+  | inl memory ↦ inl memory
+  | inr write ↦ inr (write.0, error_asked kinds e h write.1)
 ]

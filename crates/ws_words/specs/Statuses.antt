@@ -42,6 +42,10 @@ asks_text = list_any is_asked
 abbrev pub is_wrong : Kinds → Bool
 is_wrong = list_any (λ kind. not (is_asked kind))
 
+-- how words of these kinds that ask for no session may fail: memory ran out, or the text that they ask for wasn't taken
+abbrev pub FailsUnasked : SessionError → Kinds → Type 0
+FailsUnasked failure kinds = (failure ≡ Memory) ⊎ ((failure ≡ Write) × (asks_text kinds ≡ true))
+
 -- an end took a text, or a write of it failed and the end took a beginning; it counts its failed writes
 abbrev pub Tells : List ℕ → ℕ → ℕ → Option (List ℕ) → Option (List ℕ) → Type 0
 Tells text failed failed' written written' =

@@ -8,7 +8,7 @@ ghost use Rattle.ws_script.specs.Failures.{failed_reads, failed_writes};
 ghost use Rattle.ws_script.specs.declared.running.SessionError.{SessionError};
 ghost use Rattle.ws_script.specs.declared.running.SessionError.TheVariants.{Memory, Write};
 ghost use Rattle.ws_words.specs.CommandLine.{faults};
-ghost use Rattle.ws_words.specs.Statuses.{Tells, asks_text, complaint, is_asked, is_wrong, not_utf8, stopped, whole};
+ghost use Rattle.ws_words.specs.Statuses.{FailsUnasked, Tells, asks_text, complaint, is_asked, is_wrong, not_utf8, stopped, whole};
 ghost use Rattle.ws_words.specs.declared.status.Status.TheVariants.{Done, Failed, Misused};
 
 use crate::options::{Options, read_options};
@@ -149,7 +149,8 @@ pub fn refuse_words<E: ScriptOut>(error: &io::Error, errors: &mut E) -> u8
 ///
 /// - 0: the script was run, refusals or not; or help or the version was written.
 /// - 1: memory ran out, the script has more than 16,777,216 bytes, or a read or a write of it
-///   failed. The errors have a line that says which.
+///   failed. The errors have a line that says which. Where no session is asked for it is memory, or
+///   a write of the text that is asked for.
 /// - 2: the words are wrong. The errors have the reason.
 ///
 /// Nothing is read before the words are found to ask for a session. That the errors fail changes
@@ -180,7 +181,9 @@ pub fn run_words<'a, T: Threads + Wait + Sync, S: AsStr, I: ScriptIn, O: ScriptO
         (E.written errors.old) (E.written errors.new)
         × (faults (map S.text words.entry.now) ≡ []
         → Session 1 (stopped failure) (I.told reader.old) (I.told reader.new)
-        (O.written writer.old) (O.written writer.new)) }
+        (O.written writer.old) (O.written writer.new))
+        × (faults (map S.text words.entry.now) ≢ []
+        → FailsUnasked failure (faults (map S.text words.entry.now))) }
     ensures misused { result ≡ 2 → is_wrong (faults (map S.text words.entry.now)) ≡ true }
     ensures unread { faults (map S.text words.entry.now) ≢ [] → reader.new ≡ reader.old }
     ensures unwritten { faults (map S.text words.entry.now) ≢ []

@@ -1,6 +1,7 @@
 //! Typed packages, written as their paths and names, and their declarations between bars.
 use super::types::{read, read_all};
 use go_const::constant::{Const, Text};
+use go_text::edition::Edition;
 use go_text::place::Place;
 use go_typed::package::{Typed, TypedConstant, TypedFunction, TypedName, TypedVariable};
 use std::alloc::{AllocError, Global};
@@ -90,10 +91,12 @@ fn empty(alloc: Global, path: &str, name: &str) -> Result<Typed, AllocError> {
     Ok(Typed {
         path: String::from_str(alloc, path)?,
         name: String::from_str(alloc, name)?,
+        edition: Edition::One,
         constants: Vec::new(alloc),
         types: Vec::new(alloc),
         variables: Vec::new(alloc),
         initializations: Vec::new(alloc),
+        uses: Vec::new(alloc),
         functions: Vec::new(alloc),
     })
 }

@@ -97,8 +97,8 @@ impl ScriptIn for Endless {
 /// A writer of which a call takes at most `step` bytes, and call `fails_at` takes none: it answers
 /// an error, or 0 where `takes_none` says so.
 #[derive(Drop)]
-struct FakeOut {
-    written: Vec<u8>,
+pub(super) struct FakeOut {
+    pub(super) written: Vec<u8>,
     step: usize,
     calls: u64,
     fails_at: u64,
@@ -108,7 +108,7 @@ struct FakeOut {
 
 impl FakeOut {
     /// A writer no call of which fails.
-    fn new(alloc: Global, step: usize) -> Self
+    pub(super) fn new(alloc: Global, step: usize) -> Self
         ensures { result.failures ≡ 0 }
     {
         FakeOut::failing(alloc, step, 0, false)
@@ -162,10 +162,10 @@ impl ScriptOut for FakeOut {
     }
 }
 
-const SCRIPT: &[u8] =
+pub(super) const SCRIPT: &[u8] =
     b"replica a\nwrite a p/x.go 1\npackage p\nbuild a p\nbuild a p\nreplica b\nmerge b a\nbuild b p a p\n";
 
-const TOLD: &[u8] =
+pub(super) const TOLD: &[u8] =
     b"build a p ok 1 compiled 1\nbuild a p ok 1 compiled 0\nbuild b p ok 1 compiled 0\nbuild a p ok 1 compiled 0\n";
 
 /// A session of edition 1, in which 4 workers build.
@@ -199,8 +199,12 @@ fn reads_fail(rt: HostRuntime) {
         let mut writer = FakeOut::new(rt.alloc(), 1);
         let ended = say(&rt, rt.alloc(), &mut reader, &mut writer);
         let in_time = fails_at <= SCRIPT.len() as u64 + 1;
-        assert!(rt; ended.is_ok() != in_time, "at {fails_at}");
-        assert!(rt; ended != Err(SessionError::Write), "at {fails_at}");
+        let wanted = if in_time {
+            Err(SessionError::Read)
+        } else {
+            Ok(())
+        };
+        assert!(rt; ended == wanted, "at {fails_at}");
         assert!(rt; writer.written.is_empty() == in_time, "at {fails_at}");
         assert!(rt; reader.failures == u64::from(in_time), "at {fails_at}");
         assert!(rt; writer.failures == 0, "at {fails_at}");

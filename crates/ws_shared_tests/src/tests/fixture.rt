@@ -9,6 +9,9 @@ use ws_action::{Action, Files};
 use ws_board::{Built, Job, Work};
 use ws_cache::{Cache, Outcome};
 
+/// Two programs that don't import one another.
+pub const APART: &str = "package main; func main() {} // p:\npackage main; func main() {} // q:";
+
 /// The files of a package with one file of that text.
 fn files(alloc: Global, text: String) -> Result<Arc<Files>, Fail> {
     let name = String::from_str(alloc, "x.go")?;

@@ -2,7 +2,7 @@
 ghost use Rattle.std.specs.Prelude.{◌≡◌};
 ghost use Rattle.std.specs.FinMap.{empty};
 
-use crate::tests::fixture::jobs;
+use crate::tests::fixture::{APART, jobs};
 use std::alloc::Global;
 use std::marker::Brand;
 use std::process::Abort;
@@ -114,7 +114,7 @@ fn alone<L: Desk, R: Wait + Abort>(
 
 #[test]
 fn hands_alone(rt: HostRuntime) -> Result<(), Fail> {
-    let jobs = jobs(rt.alloc(), "package a:\npackage b:")?;
+    let jobs = jobs(rt.alloc(), APART)?;
     let blanks = Blanks::new(2);
     let board = alone::<Brand, HostRuntime>(&rt, rt.alloc(), jobs, blanks)?;
     if !board.has_idled() {

@@ -1,7 +1,7 @@
 //! Workers in threads, at gates of several kinds.
 ghost use Rattle.std.specs.Prelude.{◌<◌};
 
-use crate::tests::fixture::{jobs, told};
+use crate::tests::fixture::{APART, jobs, told};
 use crate::tests::gates::{Counting, Holding, Moody, Turns, Watch};
 use std::alloc::Global;
 use std::process::Abort;
@@ -24,8 +24,8 @@ const ENDS: &str = "ggggfbggbbgggggfbbgg++..................";
 /// How many different actions those have that aren't blocked.
 const TEXTS: usize = 13;
 
-/// Two programs that don't import one another.
-const APART: &str = "package main; func main() {} // p:\npackage main; func main() {} // q:";
+/// How many are left once the board is opened: one has no work, one imports it, and one imports that.
+const LEFT: u64 = 17;
 
 /// What a build came to: its jobs and its cache, how many jobs were compiled, how many were given
 /// back, and how many hands were told that nothing is left.
@@ -82,7 +82,7 @@ fn comes_to<R: Threads + Wait + Sync>(
 }
 
 /// Whether the 20 packages come to what they should, with so many workers at the gate, of whom
-/// each is there until the end, or 20 if there are more.
+/// each is there until the end, or as many as packages are left if there are more.
 fn come_right<R: Threads + Wait + Sync>(
     rt: &R,
     alloc: Global,
@@ -93,7 +93,7 @@ fn come_right<R: Threads + Wait + Sync>(
 {
     let came = comes_to(rt, alloc, ROWS, workers, gate)?;
     let is_right = came.ends.as_str() == ENDS && came.compiled == TEXTS;
-    Ok(is_right && came.hands as u64 == workers.min(20))
+    Ok(is_right && came.hands as u64 == workers.min(LEFT))
 }
 
 /// The same with 1, 2, 3 and 64 workers.
@@ -207,5 +207,28 @@ fn two_in_turn(rt: HostRuntime) -> Result<(), Fail> {
     assert!(rt; ends_as_one(&rt, rt.alloc(), importing, "0 1T 1C 1F 0T 0C 0F", 2)?);
     let twice = "package main; func main() {}:\npackage main; func main() {}:";
     assert!(rt; ends_as_one(&rt, rt.alloc(), twice, "1 0C<", 1)?);
+    Ok(())
+}
+
+/// How many hands were told that nothing is left, and how many jobs were compiled, of rows of which
+/// some are held.
+fn again<R: Threads + Wait + Sync>(
+    rt: &R,
+    alloc: Global,
+    held: &str,
+    rows: &str,
+) -> Result<(usize, usize), Fail> {
+    let first = build_jobs(rt, alloc, jobs(alloc, held)?, Cache::new(alloc), 4, &Plain)?;
+    let cache = first.into_cache()?;
+    let built = build_jobs(rt, alloc, jobs(alloc, rows)?, cache, 4, &Plain)?;
+    Ok((hands(built.history()), built.compiled()))
+}
+
+#[test]
+fn spare_hands_do_nothing(rt: HostRuntime) -> Result<(), Fail> {
+    let one = "package main; func main() {} // p:";
+    assert!(rt; again(&rt, rt.alloc(), APART, APART)? == (1, 0));
+    assert!(rt; again(&rt, rt.alloc(), one, APART)? == (1, 1));
+    assert!(rt; again(&rt, rt.alloc(), "", APART)? == (2, 2));
     Ok(())
 }

@@ -39,10 +39,12 @@ pub fn summary(
     let typed = Typed {
         path: String::from_str(alloc, path)?,
         name: String::from_str(alloc, name)?,
+        edition: Edition::One,
         constants,
         types: Vec::new(alloc),
         variables: Vec::new(alloc),
         initializations: Vec::new(alloc),
+        uses: Vec::new(alloc),
         functions: Vec::new(alloc),
     };
     Ok(Summary::of(alloc, &typed)?)

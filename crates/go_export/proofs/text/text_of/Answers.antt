@@ -5,4 +5,4 @@ use Rattle.go_export.proofs.text.text_of.Goals as goal
 
 pub returns : goal.returns
 unfolding summary_text
-returns c = grind (arith, common_steps)
+returns c = λ edition. grind (arith, common_steps)

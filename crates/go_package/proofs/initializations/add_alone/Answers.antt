@@ -1,4 +1,4 @@
-use Rattle.std.proofs.Common.{◌≡◌, ℕ, List, [], ◌∷◌, ◌++◌, length, map, drop, arith, refl, sym, ap, ◌∙◌}
+use Rattle.std.proofs.Common.{◌≡◌, ℕ, Bor, List, [], ◌∷◌, ◌++◌, length, map, drop, arith, refl, sym, ap, ◌∙◌}
 use Rattle.std.proofs.lemmas.List.{append-nil}
 use Rattle.go_ast.specs.Trees.{Name, Exprs, no_exprs, some_exprs}
 use Rattle.go_ast.specs.Views.{exprs_in as exprs_trees}
@@ -13,19 +13,20 @@ none_there : (es : List TypedExpr) → length es ≡ 0 → es ≡ []
 none_there [] h = refl
 none_there (e ∷ es) h = absurd (let n : ⊥ = omega arith in n)
 
-no_more : (t : Facts) (file : ℕ) (ns : List Name) (vs : Exprs) (es : List TypedExpr) → es ≡ [] → each_alone t file ns vs (exprs_in es) ≡ []
-no_more t file [] vs es h = refl
-no_more t file (n ∷ ns) no_exprs es h = refl
-no_more t file (n ∷ ns) (some_exprs v vs) [] h = refl
-no_more t file (n ∷ ns) (some_exprs v vs) (e ∷ es) h = cc
+no_more : (t : Facts) (names : List (List ℕ)) (file : ℕ) (ns : List Name) (vs : Exprs) (es : List TypedExpr) → es ≡ [] → each_alone t names file ns vs (exprs_in es) ≡ []
+no_more t names file [] vs es h = refl
+no_more t names file (n ∷ ns) no_exprs es h = refl
+no_more t names file (n ∷ ns) (some_exprs v vs) [] h = refl
+no_more t names file (n ∷ ns) (some_exprs v vs) (e ∷ es) h = cc
 
 pub returns : goal.returns
 returns c =
     let t = facts_of c.args.facts.now in
     let found = map initialization_of c.loop-e.found.items in
-    let ns = drop c.loop-e.number c.as_slice-names.result.now in
+    let ns = drop c.loop-e.number c.as_slice-variables.result.now in
     let vs = exprs_trees (drop c.loop-e.number c.as_slice-values.result.now) in
     let rest = c.loop-e.e-iterator.rest in
     let size : length rest.items ≡ 0 = omega (arith, rest.ok.0, c.in-None.ensures.steps.0) in
-    let none : each_alone t c.args.file ns vs (exprs_in rest.items) ≡ [] = no_more t c.args.file ns vs rest.items (none_there rest.items size) in
+    let names = map (λ (n : Bor (List ℕ)). n.now) c.args.names.now in
+    let none : each_alone t names c.args.file ns vs (exprs_in rest.items) ≡ [] = no_more t names c.args.file ns vs rest.items (none_there rest.items size) in
     sym (append-nil found) ∙ sym (ap (λ l. found ++ l) none) ∙ c.loop-e.invariant.same

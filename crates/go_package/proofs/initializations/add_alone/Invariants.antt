@@ -7,7 +7,7 @@ use Rattle.go_package.proofs.initializations.add_alone.Given as goal
 
 abbrev pub invariant-loop-e : goal.invariant-loop-e
 invariant-loop-e l = record {
-  within : l.number ≤ length l.names;
-  same : map initialization_of l.found.items ++ each_alone (facts_of l.facts) l.file (drop l.number l.names) (exprs_trees (drop l.number l.values)) (exprs_in l.e-iterator.rest.items)
-      ≡ map initialization_of l.fn.found.items ++ each_alone (facts_of l.facts) l.file (var_of l.spec).names (var_of l.spec).values (exprs_in l.fn.typed.items);
+  within : l.number ≤ length l.variables;
+  same : map initialization_of l.found.items ++ each_alone (facts_of l.facts) (map (λ n. n.now) l.names) l.file (drop l.number l.variables) (exprs_trees (drop l.number l.values)) (exprs_in l.e-iterator.rest.items)
+      ≡ map initialization_of l.fn.found.items ++ each_alone (facts_of l.facts) (map (λ n. n.now) l.names) l.file (var_of l.spec).names (var_of l.spec).values (exprs_in l.fn.typed.items);
 }

@@ -8,5 +8,5 @@ use Rattle.go_package.proofs.initializations.add_specs.Given as goal
 
 abbrev pub invariant-loop-spec : goal.invariant-loop-spec
 invariant-loop-spec l =
-    map initialization_of l.found.items ++ flat_map (spec_initializations (facts_of l.facts) l.file) (map var_of (drop l.spec-index l.specs))
-    ≡ map initialization_of l.fn.found.items ++ flat_map (spec_initializations (facts_of l.facts) l.file) (map var_of l.specs)
+    map initialization_of l.found.items ++ flat_map (spec_initializations (facts_of l.facts) (map (λ n. n.now) l.names) l.file) (map var_of (drop l.spec-index l.specs))
+    ≡ map initialization_of l.fn.found.items ++ flat_map (spec_initializations (facts_of l.facts) (map (λ n. n.now) l.names) l.file) (map var_of l.specs)

@@ -8,5 +8,5 @@ use Rattle.go_package.proofs.initializations.add_tops.Given as goal
 
 abbrev pub invariant-loop-top : goal.invariant-loop-top
 invariant-loop-top l =
-    map initialization_of l.found.items ++ flat_map (top_initializations (facts_of l.facts) l.file) (map top_of (drop l.top-index l.tops))
-    ≡ map initialization_of l.fn.found.items ++ flat_map (top_initializations (facts_of l.facts) l.file) (map top_of l.tops)
+    map initialization_of l.found.items ++ flat_map (top_initializations (facts_of l.facts) (map (λ n. n.now) l.names) l.file) (map top_of (drop l.top-index l.tops))
+    ≡ map initialization_of l.fn.found.items ++ flat_map (top_initializations (facts_of l.facts) (map (λ n. n.now) l.names) l.file) (map top_of l.tops)

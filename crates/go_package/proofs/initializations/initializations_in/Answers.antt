@@ -11,5 +11,5 @@ loop-number-preserved c =
     let number = c.loop-number.number in
     let within : number < length files = omega arith in
     let grown = rw c.deref.ensures.value at c.in_ok-add_tops.ensures in
-    more_files (top_initializations (facts_of c.args.facts.now)) files number c.index-files-number.result (map initialization_of c.loop-number.found.items) (map initialization_of c.add_tops.new.found.items) _ within
+    more_files (top_initializations (facts_of c.args.facts.now) (map (λ n. n.now) c.args.names.now)) files number c.index-files-number.result (map initialization_of c.loop-number.found.items) (map initialization_of c.add_tops.new.found.items) _ within
     c.index-files-number.is c.loop-number.invariant grown

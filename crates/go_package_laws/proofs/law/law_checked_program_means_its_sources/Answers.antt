@@ -1,4 +1,4 @@
-use Rattle.go_package_laws.proofs.Meant.{packages_linked, packages_same, packages_sense}
+use Rattle.go_package_laws.proofs.Meant.{packages_linked, packages_refused, packages_same, packages_sense}
 use Rattle.go_package_laws.proofs.law.law_checked_program_means_its_sources.Goals as goal
 
 pub returns-clause-linked : goal.returns-clause-linked
@@ -9,3 +9,6 @@ returns-clause-same c packages image are named = packages_same packages are name
 
 pub returns-clause-sense : goal.returns-clause-sense
 returns-clause-sense c packages image ticks are named = packages_sense packages are named image ticks
+
+pub returns-clause-refused : goal.returns-clause-refused
+returns-clause-refused c packages are other = packages_refused packages other

@@ -7,8 +7,8 @@ use Rattle.go_vm.specs.Told.{state_of}
 use Rattle.go_vm.proofs.run.finish.Given as goal
 
 -- what these frames lead to, the frames at the entry lead to
-abbrev pub invariant-loop-frames : goal.invariant-loop-frames
-invariant-loop-frames l = (starts : List Start) (final : Final) → Leads l.image (state_of l.frames starts l.world) final → Leads l.image (state_of l.fn.frames starts l.fn.world) final
+abbrev pub invariant-loop-pace : goal.invariant-loop-pace
+invariant-loop-pace l = (starts : List Start) (final : Final) → Leads l.image (state_of l.frames starts l.world) final → Leads l.image (state_of l.fn.frames starts l.fn.world) final
 
-abbrev pub decreases-loop-frames : goal.decreases-loop-frames
-decreases-loop-frames l = steps_left l.image (state_of l.frames [] l.world)
+abbrev pub decreases-loop-pace : goal.decreases-loop-pace
+decreases-loop-pace l = steps_left l.image (state_of l.frames [] l.world)

@@ -11,6 +11,12 @@ use Rattle.ws_board.proofs.Endings.{comes_to}
 use Rattle.ws_board.proofs.Own.{own_ends}
 use Rattle.ws_board.proofs.Board.built.Goals as goal
 
+pub new-requires-clause-legal : goal.new-requires-clause-legal
+new-requires-clause-legal c = c.self.invariant.0
+
+pub new-requires-clause-idled : goal.new-requires-clause-idled
+new-requires-clause-idled c = subst (λ (v : Seen). list_any is_idle v.history ≡ true) (sym c.self.view_is) c.requires.idled
+
 pub returns-clause-finished : goal.returns-clause-finished
 returns-clause-finished c =
     let b = c.self.inside in

@@ -1,6 +1,5 @@
 use Rattle.std.proofs.Common.{sym, ap, ◌∙◌}
 use Rattle.std.specs.FinMap as map
-use Rattle.ws_version.specs.Writes.{path_cmp}
 use Rattle.ws_pages.specs.Listed.{all_writes}
 use Rattle.ws_pages.proofs.Contents.{get-contents}
 use Rattle.ws_pages.proofs.Pages.get.Goals as goal
@@ -8,5 +7,4 @@ use Rattle.ws_pages.proofs.Pages.get.Goals as goal
 pub returns : goal.returns
 returns c =
     let path = c.args.path.now in
-    c.held_in.ensures ∙ ap (λ l. map.find path_cmp path (all_writes l)) c.deref.ensures.value
-    ∙ sym (get-contents (all_writes c.self.inside.pages.items) path) ∙ ap (λ m. map.get m path) c.self.view_is
+    c.held_in.ensures ∙ sym (get-contents (all_writes c.list.result.now) path) ∙ ap (λ m. map.get m path) c.list.ensures.held

@@ -5,6 +5,4 @@ use Rattle.ws_pages.proofs.Contents.{entries-contents}
 use Rattle.ws_pages.proofs.Pages.iter.Goals as goal
 
 pub returns : goal.returns
-returns c =
-    c.of.ensures ∙ ap all_writes c.deref.ensures.value
-    ∙ sym (entries-contents (all_writes c.self.inside.pages.items) c.self.invariant) ∙ ap entries c.self.view_is
+returns c = c.of.ensures ∙ sym (entries-contents (all_writes c.list.result.now) c.list.ensures.ascends) ∙ ap entries c.list.ensures.held

@@ -1,7 +1,8 @@
 use Rattle.std.proofs.Common.{sym, ap, subst, ◌∙◌, Result, Ok, Err, OnOk, OnErr}
+use Rattle.std.specs.Arc.{arc_value}
 use Rattle.std.specs.FinMap as map
-use Rattle.ws_pages.specs.Listed.{all_writes}
-use Rattle.ws_pages.specs.Pages.{Ascends}
+use Rattle.ws_pages.specs.Listed.{all_writes, listed_writes}
+use Rattle.ws_pages.specs.Pages.{contents, Ascends}
 use Rattle.ws_pages.proofs.Contents.{contents-put, put-ascends}
 use Rattle.ws_pages.proofs.Walks.{ok_then}
 use Rattle.ws_pages.proofs.Pages.put.Goals as goal
@@ -12,17 +13,20 @@ either (Err x) f g p q = g q
 
 pub invariant_of-self : goal.invariant_of-self
 invariant_of-self c =
-    let old = all_writes c.self.inside.pages.items in
-    let new = all_writes c.put.new.pages.items in
-    either c.put.result
-    (λ is. put-ascends old new c.args.write.0 c.args.write.1 c.self.invariant is)
-    (λ same. subst (λ l. Ascends (all_writes l)) (sym same) c.self.invariant)
-    c.put.ensures.ok c.put.ensures.err
+    let old = all_writes (arc_value c.in-Some.pages).items in
+    let new = all_writes (arc_value c.put_shared.new.pages).items in
+    let ascends : Ascends old = subst (λ s. Ascends (listed_writes s)) c.in-Some.is c.self.invariant in
+    either c.put_shared.result
+    (λ is. put-ascends old new c.args.write.0 c.args.write.1 ascends is)
+    (λ same. subst Ascends (sym same) ascends)
+    c.put_shared.ensures.ok c.put_shared.ensures.err
 
-pub returns-clause-ok : goal.returns-clause-ok
-returns-clause-ok c =
-    let old = all_writes c.self.inside.pages.items in
-    let new = all_writes c.put.new.pages.items in
-    ok_then c.put.result (λ is.
-    contents-put old new c.args.write.0 c.args.write.1 c.self.invariant is ∙ ap (λ m. map.insert m c.args.write.0 c.args.write.1) c.self.view_is)
-    c.put.ensures.ok
+pub returns-in-Some-clause-ok : goal.returns-in-Some-clause-ok
+returns-in-Some-clause-ok c =
+    let old = all_writes (arc_value c.in-Some.pages).items in
+    let new = all_writes (arc_value c.put_shared.new.pages).items in
+    let ascends : Ascends old = subst (λ s. Ascends (listed_writes s)) c.in-Some.is c.self.invariant in
+    ok_then c.put_shared.result (λ is.
+    contents-put old new c.args.write.0 c.args.write.1 ascends is
+    ∙ ap (λ m. map.insert m c.args.write.0 c.args.write.1) (ap (λ s. contents (listed_writes s)) (sym c.in-Some.is) ∙ c.self.view_is))
+    c.put_shared.ensures.ok

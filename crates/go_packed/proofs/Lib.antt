@@ -1,0 +1,5 @@
+pub mod Cuts
+pub mod Back
+pub mod Listed
+pub mod Many
+pub mod Whole

@@ -1,0 +1,8 @@
+use Rattle.go_packed.specs.Reading.{read_instr, read_many}
+use Rattle.go_packed.proofs.Many.{one_more}
+use Rattle.go_packed.proofs.source.Source.code.Goals as goal
+
+pub loop-done-preserved : goal.loop-done-preserved
+loop-done-preserved c =
+    one_more read_instr c.number-count.result c.loop-done.done c.loop-done.code.items c.push.new.self.items c.loop-done.self c.instr.new.self c.in_ok-instr.field-0
+    (read_many read_instr c.number-count.result c.number-count.new.self) c.loop-done-test.true c.loop-done.invariant c.in_ok-instr.ensures c.in_ok-push.ensures.items

@@ -1,0 +1,8 @@
+use Rattle.go_packed.specs.Reading.{read_function, read_many}
+use Rattle.go_packed.proofs.Many.{one_more}
+use Rattle.go_packed.proofs.source.Source.functions.Goals as goal
+
+pub loop-done-preserved : goal.loop-done-preserved
+loop-done-preserved c =
+    one_more read_function c.number-count.result c.loop-done.done c.loop-done.functions.items c.push.new.self.items c.loop-done.self c.function.new.self c.in_ok-function.field-0
+    (read_many read_function c.number-count.result c.number-count.new.self) c.loop-done-test.true c.loop-done.invariant c.in_ok-function.ensures c.in_ok-push.ensures.items

@@ -1,0 +1,5 @@
+pub mod Cuts
+pub mod Reading
+pub mod Spelling
+pub mod Tokens
+pub mod Whole

@@ -1,5 +1,0 @@
-mod Plans
-mod Reading
-mod Faults
-mod Refusals
-mod Texts

@@ -1,4 +1,0 @@
-pub mod Plan
-pub mod Sources
-pub mod Answers
-pub mod Told

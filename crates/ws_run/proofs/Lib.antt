@@ -1,0 +1,4 @@
+pub mod Building
+pub mod Goods
+pub mod Running
+pub mod Writing

@@ -1,0 +1,16 @@
+use Rattle.std.proofs.Common.{ap, ◌∙◌}
+use Rattle.std.specs.Prelude.{Err}
+use Rattle.ws_replica.specs.Reports.{actions_of}
+use Rattle.ws_run.specs.Files.{writes_of}
+use Rattle.ws_run.proofs.Running.{has_image, some_files}
+use Rattle.ws_run.proofs.run.image_of.Goals as goal
+
+pub returns-in-Ok : goal.returns-in-Ok
+returns-in-Ok g c files h =
+    let sources = c.see_files.ensures (writes_of files) (actions_of 1 h.build) h.stands in
+    has_image files c.args.directory.now c.args.replica.now h sources c.in-Ok.image (c.in-Ok.ensures.ok (writes_of files) (actions_of 1 h.build) h.stands h.sized)
+
+pub returns-in-Err-NoPackage : goal.returns-in-Err-NoPackage
+returns-in-Err-NoPackage g c files h =
+    absurd (some_files files c.args.directory.now h.build h.are
+    (c.image.ensures.none (c.in-Err-NoPackage.is ∙ ap (λ x. Err x) c.in-Err-NoPackage.field-0-is) (writes_of files) (actions_of 1 h.build) h.stands))

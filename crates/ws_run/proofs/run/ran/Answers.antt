@@ -1,0 +1,13 @@
+use Rattle.std.proofs.Common.{subst}
+use Rattle.std.specs.Prelude.{Err}
+use Rattle.go_vm.specs.Answers.{Answers}
+use Rattle.ws_run.proofs.Running.{runs_as, makes_sense}
+use Rattle.ws_run.proofs.run.ran.Goals as goal
+
+pub returns-in-Ok : goal.returns-in-Ok
+returns-in-Ok c files directory p = runs_as files directory c.args.image.now p c.args.ticks c.in-Ok.outcome c.in-Ok.ensures
+
+pub returns-in-Err-BadCode : goal.returns-in-Err-BadCode
+returns-in-Err-BadCode c files directory p =
+    absurd (makes_sense files directory c.args.image.now p c.args.ticks
+    (subst (λ error. Answers c.args.image.now c.args.ticks (Err error)) c.in-Err-BadCode.field-0-is c.in-Err-BadCode.ensures))

@@ -1,0 +1,75 @@
+-- The steps from files to an answer.
+use Rattle.std.specs.Prelude.{Vec, ◌≡◌, ℕ, Bool, List, [], ◌∷◌, ◌++◌, map, Option, Some, None}
+use Rattle.std.specs.List.{All, list_all}
+use Rattle.std.specs.Global.{Global}
+use Rattle.go_code.specs.Images.{Image}
+use Rattle.go_typed.specs.Trees.{Package}
+use Rattle.go_gen.specs.Translation.{object_of}
+use Rattle.go_link.specs.Links.{linked}
+use Rattle.go_meaning.specs.Programs.{IsProgram}
+use Rattle.go_vm.specs.Outcomes.{Outcome}
+use Rattle.ws_register.specs.Sources.{HasFiles}
+use Rattle.ws_action.specs.Clash.{NoClash, AllSized, hashed_actions}
+use Rattle.ws_report.specs.Reports.{is_good}
+use Rattle.ws_report.specs.declared.Report.{Report}
+use Rattle.ws_replica.specs.Builds.{AreBuilt, LacksPackage}
+use Rattle.ws_replica.specs.Holdings.{Replica, ReplicaStandsFor, Took}
+use Rattle.ws_replica.specs.Programs.{IsGood, IsPackageOrder}
+use Rattle.ws_replica.specs.Reports.{TargetBuild, actions_of}
+use Rattle.ws_run.specs.declared.answer.Answer.{Answer}
+use Rattle.ws_run.specs.declared.answer.Answer.TheVariants.{NoPackage}
+use Rattle.ws_run.specs.Files.{Files, writes_of, IsBuildOf, IsClearOf, RunsAs, HasNoFiles, IsNoProgram, Answers}
+
+abbrev pub all_good : Report → Bool
+all_good report = list_all (λ d. is_good d.1) report.directories.items
+
+abbrev pub IsLast : List Report → Report → Type 0
+IsLast reports report = (rest : List Report) × (reports ≡ rest ++ report ∷ [])
+
+-- what the replica took that wrote the files, and compiled nothing yet
+abbrev pub took_of : Files → List Took
+took_of files = record { writes = writes_of files; actions = [] } ∷ []
+
+-- the directory, as the replica's that stands alone
+abbrev pub target_at : List ℕ → List (ℕ × List ℕ)
+target_at directory = (0, directory) ∷ []
+
+-- the reports of a build, and the replicas behind it; or the directory has no package files
+abbrev pub IsBuilt : Files → List ℕ → Option (Vec Report Global) → List Replica → Type 0
+IsBuilt files directory None new = LacksPackage (took_of files) (target_at directory)
+IsBuilt files directory (Some reports) new = AreBuilt 1 (took_of files) (target_at directory) reports.items new
+
+-- the replica wrote the files and holds what is compiled of a directory and of all that it reaches, which is good
+pub record HoldsProgram (files : Files) (directory : List ℕ) (replica : Replica) : Type 0 where
+  pub build : TargetBuild
+  pub are : IsBuildOf files directory build
+  pub good : All IsGood build.fates
+  pub clear : NoClash (hashed_actions (actions_of 1 build))
+  pub sized : AllSized (actions_of 1 build)
+  pub stands : ReplicaStandsFor replica (writes_of files) (actions_of 1 build)
+
+-- the image is linked of the packages of the program that the files are
+pub record IsProgramImage (files : Files) (directory : List ℕ) (image : Image) : Type 0 where
+  pub build : TargetBuild
+  pub are : IsBuildOf files directory build
+  pub sources : HasFiles (writes_of files)
+  pub good : All IsGood build.fates
+  pub packages : List Package
+  pub in_order : IsPackageOrder build packages
+  pub program : IsProgram packages
+  pub image_is : image ≡ linked (map object_of packages)
+
+-- or they are none
+abbrev pub HasImage : Files → List ℕ → Option Image → Type 0
+HasImage files directory None = IsNoProgram files directory
+HasImage files directory (Some image) = IsProgramImage files directory image
+
+-- what an image of them comes to; none, where there is none
+abbrev pub ComesTo : Files → List ℕ → ℕ → Option Outcome → Type 0
+ComesTo files directory ticks None = IsNoProgram files directory
+ComesTo files directory ticks (Some o) = RunsAs files directory ticks o
+
+-- an answer says so where no two hashed texts clash; that there are no files, without that
+abbrev pub Told : Files → List ℕ → ℕ → Answer → Type 0
+Told files directory ticks NoPackage = HasNoFiles files directory
+Told files directory ticks answer = IsClearOf files directory → Answers files directory ticks answer
