@@ -13,6 +13,8 @@ sys.argv = ["rt"]
 sys.path.insert(0, f"{KIT}/bin")
 import rtlib
 from rtlib import Crate
+# (the longest chain: these get three processors)
+WIDE = "go_scope go_expr go_stmt go_decl go_package ws_board ws_replica ws_session".split()
 STORE = os.environ.get("STORE", "")
 real_stamp, real_below, stamps, ranks = Crate.stamp, Crate.below, {}, {}
 def stamp(self):
@@ -72,7 +74,7 @@ def main(verb, root, *more):
     elif verb == "build": build(root, cs, int(more[0]), more[1:])
     elif verb == "one":
         c = cs[more[0]]; c.out = sys.stdout
-        status = c.build_rlib(["--jobs", "1"], anew=False)
+        status = c.build_rlib(["--jobs", "3" if c.name in WIDE else "1"], anew=False)
         if not status: put(c)
         sys.exit(status)
     elif verb == "check":

@@ -3,8 +3,8 @@
 
 use std::process::ExitCode;
 use std::{env, io};
-use ws_script::ends::{FromReader, ToWriter};
 use ws_words::running::{refuse_words, run_words};
+use ws_words::{FromReader, ToWriter};
 
 fn words_of(rt: &HostRuntime) -> io::Result<Vec<String>> {
     Ok(env::args(rt)?.collect(rt.alloc())?)

@@ -1,4 +1,4 @@
-//! Tests of the ends of a session and of the words of its lines.
+//! Tests of the ends of a session, of the words of its lines, and of those of the program.
 #![tactic(auto)]
 
 #[cfg(test)]

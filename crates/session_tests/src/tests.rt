@@ -1,5 +1,6 @@
-//! The ends of a session, and the words of its lines.
+//! The ends of a session, the words of its lines, and those of the program.
 
 mod ends;
+mod program;
 mod remembering;
 mod words;

@@ -25,7 +25,8 @@ use rule::{Standings, action_at, any_running, free_job, is_good, mark, stand, st
 use std::alloc::{AllocError, Global};
 use std::marker::Model;
 pub use work::{Event, Hand, Job, Status, Taken, Task, Work};
-use ws_cache::{Cache, Entry, Outcome};
+use ws_cache::Outcome;
+pub use ws_cache::{Cache, Entry};
 
 mod carrying;
 mod ending;

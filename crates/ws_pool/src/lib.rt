@@ -6,7 +6,7 @@ ghost use Rattle.ws_pool.specs.declared.Step.TheVariants.{Go};
 
 pub use workers::build_jobs;
 use ws_action::Action;
-use ws_cache::Entry;
+use ws_shared::Entry;
 
 mod workers;
 

@@ -2,7 +2,7 @@
 ghost use Rattle.std.specs.Prelude.{◌≡◌, ◌<◌, ◌≤◌, All, List, [], length, None, IfOk, IfSome, max, min, vec_len};
 ghost use Rattle.std.specs.Bool.{OnTrue};
 ghost use Rattle.ws_action.specs.Actions.{Action as AnAction};
-ghost use Rattle.ws_board.specs.Ends.{AreFinished, ComesToEnds};
+ghost use Rattle.ws_shared.specs.Ends.{AreFinished, ComesToEnds};
 
 use crate::{Gate, Point, Step};
 use std::alloc::{AllocError, Global};
@@ -10,9 +10,7 @@ use std::marker::Brand;
 use std::sync::Wait;
 use std::thread;
 use std::thread::Threads;
-use ws_board::{Built, Job, Task};
-use ws_cache::{Cache, Entry};
-use ws_shared::{Blanks, Desk, SharedBoard, SharedHand};
+use ws_shared::{Blanks, Built, Cache, Desk, Entry, Job, SharedBoard, SharedHand, Task};
 
 // What the gate compiles the task to. None: memory ran out.
 fn compiled<G: Gate>(gate: &G, task: &Task) -> Option<Entry>

@@ -20,7 +20,7 @@ use Rattle.ws_action.specs.Actions.{source_of, action_of}
 use Rattle.ws_action.proofs.Imports.{same_imports, parsed_again}
 use Rattle.ws_action.proofs.Members.{at_head}
 use Rattle.ws_cache.specs.Compiles.{AreGood}
-use Rattle.ws_compile.specs.Unshown.{IsUnshown}
+use Rattle.ws_pool.specs.Unshown.{IsUnshown}
 use Rattle.ws_graph.specs.Packages.{package_files}
 use Rattle.ws_graph.specs.Plan.{IsSound}
 use Rattle.ws_graph.specs.BuildPlan.{Directory, IsBuildPlanOf}

@@ -21,7 +21,7 @@ ghost use Rattle.ws_action.specs.Clash.{NoClash, hashed_actions};
 ghost use Rattle.ws_cache.specs.Held.{CacheStandsFor};
 ghost use Rattle.ws_graph.specs.BuildPlan.{Directory};
 ghost use Rattle.ws_cache.specs.Joined.{lesser};
-ghost use Rattle.ws_compile.specs.Unshown.{IsUnshown};
+ghost use Rattle.ws_pool.specs.Unshown.{IsUnshown};
 ghost use Rattle.ws_replica.specs.Holdings.{Replica as AReplica, ReplicaStandsFor, both};
 ghost use Rattle.ws_replica.specs.declared.BuildError.TheVariants.{Memory};
 ghost use Rattle.ws_replica.specs.Reports.{TargetBuild, IsTargetBuild, IsReady, Good, actions_of};
@@ -39,6 +39,7 @@ use std::marker::Model;
 use thiserror::Error;
 use ws_cache::Cache;
 use ws_graph::PlanError;
+pub use ws_pool::{Gate, Plain, Point, Step};
 use ws_register::{EditError, Registers};
 use ws_version::{Held, Join, Write};
 

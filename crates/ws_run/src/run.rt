@@ -16,8 +16,7 @@ use std::alloc::{AllocError, Global};
 use std::sync::Wait;
 use std::thread::Threads;
 use ws_path::FilePath;
-use ws_pool::Plain;
-use ws_replica::{BuildError, Replica, Target, build, image};
+use ws_replica::{BuildError, Plain, Replica, Target, build, image};
 use ws_report::{Report, Verdict};
 use ws_version::{Held, Version, Write};
 

@@ -6,3 +6,5 @@ pub mod reading;
 pub mod running;
 pub mod script;
 pub mod writing;
+
+pub use ws_session::{Gate, Plain};

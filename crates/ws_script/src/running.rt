@@ -20,7 +20,7 @@ use std::thread::Threads;
 use thiserror::Error;
 use ws_command::commands::{Asked, ask};
 use ws_command::lines::{closed, cut_line, next_line};
-use ws_pool::Gate;
+use ws_session::Gate;
 use ws_session::replicas::Replicas;
 
 /// Why a session ended early: no memory, a failed read, a failed write, or a script that is too

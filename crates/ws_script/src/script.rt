@@ -11,7 +11,7 @@ use go_text::edition::Edition;
 use std::alloc::Global;
 use std::sync::Wait;
 use std::thread::Threads;
-use ws_pool::Gate;
+use ws_session::Gate;
 use ws_session::replicas::Replicas;
 
 /// Reads a script to its end and writes its session's text, from no replica on: the same for 1 to

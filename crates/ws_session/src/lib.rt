@@ -3,3 +3,5 @@
 
 pub mod law;
 pub mod replicas;
+
+pub use ws_replica::{Gate, Plain};

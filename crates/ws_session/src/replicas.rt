@@ -30,10 +30,9 @@ use ws_command::commands::Asked;
 use ws_command::printing::{ids_lines, report_lines, run_lines, show_lines};
 use ws_command::refusal::{Refusal, refused};
 use ws_path::{FilePath, file_name, is_path};
-use ws_pool::Gate;
 use ws_register::EditError;
 use ws_replica::join::settle;
-use ws_replica::{BuildError, Replica, Target, build, ids, image};
+use ws_replica::{BuildError, Gate, Replica, Target, build, ids, image};
 use ws_report::{IdLine, Report};
 use ws_version::{Held, Join, Version};
 

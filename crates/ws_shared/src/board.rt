@@ -11,8 +11,7 @@ use crate::locked::Locked;
 use crate::tally::{Blanks, Desk};
 use std::alloc::{AllocError, Global};
 use std::sync::{Condvar, Mutex, Wait};
-use ws_board::{Board, Job, Taken, Task};
-use ws_cache::{Cache, Entry};
+use ws_board::{Board, Cache, Entry, Job, Taken, Task};
 
 /// A board that hands in any threads share.
 #[derive(Drop)]

@@ -9,8 +9,7 @@ use crate::locked::Locked;
 use crate::tally::{Desk, Tally};
 use std::alloc::{AllocError, Global};
 use std::marker::Model;
-use ws_board::{Hand, Taken, Task};
-use ws_cache::Entry;
+use ws_board::{Entry, Hand, Taken, Task};
 
 /// A hand with its shares, and the number of the job that it runs.
 #[derive(Drop)]

@@ -4,6 +4,7 @@
 pub use board::SharedBoard;
 pub use hand::SharedHand;
 pub use tally::{Blanks, Desk};
+pub use ws_board::{Built, Cache, Entry, Job, Task};
 
 mod board;
 mod hand;

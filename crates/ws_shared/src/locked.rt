@@ -12,8 +12,7 @@ ghost use Rattle.ws_shared.specs.Hands.{with_taken, AreActionsOf};
 use crate::tally::{Books, Desk, Tally};
 use std::alloc::AllocError;
 use std::marker::Model;
-use ws_board::{Board, Event, Hand, Taken, Task};
-use ws_cache::Entry;
+use ws_board::{Board, Entry, Event, Hand, Taken, Task};
 
 /// A board, and the books of its events: the board was opened as its type says, its history has as
 /// many events of each kind as the books, each action is of its job's work, and what was added to its

@@ -4,3 +4,7 @@
 pub mod options;
 pub mod running;
 pub mod status;
+
+pub use ws_script::ends::{FromReader, ToWriter};
+pub use ws_script::reading::{EndFault, ScriptIn};
+pub use ws_script::writing::ScriptOut;

@@ -20,7 +20,7 @@ use std::convert::AsStr;
 use std::io;
 use std::sync::Wait;
 use std::thread::Threads;
-use ws_pool::Plain;
+use ws_script::Plain;
 use ws_script::reading::ScriptIn;
 use ws_script::running::SessionError;
 use ws_script::script::run_script;

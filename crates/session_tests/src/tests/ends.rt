@@ -6,7 +6,7 @@ use std::alloc::Global;
 use std::sync::Wait;
 use std::test::Fail;
 use std::thread::Threads;
-use ws_pool::Plain;
+use ws_script::Plain;
 use ws_script::ends::{FromReader, ToWriter};
 use ws_script::reading::{EndFault, ScriptIn};
 use ws_script::running::SessionError;

@@ -9,7 +9,7 @@ use go_text::edition::Edition;
 use std::alloc::{AllocError, Global};
 use std::sync::Wait;
 use std::thread::Threads;
-use ws_pool::Plain;
+use ws_script::Plain;
 use ws_script::reading::{EndFault, ScriptIn};
 use ws_script::running::SessionError;
 use ws_script::script::run_script;

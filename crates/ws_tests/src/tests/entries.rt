@@ -7,7 +7,7 @@ use std::process::Abort;
 use std::test::Fail;
 use ws_cache::{Cache, Entry, Outcome};
 use ws_compile::compile;
-use ws_pool::{Gate, Plain, Point, Step};
+use ws_replica::{Gate, Plain, Point, Step};
 use ws_version::Join;
 
 /// The entry of the package p with those files, which are names and texts.

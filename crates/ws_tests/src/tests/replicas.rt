@@ -8,9 +8,8 @@ use std::sync::Wait;
 use std::test::Fail;
 use std::thread::Threads;
 use ws_path::FilePath;
-use ws_pool::Plain;
 use ws_register::EditError;
-use ws_replica::{BuildError, Replica, Target, build, image};
+use ws_replica::{BuildError, Plain, Replica, Target, build, image};
 use ws_report::{Report, Verdict};
 use ws_version::{Held, Join, Version, Write};
 

@@ -7,8 +7,7 @@ use std::sync::Wait;
 use std::test::Fail;
 use std::thread::Threads;
 use ws_cache::Cache;
-use ws_pool::Plain;
-use ws_replica::{BuildError, Replica, Snapshot, Target, build_from};
+use ws_replica::{BuildError, Plain, Replica, Snapshot, Target, build_from};
 use ws_report::Report;
 
 /// The report of p by the snapshot, and the results.

@@ -6,10 +6,8 @@ use std::str::from_utf8;
 use std::sync::Wait;
 use std::test::Fail;
 use std::thread::Threads;
-use ws_script::ends::{FromReader, ToWriter};
-use ws_script::reading::{EndFault, ScriptIn};
-use ws_script::writing::ScriptOut;
 use ws_words::running::run_words;
+use ws_words::{EndFault, FromReader, ScriptIn, ScriptOut, ToWriter};
 
 const SCRIPT: &[u8] = b"replica a\nwrite a p/x.go 1\npackage p\nbuild a p\nbuild b p\n";
 

@@ -8,8 +8,7 @@ use std::sync::atomic::{AtomicBool, Ordering};
 use std::test::Fail;
 use std::thread;
 use std::thread::{Threads, join};
-use ws_pool::{Gate, Point, Step};
-use ws_replica::{BuildError, Replica, Snapshot, Target, build_from};
+use ws_replica::{BuildError, Gate, Point, Replica, Snapshot, Step, Target, build_from};
 
 /// How long one thread waits for the other at most, in turns.
 const MOST_TURNS: u64 = 1_000_000;

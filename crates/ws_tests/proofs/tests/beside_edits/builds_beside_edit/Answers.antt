@@ -2,9 +2,9 @@ use denote.Exit as exit
 use denote.Param.Send.{param_send, arg_send, shr_send, array_sync}
 use Rattle.std.proofs.Crossing.{sync}
 use Rattle.ws_replica.proofs.Crossing.{snapshot_sync}
-use Rattle.ws_snapshot_tests.proofs.Captures.{four_send}
-use Rattle.ws_snapshot_tests.proofs.tests.Held.TheSendSync as held
-use Rattle.ws_snapshot_tests.proofs.tests.builds_beside_edit.Goals as goal
+use Rattle.ws_tests.proofs.Captures.{four_send}
+use Rattle.ws_tests.proofs.tests.beside_edits.Held.TheSendSync as held
+use Rattle.ws_tests.proofs.tests.beside_edits.builds_beside_edit.Goals as goal
 
 -- the closure captures the runtime, the allocator, the snapshots and the gate
 pub join-requires-send-F : goal.join-requires-send-F
