@@ -1,6 +1,7 @@
 //! Actions, entries, boards and replicas.
 
 mod actions;
+mod beside_edits;
 mod boards;
 mod entries;
 mod fixture;
