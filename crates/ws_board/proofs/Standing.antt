@@ -89,3 +89,7 @@ opens_set rows k row inside =
     let a : ◌≡◌ {A = ℕ} (cond (is_open (get_or (standings_of rows).statuses k Blocked)) 1 0) (cond (is_open (row_at rows k).status) 1 0) = ap (λ s. cond (is_open s) 1 0) (status_row rows k) in
     let b : count_by is_open (standings_of (set rows k row)).statuses ≡ count_by is_open (set (standings_of rows).statuses k row.status) = ap (count_by is_open) (statuses_set rows k row) in
     omega (arith, e, a, b)
+
+pub opens_of : (rows : List Row) → count_by is_open (standings_of rows).statuses ≡ count_by (λ (r : Row). is_open r.status) rows
+opens_of [] = refl
+opens_of (row ∷ rows) = sum_by-cons (λ s. cond (is_open s) 1 0) row.status (standings_of rows).statuses ∙ ap (λ n. cond (is_open row.status) 1 0 + n) (opens_of rows) ∙ sym (sum_by-cons (λ (r : Row). cond (is_open r.status) 1 0) row rows)
