@@ -129,8 +129,8 @@ invariant_of-self-2 c =
       ),
     )
 
-pub invariant_of-self-in_default : goal.invariant_of-self-in_default
-invariant_of-self-in_default c =
+pub invariant_of-self : goal.invariant_of-self
+invariant_of-self c =
     let b = c.self.inside in
     let J = b.rows.jobs.items in
     let I = b.rows.importers.items in

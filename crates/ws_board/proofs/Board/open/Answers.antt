@@ -60,13 +60,13 @@ invariant_of-result c =
     let opening : Opening = record { jobs = J; cache = c.args.cache } in
     let now : State = record { standings = standings_of N; added = added } in
     let carried = open_carried h spare r new c.new-moves.result c.carry_all.new.moves 0 c.carry_all.new.looks none first from on waits in
-    let legal : IsHistory opening c.new.result.items now = subst (λ (l : List Event). IsHistory opening l now) (sym c.new.ensures.items) (opened_history opening now (opened_first J c.args.cache added now.standings c.new-added.ensures.empty carried)) in
+    let legal : IsHistory opening c.new-3.result.items now = subst (λ (l : List Event). IsHistory opening l now) (sym c.new-3.ensures.items) (opened_history opening now (opened_first J c.args.cache added now.standings c.new-added.ensures.empty carried)) in
     let few = subst (λ l. sum_by (λ list. length list) r.importers.items ≤ import_count l) (sym c.in_ok-rows.ensures.jobs) c.in_ok-rows.ensures.count in
     let paid = open_paid h spare r new c.new-moves.result c.carry_all.new.moves 0 c.carry_all.new.looks none first from on waits refl refl c.new-moves.ensures.1 few c.in_ok-carry_all.ensures.read in
-    let backs : count_by is_back c.new.result.items ≡ 0 = ap (count_by is_back) c.new.ensures.items in
+    let backs : count_by is_back c.new-3.result.items ≡ 0 = ap (count_by is_back) c.new-3.ensures.items in
     let kept = open_parts h spare r new c.new-moves.result c.carry_all.new.moves 0 c.carry_all.new.looks none first from on waits in
     let parts =
-    moved J new.jobs.items r.importers.items new.importers.items N c.args.cache added c.new.result.items now.standings c.carry_all.new.looks (count_by is_back c.new.result.items) on.jobs on.importers refl legal kept.0 kept.1
+    moved J new.jobs.items r.importers.items new.importers.items N c.args.cache added c.new-3.result.items now.standings c.carry_all.new.looks (count_by is_back c.new-3.result.items) on.jobs on.importers refl legal kept.0 kept.1
     (subst (λ n. IsPaid c.carry_all.new.looks N (import_count J) n) (sym backs) paid) in
     let count : c.len.result ≡ length J = c.len.ensures ∙ c.args.jobs.ok.0 ∙ ap length (sym c.in_ok-rows.ensures.jobs) in
     let agrees : Agrees N c.release.new.self =
@@ -79,9 +79,9 @@ invariant_of-result c =
       parts.1,
       parts.2,
       agrees,
-      open_backs h spare r new c.new-moves.result c.carry_all.new.moves 0 c.carry_all.new.looks none first from on waits c.new.result.items c.new.ensures.items,
+      open_backs h spare r new c.new-moves.result c.carry_all.new.moves 0 c.carry_all.new.looks none first from on waits c.new-3.result.items c.new-3.ensures.items,
       parts.3,
-      omega (arith, agrees.running, c.release.ensures.running, c.admit.ensures.same.running, c.in_ok-index.ensures.counts.1, c.new.ensures.len),
+      omega (arith, agrees.running, c.release.ensures.running, c.admit.ensures.same.running, c.in_ok-index.ensures.counts.1, c.new-3.ensures.len),
     )
 
 pub returns-clause-opening : goal.returns-clause-opening
@@ -100,7 +100,7 @@ returns-clause-fresh c =
     let now : State = record { standings = standings_of new.rows.items; added = added } in
     let carried = open_carried h (3 * length r.rows.items) r new c.new-moves.result c.carry_all.new.moves 0 c.carry_all.new.looks c.new-moves.ensures.2 first from on c.in_ok-carry_all.ensures.waits in
     let begins : IsFirst (record { jobs = new.jobs.items; cache = c.args.cache }) now = subst (λ (l : List Job). IsFirst (record { jobs = l; cache = c.args.cache }) now) (sym on.jobs) (opened_first J c.args.cache added now.standings c.new-added.ensures.empty carried) in
-    record { first = begins; nothing_runs = opening_rests J h now.standings carried; nothing_happened = c.new.ensures.items }
+    record { first = begins; nothing_runs = opening_rests J h now.standings carried; nothing_happened = c.new-3.ensures.items }
 
 pub returns-clause-shows : goal.returns-clause-shows
 returns-clause-shows c =
@@ -115,8 +115,8 @@ returns-clause-shows c =
     let now : State = record { standings = standings_of new.rows.items; added = added } in
     let carried = open_carried h (3 * length r.rows.items) r new c.new-moves.result c.carry_all.new.moves 0 c.carry_all.new.looks c.new-moves.ensures.2 first from on c.in_ok-carry_all.ensures.waits in
     let begins : IsFirst (record { jobs = new.jobs.items; cache = c.args.cache }) now = subst (λ (l : List Job). IsFirst (record { jobs = l; cache = c.args.cache }) now) (sym on.jobs) (opened_first J c.args.cache added now.standings c.new-added.ensures.empty carried) in
-    let seen : Seen = record { opening = record { jobs = new.jobs.items; cache = c.args.cache }; state = now; history = c.new.result.items; looks = c.carry_all.new.looks } in
-    let fresh : IsFresh seen = record { first = begins; nothing_runs = opening_rests J h now.standings carried; nothing_happened = c.new.ensures.items } in
+    let seen : Seen = record { opening = record { jobs = new.jobs.items; cache = c.args.cache }; state = now; history = c.new-3.result.items; looks = c.carry_all.new.looks } in
+    let fresh : IsFresh seen = record { first = begins; nothing_runs = opening_rests J h now.standings carried; nothing_happened = c.new-3.ensures.items } in
     shows seen fresh
 
 pub returns-clause-looks : goal.returns-clause-looks
@@ -132,6 +132,6 @@ returns-clause-looks c =
     let spare = 3 * length r.rows.items in
     let few = subst (λ l. sum_by (λ list. length list) r.importers.items ≤ import_count l) (sym c.in_ok-rows.ensures.jobs) c.in_ok-rows.ensures.count in
     let paid = open_paid h spare r new c.new-moves.result c.carry_all.new.moves 0 c.carry_all.new.looks none first from on waits refl refl c.new-moves.ensures.1 few c.in_ok-carry_all.ensures.read in
-    let backs : count_by is_back c.new.result.items ≡ 0 = ap (count_by is_back) c.new.ensures.items in
+    let backs : count_by is_back c.new-3.result.items ≡ 0 = ap (count_by is_back) c.new-3.ensures.items in
     let kept = open_parts h spare r new c.new-moves.result c.carry_all.new.moves 0 c.carry_all.new.looks none first from on waits in
-    within r.jobs.items new.jobs.items r.importers.items new.rows.items c.carry_all.new.looks (count_by is_back c.new.result.items) on.jobs kept.0 (subst (λ n. IsPaid c.carry_all.new.looks new.rows.items (import_count r.jobs.items) n) (sym backs) paid)
+    within r.jobs.items new.jobs.items r.importers.items new.rows.items c.carry_all.new.looks (count_by is_back c.new-3.result.items) on.jobs kept.0 (subst (λ n. IsPaid c.carry_all.new.looks new.rows.items (import_count r.jobs.items) n) (sym backs) paid)
