@@ -9,6 +9,12 @@ use Rattle.ws_board.proofs.work.Event.TheSendSync as event
 use Rattle.ws_board.specs.contracts.work.Identified as identified
 use Rattle.ws_board.specs.contracts.work.Work as work
 use Rattle.ws_board.specs.contracts.work.Job as job
+use Rattle.ws_board.specs.contracts.rows.Numbers as numbers
+use Rattle.ws_board.specs.contracts.rows.Row as row
+use Rattle.ws_board.specs.contracts.rows.Rows as rows
+use Rattle.ws_board.specs.contracts.index.Run as run
+use Rattle.ws_board.specs.contracts.index.Id as id
+use Rattle.ws_board.specs.contracts.index.Index as index
 use Rattle.ws_board.specs.contracts.Board as board
 
 -- what owners share has to be both
@@ -21,5 +27,23 @@ work_send = search (files_send, files_sync, crosses, maps.crosses, sendable) dep
 job_send : IsSend job.the_row
 job_send = search (work_send, crosses, sendable) depth 20
 
+numbers_send : IsSend numbers.the_row
+numbers_send = search (crosses, sendable) depth 20
+
+row_send : IsSend row.the_row
+row_send = search (identified_send, status.the_field_send, crosses, sendable) depth 20
+
+rows_send : IsSend rows.the_row
+rows_send = search (job_send, numbers_send, row_send, crosses, sendable) depth 20
+
+run_send : IsSend run.the_row
+run_send = search (identified_send, crosses, sendable) depth 20
+
+id_send : IsSend id.the_row
+id_send = search (run_send, crosses, sendable) depth 20
+
+index_send : IsSend index.the_row
+index_send = search (id_send, crosses, maps.crosses, sendable) depth 20
+
 pub board_send : IsSend board.the_row
-board_send = search (job_send, identified_send, cache_send, status.the_field_send, event.the_field_send, crosses, sendable) depth 20
+board_send = search (rows_send, index_send, cache_send, event.the_field_send, crosses, sendable) depth 20

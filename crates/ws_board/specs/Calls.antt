@@ -1,5 +1,5 @@
 -- What the calls of a board promise.
-use Rattle.std.specs.Prelude.{◌≡◌, ℕ, true, List, [], ◌∷◌, ◌++◌, Option, Some, None}
+use Rattle.std.specs.Prelude.{◌≡◌, ℕ, true, List, [], ◌∷◌, ◌++◌, ◌≤◌, Option, Some, None}
 use Rattle.std.specs.List.{count_by, list_any}
 use Rattle.ws_action.specs.Actions.{Action, action_id}
 use Rattle.ws_board.specs.declared.work.Status.{Status}
@@ -8,8 +8,8 @@ use Rattle.ws_board.specs.declared.work.Event.{Event}
 use Rattle.ws_board.specs.declared.work.Event.TheVariants.{Take, Idle}
 use Rattle.ws_board.specs.declared.work.Taken.{Taken}
 use Rattle.ws_board.specs.declared.work.Taken.TheVariants as taken
-use Rattle.ws_board.specs.Work.{Task, Seen}
-use Rattle.ws_board.specs.Machine.{Held, is_running, is_back_of, status_at, action_at, held, NoneFree, IsRunBy, BoardStep, IsFirst}
+use Rattle.ws_board.specs.Work.{Task, Standings, Seen}
+use Rattle.ws_board.specs.Machine.{Held, is_running, is_back_of, status_at, action_at, held, NoneFree, IsFree, IsRunBy, BoardStep, IsFirst}
 
 -- Jobs were carried on from the opening, and nothing happened yet.
 pub record IsFresh (seen : Seen) : Type 0 where
@@ -50,3 +50,9 @@ result_of at Blocked action = None
 
 abbrev pub result_at : Seen → ℕ → Option Action
 result_at seen k = result_of (held seen.opening seen.state) (status_at seen.state.standings.statuses k) (action_at seen.state.standings.actions k)
+
+-- of the jobs that may be given, the first was
+abbrev pub IsLeast : Standings → Taken → Type 0
+IsLeast old (taken.Job task) = (k : ℕ) (action : Action) → IsFree old k action → task.job ≤ k
+IsLeast old taken.Idle = Unit {0}
+IsLeast old taken.Later = Unit {0}

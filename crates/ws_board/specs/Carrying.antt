@@ -5,7 +5,6 @@ use Rattle.std.specs.Option.{option_or}
 use Rattle.std.specs.Str.{bytes_eq}
 use Rattle.std.specs.FinMap.{get}
 use Rattle.ws_action.specs.Actions.{Action, action_id}
-use Rattle.ws_board.specs.declared.rule.Standings.{Standings as RustStandings}
 use Rattle.ws_board.specs.declared.carrying.Holds.{Holds}
 use Rattle.ws_board.specs.declared.work.Status.{Status}
 use Rattle.ws_board.specs.declared.work.Status.TheVariants.{Waiting}
@@ -33,9 +32,6 @@ AllRest jobs held now = (j : ℕ) → RestsAt jobs held now j
 
 abbrev pub standings_with : List Status → List (Option Action) → Standings
 standings_with statuses actions = record { statuses = statuses; actions = actions }
-
-abbrev pub standings_of : RustStandings → Standings
-standings_of now = standings_with now.statuses.items now.actions.items
 
 -- each job stands somehow, and has an action or none
 pub record AreOf (jobs : List Job) (now : Standings) : Type 0 where

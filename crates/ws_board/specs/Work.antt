@@ -2,7 +2,7 @@
 use Rattle.std.specs.Prelude.{◌≡◌, ℕ, Bool, List, Option, Some, None, ◌⊎◌, refl}
 use Rattle.std.specs.Coded.{Coded, code_by, coded×, coded⊎, coded_ℕ, coded_bool, coded_list, coded_option}
 use Rattle.std.specs.FinMap.{FinMap, code}
-use Rattle.std.proofs.Common.{inl, inr}
+use mathlib.Core.Logic.{inl, inr}
 use Rattle.go_text.specs.declared.edition.Edition.{Edition}
 use Rattle.go_text.specs.declared.edition.Edition.TheVariants.{One}
 use Rattle.go_ast.specs.Parse.{Parsed}
@@ -54,11 +54,12 @@ pub record State : Type 0 where
   pub standings : Standings
   pub added : Entries
 
--- the opening, how things are now, and what happened, the first event first
+-- the opening, how things are now, what happened, the first event first, and how often rows were read
 pub record Seen : Type 0 where
   pub opening : Opening
   pub state : State
   pub history : List Event
+  pub looks : ℕ
 
 -- ---- by what proofs tell these apart
 
@@ -141,10 +142,10 @@ abbrev pub state_code : Coded State
 state_code = code_by (Standings × Entries) (coded× standings_code entries_code) (λ s. (s.standings, s.added)) (λ p. record { standings = p.0; added = p.1 }) (λ _. refl)
 
 abbrev pub SeenTold : Type 0
-SeenTold = (List Job × Entries) × (State × List Event)
+SeenTold = (List Job × Entries) × (State × (List Event × ℕ))
 
 abbrev pub seen_in : SeenTold → Seen
-seen_in p = record { opening = record { jobs = p.0.0; cache = p.0.1 }; state = p.1.0; history = p.1.1 }
+seen_in p = record { opening = record { jobs = p.0.0; cache = p.0.1 }; state = p.1.0; history = p.1.1.0; looks = p.1.1.1 }
 
 abbrev pub seen_code : Coded Seen
-seen_code = code_by SeenTold (coded× (coded× (coded_list job_code) entries_code) (coded× state_code (coded_list event_code))) (λ s. ((s.opening.jobs, s.opening.cache), (s.state, s.history))) seen_in (λ _. refl)
+seen_code = code_by SeenTold (coded× (coded× (coded_list job_code) entries_code) (coded× state_code (coded× (coded_list event_code) coded_ℕ))) (λ s. ((s.opening.jobs, s.opening.cache), (s.state, (s.history, s.looks)))) seen_in (λ _. refl)

@@ -1,18 +1,20 @@
-//! Jobs are carried on: what their imports make of them, until nothing changes.
-ghost use Rattle.std.specs.Prelude.{◌≡◌, ◌<◌, ℕ, List, length, map, replicate, true, None, Some, IfOk, OnOk, IfSome, IfNone, option_copied, slice_set};
+//! Jobs are carried on: what their imports make of them, one after another, as these come to an end.
+ghost use Rattle.std.specs.Prelude.{◌≡◌, ◌<◌, ◌≤◌, ◌+◌, ◌*◌, ◌-◌, ◌^◌, ◌∷◌, ◌++◌, ◌||◌, ◌==◌, if◌then◌else◌, ℕ, Bool, List, [], length, map, true, false, None, Some, IfOk, OnOk, IfSome, IfNone, IsTrue, option_copied, slice_set};
 ghost use Rattle.std.specs.Arc.{arc_value};
-ghost use Rattle.std.specs.Bool.{OnTrue, OnFalse};
-ghost use Rattle.std.specs.List.{All, AllZip, list_any, count_by};
+ghost use Rattle.std.specs.List.{All, AllZip, list_any, slice_get, slice_index_or};
 ghost use Rattle.go_export.specs.Summaries.{Summary as ASummary};
 ghost use Rattle.go_export.specs.Writable.{IsWritten};
 ghost use Rattle.ws_action.specs.Actions.{Action as AnAction};
 ghost use Rattle.ws_board.specs.declared.work.Status.TheVariants as status;
-ghost use Rattle.ws_board.specs.Work.{Standings as AStandings};
-ghost use Rattle.ws_board.specs.Machine.{is_waiting, is_running, status_at, action_at, any_open, HasSummary, MayForm, IsFormed, IsPlaced, Stands, Carried, unopened};
-ghost use Rattle.ws_board.specs.Carrying.{standings_of, AreOf, held_by, IsUnder, RestsAt, AllRest};
+ghost use Rattle.ws_board.specs.Machine.{is_open, is_waiting, HasSummary, MayForm, IsFormed, IsPlaced, IsGoodness};
+ghost use Rattle.ws_board.specs.Carrying.{held_by};
+ghost use Rattle.ws_board.specs.Ends.{imports_at, work_at};
+ghost use Rattle.ws_board.specs.Rows.{row_at, standings_of, times, is_active_of, due, owed, untold, telling, ready_of, AreKnown, Waits, AllPast, AreWithin, AreCarried, IsOpenPast, Becomes, CarriesOn, Marks, IsUndone};
 
-use crate::rule::{Standings, action_at, is_good, stand, status_at};
-use crate::work::{Identified, Job, Status, Work};
+use crate::index::Ready;
+use crate::moves::Moves;
+use crate::rows::{Row, Rows};
+use crate::work::{Identified, Status, Work};
 use go_export::summary::Summary;
 use std::alloc::{AllocError, Global};
 use std::sync::Arc;
@@ -41,6 +43,16 @@ pub(super) fn held<'a>(holds: Holds<'a>, id: &[u8; 32]) -> Option<&'a Entry>
     if entry.id() == *id { Some(entry) } else { None }
 }
 
+/// Whether the entry's package is good.
+pub(super) fn is_good(entry: &Entry) -> bool
+    ensures { IsGoodness entry.now result }
+{
+    match entry.outcome() {
+        Outcome::Good(_, _) => true,
+        Outcome::Faulty(_) => false,
+    }
+}
+
 // How a job whose action has the id stands.
 fn placed(holds: Holds<'_>, id: &[u8; 32]) -> Status
     ensures { IsPlaced (held_by holds.entry id.now) result }
@@ -51,24 +63,66 @@ fn placed(holds: Holds<'_>, id: &[u8; 32]) -> Status
     }
 }
 
-fn any_open(now: &Standings, imports: &[usize]) -> bool
-    ensures { result ≡ any_open (standings_of now.now) imports.now }
+// Where the job with that number stands; where there is none, as one that is blocked.
+fn status_of(rows: &Rows, looks: &mut u128, k: usize) -> Status
+    requires counted { looks.old + 1 < 2 ^ 128 }
+    requires jobs { length rows.now.rows.items ≡ length rows.now.jobs.items }
+    ensures is { result ≡ (row_at rows.now.rows.items k).status }
+    ensures one { looks.new ≡ looks.old + 1 }
 {
-    imports
-        .iter()
-        .any(|k| status_at(&now.statuses, *k).is_open())
+    match rows.job(looks, k) {
+        Some(found) => found.row.status,
+        None => Status::Blocked,
+    }
+}
+
+// How many of the first so many imports of a job may be open, once those behind them that aren't
+// are left out: the last of them is open.
+fn left_of(rows: &Rows, looks: &mut u128, job: usize, left: usize) -> usize
+    requires counted { looks.old + 2 * left + 2 < 2 ^ 128 }
+    requires within { left ≤ length (imports_at rows.now.jobs.items job) }
+    requires jobs { length rows.now.rows.items ≡ length rows.now.jobs.items }
+    ensures fewer { result ≤ left }
+    ensures past { IsOpenPast rows.now.jobs.items rows.now.rows.items job left → IsOpenPast rows.now.jobs.items rows.now.rows.items job result }
+    ensures on { 0 < result → is_open (row_at rows.now.rows.items (slice_index_or (imports_at rows.now.jobs.items job) (result - 1) 0)).status ≡ true }
+    ensures paid { looks.new + 2 * result ≤ looks.old + 2 * left + 2 }
+    ensures all { result ≡ 0 → looks.new ≤ looks.old + 2 * left }
+    ensures more { looks.old ≤ looks.new }
+{
+    let mut left = left;
+    while left > 0 {
+        let Some(k) = rows.import(looks, job, left - 1) else {
+            return left;
+        };
+        if status_of(rows, looks, k).is_open() {
+            return left;
+        }
+        left -= 1;
+    }
+    0
 }
 
 // The summary that is held for the action of a job, if the job is done and good.
-fn summary_held<'a>(holds: Holds<'a>, now: &Standings, k: usize) -> Option<&'a Arc<Summary>>
-    ensures some { IfSome result (λ summary. HasSummary (held_by holds.entry) (standings_of now.now) k (arc_value summary.now)) }
+fn summary_held<'a>(
+    holds: Holds<'a>,
+    rows: &Rows,
+    looks: &mut u128,
+    k: usize,
+) -> Option<&'a Arc<Summary>>
+    requires counted { looks.old + 1 < 2 ^ 128 }
+    requires jobs { length rows.now.rows.items ≡ length rows.now.jobs.items }
+    ensures some { IfSome result (λ summary. HasSummary (held_by holds.entry) (standings_of rows.now.rows.items) k (arc_value summary.now)) }
     ensures written { IfSome result (λ summary. IsWritten (arc_value summary.now)) }
-    ensures none { IfNone result ((summary : ASummary) → ¬ (HasSummary (held_by holds.entry) (standings_of now.now) k summary)) }
+    ensures none { IfNone result ((summary : ASummary) → ¬ (HasSummary (held_by holds.entry) (standings_of rows.now.rows.items) k summary)) }
+    ensures one { looks.new ≡ looks.old + 1 }
 {
-    if status_at(&now.statuses, k) != Status::Done(true) {
+    let Some(found) = rows.job(looks, k) else {
+        return None;
+    };
+    if found.row.status != Status::Done(true) {
         return None;
     }
-    let action = action_at(&now.actions, k)?;
+    let action = found.row.action.as_ref()?;
     let entry = held(holds, &action.id())?;
     match entry.outcome() {
         Outcome::Good(summary, _) => {
@@ -79,20 +133,30 @@ fn summary_held<'a>(holds: Holds<'a>, now: &Standings, k: usize) -> Option<&'a A
     }
 }
 
-// The summaries that are held for the actions of imports, if all are done and good.
+// The summaries that are held for the actions of a job's imports, if all are done and good.
 fn summaries_held(
     alloc: Global,
     holds: Holds<'_>,
-    now: &Standings,
-    imports: &[usize],
+    rows: &Rows,
+    looks: &mut u128,
+    job: usize,
+    imports: usize,
 ) -> Result<Option<Vec<Arc<Summary>>>, AllocError>
-    ensures some { let are = AllZip (HasSummary (held_by holds.entry) (standings_of now.now)) imports.now in IfOk result (λ found. IfSome found (λ ss. are (map arc_value ss.items))) }
+    requires counted { looks.old + 2 * imports < 2 ^ 128 }
+    requires all { imports ≡ length (imports_at rows.now.jobs.items job) }
+    requires jobs { length rows.now.rows.items ≡ length rows.now.jobs.items }
+    ensures some { let are = AllZip (HasSummary (held_by holds.entry) (standings_of rows.now.rows.items)) (imports_at rows.now.jobs.items job) in IfOk result (λ found. IfSome found (λ ss. are (map arc_value ss.items))) }
     ensures written { IfOk result (λ found. IfSome found (λ ss. All IsWritten (map arc_value ss.items))) }
-    ensures none { let are = AllZip (HasSummary (held_by holds.entry) (standings_of now.now)) imports.now in IfOk result (λ found. IfNone found ((ss : List ASummary) → ¬ (are ss))) }
+    ensures none { let are = AllZip (HasSummary (held_by holds.entry) (standings_of rows.now.rows.items)) (imports_at rows.now.jobs.items job) in IfOk result (λ found. IfNone found ((ss : List ASummary) → ¬ (are ss))) }
+    ensures paid { looks.new ≤ looks.old + 2 * imports }
+    ensures more { looks.old ≤ looks.new }
 {
-    let mut found = Vec::with_capacity(alloc, imports.len())?;
-    for k in imports {
-        let Some(summary) = summary_held(holds, now, *k) else {
+    let mut found = Vec::with_capacity(alloc, imports)?;
+    for number in 0..imports {
+        let Some(k) = rows.import(looks, job, number) else {
+            return Ok(None);
+        };
+        let Some(summary) = summary_held(holds, rows, looks, k) else {
             return Ok(None);
         };
         found.push(Arc::try_clone(summary)?)?;
@@ -104,14 +168,21 @@ fn summaries_held(
 fn formed(
     alloc: Global,
     holds: Holds<'_>,
-    now: &Standings,
+    rows: &Rows,
+    looks: &mut u128,
+    job: usize,
     work: &Work,
-    imports: &[usize],
+    imports: usize,
 ) -> Result<Option<Identified>, AllocError>
-    ensures some { IfOk result (λ made. IfSome made (λ action. IsFormed (held_by holds.entry) (standings_of now.now) work.now imports.now action)) }
-    ensures none { IfOk result (λ made. IfNone made ((action : AnAction) → ¬ (MayForm (held_by holds.entry) (standings_of now.now) work.now imports.now action))) }
+    requires counted { looks.old + 2 * imports < 2 ^ 128 }
+    requires all { imports ≡ length (imports_at rows.now.jobs.items job) }
+    requires jobs { length rows.now.rows.items ≡ length rows.now.jobs.items }
+    ensures some { IfOk result (λ made. IfSome made (λ action. IsFormed (held_by holds.entry) (standings_of rows.now.rows.items) work.now (imports_at rows.now.jobs.items job) action)) }
+    ensures none { IfOk result (λ made. IfNone made ((action : AnAction) → ¬ (MayForm (held_by holds.entry) (standings_of rows.now.rows.items) work.now (imports_at rows.now.jobs.items job) action))) }
+    ensures paid { looks.new ≤ looks.old + 2 * imports }
+    ensures more { looks.old ≤ looks.new }
 {
-    let Some(summaries) = summaries_held(alloc, holds, now, imports)? else {
+    let Some(summaries) = summaries_held(alloc, holds, rows, looks, job, imports)? else {
         return Ok(None);
     };
     match work.acted(alloc, summaries)? {
@@ -120,160 +191,242 @@ fn formed(
     }
 }
 
-/// Where a job stands, and its action, if it is formed.
-#[derive(Drop)]
-struct Standing {
-    status: Status,
-    action: Option<Identified>,
+// The row of a job that waited, once it stands so.
+fn row_of(row: &Row, status: Status, action: Option<Identified>, left: usize) -> Row
+    ensures { result ≡ record row.now { status = status; action = action; left = left } }
+{
+    Row {
+        status,
+        action,
+        left,
+        was_back: row.was_back,
+        imports: row.imports,
+        importers: row.importers,
+    }
 }
 
-// What a job's imports make of it, as they stand. An `Err` only where memory ran out.
+// What a job's imports make of it, as they stand, if it waits. An `Err` only where memory ran out.
 fn stands(
     alloc: Global,
-    job: &Job,
     holds: Holds<'_>,
-    now: &Standings,
-) -> Result<Standing, AllocError>
-    ensures { IfOk result (λ one. Stands (held_by holds.entry) (standings_of now.now) (Some job.now) one.status one.action) }
+    rows: &Rows,
+    looks: &mut u128,
+    job: usize,
+) -> Result<Option<Row>, AllocError>
+    requires known { AreKnown rows.now }
+    requires counted { looks.old + due (row_at rows.now.rows.items job) + 3 < 2 ^ 128 }
+    requires past { AllPast rows.now.jobs.items rows.now.rows.items }
+    requires within { AreWithin rows.now.jobs.items rows.now.rows.items }
+    ensures becomes { IfOk result (λ row. IfSome row (Becomes (held_by holds.entry) rows.now.jobs.items rows.now.rows.items job)) }
+    ensures paid { IfOk result (λ row. IfSome row (λ row. looks.new + due row + (if is_open row.status then 0 else telling row.importers) ≤ looks.old + due (row_at rows.now.rows.items job) + 3)) }
+    ensures still { IfOk result (λ row. IfNone row (looks.new ≡ looks.old + 1)) }
+    ensures none { IfOk result (λ row. IfNone row (is_waiting (row_at rows.now.rows.items job).status ≡ false)) }
+    ensures more { looks.old < looks.new }
 {
-    let Some(work) = job.work() else {
-        return Ok(Standing {
-            status: Status::Blocked,
-            action: None,
-        });
+    let Some(found) = rows.job(looks, job) else {
+        return Ok(None);
     };
-    if any_open(now, job.imports()) {
-        return Ok(Standing {
-            status: Status::Waiting,
-            action: None,
-        });
+    if !found.row.status.is_waiting() {
+        return Ok(None);
     }
-    match formed(alloc, holds, now, work, job.imports())? {
-        Some(action) => Ok(Standing {
-            status: placed(holds, &action.id()),
-            action: Some(action),
-        }),
-        None => Ok(Standing {
-            status: Status::Blocked,
-            action: None,
-        }),
+    let Some(work) = found.work else {
+        let left = found.row.left;
+        return Ok(Some(row_of(found.row, Status::Blocked, None, left)));
+    };
+    let left = left_of(rows, looks, job, found.row.left);
+    if left > 0 {
+        return Ok(Some(row_of(found.row, Status::Waiting, None, left)));
     }
-}
-
-fn set(now: &mut Standings, j: usize, one: Standing)
-    requires inside { j < length now.old.statuses.items }
-    requires same { length now.old.actions.items ≡ length now.old.statuses.items }
-    ensures statuses { now.new.statuses.items ≡ slice_set now.old.statuses.items j one.status }
-    ensures actions { now.new.actions.items ≡ slice_set now.old.actions.items j one.action }
-{
-    stand(&mut now.statuses, j, one.status);
-    now.actions[j] = one.action;
-}
-
-// Carries job j on, if it waits and its imports say what becomes of it.
-fn advance(
-    alloc: Global,
-    jobs: &[Job],
-    holds: Holds<'_>,
-    now: &mut Standings,
-    j: usize,
-) -> Result<bool, AllocError>
-    requires inside { j < length now.old.statuses.items }
-    requires all { AreOf jobs.now (standings_of now.old) }
-    ensures all { AreOf jobs.now (standings_of now.new) }
-    ensures keeps { OnOk result ((first : AStandings) → IsUnder jobs.now (held_by holds.entry) first (standings_of now.old) → IsUnder jobs.now (held_by holds.entry) first (standings_of now.new)) }
-    ensures moved { IfOk result (λ moved. OnTrue moved (count_by is_waiting now.new.statuses.items < count_by is_waiting now.old.statuses.items)) }
-    ensures still { IfOk result (λ moved. OnFalse moved (standings_of now.new ≡ standings_of now.old)) }
-    ensures rests { IfOk result (λ moved. OnFalse moved (RestsAt jobs.now (held_by holds.entry) (standings_of now.old) j)) }
-{
-    if !status_at(&now.statuses, j).is_waiting() {
-        return Ok(false);
-    }
-    let one = stands(alloc, &jobs[j], holds, now)?;
-    if one.status.is_waiting() {
-        return Ok(false);
-    }
-    set(now, j, one);
-    Ok(true)
-}
-
-// Carries each waiting job on once.
-fn pass(
-    alloc: Global,
-    jobs: &[Job],
-    holds: Holds<'_>,
-    now: &mut Standings,
-) -> Result<bool, AllocError>
-    requires all { AreOf jobs.now (standings_of now.old) }
-    ensures all { AreOf jobs.now (standings_of now.new) }
-    ensures keeps { OnOk result ((first : AStandings) → IsUnder jobs.now (held_by holds.entry) first (standings_of now.old) → IsUnder jobs.now (held_by holds.entry) first (standings_of now.new)) }
-    ensures moved { IfOk result (λ moved. OnTrue moved (count_by is_waiting now.new.statuses.items < count_by is_waiting now.old.statuses.items)) }
-    ensures still { IfOk result (λ moved. OnFalse moved (AllRest jobs.now (held_by holds.entry) (standings_of now.new))) }
-    ensures same { IfOk result (λ moved. OnFalse moved (standings_of now.new ≡ standings_of now.old)) }
-{
-    let mut moved = false;
-    for j in 0..now.statuses.len() {
-        if advance(alloc, jobs, holds, now, j)? {
-            moved = true;
+    match formed(alloc, holds, rows, looks, job, work, found.row.imports)? {
+        Some(action) => {
+            let status = placed(holds, &action.id());
+            Ok(Some(row_of(found.row, status, Some(action), 0)))
         }
+        None => Ok(Some(row_of(found.row, Status::Blocked, None, 0))),
     }
-    Ok(moved)
 }
 
-/// Carries all waiting jobs on, until nothing changes. An `Err` only where memory ran out.
-pub(super) fn carry(
-    alloc: Global,
-    jobs: &[Job],
-    holds: Holds<'_>,
-    now: &mut Standings,
-) -> Result<(), AllocError>
-    requires all { AreOf jobs.now (standings_of now.old) }
-    requires bare { (k : ℕ) → status_at now.old.statuses.items k ≡ status.Waiting → action_at now.old.actions.items k ≡ None }
-    ensures all { AreOf jobs.now (standings_of now.new) }
-    ensures carried { OnOk result (Carried jobs.now (held_by holds.entry) (standings_of now.old) (standings_of now.new)) }
+// The job is noted, where it is ready, and where it is done or blocked. An `Err` only where memory
+// ran out.
+fn note(moves: &mut Moves, job: usize, row: &Row) -> Result<(), AllocError>
+    ensures settled { OnOk result (moves.new.settled.items ≡ (if is_open row.now.status then moves.old.settled.items else (moves.old.settled.items ++ job ∷ []))) }
+    ensures ready { OnOk result (moves.new.ready.items ≡ (moves.old.ready.items ++ ready_of job row.now.status row.now.action)) }
+    ensures log { moves.new.log.items ≡ moves.old.log.items }
 {
-    let mut moved = true;
-    while moved {
-        moved = pass(alloc, jobs, holds, now)?;
+    match row.status {
+        Status::Ready => {
+            if let Some(action) = &row.action {
+                moves.ready.push(Ready {
+                    job,
+                    id: action.id(),
+                })?;
+            }
+        }
+        Status::Blocked | Status::Done(_) => moves.settled.push(job)?,
+        Status::Waiting | Status::Running(_) => {}
     }
     Ok(())
 }
 
-/// That many statuses of jobs that wait.
-fn all_waiting(alloc: Global, count: usize) -> Result<Vec<Status>, AllocError>
-    ensures { IfOk result (λ statuses. statuses.items ≡ replicate count status.Waiting) }
-{
-    let mut statuses = Vec::with_capacity(alloc, count)?;
-    for _ in 0..count {
-        statuses.push(Status::Waiting)?;
-    }
-    Ok(statuses)
-}
-
-fn no_actions(alloc: Global, count: usize) -> Result<Vec<Option<Identified>>, AllocError>
-    ensures { IfOk result (λ actions. actions.items ≡ replicate count None) }
-{
-    let mut actions = Vec::with_capacity(alloc, count)?;
-    for _ in 0..count {
-        actions.push(None)?;
-    }
-    Ok(actions)
-}
-
-/// Where the jobs stand at the opening. An `Err` only where memory ran out.
-pub(super) fn opened_standings(
+// Carries a job on, if it waits and its imports say what becomes of it.
+fn advance(
     alloc: Global,
-    jobs: &[Job],
     holds: Holds<'_>,
-) -> Result<Standings, AllocError>
-    ensures all { IfOk result (λ now. AreOf jobs.now (standings_of now)) }
-    ensures carried { IfOk result (λ now. Carried jobs.now (held_by holds.entry) (unopened jobs.now) (standings_of now)) }
-    ensures rests { IfOk result (λ now. count_by is_running now.statuses.items ≡ 0) }
+    rows: &mut Rows,
+    looks: &mut u128,
+    moves: &mut Moves,
+    job: usize,
+) -> Result<(), AllocError>
+    requires good { AreCarried rows.old }
+    requires room { looks.old + owed rows.old.rows.items + untold rows.old.importers.items moves.old.settled.items + 3 < 2 ^ 128 }
+    ensures undone { IsUndone rows.old rows.new moves.old moves.new }
+    ensures on { OnOk result (CarriesOn (held_by holds.entry) 3 rows.old rows.new moves.old moves.new looks.old looks.new) }
+    ensures waits { OnOk result ((pending : ℕ → Bool) → Waits rows.old.jobs.items rows.old.rows.items moves.old.settled.items (λ j. (j == job) || pending j) → Waits rows.new.jobs.items rows.new.rows.items moves.new.settled.items pending) }
+    ensures read { OnOk result (looks.old < looks.new) }
 {
-    let mut now = Standings {
-        statuses: all_waiting(alloc, jobs.len())?,
-        actions: no_actions(alloc, jobs.len())?,
+    let Some(row) = stands(alloc, holds, rows, looks, job)? else {
+        return Ok(());
     };
-    carry(alloc, jobs, holds, &mut now)?;
-    Ok(now)
+    note(moves, job, &row)?;
+    moves.write(rows, job, row)?;
+    Ok(())
+}
+
+// Carries those on that import a job which is done or blocked.
+fn tell(
+    alloc: Global,
+    holds: Holds<'_>,
+    rows: &mut Rows,
+    looks: &mut u128,
+    moves: &mut Moves,
+    job: usize,
+) -> Result<(), AllocError>
+    requires good { AreCarried rows.old }
+    requires room { looks.old + owed rows.old.rows.items + untold rows.old.importers.items moves.old.settled.items + telling (length (slice_index_or rows.old.importers.items job [])) < 2 ^ 128 }
+    ensures undone { IsUndone rows.old rows.new moves.old moves.new }
+    ensures on { OnOk result (CarriesOn (held_by holds.entry) (telling (length (slice_index_or rows.old.importers.items job []))) rows.old rows.new moves.old moves.new looks.old looks.new) }
+    ensures waits { OnOk result (Waits rows.old.jobs.items rows.old.rows.items moves.old.settled.items (λ j. list_any (λ k. k == j) (slice_index_or rows.old.importers.items job [])) → Waits rows.new.jobs.items rows.new.rows.items moves.new.settled.items (λ j. false)) }
+{
+    let mut number = 0;
+    'importers: while let Some(importer) = rows.importer(looks, job, number) {
+        advance(alloc, holds, rows, looks, moves, importer)?;
+        number += 1;
+    }
+    Ok(())
+}
+
+/// Carries jobs on until nothing changes: each that waited stands as its imports say. An `Err` only
+/// where memory ran out.
+pub(super) fn carry(
+    alloc: Global,
+    holds: Holds<'_>,
+    rows: &mut Rows,
+    looks: &mut u128,
+    moves: &mut Moves,
+) -> Result<(), AllocError>
+    requires good { AreCarried rows.old }
+    requires room { looks.old + owed rows.old.rows.items + untold rows.old.importers.items moves.old.settled.items + 0 < 2 ^ 128 }
+    requires waits { Waits rows.old.jobs.items rows.old.rows.items moves.old.settled.items (λ j. false) }
+    ensures undone { IsUndone rows.old rows.new moves.old moves.new }
+    ensures on { OnOk result (CarriesOn (held_by holds.entry) 0 rows.old rows.new moves.old moves.new looks.old looks.new) }
+    ensures waits { OnOk result (Waits rows.new.jobs.items rows.new.rows.items [] (λ j. false)) }
+    ensures settled { OnOk result (moves.new.settled.items ≡ []) }
+{
+    'settled: while let Some(job) = moves.settled.pop() {
+        tell(alloc, holds, rows, looks, moves, job)?;
+    }
+    Ok(())
+}
+
+// The first so many jobs are carried on, one after another. An `Err` only where memory ran out.
+fn advance_all(
+    alloc: Global,
+    holds: Holds<'_>,
+    rows: &mut Rows,
+    looks: &mut u128,
+    moves: &mut Moves,
+) -> Result<(), AllocError>
+    requires good { AreCarried rows.old }
+    requires room { looks.old + owed rows.old.rows.items + untold rows.old.importers.items moves.old.settled.items + (3 * length rows.old.rows.items) < 2 ^ 128 }
+    ensures on { OnOk result (CarriesOn (held_by holds.entry) (3 * length rows.old.rows.items) rows.old rows.new moves.old moves.new looks.old looks.new) }
+    ensures waits { OnOk result (Waits rows.new.jobs.items rows.new.rows.items moves.new.settled.items (λ j. false)) }
+    ensures read { OnOk result (looks.old + length rows.old.rows.items ≤ looks.new) }
+{
+    for job in 0..rows.len() {
+        advance(alloc, holds, rows, looks, moves, job)?;
+    }
+    Ok(())
+}
+
+/// Carries all jobs on, which wait. An `Err` only where memory ran out.
+pub(super) fn carry_all(
+    alloc: Global,
+    holds: Holds<'_>,
+    rows: &mut Rows,
+    looks: &mut u128,
+    moves: &mut Moves,
+) -> Result<(), AllocError>
+    requires good { AreCarried rows.old }
+    requires room { looks.old + owed rows.old.rows.items + untold rows.old.importers.items moves.old.settled.items + (3 * length rows.old.rows.items) < 2 ^ 128 }
+    ensures on { OnOk result (CarriesOn (held_by holds.entry) (3 * length rows.old.rows.items) rows.old rows.new moves.old moves.new looks.old looks.new) }
+    ensures waits { OnOk result (Waits rows.new.jobs.items rows.new.rows.items [] (λ j. false)) }
+    ensures settled { OnOk result (moves.new.settled.items ≡ []) }
+    ensures read { OnOk result (looks.old + length rows.old.rows.items ≤ looks.new) }
+{
+    advance_all(alloc, holds, rows, looks, moves)?;
+    carry(alloc, holds, rows, looks, moves)?;
+    Ok(())
+}
+
+// The row of a job that is ready or runs, once it is done.
+fn done_row(
+    rows: &Rows,
+    looks: &mut u128,
+    job: usize,
+    good: bool,
+) -> Result<Option<Row>, AllocError>
+    requires counted { looks.old + 1 < 2 ^ 128 }
+    requires jobs { length rows.now.rows.items ≡ length rows.now.jobs.items }
+    ensures row { IfOk result (λ row. IfSome row (λ row. row ≡ record (row_at rows.now.rows.items job) { status = status.Done good })) }
+    ensures none { IfOk result (λ row. IfNone row (length rows.now.rows.items ≤ job)) }
+    ensures one { looks.new ≡ looks.old + 1 }
+{
+    let Some(found) = rows.job(looks, job) else {
+        return Ok(None);
+    };
+    let action = match &found.row.action {
+        Some(action) => Some(action.share()?),
+        None => None,
+    };
+    Ok(Some(row_of(found.row, Status::Done(good), action, found.row.left)))
+}
+
+/// These jobs, which are ready or run and each of which stands there once, are done. An `Err` only
+/// where memory ran out.
+pub(super) fn mark(
+    rows: &mut Rows,
+    looks: &mut u128,
+    moves: &mut Moves,
+    id: &[u8; 32],
+    jobs: &[usize],
+    good: bool,
+) -> Result<(), AllocError>
+    requires known { AreKnown rows.old }
+    requires jobs { (k : ℕ) → times k jobs.now ≡ (if is_active_of rows.old.rows.items id.now k then 1 else 0) }
+    requires room { looks.old + owed rows.old.rows.items + untold rows.old.importers.items moves.old.settled.items < 2 ^ 128 }
+    ensures undone { IsUndone rows.old rows.new moves.old moves.new }
+    ensures marks { OnOk result (Marks id.now good rows.old.rows.items rows.new.rows.items moves.new.settled.items) }
+    ensures parts { OnOk result ((rows.new.jobs.items ≡ rows.old.jobs.items) × (rows.new.importers.items ≡ rows.old.importers.items)) }
+    ensures ready { OnOk result (moves.new.ready.items ≡ moves.old.ready.items) }
+    ensures paid { OnOk result (looks.new + owed rows.new.rows.items + untold rows.new.importers.items moves.new.settled.items ≤ looks.old + owed rows.old.rows.items + untold rows.old.importers.items moves.old.settled.items) }
+    ensures more { OnOk result (looks.old ≤ looks.new) }
+{
+    for job in jobs {
+        let Some(row) = done_row(rows, looks, *job, good)? else {
+            continue;
+        };
+        moves.settled.push(*job)?;
+        moves.write(rows, *job, row)?;
+    }
+    Ok(())
 }

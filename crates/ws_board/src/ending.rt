@@ -1,59 +1,67 @@
 //! What a board came to.
-ghost use Rattle.std.specs.Prelude.{◌≡◌, IfOk, IfSome, IfNone, None, Some, true};
+ghost use Rattle.std.specs.Prelude.{◌≡◌, IfOk, IfSome, IfNone, None, Some, true, option_copied};
 ghost use Rattle.std.specs.List.{count_by, list_any};
+ghost use Rattle.std.specs.Option.{option_map};
 ghost use Rattle.ws_map.specs.Kept.{joined};
-ghost use Rattle.ws_action.specs.Actions.{Action as AnAction};
+ghost use Rattle.ws_action.specs.Actions.{Action as AnAction, action_id};
 ghost use Rattle.ws_cache.specs.Compiles.{Compiles, compiled_of};
 ghost use Rattle.ws_cache.specs.Joined.{lesser};
 ghost use Rattle.ws_board.specs.Machine.{is_finish, is_idle, status_at, action_at, IsHistory};
-ghost use Rattle.ws_board.specs.Calls.{result_of, result_at};
+ghost use Rattle.ws_board.specs.Calls.{result_at};
 ghost use Rattle.ws_board.specs.Histories.{AreSettled, IsTakenOnce};
-ghost use Rattle.ws_board.specs.Carrying.{held_by, standings_of};
+ghost use Rattle.ws_board.specs.Rows.{standings_of, seen_of};
 
 use crate::carrying::{Holds, held};
-use crate::rule::{Standings, action_at, status_at};
-use crate::work::{Event, Job, Status};
+use crate::rows::Row;
+use crate::work::{Event, Identified, Job, Status};
 use std::alloc::AllocError;
 use std::marker::Model;
 use ws_cache::{Cache, Outcome};
 use ws_version::Join;
 
-/// The jobs of a board, where they stand, the entries that came of them, and the history, which is
-/// legal from the opening, and in which a hand was told that nothing is left to do.
+/// The jobs, where they stand, the cache that they were opened over, the entries that came since,
+/// what happened, and how often rows were read.
 #[derive(Drop)]
-pub struct Built {
-    jobs: Vec<Job>,
-    opened: Cache,
-    standings: Standings,
-    added: Cache,
-    history: Vec<Event>,
+pub(super) struct Parts {
+    pub(super) jobs: Vec<Job>,
+    pub(super) opened: Cache,
+    pub(super) rows: Vec<Row>,
+    pub(super) added: Cache,
+    pub(super) history: Vec<Event>,
+    pub(super) looks: u128,
 }
 
-impl Model for Built {
-    ghost use Rattle.std.specs.Prelude.{◌≡◌, true};
-    ghost use Rattle.std.specs.List.{list_any};
-    ghost use Rattle.ws_board.specs.Work as work;
-    ghost use Rattle.ws_board.specs.Machine as machine;
-    ghost use Rattle.ws_board.specs.Carrying.{standings_of};
-
-    ghost Value = { work.Seen };
-
-    ghost coded = { work.seen_code };
-
-    ghost view = { λ a. record { opening = record { jobs = a.jobs.items; cache = a.opened }; state = record { standings = standings_of a.standings; added = a.added }; history = a.history.items } };
-
-    ghost invariant = { λ a. machine.IsHistory (record { jobs = a.jobs.items; cache = a.opened }) a.history.items (record { standings = standings_of a.standings; added = a.added })
-        × (list_any machine.is_idle a.history.items ≡ true) };
-}
-
-/// What compiling the action of the job with that number gives, if the job is done.
-pub(super) fn result_by<'a>(holds: Holds<'a>, now: &Standings, job: usize) -> Option<&'a Outcome>
-    ensures some { let at = result_of (held_by holds.entry) (status_at now.now.statuses.items job) (action_at now.now.actions.items job) in IfSome result (λ outcome. (entry : AnAction) × (at ≡ Some entry) × Compiles entry (compiled_of outcome.now)) }
-    ensures none { IfNone result (result_of (held_by holds.entry) (status_at now.now.statuses.items job) (action_at now.now.actions.items job) ≡ None) }
+fn status_in(rows: &[Row], job: usize) -> Status
+    ensures { result ≡ status_at (standings_of rows.now).statuses job }
 {
-    match status_at(&now.statuses, job) {
+    match rows.get(job) {
+        Some(row) => row.status,
+        None => Status::Blocked,
+    }
+}
+
+fn action_in(rows: &[Row], job: usize) -> Option<&Identified>
+    ensures { option_copied result ≡ action_at (standings_of rows.now).actions job }
+{
+    match rows.get(job) {
+        Some(row) => row.action.as_ref(),
+        None => None,
+    }
+}
+
+// What compiling the job's action gives, if the job is done.
+fn result_in(parts: &Parts, job: usize) -> Option<&Outcome>
+    ensures some { IfSome result (λ outcome. (entry : AnAction) × (result_at (seen_of parts.now) job ≡ Some entry) × Compiles entry (compiled_of outcome.now)) }
+    ensures none { IfNone result (result_at (seen_of parts.now) job ≡ None) }
+{
+    let holds = Holds {
+        opened: &parts.opened,
+        added: &parts.added,
+        newest: None,
+    };
+    match status_in(&parts.rows, job) {
         Status::Done(_) => {
-            let action = action_at(&now.actions, job)?;
+            let action = action_in(&parts.rows, job)?;
             let entry = held(holds, &action.id())?;
             Some(entry.outcome())
         }
@@ -61,25 +69,85 @@ pub(super) fn result_by<'a>(holds: Holds<'a>, now: &Standings, job: usize) -> Op
     }
 }
 
-impl Built {
-    pub(super) fn new(
-        jobs: Vec<Job>,
-        opened: Cache,
-        standings: Standings,
-        added: Cache,
-        history: Vec<Event>,
-    ) -> Built
-        requires legal { IsHistory (record { jobs = jobs.items; cache = opened }) history.items (record { standings = standings_of standings; added = added }) }
-        requires idled { list_any is_idle history.items ≡ true }
-        ensures { result ≡ record { opening = record { jobs = jobs.items; cache = opened }; state = record { standings = standings_of standings; added = added }; history = history.items } }
+/// A board that is run no more.
+#[derive(Drop)]
+pub struct Stopped {
+    parts: Parts,
+}
+
+impl Model for Stopped {
+    ghost use Rattle.ws_board.specs.Work as work;
+    ghost use Rattle.ws_board.specs.Rows.{seen_of};
+
+    ghost Value = { work.Seen };
+
+    ghost coded = { work.seen_code };
+
+    ghost view = { λ a. seen_of a.parts };
+}
+
+impl Stopped {
+    pub(super) fn new(parts: Parts) -> Stopped
+        ensures { result ≡ seen_of parts }
     {
-        Built {
-            jobs,
-            opened,
-            standings,
-            added,
-            history,
-        }
+        Stopped { parts }
+    }
+
+    /// How the job with that number stands; where there is none, as one that is blocked.
+    pub fn status(&self, job: usize) -> Status
+        ensures { result ≡ status_at self.now.state.standings.statuses job }
+    {
+        status_in(&self.parts.rows, job)
+    }
+
+    /// The id of the action of the job with that number, if it is formed.
+    pub fn id(&self, job: usize) -> Option<[u8; 32]>
+        ensures { result ≡ option_map action_id (action_at self.now.state.standings.actions job) }
+    {
+        let action = action_in(&self.parts.rows, job)?;
+        Some(action.id())
+    }
+
+    /// What compiling the job's action gives, if the job is done: none if it is not, or there is no
+    /// such job.
+    pub fn result(&self, job: usize) -> Option<&Outcome>
+        ensures some { IfSome result (λ outcome. (entry : AnAction) × (result_at self.now job ≡ Some entry) × Compiles entry (compiled_of outcome.now)) }
+        ensures none { IfNone result (result_at self.now job ≡ None) }
+    {
+        result_in(&self.parts, job)
+    }
+}
+
+/// A board in which a hand was told that nothing is left to do, and whose history is legal from the
+/// opening.
+#[derive(Drop)]
+pub struct Built {
+    parts: Parts,
+}
+
+impl Model for Built {
+    ghost use Rattle.std.specs.Prelude.{◌≡◌, true};
+    ghost use Rattle.std.specs.List.{list_any};
+    ghost use Rattle.ws_board.specs.Work as work;
+    ghost use Rattle.ws_board.specs.Machine as machine;
+    ghost use Rattle.ws_board.specs.Rows.{seen_of};
+
+    ghost Value = { work.Seen };
+
+    ghost coded = { work.seen_code };
+
+    ghost view = { λ a. seen_of a.parts };
+
+    ghost invariant = { λ a. machine.IsHistory (seen_of a.parts).opening (seen_of a.parts).history (seen_of a.parts).state × (list_any machine.is_idle (seen_of a.parts).history ≡ true) };
+}
+
+impl Built {
+    pub(super) fn new(parts: Parts) -> Built
+        requires legal { IsHistory (seen_of parts).opening (seen_of parts).history (seen_of parts).state }
+        requires idled { list_any is_idle parts.history.items ≡ true }
+        ensures { result ≡ seen_of parts }
+    {
+        Built { parts }
     }
 
     /// What compiling the job's action gives, if the job is done: none if it is blocked, or there
@@ -88,19 +156,15 @@ impl Built {
         ensures some { IfSome result (λ outcome. (entry : AnAction) × (result_at self.now job ≡ Some entry) × Compiles entry (compiled_of outcome.now)) }
         ensures none { IfNone result (result_at self.now job ≡ None) }
     {
-        let holds = Holds {
-            opened: &self.opened,
-            added: &self.added,
-            newest: None,
-        };
-        result_by(holds, &self.standings, job)
+        result_in(&self.parts, job)
     }
 
     /// How many jobs were finished.
     pub fn compiled(&self) -> usize
         ensures { result ≡ count_by is_finish self.now.history }
     {
-        self.history
+        self.parts
+            .history
             .iter()
             .filter(|event| match event {
                 Event::Finish(_, _) => true,
@@ -118,14 +182,15 @@ impl Built {
         ensures settled { AreSettled self.now }
         ensures once { IsTakenOnce self.now }
     {
-        self.history.as_slice()
+        self.parts.history.as_slice()
     }
 
     /// Gives up all but the entries that were added to those of the opening.
     pub fn into_added(self) -> Cache
         ensures { result ≡ self.state.added }
     {
-        self.added
+        let parts = self.parts;
+        parts.added
     }
 
     /// All entries: those of the opening, and those that were added. An `Err` only where memory ran
@@ -133,13 +198,15 @@ impl Built {
     pub fn into_cache(self) -> Result<Cache, AllocError>
         ensures { IfOk result (λ cache. cache ≡ joined lesser self.opening.cache self.state.added) }
     {
-        let Built {
+        let parts = self.parts;
+        let Parts {
             jobs: _,
             opened,
-            standings: _,
+            rows: _,
             added,
             history: _,
-        } = self;
+            looks: _,
+        } = parts;
         let mut cache = opened;
         cache.merge(&added)?;
         Ok(cache)

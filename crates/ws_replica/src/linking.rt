@@ -23,7 +23,7 @@ use go_text::edition::Edition;
 use std::alloc::{AllocError, Global};
 use std::sync::Arc;
 use std::thread::Threads;
-use ws_board::Board;
+use ws_board::Stopped;
 use ws_cache::Outcome;
 use ws_graph::planning::plan;
 use ws_version::Join;
@@ -31,7 +31,7 @@ use ws_version::Join;
 /// The object of a job, where it is done and good.
 fn object_of_job(
     alloc: Global,
-    board: &Board,
+    board: &Stopped,
     job: usize,
 ) -> Result<Option<Arc<Object>>, AllocError>
     ensures { IfOk result (λ object. MatchOption object (LacksObjectAt board.now job) (λ object. IsObjectAt board.now job (arc_value object))) }
@@ -49,7 +49,7 @@ fn object_of_job(
 /// The objects of so many jobs, where all are done and good.
 fn objects_held(
     alloc: Global,
-    board: &Board,
+    board: &Stopped,
     count: usize,
 ) -> Result<Option<Vec<Arc<Object>>>, AllocError>
     ensures some { IfOk result (λ objects. IfSome objects (λ objects. AreObjects board.now count (map arc_value objects.items))) }

@@ -6,7 +6,7 @@ ghost use Rattle.ws_replica.specs.Opened.{IsOpened};
 use crate::building::add_jobs;
 use crate::reached::{Place, Reached};
 use std::alloc::{AllocError, Global};
-use ws_board::Board;
+use ws_board::{Board, Stopped};
 use ws_cache::Cache;
 
 /// A board of what was reached, opened over a cache, with the places of its jobs.
@@ -14,12 +14,12 @@ pub(crate) fn opened(
     alloc: Global,
     reached: Vec<Reached>,
     cache: Cache,
-) -> Result<(Vec<Place>, Board), AllocError>
+) -> Result<(Vec<Place>, Stopped), AllocError>
     ensures places { IfOk result (λ opened. map place_of opened.0.items ≡ map (λ r. r.place) (map reached_of reached.items)) }
     ensures board { IfOk result (λ opened. IsOpened (map reached_of reached.items) cache opened.1) }
 {
     let mut jobs = Vec::new(alloc);
     let places = add_jobs(alloc, reached, &mut jobs)?;
     let board = Board::open(alloc, jobs, cache)?;
-    Ok((places, board))
+    Ok((places, board.stopped()))
 }

@@ -17,14 +17,14 @@ use crate::{BuildError, Replica};
 use go_text::edition::Edition;
 use std::alloc::{AllocError, Global};
 use std::thread::Threads;
-use ws_board::{Board, Status};
+use ws_board::{Status, Stopped};
 use ws_graph::planning::plan;
 use ws_report::{IdLine, Standing};
 use ws_version::Join;
 
 /// How the action of a job stands on a board that nobody works at: one that is ready is none of
 /// those held.
-fn standing_of(board: &Board, job: usize) -> Standing
+fn standing_of(board: &Stopped, job: usize) -> Standing
     ensures { result ≡ standing_in board.now.state job }
 {
     match (board.status(job), board.id(job)) {
@@ -34,7 +34,7 @@ fn standing_of(board: &Board, job: usize) -> Standing
     }
 }
 
-fn lines(alloc: Global, board: &Board, places: Vec<Place>) -> Result<Vec<IdLine>, AllocError>
+fn lines(alloc: Global, board: &Stopped, places: Vec<Place>) -> Result<Vec<IdLine>, AllocError>
     ensures { IfOk result (λ lines. map id_row lines.items ≡ rows_from board.now.state 0 (map place_of places.items)) }
 {
     let mut lines = Vec::new(alloc);

@@ -7,5 +7,6 @@ mod entries;
 mod fixture;
 mod groupings;
 mod joins;
+mod looks;
 mod replicas;
 mod snapshots;

@@ -1,31 +1,41 @@
-use Rattle.std.proofs.Common.{◌≡◌, ◌<◌, ◌∙◌, List, length, sym, subst, ap, refl, false, Some, arith}
-use Rattle.std.specs.List.{slice_get}
-use Rattle.std.proofs.lemmas.Option.{slice_get_read}
-use Rattle.ws_board.specs.declared.work.Status.{Status}
-use Rattle.ws_board.specs.declared.work.Status.TheVariants.{Waiting}
-use Rattle.ws_board.specs.Machine.{status_at, is_waiting, Stands}
-use Rattle.ws_board.specs.Carrying.{standings_of, held_by}
-use Rattle.ws_board.proofs.Carry.{keep_under, waiting_is, rests_by}
+use Rattle.std.proofs.Common.{◌≡◌, ◌<◌, ◌≤◌, ◌+◌, ◌∷◌, ◌++◌, [], ℕ, Bool, true, false, List, Option, Some, None, IfSome, IfNone, length, refl, sym, ap, ◌∙◌, subst, arith}
+use Rattle.std.specs.Prelude.{if◌then◌else◌}
+use Rattle.ws_board.specs.declared.rows.Row.{Row}
+use Rattle.ws_board.specs.Machine.{is_open, is_waiting}
+use Rattle.ws_board.specs.Carrying.{held_by}
+use Rattle.ws_board.specs.Rows.{row_at, due, telling, Becomes, CarriesOn, Waits}
+use Rattle.ws_board.proofs.Advanced.{advanced, advanced_held}
+use Rattle.ws_board.proofs.Advancing.{still_waits}
+use Rattle.ws_board.proofs.Onward.{carries_none, undone_none, undone_then}
 use Rattle.ws_board.proofs.carrying.advance.Goals as goal
 
-pub returns-then-is_waiting-clause-rests : goal.returns-then-is_waiting-clause-rests
-returns-then-is_waiting-clause-rests c =
-    let h = held_by c.args.holds in
-    let old = standings_of c.args.now.now in
-    let one = c.in_ok-one.one in
-    let job : slice_get c.args.jobs.now c.args.j ≡ Some c.index-jobs-j.result = slice_get_read c.args.jobs.now _ c.args.j c.index-jobs-j.result refl (omega arith) c.index-jobs-j.is in
-    let stands : Stands h old (slice_get c.args.jobs.now c.args.j) one.status one.action = subst (λ o. Stands h old o one.status one.action) (sym job) c.in_ok-one.ensures in
-    λ waits. rests_by h old (slice_get c.args.jobs.now c.args.j) one.status one.action stands (sym c.if-is_waiting.ensures)
+pub returns-in_default-clause-on : goal.returns-in_default-clause-on
+returns-in_default-clause-on c =
+    let one : c.stands.new.looks ≡ c.args.looks.now + 1 = subst (λ (o : Option Row). IfNone o (c.stands.new.looks ≡ c.args.looks.now + 1)) c.in_default.is c.in_ok-row.ensures.still in
+    carries_none (held_by c.args.holds) 3 c.args.rows.now c.args.rows.now c.args.moves.now c.args.moves.now c.args.looks.now c.stands.new.looks c.requires.good refl refl refl refl refl (omega (arith, one)) (omega (arith, one))
 
-pub returns-clause-keeps : goal.returns-clause-keeps
-returns-clause-keeps c =
+pub returns-in_default-clause-waits : goal.returns-in_default-clause-waits
+returns-in_default-clause-waits c =
+    let rests : is_waiting (row_at c.args.rows.now.rows.items c.args.job).status ≡ false = subst (λ (o : Option Row). IfNone o (is_waiting (row_at c.args.rows.now.rows.items c.args.job).status ≡ false)) c.in_default.is c.in_ok-row.ensures.none in
+    λ pending w. still_waits c.args.rows.now.jobs.items c.args.rows.now.rows.items c.args.moves.now.settled.items c.args.job pending rests w
+
+pub returns-in_default-clause-undone : goal.returns-in_default-clause-undone
+returns-in_default-clause-undone c = undone_none c.args.rows.now c.args.rows.now c.args.moves.now c.args.moves.now refl refl refl refl
+
+pub returns-clause-on : goal.returns-clause-on
+returns-clause-on c =
     let h = held_by c.args.holds in
-    let old = standings_of c.args.now.now in
-    let new = standings_of c.set.new.now in
-    let one = c.in_ok-one.one in
-    let w : status_at old.statuses c.args.j ≡ Waiting = sym (c.status_at.ensures ∙ ap (λ (l : List Status). status_at l c.args.j) c.deref.ensures.value) ∙ waiting_is _ (sym c.if-not-is_waiting.ensures) in
-    let job : slice_get c.args.jobs.now c.args.j ≡ Some c.index-jobs-j.result = slice_get_read c.args.jobs.now _ c.args.j c.index-jobs-j.result refl (omega arith) c.index-jobs-j.is in
-    let stands : Stands h old (slice_get c.args.jobs.now c.args.j) one.status one.action = subst (λ o. Stands h old o one.status one.action) (sym job) c.in_ok-one.ensures in
-    let not : is_waiting one.status ≡ false = sym c.if-is_waiting.ensures in
-    let within : c.args.j < length old.actions = omega (arith, c.requires.inside, c.requires.all.statuses, c.requires.all.actions) in
-    λ first u. keep_under c.args.jobs.now h old new c.args.j one.status one.action c.requires.inside within w stands not c.set.ensures.statuses c.set.ensures.actions first u
+    let row : Row = c.in-Some.row in
+    let becomes : Becomes h c.args.rows.now.jobs.items c.args.rows.now.rows.items c.args.job row = subst (λ (o : Option Row). IfSome o (Becomes h c.args.rows.now.jobs.items c.args.rows.now.rows.items c.args.job)) c.in-Some.is c.in_ok-row.ensures.becomes in
+    let paid : c.stands.new.looks + due row + (if is_open row.status then 0 else telling row.importers) ≤ c.args.looks.now + due (row_at c.args.rows.now.rows.items c.args.job) + 3 =
+    subst (λ (o : Option Row). IfSome o (λ r. c.stands.new.looks + due r + (if is_open r.status then 0 else telling r.importers) ≤ c.args.looks.now + due (row_at c.args.rows.now.rows.items c.args.job) + 3)) c.in-Some.is c.in_ok-row.ensures.paid in
+    advanced h c.args.rows.now c.write.new.rows c.args.job row c.args.moves.now c.write.new.self c.requires.good becomes c.in_ok-write.ensures.rows c.write.ensures.undone.jobs c.write.ensures.undone.importers
+    (c.write.ensures.settled ∙ c.in_ok-note.ensures.settled) (c.write.ensures.ready ∙ c.in_ok-note.ensures.ready) c.args.looks.now c.stands.new.looks paid (omega (arith, c.stands.ensures.more))
+
+pub returns-clause-waits : goal.returns-clause-waits
+returns-clause-waits c =
+    let h = held_by c.args.holds in
+    let row : Row = c.in-Some.row in
+    let becomes : Becomes h c.args.rows.now.jobs.items c.args.rows.now.rows.items c.args.job row = subst (λ (o : Option Row). IfSome o (Becomes h c.args.rows.now.jobs.items c.args.rows.now.rows.items c.args.job)) c.in-Some.is c.in_ok-row.ensures.becomes in
+    advanced_held h c.args.rows.now c.write.new.rows c.args.job row c.args.moves.now c.write.new.self c.requires.good becomes c.in_ok-write.ensures.rows c.write.ensures.undone.jobs c.write.ensures.undone.importers
+    (c.write.ensures.settled ∙ c.in_ok-note.ensures.settled) (c.write.ensures.ready ∙ c.in_ok-note.ensures.ready)

@@ -1,14 +1,15 @@
-use Rattle.std.proofs.Common.{◌≡◌, ◌+◌, false, count_by, cond}
-use Rattle.ws_board.specs.Machine.{is_waiting}
-use Rattle.ws_board.specs.Carrying.{standings_of, held_by, AreOf, IsUnder, AllRest}
+use Rattle.std.proofs.Common.{◌+◌, false, length, count_by}
+use Rattle.ws_board.specs.Machine.{is_open}
+use Rattle.ws_board.specs.Carrying.{held_by}
+use Rattle.ws_board.specs.Rows.{standings_of, Waits, CarriesOn, IsUndone}
 use Rattle.ws_board.proofs.carrying.carry.Given as goal
 
-abbrev pub invariant-loop-moved : goal.invariant-loop-moved
-invariant-loop-moved l = record {
-  all : AreOf l.jobs (standings_of l.now);
-  under : IsUnder l.jobs (held_by l.holds) (standings_of l.fn.now) (standings_of l.now);
-  rest : l.moved ≡ false → AllRest l.jobs (held_by l.holds) (standings_of l.now);
+abbrev pub invariant-settled : goal.invariant-settled
+invariant-settled l = record {
+  on : CarriesOn (held_by l.holds) 0 l.fn.rows l.rows l.fn.moves l.moves l.fn.looks l.looks;
+  undone : IsUndone l.fn.rows l.rows l.fn.moves l.moves;
+  waits : Waits l.rows.jobs.items l.rows.rows.items l.moves.settled.items (λ j. false);
 }
 
-abbrev pub decreases-loop-moved : goal.decreases-loop-moved
-decreases-loop-moved l = count_by is_waiting l.now.statuses.items + cond l.moved 1 0
+abbrev pub decreases-settled : goal.decreases-settled
+decreases-settled l = length l.moves.settled.items + count_by is_open (standings_of l.rows.rows.items).statuses

@@ -6,22 +6,25 @@ use Rattle.go_export.specs.Writable.{IsWritten}
 use Rattle.ws_action.specs.Actions.{Action, MakeAction, IsSized}
 use Rattle.ws_board.specs.Work.{acted}
 use Rattle.ws_board.specs.Machine.{IsFormed}
-use Rattle.ws_board.specs.Carrying.{standings_of, held_by}
+use Rattle.ws_board.specs.Carrying.{held_by}
+use Rattle.ws_board.specs.Ends.{imports_at}
+use Rattle.ws_board.specs.Rows.{standings_of}
 use Rattle.ws_board.proofs.Gathered.{Are, forms, forms_none, lacks_none}
 use Rattle.ws_board.proofs.carrying.formed.Goals as goal
 
 pub returns-in_default-clause-none : goal.returns-in_default-clause-none
 returns-in_default-clause-none c =
     let h = held_by c.args.holds in
-    let now = standings_of c.args.now.now in
-    lacks_none h now c.args.work.now c.args.imports.now (subst (λ o. IfNone o ((ss : List Summary) → ¬ (Are h now c.args.imports.now ss))) c.in_default.is c.in_ok-summaries.ensures.none)
+    let now = standings_of c.args.rows.now.rows.items in
+    let imports = imports_at c.args.rows.now.jobs.items c.args.job in
+    lacks_none h now c.args.work.now imports (subst (λ o. IfNone o ((ss : List Summary) → ¬ (Are h now imports ss))) c.in_default.is c.in_ok-summaries.ensures.none)
 
 pub returns-in_ok-new-in-Some-2-clause-some : goal.returns-in_ok-new-in-Some-2-clause-some
 returns-in_ok-new-in-Some-2-clause-some c =
     let h = held_by c.args.holds in
-    let now = standings_of c.args.now.now in
+    let now = standings_of c.args.rows.now.rows.items in
     let work = c.args.work.now in
-    let imports = c.args.imports.now in
+    let imports = imports_at c.args.rows.now.jobs.items c.args.job in
     let summaries = map arc_value c.in-Some.summaries.items in
     let action : Action = c.in-Some-2.action in
     let are : Are h now imports summaries = subst (λ o. IfSome o (λ ss. Are h now imports (map arc_value ss.items))) c.in-Some.is c.in_ok-summaries.ensures.some in
@@ -34,9 +37,9 @@ returns-in_ok-new-in-Some-2-clause-some c =
 pub returns-in-None-clause-none : goal.returns-in-None-clause-none
 returns-in-None-clause-none c =
     let h = held_by c.args.holds in
-    let now = standings_of c.args.now.now in
+    let now = standings_of c.args.rows.now.rows.items in
     let work = c.args.work.now in
-    let imports = c.args.imports.now in
+    let imports = imports_at c.args.rows.now.jobs.items c.args.job in
     let summaries = map arc_value c.in-Some.summaries.items in
     let are : Are h now imports summaries = subst (λ o. IfSome o (λ ss. Are h now imports (map arc_value ss.items))) c.in-Some.is c.in_ok-summaries.ensures.some in
     forms_none h now work imports summaries are (subst (λ (o : Option Action). IfNone o (¬ (MakeAction work.files summaries))) c.in-None.is c.in_ok-action.ensures.none)

@@ -1,28 +1,75 @@
-use Rattle.std.proofs.Common.{◌≡◌, Option, Some, None, IfSome, IfNone, subst}
-use Rattle.ws_action.specs.Actions.{Action}
-use Rattle.ws_board.specs.Machine.{MayForm, IsFormed}
-use Rattle.ws_board.specs.Carrying.{standings_of, held_by}
-use Rattle.ws_board.proofs.Gathered.{stands_open, stands_stop, stands_act}
+use Rattle.std.proofs.Common.{◌≡◌, ◌<◌, ◌≤◌, ◌-◌, ℕ, true, false, length, Option, Some, None, IfSome, IfNone, refl, sym, ap, ◌∙◌, subst, arith, rules}
+use Rattle.std.specs.Prelude.{option_copied}
+use Rattle.std.specs.List.{slice_get, slice_index_or}
+use Rattle.ws_action.specs.Actions.{Action, action_id}
+use Rattle.ws_board.specs.declared.work.Status.{Status}
+use Rattle.ws_board.specs.declared.work.Status.TheVariants.{Waiting, Blocked}
+use Rattle.ws_board.specs.declared.rows.Row.{Row}
+use Rattle.ws_board.specs.Work.{Work}
+use Rattle.ws_board.specs.Machine.{is_waiting, is_open, MayForm, IsFormed, IsPlaced}
+use Rattle.ws_board.specs.Carrying.{held_by}
+use Rattle.ws_board.specs.Ends.{imports_at, work_at}
+use Rattle.ws_board.specs.Rows.{row_at, standings_of, IsOpenPast}
+use Rattle.ws_board.proofs.Standby.{becomes_of, stands_waits, stands_stopped, stands_acts, all_past, placed_cases}
 use Rattle.ws_board.proofs.carrying.stands.Goals as goal
 
-pub returns-then-any_open : goal.returns-then-any_open
-returns-then-any_open c = stands_open (held_by c.args.holds) (standings_of c.args.now.now) c.args.job.now c.in-Some.work.now c.in-Some.ensures c.imports.result.now c.imports.ensures c.if-any_open.ensures
-
-pub returns-in-None : goal.returns-in-None
-returns-in-None c =
+pub returns-then-left-gt0-clause-becomes : goal.returns-then-left-gt0-clause-becomes
+returns-then-left-gt0-clause-becomes c =
     let h = held_by c.args.holds in
-    let now = standings_of c.args.now.now in
-    let work = c.in-Some.work.now in
-    let imports = c.imports-2.result.now in
-    stands_stop h now c.args.job.now work c.in-Some.ensures c.imports.result.now imports c.imports.ensures c.if-any_open.ensures c.imports-2.ensures
-    (subst (λ (o : Option Action). IfNone o ((a : Action) → ¬ (MayForm h now work imports a))) c.in-None.is c.in_ok-action.ensures.none)
+    let J = c.args.rows.now.jobs.items in
+    let R = c.args.rows.now.rows.items in
+    let job = c.args.job in
+    let was : Row = c.in-Some.found.row.now in
+    let left = c.left_of-left.result in
+    let same : was ≡ row_at R job = c.in-Some.ensures.row.0 in
+    let waits : is_waiting was.status ≡ true = search rules in
+    let waited : is_waiting (row_at R job).status ≡ true = ap (λ (r : Row). is_waiting r.status) (sym same) ∙ waits in
+    let work : work_at J job ≡ Some c.in-Some-work.work.now = sym c.in-Some.ensures.work ∙ ap option_copied c.in-Some-work.is in
+    let before : IsOpenPast J R job was.left = subst (λ (r : Row). IsOpenPast J R job r.left) (sym same) (c.requires.past job waited) in
+    let within : was.left ≤ length (imports_at J job) = subst (λ (r : Row). r.left ≤ length (imports_at J job)) (sym same) (c.requires.within job waited) in
+    let some : 0 < left = c.if-left-gt0.true in
+    let on = c.left_of-left.ensures.on some in
+    becomes_of h J R job was c.row_of-then-left-gt0.result same waits c.in-Some.ensures.row.1 Waiting None left c.row_of-then-left-gt0.ensures
+    (stands_waits h J R job left c.in-Some-work.work.now work some (omega (arith, within, c.left_of-left.ensures.fewer)) on)
+    c.left_of-left.ensures.fewer (c.left_of-left.ensures.past before) (λ w. (some, on))
 
-pub returns-in-Some-2 : goal.returns-in-Some-2
-returns-in-Some-2 c =
+pub returns-in-Some-2-clause-becomes : goal.returns-in-Some-2-clause-becomes
+returns-in-Some-2-clause-becomes c =
     let h = held_by c.args.holds in
-    let now = standings_of c.args.now.now in
-    let work = c.in-Some.work.now in
-    let imports = c.imports-2.result.now in
-    let action : Action = c.in-Some-2.action in
-    let formed : IsFormed h now work imports action = subst (λ (o : Option Action). IfSome o (λ a. IsFormed h now work imports a)) c.in-Some-2.is c.in_ok-action.ensures.some in
-    stands_act h now c.args.job.now work c.in-Some.ensures imports action c.id.result c.placed.result c.imports-2.ensures formed c.id.ensures c.placed.ensures
+    let J = c.args.rows.now.jobs.items in
+    let R = c.args.rows.now.rows.items in
+    let job = c.args.job in
+    let was : Row = c.in-Some.found.row.now in
+    let same : was ≡ row_at R job = c.in-Some.ensures.row.0 in
+    let waits : is_waiting was.status ≡ true = search rules in
+    let waited : is_waiting (row_at R job).status ≡ true = ap (λ (r : Row). is_waiting r.status) (sym same) ∙ waits in
+    let work : work_at J job ≡ Some c.in-Some-work.work.now = sym c.in-Some.ensures.work ∙ ap option_copied c.in-Some-work.is in
+    let before : IsOpenPast J R job was.left = subst (λ (r : Row). IsOpenPast J R job r.left) (sym same) (c.requires.past job waited) in
+    let none : c.left_of-left.result ≡ 0 = omega (arith, c.if-left-gt0.false) in
+    let past : IsOpenPast J R job 0 = subst (IsOpenPast J R job) none (c.left_of-left.ensures.past before) in
+    let a : Action = c.in-Some-2.action in
+    let status : Status = c.placed-status.result in
+    let formed : IsFormed h (standings_of R) c.in-Some-work.work.now (imports_at J job) a = subst (λ (o : Option Action). IfSome o (λ x. IsFormed h (standings_of R) c.in-Some-work.work.now (imports_at J job) x)) c.in-Some-2.is c.in_ok-action.ensures.some in
+    let placed : IsPlaced (h (action_id a)) status = subst (λ i. IsPlaced (h i) status) c.id.ensures c.placed-status.ensures in
+    becomes_of h J R job was c.row_of-in-Some-2.result same waits c.in-Some.ensures.row.1 status (Some a) 0 c.row_of-in-Some-2.ensures
+    (stands_acts h (standings_of R) (slice_get J job) c.in-Some-work.work.now a status work formed placed)
+    (omega arith) past (λ w. absurd (placed_cases (h (action_id a)) status placed w))
+
+pub returns-in-None-clause-becomes : goal.returns-in-None-clause-becomes
+returns-in-None-clause-becomes c =
+    let h = held_by c.args.holds in
+    let J = c.args.rows.now.jobs.items in
+    let R = c.args.rows.now.rows.items in
+    let job = c.args.job in
+    let was : Row = c.in-Some.found.row.now in
+    let same : was ≡ row_at R job = c.in-Some.ensures.row.0 in
+    let waits : is_waiting was.status ≡ true = search rules in
+    let waited : is_waiting (row_at R job).status ≡ true = ap (λ (r : Row). is_waiting r.status) (sym same) ∙ waits in
+    let work : work_at J job ≡ Some c.in-Some-work.work.now = sym c.in-Some.ensures.work ∙ ap option_copied c.in-Some-work.is in
+    let before : IsOpenPast J R job was.left = subst (λ (r : Row). IsOpenPast J R job r.left) (sym same) (c.requires.past job waited) in
+    let none : c.left_of-left.result ≡ 0 = omega (arith, c.if-left-gt0.false) in
+    let past : IsOpenPast J R job 0 = subst (IsOpenPast J R job) none (c.left_of-left.ensures.past before) in
+    let unformed = subst (λ (o : Option Action). IfNone o ((a : Action) → ¬ (MayForm h (standings_of R) c.in-Some-work.work.now (imports_at J job) a))) c.in-None.is c.in_ok-action.ensures.none in
+    becomes_of h J R job was c.row_of-in-None.result same waits c.in-Some.ensures.row.1 Blocked None 0 c.row_of-in-None.ensures
+    (stands_stopped h (standings_of R) (slice_get J job) c.in-Some-work.work.now work (all_past J R job 0 refl past) unformed)
+    (omega arith) past (λ w. (let x : false ≡ true = w in absurd (cc)))

@@ -1,21 +1,44 @@
-use Rattle.std.proofs.Common.{ℕ, get_or, refl}
-use Rattle.ws_board.specs.Carrying.{standings_of, held_by}
-use Rattle.ws_board.proofs.Gathered.{gathered_none, gathered_more, written_more}
+use Rattle.std.proofs.Common.{◌≡◌, ◌<◌, ◌≤◌, ℕ, length, get_or, map, Some, None, refl, sym, ap, ◌∙◌, arith}
+use Rattle.std.specs.Arc.{arc_value}
+use Rattle.std.specs.List.{slice_get}
+use Rattle.std.proofs.lemmas.Option.{get_or_from_slice_get}
+use Rattle.ws_board.specs.Carrying.{held_by}
+use Rattle.ws_board.specs.Ends.{imports_at}
+use Rattle.ws_board.specs.Rows.{standings_of}
+use Rattle.ws_board.proofs.Gathered.{gathered_all, gathered_none, gathered_more, written_more}
+use Rattle.ws_board.proofs.Onward.{get_past}
 use Rattle.ws_board.proofs.carrying.summaries_held.Goals as goal
 
 pub returns-in_default-clause-none : goal.returns-in_default-clause-none
 returns-in_default-clause-none c =
-    let i = c.loop-k.k-index in
-    gathered_none (held_by c.args.holds) (standings_of c.args.now.now) c.args.imports.now i (get_or c.args.imports.now i 0) c.loop-k-test.true refl c.in_default.ensures.none
+    let ks = imports_at c.args.rows.now.jobs.items c.args.job in
+    let past : length ks ≤ c.loop-number.number = get_past ks c.loop-number.number (sym c.import.ensures.is ∙ c.in_default.is) in
+    absurd (omega (arith, past, c.requires.all))
 
-pub loop-k-preserved : goal.loop-k-preserved
-loop-k-preserved c =
-    let i = c.loop-k.k-index in
-    let old = c.loop-k.found.items in
+pub returns-in_default-summary_held-clause-none : goal.returns-in_default-summary_held-clause-none
+returns-in_default-summary_held-clause-none c =
+    let ks = imports_at c.args.rows.now.jobs.items c.args.job in
+    let i = c.loop-number.number in
+    gathered_none (held_by c.args.holds) (standings_of c.args.rows.now.rows.items) ks i c.in-Some.k (omega (arith, c.requires.all)) (sym (get_or_from_slice_get ks i c.in-Some.k 0 (sym c.import.ensures.is ∙ c.in-Some.is))) c.in_default-summary_held.ensures.none
+
+pub loop-number-preserved : goal.loop-number-preserved
+loop-number-preserved c =
+    let ks = imports_at c.args.rows.now.jobs.items c.args.job in
+    let i = c.loop-number.number in
+    let p = c.loop-number.invariant in
+    let old = c.loop-number.found.items in
     let new = c.push.new.self.items in
-    let one = c.in-Some.summary.now in
+    let one = c.in-Some-summary_held.summary.now in
     let copy = c.in_ok-try_clone.field-0 in
     record {
-      are = gathered_more (held_by c.args.holds) (standings_of c.args.now.now) c.args.imports.now i (get_or c.args.imports.now i 0) old new one copy c.loop-k-test.true refl c.in_ok-try_clone.ensures c.in_ok-push.ensures.items c.loop-k.invariant.are c.in-Some.ensures.some;
-      written = written_more old new one copy c.in_ok-try_clone.ensures c.in_ok-push.ensures.items c.loop-k.invariant.written c.in-Some.ensures.written;
+      are = gathered_more (held_by c.args.holds) (standings_of c.args.rows.now.rows.items) ks i c.in-Some.k old new one copy (omega (arith, c.requires.all)) (sym (get_or_from_slice_get ks i c.in-Some.k 0 (sym c.import.ensures.is ∙ c.in-Some.is)))
+          c.in_ok-try_clone.ensures c.in_ok-push.ensures.items p.are c.in-Some-summary_held.ensures.some;
+      written = written_more old new one copy c.in_ok-try_clone.ensures c.in_ok-push.ensures.items p.written c.in-Some-summary_held.ensures.written;
+      paid = omega (arith, p.paid, c.import.ensures.one, c.summary_held.ensures.one);
+      more = omega (arith, p.more, c.import.ensures.one, c.summary_held.ensures.one);
     }
+
+pub returns-clause-some : goal.returns-clause-some
+returns-clause-some c =
+    let ks = imports_at c.args.rows.now.jobs.items c.args.job in
+    gathered_all (held_by c.args.holds) (standings_of c.args.rows.now.rows.items) ks c.loop-number.number (map arc_value c.loop-number.found.items) (omega (arith, c.requires.all)) c.loop-number.invariant.are

@@ -1,0 +1,47 @@
+-- One job is carried on: all that the step says.
+use Rattle.std.proofs.Common.{◌≡◌, ℕ, ◌+◌, ◌<◌, ◌≤◌, Bool, true, false, ◌||◌, cond, eqb, List, [], ◌∷◌, ◌++◌, length, Option, Some, None, refl, sym, ap, ◌∙◌, subst, arith}
+use Rattle.std.specs.Prelude.{if◌then◌else◌}
+use Rattle.std.proofs.Math.ListN.{set}
+use Rattle.ws_board.specs.declared.rows.Row.{Row}
+use Rattle.ws_board.specs.declared.rows.Rows.{Rows}
+use Rattle.ws_board.specs.declared.moves.Moves.{Moves}
+use Rattle.ws_board.specs.Work.{Job, Standings}
+use Rattle.ws_board.specs.Machine.{Held, is_open, is_waiting}
+use Rattle.ws_board.specs.Rows.{row_at, ready_of, due, telling, untold, owed, AreCarried, AreCarriedBy, Becomes, CarriesOn, Waits}
+use Rattle.ws_board.proofs.Advancing.{set_backs, set_good, set_under, set_runs_same, set_listed, set_fewer, set_paid, set_waits, still_waits}
+use Rattle.ws_board.proofs.Onward.{waits_parts}
+
+module _ (h : Held) (old new : Rows) (job : ℕ) (row : Row) (before after : Moves) (good : AreCarried old) (becomes : Becomes h old.jobs.items old.rows.items job row) (written : new.rows.items ≡ set old.rows.items job row)
+    (jobs : new.jobs.items ≡ old.jobs.items) (importers : new.importers.items ≡ old.importers.items)
+    (settled : after.settled.items ≡ (if is_open row.status then before.settled.items else (before.settled.items ++ job ∷ []))) (ready : after.ready.items ≡ before.ready.items ++ ready_of job row.status row.action) where
+  abbrev J : List Job
+  J = old.jobs.items
+
+  abbrev I : List (List ℕ)
+  I = old.importers.items
+
+  abbrev O : List Row
+  O = old.rows.items
+
+  abbrev N : List Row
+  N = new.rows.items
+
+  next_good : AreCarried new
+  next_good = subst (λ j. AreCarriedBy j new.importers.items N) (sym jobs) (subst (λ i. AreCarriedBy J i N) (sym importers) (set_good h J I O N job row good becomes written))
+
+  pub advanced : (looks next : ℕ) → next + due row + (if is_open row.status then 0 else telling row.importers) ≤ looks + due (row_at O job) + 3 → looks ≤ next → CarriesOn h 3 old new before after looks next
+  advanced looks next paid more = record {
+    jobs = jobs;
+    importers = importers;
+    good = next_good;
+    under = set_under h J I O N job row good becomes written;
+    backs = set_backs h J I O N job row good becomes written;
+    runs = set_runs_same h J I O N job row good becomes written;
+    listed = set_listed h J I O N job row good becomes written before.ready.items after.ready.items ready;
+    fewer = set_fewer h J I O N job row good becomes written before.settled.items after.settled.items settled;
+    paid = subst (λ i. next + owed N + untold i after.settled.items ≤ looks + owed O + untold I before.settled.items + 3) (sym importers) (set_paid h J I O N job row good becomes written looks next before.settled.items after.settled.items settled paid);
+    more = more;
+  }
+
+  pub advanced_held : (pending : ℕ → Bool) → Waits J O before.settled.items (λ j. (eqb j job) || pending j) → Waits new.jobs.items N after.settled.items pending
+  advanced_held pending w = subst (λ j. Waits j N after.settled.items pending) (sym jobs) (set_waits h J I O N job row good becomes written before.settled.items after.settled.items settled pending w)

@@ -1,0 +1,206 @@
+-- What the index's loops come to: jobs that are marked, and jobs that join their ids and leave them.
+use Rattle.std.proofs.Common.{◌≡◌, ℕ, ◌+◌, ◌-◌, ◌<◌, ◌≤◌, Bool, true, false, ◌||◌, ◌&&◌, eqb, List, [], ◌∷◌, ◌++◌, length, take, drop, get_or, Option, refl, sym, ap, ◌∙◌, subst, arith, inl, inr, ◌⊎◌, append_assoc, get_or-set_other, get_or-set_same, length-append}
+use Rattle.std.specs.Prelude.{if◌then◌else◌, is_none, Result, Ok, Err, OnErr}
+use Rattle.std.specs.List.{All, list_any}
+use Rattle.std.specs.Str.{bytes_eq}
+use Rattle.std.proofs.Math.ListN.{set}
+use Rattle.std.proofs.lemmas.Bool.{cases_eq}
+use Rattle.std.proofs.lemmas.List.{take_more, take_all, take-append-le, drop_more, append-nil, append_cancel_right}
+use Rattle.std.proofs.lemmas.List.Elements.{All-push}
+use Rattle.std.proofs.lemmas.List.Folds.{list_any-append}
+use Rattle.ws_board.specs.declared.index.Run.{Run}
+use Rattle.ws_board.specs.declared.index.Ready.{Ready as AReady}
+use Rattle.ws_board.specs.declared.index.Index.{Index}
+use Rattle.ws_board.specs.Rows.{those_of}
+use Rattle.ws_board.specs.Indexes.{IsSameBut}
+use Rattle.ws_board.proofs.Listing.{any_push, eqb_same, eqb_not, eqb_is}
+use Rattle.ws_board.proofs.Ids.{at_id, off_id, same_id_or}
+
+pub on_err : {T E : Type 0} (P : Type 0) (r : Result T E) → P → OnErr r P
+on_err P (Ok x) p = tt
+on_err P (Err e) p = p
+
+-- the last job is gone
+pub popped : (old new before : List ℕ) (job n : ℕ) → old ≡ before ++ job ∷ [] → n ≡ length old → new ≡ take (n - 1) old → old ≡ new ++ job ∷ []
+popped old new before job n is count rest =
+    let len : length old ≡ length (before ++ job ∷ []) = ap length is in
+    let m : n - 1 ≡ length before = omega (arith, count, len, length-append before (job ∷ [])) in
+    let same : new ≡ before = rest ∙ ap (λ i. take i old) m ∙ ap (take (length before)) is ∙ take-append-le (length before) before (job ∷ []) (omega arith) ∙ take_all (length before) before (omega arith) in
+    is ∙ ap (λ l. l ++ job ∷ []) (sym same)
+
+-- one more job is marked
+pub marks_one : (old new : List Bool) (jobs : List ℕ) (i : ℕ) (may : Bool) → i < length jobs → get_or jobs i 0 < length new
+    → ((k : ℕ) → get_or new k false ≡ (if list_any (λ j. eqb j k) (take i jobs) then may else get_or old k false))
+    → (k : ℕ) → get_or (set new (get_or jobs i 0) may) k false ≡ (if list_any (λ j. eqb j k) (take (i + 1) jobs) then may else get_or old k false)
+marks_one old new jobs i may lt inside each k = by_job (cases_eq k (get_or jobs i 0)) ∙ ap (λ b. if b then may else get_or old k false) (sym more)
+  where
+    more : list_any (λ j. eqb j k) (take (i + 1) jobs) ≡ (list_any (λ j. eqb j k) (take i jobs) || eqb (get_or jobs i 0) k)
+    more = ap (list_any (λ j. eqb j k)) (take_more jobs i 0 lt) ∙ any_push (λ j. eqb j k) (take i jobs) (get_or jobs i 0)
+
+    or_true : (b : Bool) → (if b || true then may else get_or old k false) ≡ may
+    or_true true = refl
+    or_true false = refl
+
+    or_false : (b : Bool) → (if b || false then may else get_or old k false) ≡ (if b then may else get_or old k false)
+    or_false true = refl
+    or_false false = refl
+
+    by_job : (k ≡ get_or jobs i 0) ⊎ (k ≡ get_or jobs i 0 → ⊥)
+        → get_or (set new (get_or jobs i 0) may) k false ≡ (if list_any (λ j. eqb j k) (take i jobs) || eqb (get_or jobs i 0) k then may else get_or old k false)
+    by_job (inl e) =
+        ap (λ j. get_or (set new (get_or jobs i 0) may) j false) e ∙ get_or-set_same new (get_or jobs i 0) may false inside
+        ∙ sym (ap (λ b. if list_any (λ j. eqb j k) (take i jobs) || b then may else get_or old k false) (ap (λ j. eqb (get_or jobs i 0) j) e ∙ eqb_same (get_or jobs i 0)) ∙ or_true (list_any (λ j. eqb j k) (take i jobs)))
+    by_job (inr ne) =
+        get_or-set_other new (get_or jobs i 0) k may false ne ∙ each k
+        ∙ sym (ap (λ b. if list_any (λ j. eqb j k) (take i jobs) || b then may else get_or old k false) (eqb_not (get_or jobs i 0) k (λ e. ne (sym e))) ∙ or_false (list_any (λ j. eqb j k) (take i jobs)))
+
+pub least_one : (jobs : List ℕ) (i m n : ℕ) → i < length jobs → n ≤ m → n ≤ get_or jobs i 0 → All (λ j. m ≤ j) (take i jobs) → All (λ j. n ≤ j) (take (i + 1) jobs)
+least_one jobs i m n lt le at all =
+    subst (All (λ j. n ≤ j)) (sym (take_more jobs i 0 lt))
+    (All-push (λ j. n ≤ j) (take i jobs) (get_or jobs i 0) (λ k d l. (let h : m ≤ get_or (take i jobs) k d = all k d l in omega (arith, le, h))) at)
+
+-- ---- jobs with their ids
+
+those_cons : (id : List ℕ) (one : AReady) (ready : List AReady) → those_of id (one ∷ ready) ≡ those_of id (one ∷ []) ++ those_of id ready
+those_cons id one ready = by_id (bytes_eq one.id id)
+  where
+    by_id : (b : Bool) → (if b then one.job ∷ those_of id ready else those_of id ready) ≡ (if b then one.job ∷ [] else []) ++ those_of id ready
+    by_id true = refl
+    by_id false = refl
+
+those_push : (id : List ℕ) (ready : List AReady) (one : AReady) → those_of id (ready ++ one ∷ []) ≡ those_of id ready ++ those_of id (one ∷ [])
+those_push id [] one = refl
+those_push id (x ∷ xs) one =
+    those_cons id x (xs ++ one ∷ []) ∙ ap (λ l. those_of id (x ∷ []) ++ l) (those_push id xs one) ∙ sym (append_assoc (those_of id (x ∷ [])) (those_of id xs) (those_of id (one ∷ [])))
+    ∙ ap (λ l. l ++ those_of id (one ∷ [])) (sym (those_cons id x xs))
+
+pub those_taken : (id : List ℕ) (ready : List AReady) (i : ℕ) (d : AReady) → i < length ready → those_of id (take (i + 1) ready) ≡ those_of id (take i ready) ++ those_of id (get_or ready i d ∷ [])
+those_taken id ready i d lt = ap (those_of id) (take_more ready i d lt) ∙ those_push id (take i ready) (get_or ready i d)
+
+those_left : (id : List ℕ) (ready : List AReady) (i : ℕ) (d : AReady) → i < length ready → those_of id (drop i ready) ≡ those_of id (get_or ready i d ∷ []) ++ those_of id (drop (i + 1) ready)
+those_left id ready i d lt = ap (those_of id) (drop_more ready i d lt) ∙ those_cons id (get_or ready i d) (drop (i + 1) ready)
+
+pub with_one : (before after : List ℕ → List ℕ) (one : AReady) → ((id : List ℕ) → after id ≡ (if bytes_eq one.id id then (before one.id ++ one.job ∷ []) else before id))
+    → (id : List ℕ) → after id ≡ before id ++ those_of id (one ∷ [])
+with_one before after one is id = by_id (same_id_or one.id id)
+  where
+    by_id : (one.id ≡ id) ⊎ (one.id ≡ id → ⊥) → after id ≡ before id ++ those_of id (one ∷ [])
+    by_id (inl e) =
+        is id ∙ at_id one.id id (before one.id ++ one.job ∷ []) (before id) e ∙ ap (λ i. before i ++ one.job ∷ []) e
+        ∙ ap (λ l. before id ++ l) (sym (at_id one.id id (one.job ∷ []) [] e))
+    by_id (inr ne) =
+        is id ∙ off_id one.id id (before one.id ++ one.job ∷ []) (before id) ne ∙ sym (append-nil (before id))
+        ∙ ap (λ l. before id ++ l) (sym (off_id one.id id (one.job ∷ []) [] ne))
+
+-- the jobs with each id after one more joined
+pub joins_one : (start now after : List ℕ → List ℕ) (ready : List AReady) (n : ℕ) (d : AReady) → n < length ready → ((id : List ℕ) → now id ≡ start id ++ those_of id (take n ready))
+    → ((id : List ℕ) → after id ≡ (if bytes_eq (get_or ready n d).id id then (now (get_or ready n d).id ++ (get_or ready n d).job ∷ []) else now id))
+    → (id : List ℕ) → after id ≡ start id ++ those_of id (take (n + 1) ready)
+joins_one start now after ready n d lt now_is after_is id =
+    with_one now after (get_or ready n d) after_is id ∙ ap (λ l. l ++ those_of id (get_or ready n d ∷ [])) (now_is id)
+    ∙ append_assoc (start id) (those_of id (take n ready)) (those_of id (get_or ready n d ∷ [])) ∙ ap (λ l. start id ++ l) (sym (those_taken id ready n d lt))
+
+module _ (now base : List ℕ → List ℕ) (ready : List AReady) (n : ℕ) (d : AReady) (lt : n < length ready) (now_is : (id : List ℕ) → now id ≡ base id ++ those_of id (take (n + 1) ready)) where
+  abbrev one : AReady
+  one = get_or ready n d
+
+  -- the last that joined stands last
+  pub last_one : (before : List ℕ) × (now one.id ≡ before ++ one.job ∷ [])
+  last_one = (
+    base one.id ++ those_of one.id (take n ready),
+    now_is one.id ∙ ap (λ l. base one.id ++ l) (those_taken one.id ready n d lt ∙ ap (λ l. those_of one.id (take n ready) ++ l) (at_id one.id one.id (one.job ∷ []) [] refl))
+        ∙ sym (append_assoc (base one.id) (those_of one.id (take n ready)) (one.job ∷ [])),
+  )
+
+  module _ (after : List ℕ → List ℕ) (left : (id : List ℕ) → now id ≡ (if bytes_eq one.id id then (after one.id ++ one.job ∷ []) else after id)) where
+    -- once it left, the others stand last
+    pub leaves_one : (id : List ℕ) → after id ≡ base id ++ those_of id (take n ready)
+    leaves_one id =
+        append_cancel_right (after id) (base id ++ those_of id (take n ready)) (those_of id (one ∷ []))
+        (sym (with_one after now one left id) ∙ now_is id ∙ ap (λ l. base id ++ l) (those_taken id ready n d lt) ∙ sym (append_assoc (base id) (those_of id (take n ready)) (those_of id (one ∷ []))))
+
+    pub left_more : (start : List ℕ → List ℕ) → ((id : List ℕ) → start id ≡ now id ++ those_of id (drop (n + 1) ready)) → (id : List ℕ) → start id ≡ after id ++ those_of id (drop n ready)
+    left_more start start_is id =
+        start_is id ∙ ap (λ l. l ++ those_of id (drop (n + 1) ready)) (with_one after now one left id)
+        ∙ append_assoc (after id) (those_of id (one ∷ [])) (those_of id (drop (n + 1) ready)) ∙ ap (λ l. after id ++ l) (sym (those_left id ready n d lt))
+
+-- ---- nothing but the ids' jobs changed
+
+pub same_none : (index : Index) → IsSameBut index index
+same_none index = record { runs = λ id. refl; free = refl; from = refl; running = refl }
+
+pub same_then : (a b c : Index) → IsSameBut a b → IsSameBut b c → IsSameBut a c
+same_then a b c p q = record { runs = λ id. q.runs id ∙ p.runs id; free = q.free ∙ p.free; from = q.from ∙ p.from; running = q.running ∙ p.running }
+
+-- ---- jobs that may be given
+
+abbrev pub released : (List ℕ → Option Run) → List AReady → ℕ → Bool
+released run ready k = list_any (λ one. (eqb one.job k) && is_none (run one.id)) ready
+
+or_false : (b : Bool) → (b || false) ≡ b
+or_false true = refl
+or_false false = refl
+
+and_false : (b : Bool) → (b && false) ≡ false
+and_false true = refl
+and_false false = refl
+
+and_true : (b : Bool) → (b && true) ≡ b
+and_true true = refl
+and_true false = refl
+
+or_parts : (a b : Bool) → (a || b) ≡ true → (a ≡ true) ⊎ (b ≡ true)
+or_parts true b h = inl refl
+or_parts false b h = inr h
+
+and_first : (a b : Bool) → (a && b) ≡ true → a ≡ true
+and_first true b h = refl
+and_first false b h = absurd (cc)
+
+-- nobody runs the id, and its job is marked
+pub release_yes : (run : List ℕ → Option Run) (old new : List Bool) (one : AReady) → is_none (run one.id) ≡ true → one.job < length old → new ≡ set old one.job true
+    → (k : ℕ) → get_or new k false ≡ (if released run (one ∷ []) k then true else get_or old k false)
+release_yes run old new one none inside written k =
+    ap (λ l. get_or l k false) written ∙ by_job (cases_eq k one.job)
+    ∙ ap (λ b. if b then true else get_or old k false) (sym (or_false ((eqb one.job k) && is_none (run one.id)) ∙ ap (λ b. (eqb one.job k) && b) none ∙ and_true (eqb one.job k)))
+  where
+    by_job : (k ≡ one.job) ⊎ (k ≡ one.job → ⊥) → get_or (set old one.job true) k false ≡ (if eqb one.job k then true else get_or old k false)
+    by_job (inl e) = ap (λ j. get_or (set old one.job true) j false) e ∙ get_or-set_same old one.job true false inside ∙ sym (ap (λ b. if b then true else get_or old k false) (ap (eqb one.job) e ∙ eqb_same one.job))
+    by_job (inr ne) = get_or-set_other old one.job k true false ne ∙ sym (ap (λ b. if b then true else get_or old k false) (eqb_not one.job k (λ e. ne (sym e))))
+
+-- a hand runs it, and nothing changes
+pub release_no : (run : List ℕ → Option Run) (one : AReady) → is_none (run one.id) ≡ false → (k : ℕ) → released run (one ∷ []) k ≡ false
+release_no run one some k = or_false ((eqb one.job k) && is_none (run one.id)) ∙ ap (λ b. (eqb one.job k) && b) some ∙ and_false (eqb one.job k)
+
+module _ (run ran : List ℕ → Option Run) (same : (id : List ℕ) → ran id ≡ run id) (ready : List AReady) (n : ℕ) (d : AReady) (lt : n < length ready) where
+  abbrev next : AReady
+  next = get_or ready n d
+
+  more : (k : ℕ) → released run (take (n + 1) ready) k ≡ (released run (take n ready) k || released ran (next ∷ []) k)
+  more k =
+      ap (list_any (λ one. (eqb one.job k) && is_none (run one.id))) (take_more ready n d lt) ∙ list_any-append (λ one. (eqb one.job k) && is_none (run one.id)) (take n ready) (next ∷ [])
+      ∙ ap (λ o. released run (take n ready) k || (((eqb next.job k) && is_none o) || false)) (sym (same next.id))
+
+  pub freed_more : (free mid new : ℕ → Bool) → ((k : ℕ) → mid k ≡ (if released run (take n ready) k then true else free k)) → ((k : ℕ) → new k ≡ (if released ran (next ∷ []) k then true else mid k))
+      → (k : ℕ) → new k ≡ (if released run (take (n + 1) ready) k then true else free k)
+  freed_more free mid new mid_is new_is k =
+      new_is k ∙ ap (λ b. if released ran (next ∷ []) k then true else b) (mid_is k) ∙ either (released ran (next ∷ []) k) (released run (take n ready) k) (free k)
+      ∙ ap (λ b. if b then true else free k) (sym (more k))
+    where
+      either : (a b c : Bool) → (if a then true else (if b then true else c)) ≡ (if b || a then true else c)
+      either true true c = refl
+      either true false c = refl
+      either false true c = refl
+      either false false c = refl
+
+  pub from_more : (from least : ℕ) → least ≤ from → ((k : ℕ) → released run (take n ready) k ≡ true → from ≤ k) → (released ran (next ∷ []) next.job ≡ true → least ≤ next.job)
+      → (k : ℕ) → released run (take (n + 1) ready) k ≡ true → least ≤ k
+  from_more from least lower each its k h = by_parts (or_parts (released run (take n ready) k) (released ran (next ∷ []) k) (sym (more k) ∙ h))
+    where
+      by_parts : (released run (take n ready) k ≡ true) ⊎ (released ran (next ∷ []) k ≡ true) → least ≤ k
+      by_parts (inl e) = let f = each k e in omega (arith, lower, f)
+      by_parts (inr e) =
+          let a : ((eqb next.job k) && is_none (ran next.id)) ≡ true = sym (or_false ((eqb next.job k) && is_none (ran next.id))) ∙ e in
+          let j : next.job ≡ k = eqb_is next.job k (and_first (eqb next.job k) (is_none (ran next.id)) a) in
+          let f : least ≤ next.job = its (subst (λ i. released ran (next ∷ []) i ≡ true) (sym j) e) in
+          omega (arith, f, j)

@@ -1,0 +1,122 @@
+-- What a job's imports make of it, by the rows that are read.
+use Rattle.std.proofs.Common.{◌≡◌, ℕ, zero, suc, ◌+◌, ◌*◌, ◌-◌, ◌<◌, ◌≤◌, Bool, true, false, ◌||◌, cond, List, [], ◌∷◌, length, get_or, Option, Some, None, refl, sym, ap, ◌∙◌, subst, arith, inl, inr}
+use Rattle.std.specs.List.{slice_get, slice_index_or}
+use Rattle.std.proofs.lemmas.Bool.{cases_lt}
+use Rattle.std.proofs.lemmas.Option.{get_or_from_slice_get}
+use Rattle.go_code.specs.Packages.{Object}
+use Rattle.go_export.specs.Summaries.{Summary}
+use Rattle.ws_action.specs.Actions.{Action, action_id}
+use Rattle.ws_cache.specs.Compiles.{Compiles, Good}
+use Rattle.ws_board.specs.declared.work.Status.{Status}
+use Rattle.ws_board.specs.declared.work.Status.TheVariants.{Waiting, Ready, Running, Blocked, Done}
+use Rattle.ws_board.specs.declared.rows.Row.{Row}
+use Rattle.ws_board.specs.Work.{Work, Job, Standings}
+use Rattle.ws_board.specs.Machine.{Held, Stands, Wait, Stop, Act, IsVerdict, IsFormed, MayForm, IsPlaced, is_open, is_waiting, status_at, any_open, HasSummary}
+use Rattle.ws_board.specs.Ends.{imports_in, imports_at, work_in, work_at}
+use Rattle.ws_board.specs.Rows.{row_at, standings_of, due, due_of, telling, IsOpenPast, Becomes}
+use Rattle.ws_board.proofs.Carry.{waiting_is}
+use Rattle.ws_board.proofs.Standing.{status_row, action_row, row_past}
+use Rattle.ws_board.proofs.Onward.{waits_stands, import_open}
+
+pub due_waiting : (r : Row) → is_waiting r.status ≡ true → due r ≡ 2 + 2 * r.left + 2 * r.imports + telling r.importers
+due_waiting r w = ap (λ s. due_of s r.left r.imports r.importers) (waiting_is r.status w)
+
+-- ---- where none of the imports is open
+
+none_open : (ks : List ℕ) (R : List Row) → ((i : ℕ) → i < length ks → is_open (row_at R (get_or ks i 0)).status ≡ false) → any_open (standings_of R) ks ≡ false
+none_open [] R h = refl
+none_open (k ∷ ks) R h = ap (λ b. b || any_open (standings_of R) ks) (ap is_open (status_row R k) ∙ h 0 (omega arith)) ∙ none_open ks R (λ i lt. h (suc i) (omega (arith, lt)))
+
+pub all_past : (J : List Job) (R : List Row) (job left : ℕ) → left ≡ 0 → IsOpenPast J R job left → any_open (standings_of R) (imports_at J job) ≡ false
+all_past J R job left none past = none_open (imports_at J job) R (λ i lt. past i (omega (arith, none)) lt)
+
+-- ---- how it stands then
+
+pub stands_bare : (h : Held) (now : Standings) (o : Option Job) → work_in o ≡ None → Stands h now o Blocked None
+stands_bare h now None is = (refl, refl)
+stands_bare h now (Some job) is = (Stop, subst (λ o. IsVerdict h now o job.imports Stop) (sym is) refl, (refl, refl))
+
+pub stands_stopped : (h : Held) (now : Standings) (o : Option Job) (work : Work) → work_in o ≡ Some work → any_open now (imports_in o) ≡ false → ((a : Action) → ¬ (MayForm h now work (imports_in o) a)) → Stands h now o Blocked None
+stands_stopped h now None work is shut none = absurd (cc)
+stands_stopped h now (Some job) work is shut none = (Stop, subst (λ o. IsVerdict h now o job.imports Stop) (sym is) (shut, none), (refl, refl))
+
+pub stands_acts : (h : Held) (now : Standings) (o : Option Job) (work : Work) (a : Action) (status : Status) → work_in o ≡ Some work → IsFormed h now work (imports_in o) a → IsPlaced (h (action_id a)) status → Stands h now o status (Some a)
+stands_acts h now None work a status is formed placed = absurd (cc)
+stands_acts h now (Some job) work a status is formed placed = (Act a, subst (λ o. IsVerdict h now o job.imports (Act a)) (sym is) formed, (placed, refl))
+
+pub stands_waits : (h : Held) (J : List Job) (R : List Row) (job left : ℕ) (work : Work) → work_at J job ≡ Some work → 0 < left → left ≤ length (imports_at J job)
+    → is_open (row_at R (slice_index_or (imports_at J job) (left - 1) 0)).status ≡ true → Stands h (standings_of R) (slice_get J job) Waiting None
+stands_waits h J R job left work is some within on = waits_stands h (standings_of R) (slice_get J job) work is (import_open (imports_at J job) R (left - 1) (omega (arith, some, within)) on)
+
+-- a job that is placed is open exactly if it is ready
+pub placed_cases : (o : Option Action) (s : Status) → IsPlaced o s → (is_waiting s ≡ true → ⊥)
+placed_cases None s p w = let c : true ≡ false = sym w ∙ ap is_waiting p in cc
+placed_cases (Some e) s p w = let c : true ≡ false = sym w ∙ ap is_waiting p.2 in cc
+
+pub placed_due : (o : Option Action) (s : Status) (left imports importers : ℕ) → IsPlaced o s → due_of s left imports importers + cond (is_open s) 0 (telling importers) ≤ 2 + telling importers
+placed_due None s left imports importers p =
+    let a : due_of s left imports importers ≡ 2 + telling importers = ap (λ t. due_of t left imports importers) p in
+    let b : ◌≡◌ {A = ℕ} (cond (is_open s) 0 (telling importers)) 0 = ap (λ t. cond (is_open t) 0 (telling importers)) p in
+    omega (arith, a, b)
+placed_due (Some e) s left imports importers p =
+    let a : due_of s left imports importers ≡ 0 = ap (λ t. due_of t left imports importers) p.2 in
+    let b : ◌≡◌ {A = ℕ} (cond (is_open s) 0 (telling importers)) (telling importers) = ap (λ t. cond (is_open t) 0 (telling importers)) p.2 in
+    omega (arith, a, b)
+
+-- ---- how many of the imports may be open
+
+-- one import fewer may be open
+pub past_less : (J : List Job) (R : List Row) (job left k : ℕ) → 0 < left → slice_get (imports_at J job) (left - 1) ≡ Some k → is_open (row_at R k).status ≡ false → IsOpenPast J R job left → IsOpenPast J R job (left - 1)
+past_less J R job left k some got shut past i le lt = elim (cases_lt i left) [
+  | inl below ↦ (
+      let e : i ≡ left - 1 = omega (arith, some, le, below) in
+      ap (λ n. is_open (row_at R (slice_index_or (imports_at J job) n 0)).status) e ∙ ap (λ n. is_open (row_at R n).status) (get_or_from_slice_get (imports_at J job) (left - 1) k 0 got) ∙ shut)
+  | inr above ↦ past i above lt
+]
+
+pub last_open : (J : List Job) (R : List Row) (job n k : ℕ) → slice_get (imports_at J job) n ≡ Some k → is_open (row_at R k).status ≡ true → is_open (row_at R (slice_index_or (imports_at J job) n 0)).status ≡ true
+last_open J R job n k got on = ap (λ i. is_open (row_at R i).status) (get_or_from_slice_get (imports_at J job) n k 0 got) ∙ on
+
+-- ---- the row that it gets
+
+module _ (h : Held) (J : List Job) (R : List Row) (job : ℕ) (was row : Row) (same : was ≡ row_at R job) (waits : is_waiting was.status ≡ true) (inside : job < length R)
+    (s : Status) (a : Option Action) (l : ℕ) (is : row ≡ record was { status = s; action = a; left = l }) where
+  pub becomes_of : Stands h (standings_of R) (slice_get J job) s a → l ≤ was.left → IsOpenPast J R job l
+      → (is_waiting s ≡ true → (0 < l) × (is_open (row_at R (slice_index_or (imports_at J job) (l - 1) 0)).status ≡ true)) → Becomes h J R job row
+  becomes_of stands fewer past on = subst (Becomes h J R job) (sym is) record {
+    waited = ap (λ (r : Row). is_waiting r.status) (sym same) ∙ waits;
+    inside = inside;
+    same = ap (λ (r : Row). record r { status = s; action = a; left = l }) same;
+    stands = stands;
+    fewer = subst (λ (r : Row). l ≤ r.left) same fewer;
+    past = past;
+    on = on;
+  }
+
+  pub paid_of : (looks next : ℕ) → next + due_of s l was.imports was.importers + cond (is_open s) 0 (telling was.importers) ≤ looks + (2 + 2 * was.left + 2 * was.imports + telling was.importers) + 3
+      → next + due row + cond (is_open row.status) 0 (telling row.importers) ≤ looks + due (row_at R job) + 3
+  paid_of looks next le =
+      let d : due (row_at R job) ≡ 2 + 2 * was.left + 2 * was.imports + telling was.importers = ap due (sym same) ∙ due_waiting was waits in
+      let e : due row ≡ due_of s l was.imports was.importers = ap due is in
+      let t : ◌≡◌ {A = ℕ} (cond (is_open row.status) 0 (telling row.importers)) (cond (is_open s) 0 (telling was.importers)) = ap (λ (r : Row). cond (is_open r.status) 0 (telling r.importers)) is in
+      omega (arith, le, d, e, t)
+
+-- ---- what is held for an import
+
+pub has_of : (h : Held) (R : List Row) (k : ℕ) (row : Row) (a entry : Action) (s : Summary) (o : Object) → row ≡ row_at R k → row.status ≡ Done true → row.action ≡ Some a → h (action_id a) ≡ Some entry → Compiles entry (Good s o)
+    → HasSummary h (standings_of R) k s
+has_of h R k row a entry s o same done its held compiled = record {
+  done = status_row R k ∙ ap (λ (r : Row). r.status) (sym same) ∙ done;
+  action = a;
+  its = action_row R k ∙ ap (λ (r : Row). r.action) (sym same) ∙ its;
+  entry = entry;
+  is_held = held;
+  object = o;
+  compiled = compiled;
+}
+
+pub undone_has : (h : Held) (R : List Row) (k : ℕ) → ((row_at R k).status ≡ Done true → ⊥) → (s : Summary) → ¬ (HasSummary h (standings_of R) k s)
+undone_has h R k not s g = not (sym (status_row R k) ∙ g.done)
+
+pub past_has : (h : Held) (R : List Row) (k : ℕ) → length R ≤ k → (s : Summary) → ¬ (HasSummary h (standings_of R) k s)
+past_has h R k le = undone_has h R k (λ d. (let c : Blocked ≡ Done true = sym (ap (λ (r : Row). r.status) (row_past R k le)) ∙ d in cc))

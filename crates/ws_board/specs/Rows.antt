@@ -1,0 +1,259 @@
+-- Rows of jobs, what may still be read of them, and how they wait.
+use Rattle.std.specs.Prelude.{◌≡◌, ℕ, ◌+◌, ◌-◌, ◌*◌, ◌≤◌, ◌<◌, ◌||◌, ◌&&◌, ◌==◌, ◌^◌, if◌then◌else◌, ◌⊎◌, ◌↔◌, Bool, true, false, List, [], ◌∷◌, length, map, take, Option, None, Some, slice_set}
+use Rattle.std.specs.List.{All, sum_by, slice_get, slice_index_or, list_any, count_by, Contains}
+use Rattle.std.specs.Str.{bytes_eq}
+use Rattle.ws_action.specs.Actions.{Action, action_id}
+use Rattle.ws_board.specs.declared.work.Status.{Status}
+use Rattle.ws_board.specs.declared.work.Status.TheVariants.{Waiting, Ready, Running, Blocked, Done}
+use Rattle.ws_board.specs.declared.work.Event.{Event}
+use Rattle.ws_board.specs.declared.work.Event.TheVariants.{Take, Finish, Back, Idle}
+use Rattle.ws_board.specs.declared.rows.Row.{Row}
+use Rattle.ws_board.specs.declared.rows.Rows.{Rows}
+use Rattle.ws_board.specs.declared.ending.Parts.{Parts}
+use Rattle.ws_board.specs.declared.index.Ready.{Ready as AReady}
+use Rattle.ws_board.specs.declared.moves.Change.{Change}
+use Rattle.ws_board.specs.declared.moves.Moves.{Moves}
+use Rattle.ws_board.specs.Work.{Work, Job, Standings, Seen}
+use Rattle.ws_board.specs.Machine.{Held, Stands, is_waiting, is_open, is_running, is_ready, is_active, has_action_id, is_back_of}
+use Rattle.ws_board.specs.Carrying.{IsUnder}
+use Rattle.ws_board.specs.Ends.{imports_at, work_at}
+
+-- where there is no job, that of one that is blocked
+abbrev pub blank : Row
+blank = record { status = Blocked; action = None; left = 0; was_back = false; imports = 0; importers = 0 }
+
+abbrev pub row_at : List Row → ℕ → Row
+row_at rows k = slice_index_or rows k blank
+
+-- where the jobs stand, by their rows
+abbrev pub standings_of : List Row → Standings
+standings_of rows = record { statuses = map (λ r. r.status) rows; actions = map (λ r. r.action) rows }
+
+-- what a board's value says
+abbrev pub seen_of : Parts → Seen
+seen_of parts = record { opening = record { jobs = parts.jobs.items; cache = parts.opened }; state = record { standings = standings_of parts.rows.items; added = parts.added }; history = parts.history.items; looks = parts.looks }
+
+-- ---- reads
+
+-- to tell its importers costs four reads for each, and one
+abbrev pub telling : ℕ → ℕ
+telling importers = 4 * importers + 1
+
+-- how many reads a job that stands so may still cost
+abbrev pub due_of : Status → ℕ → ℕ → ℕ → ℕ
+due_of Waiting left imports importers = 2 + 2 * left + 2 * imports + telling importers
+due_of Ready left imports importers = 2 + telling importers
+due_of (Running hand) left imports importers = 1 + telling importers
+due_of Blocked left imports importers = 0
+due_of (Done good) left imports importers = 0
+
+abbrev pub due : Row → ℕ
+due row = due_of row.status row.left row.imports row.importers
+
+abbrev pub owed : List Row → ℕ
+owed rows = sum_by due rows
+
+-- and those that are done or blocked, and of which no importer was told
+abbrev pub untold : List (List ℕ) → List ℕ → ℕ
+untold importers settled = sum_by (λ k. telling (length (slice_index_or importers k []))) settled
+
+-- how many imports all jobs have
+abbrev pub import_count : List Job → ℕ
+import_count jobs = sum_by (λ job. length job.imports) jobs
+
+-- what the reads of a board with so many jobs, imports and backs come to, however it goes on
+abbrev pub IsPaid : ℕ → List Row → ℕ → ℕ → Type 0
+IsPaid looks rows imports backs = (length rows ≤ looks) × (looks + owed rows ≤ 6 * length rows + 8 * imports + 2 * backs)
+
+-- at least the number of jobs, and at most 8 times that, 8 times that of imports and 4 times that of backs together
+pub record IsBounded (looks jobs imports backs : ℕ) : Type 0 where
+  pub least : jobs ≤ looks
+  pub most : looks ≤ 8 * jobs + 8 * imports + 4 * backs
+
+abbrev pub is_back : Event → Bool
+is_back (Take hand k) = false
+is_back (Finish hand k) = false
+is_back (Back hand k) = true
+is_back (Idle hand) = false
+
+abbrev pub IsWithin : Seen → Type 0
+IsWithin seen = IsBounded seen.looks (length seen.opening.jobs) (import_count seen.opening.jobs) (count_by is_back seen.history)
+
+-- ---- what never changes
+
+-- each row counts its job's imports and those that import it, and who imports a job is among these
+pub record AreKnownBy (every : List Job) (told : List (List ℕ)) (rows : List Row) : Type 0 where
+  pub jobs : length rows ≡ length every
+  pub lists : length told ≡ length every
+  pub fits : import_count every < 2 ^ 64
+  pub imports : (k : ℕ) → (row_at rows k).imports ≡ length (imports_at every k)
+  pub importers : (k : ℕ) → (row_at rows k).importers ≡ length (slice_index_or told k [])
+  pub named : (j k : ℕ) → Contains (imports_at every j) k → k < length every → Contains (slice_index_or told k []) j
+  pub inside : (j k : ℕ) → Contains (slice_index_or told k []) j → j < length every
+
+abbrev pub AreKnown : Rows → Type 0
+AreKnown rows = AreKnownBy rows.jobs.items rows.importers.items rows.rows.items
+
+-- the job joined the lists of those that it imports
+pub record Adds (old new : List (List ℕ)) (imports : List ℕ) (job : ℕ) : Type 0 where
+  pub lists : length new ≡ length old
+  pub keeps : (k j : ℕ) → Contains (slice_index_or old k []) j → Contains (slice_index_or new k []) j
+  pub named : (k : ℕ) → Contains imports k → k < length old → Contains (slice_index_or new k []) job
+  pub only : (k j : ℕ) → Contains (slice_index_or new k []) j → Contains (slice_index_or old k []) j ⊎ (j ≡ job)
+  pub count : sum_by (λ list. length list) new ≤ sum_by (λ list. length list) old + length imports
+
+-- of the first so many jobs, each is in the lists of those that it imports
+pub record AreImporters (jobs : List Job) (n : ℕ) (lists : List (List ℕ)) : Type 0 where
+  pub same_length : length lists ≡ length jobs
+  pub named : (j k : ℕ) → j < n → Contains (imports_at jobs j) k → k < length jobs → Contains (slice_index_or lists k []) j
+  pub inside : (j k : ℕ) → Contains (slice_index_or lists k []) j → j < n
+  pub count : sum_by (λ list. length list) lists ≤ import_count (take n jobs)
+
+-- the row of a job of whose imports nothing is known
+abbrev pub first_row : List Job → List (List ℕ) → ℕ → Row
+first_row jobs importers k = record { status = Waiting; action = None; left = length (imports_at jobs k); was_back = false; imports = length (imports_at jobs k); importers = length (slice_index_or importers k []) }
+
+-- at first jobs wait, and of their imports nothing is known
+pub record AreFirst (jobs : List Job) (importers : List (List ℕ)) (n : ℕ) (rows : List Row) : Type 0 where
+  pub count : length rows ≡ n
+  pub each : (k : ℕ) → k < n → row_at rows k ≡ first_row jobs importers k
+
+-- ---- how jobs wait
+
+-- the last of the imports of a job that may be open
+abbrev pub watched : List Job → List Row → ℕ → ℕ
+watched jobs rows j = slice_index_or (imports_at jobs j) ((row_at rows j).left - 1) 0
+
+-- a job has work, and the last of its imports that may be open is open, or those that import it are about to be told
+pub record IsHeldUp (jobs : List Job) (rows : List Row) (settled : List ℕ) (j : ℕ) : Type 0 where
+  pub some : 0 < (row_at rows j).left
+  pub within : (row_at rows j).left ≤ length (imports_at jobs j)
+  pub inside : watched jobs rows j < length rows
+  pub work : (work : Work) × (work_at jobs j ≡ Some work)
+  pub on : (is_open (row_at rows (watched jobs rows j)).status || list_any (λ k. k == watched jobs rows j) settled) ≡ true
+
+-- each job that waits is about to be carried on, or is held up
+abbrev pub Waits : List Job → List Row → List ℕ → (ℕ → Bool) → Type 0
+Waits jobs rows settled pending = (j : ℕ) → is_waiting (row_at rows j).status ≡ true → pending j ≡ false → IsHeldUp jobs rows settled j
+
+-- behind its first so many imports none is open
+abbrev pub IsOpenPast : List Job → List Row → ℕ → ℕ → Type 0
+IsOpenPast jobs rows job left = (i : ℕ) → left ≤ i → i < length (imports_at jobs job) → is_open (row_at rows (slice_index_or (imports_at jobs job) i 0)).status ≡ false
+
+abbrev pub AllPast : List Job → List Row → Type 0
+AllPast jobs rows = (job : ℕ) → is_waiting (row_at rows job).status ≡ true → IsOpenPast jobs rows job (row_at rows job).left
+
+-- of no more imports than a job has it is open whether they are
+abbrev pub AreWithin : List Job → List Row → Type 0
+AreWithin jobs rows = (job : ℕ) → is_waiting (row_at rows job).status ≡ true → (row_at rows job).left ≤ length (imports_at jobs job)
+
+-- ---- what carrying on keeps
+
+-- how often a number stands there
+abbrev pub times : ℕ → List ℕ → ℕ
+times k ks = count_by (λ j. j == k) ks
+
+-- the jobs with an id among those that became ready
+abbrev pub those_of : List ℕ → List AReady → List ℕ
+those_of id [] = []
+those_of id (one ∷ ready) = if bytes_eq one.id id then one.job ∷ those_of id ready else those_of id ready
+
+-- the job waited, and is ready with an action of that id
+abbrev pub is_new : List Row → List Row → List ℕ → ℕ → Bool
+is_new old new id k = is_waiting (row_at old k).status && (is_ready (row_at new k).status && has_action_id id (row_at new k).action)
+
+-- the jobs that waited and became ready joined these, each once, with its id
+abbrev pub AreListed : List Row → List Row → List AReady → List AReady → Type 0
+AreListed old new before after = (k : ℕ) (id : List ℕ) → times k (those_of id after) ≡ times k (those_of id before) + (if is_new old new id k then 1 else 0)
+
+-- what may be carried on: how many imports of a job that waits may be open is known, and it has no action
+pub record AreCarriedBy (jobs : List Job) (importers : List (List ℕ)) (rows : List Row) : Type 0 where
+  pub known : AreKnownBy jobs importers rows
+  pub past : AllPast jobs rows
+  pub within : AreWithin jobs rows
+  pub bare : (k : ℕ) → (row_at rows k).status ≡ Waiting → (row_at rows k).action ≡ None
+
+abbrev pub AreCarried : Rows → Type 0
+AreCarried rows = AreCarriedBy rows.jobs.items rows.importers.items rows.rows.items
+
+-- the row of a job that waited, as its imports say, as they stand
+pub record Becomes (h : Held) (jobs : List Job) (rows : List Row) (job : ℕ) (row : Row) : Type 0 where
+  pub waited : is_waiting (row_at rows job).status ≡ true
+  pub inside : job < length rows
+  pub same : row ≡ record (row_at rows job) { status = row.status; action = row.action; left = row.left }
+  pub stands : Stands h (standings_of rows) (slice_get jobs job) row.status row.action
+  pub fewer : row.left ≤ (row_at rows job).left
+  pub past : IsOpenPast jobs rows job row.left
+  pub on : is_waiting row.status ≡ true → (0 < row.left) × (is_open (row_at rows (slice_index_or (imports_at jobs job) (row.left - 1) 0)).status ≡ true)
+
+-- a job that is ready, with its id
+abbrev pub ready_of : ℕ → Status → Option Action → List AReady
+ready_of job Ready (Some action) = record { job = job; id = action_id action } ∷ []
+ready_of job Ready None = []
+ready_of job Waiting action = []
+ready_of job (Running hand) action = []
+ready_of job Blocked action = []
+ready_of job (Done good) action = []
+
+-- From the one to the other jobs were carried on by what is held, for so many reads beside those that were owed.
+pub record CarriesOn (h : Held) (spare : ℕ) (old new : Rows) (before after : Moves) (looks next : ℕ) : Type 0 where
+  pub jobs : new.jobs.items ≡ old.jobs.items
+  pub importers : new.importers.items ≡ old.importers.items
+  pub good : AreCarried new
+  pub under : (first : Standings) → IsUnder old.jobs.items h first (standings_of old.rows.items) → IsUnder old.jobs.items h first (standings_of new.rows.items)
+  pub backs : (k : ℕ) → (row_at new.rows.items k).was_back ≡ (row_at old.rows.items k).was_back
+  pub runs : count_by is_running (standings_of new.rows.items).statuses ≡ count_by is_running (standings_of old.rows.items).statuses
+  pub listed : AreListed old.rows.items new.rows.items before.ready.items after.ready.items
+  pub fewer : length after.settled.items + count_by is_open (standings_of new.rows.items).statuses ≤ length before.settled.items + count_by is_open (standings_of old.rows.items).statuses
+  pub paid : next + owed new.rows.items + untold new.importers.items after.settled.items ≤ looks + owed old.rows.items + untold old.importers.items before.settled.items + spare
+  pub more : looks ≤ next
+
+-- whether the job is ready or runs, and its action has the id
+abbrev pub is_active_of : List Row → List ℕ → ℕ → Bool
+is_active_of rows id k = is_active (row_at rows k).status && has_action_id id (row_at rows k).action
+
+-- the row of a job, once its id is done
+abbrev pub marked_row : List Row → List ℕ → Bool → ℕ → Row
+marked_row rows id good k = if is_active_of rows id k then record (row_at rows k) { status = Done good } else row_at rows k
+
+-- the jobs with the id that were ready or ran are done, and are among those whose importers are to be told
+pub record Marks (id : List ℕ) (good : Bool) (old new : List Row) (settled : List ℕ) : Type 0 where
+  pub count : length new ≡ length old
+  pub each : (k : ℕ) → row_at new k ≡ marked_row old id good k
+  pub told : (k : ℕ) → is_active_of old id k ≡ true → list_any (λ s. s == k) settled ≡ true
+
+-- The jobs with the id are done, and from there jobs were carried on until nothing changes.
+pub record FinishesRows (h : Held) (id : List ℕ) (result : Bool) (old new : Rows) (ready : List AReady) : Type 0 where
+  pub marked : List Row
+  pub settled : List ℕ
+  pub marks : Marks id result old.rows.items marked settled
+  pub from : AreCarriedBy old.jobs.items old.importers.items marked
+  pub good : AreCarriedBy old.jobs.items old.importers.items new.rows.items
+  pub under : (first : Standings) → IsUnder old.jobs.items h first (standings_of marked) → IsUnder old.jobs.items h first (standings_of new.rows.items)
+  pub waits : Waits old.jobs.items new.rows.items [] (λ j. false)
+  pub backs : (k : ℕ) → (row_at new.rows.items k).was_back ≡ (row_at old.rows.items k).was_back
+  pub runs : count_by is_running (standings_of new.rows.items).statuses ≡ count_by is_running (standings_of marked).statuses
+  pub listed : (k : ℕ) (i : List ℕ) → times k (those_of i ready) ≡ (if is_new marked new.rows.items i k then 1 else 0)
+
+-- ---- putting back
+
+-- the last row that was written is put back first
+abbrev pub undone : List Change → List Row → List Row
+undone [] rows = rows
+undone (change ∷ log) rows = slice_set (undone log rows) change.job change.was
+
+-- these are numbers of rows
+abbrev pub AreWritten : ℕ → List Change → Type 0
+AreWritten n log = All (λ change. change.job < n) log
+
+-- what was written can be put back
+pub record IsUndone (old new : Rows) (before after : Moves) : Type 0 where
+  pub rows : undone after.log.items new.rows.items ≡ undone before.log.items old.rows.items
+  pub count : length new.rows.items ≡ length old.rows.items
+  pub jobs : new.jobs.items ≡ old.jobs.items
+  pub importers : new.importers.items ≡ old.importers.items
+  pub written : AreWritten (length old.rows.items) before.log.items → AreWritten (length old.rows.items) after.log.items
+
+-- whether each job was ever given back
+abbrev pub KnowsBacks : List Row → List Event → Type 0
+KnowsBacks rows history = (k : ℕ) → k < length rows → (row_at rows k).was_back ≡ list_any (is_back_of k) history
