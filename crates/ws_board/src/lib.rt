@@ -106,9 +106,11 @@ impl Board {
     }
 
     /// How often the rows of jobs and of imports were read, by the opening and by all calls of
-    /// `take`, `finish` and `back` that weren't refused.
+    /// `take`, `finish` and `back` that weren't refused: at any moment no more than so many for each
+    /// job, import and back.
     pub fn looks(&self) -> u128
-        ensures { result ≡ self.now.looks }
+        ensures is { result ≡ self.now.looks }
+        ensures within { IsWithin self.now }
     {
         self.looks
     }
