@@ -1,5 +1,6 @@
 -- A board may go to another thread: so may what it holds, type by type.
-use denote.Param.Send.{IsSend, sendable}
+use denote.Struct.Declared as declared
+use denote.Param.Send.{IsSend, struct_send, recorded_send, view_send, sendable}
 use Rattle.std.proofs.Crossing.{crosses}
 use Rattle.std.proofs.MapsCrossing as maps
 use Rattle.ws_action.proofs.Crossing.{action_send, action_sync, files_send, files_sync}
@@ -16,6 +17,7 @@ use Rattle.ws_board.specs.contracts.index.Run as run
 use Rattle.ws_board.specs.contracts.index.Id as id
 use Rattle.ws_board.specs.contracts.index.Index as index
 use Rattle.ws_board.specs.contracts.Board as board
+use Rattle.ws_board.specs.contracts.Board.TheInside as inside
 
 -- what owners share has to be both
 identified_send : IsSend identified.the_row
@@ -33,7 +35,7 @@ numbers_send = search (crosses, sendable) depth 20
 row_send : IsSend row.the_row
 row_send = search (identified_send, status.the_field_send, crosses, sendable) depth 20
 
-rows_send : IsSend rows.the_row
+rows_send : IsSend (rows.the_field).row
 rows_send = search (job_send, numbers_send, row_send, crosses, sendable) depth 20
 
 run_send : IsSend run.the_row
@@ -42,8 +44,21 @@ run_send = search (identified_send, crosses, sendable) depth 20
 id_send : IsSend id.the_row
 id_send = search (run_send, crosses, sendable) depth 20
 
-index_send : IsSend index.the_row
+index_send : IsSend (index.the_field).row
 index_send = search (id_send, crosses, maps.crosses, sendable) depth 20
 
+fields_send : IsSend (inside.the_field).row
+fields_send = struct_send (declared.shape inside.the_type) (
+    search (crosses, sendable) depth 20,
+    (rows_send,
+    (search sendable depth 20,
+    (index_send,
+    (cache_send,
+    (cache_send,
+    (search (event.the_field_send, crosses, sendable) depth 20, tt)))))))
+
+inside_send : IsSend inside.the_row
+inside_send = recorded_send (inside.the_field).row _ _ (inside.the_type).to_one fields_send
+
 pub board_send : IsSend board.the_row
-board_send = search (rows_send, index_send, cache_send, event.the_field_send, crosses, sendable) depth 20
+board_send = view_send inside.the_row _ _ board.the_view board.the_invariant inside_send
