@@ -1,5 +1,4 @@
 use Rattle.std.proofs.Common.{[], subst, arith}
-use Rattle.go_flat.specs.Reaching.{Reaches}
 use Rattle.go_vm.specs.Ahead.{Went}
 use Rattle.go_vm.specs.Told.{state_of}
 use Rattle.go_vm.specs.declared.machine.World.{World}
