@@ -1,12 +1,17 @@
+pub mod Calling
 pub mod Coming
 pub mod Decoding
+pub mod Going
 pub mod Handed
 pub mod Lifting
+pub mod Moving
 pub mod Numbers
+pub mod OneRow
 pub mod Pushing
 pub mod Readings
 pub mod Rows
 pub mod Settled
+pub mod Shells
 pub mod Sinks
 pub mod Together
 pub mod Views

@@ -8,3 +8,4 @@ pub mod Trees
 pub mod Coming
 pub mod Flats
 pub mod Readings
+pub mod Calls

@@ -3,6 +3,7 @@
 
 mod ahead;
 mod arithmetic;
+mod calls;
 mod decode;
 mod flat;
 mod frames;

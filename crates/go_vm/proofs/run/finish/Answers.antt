@@ -1,5 +1,4 @@
 use Rattle.std.proofs.Common.{[], subst, arith}
-use Rattle.go_flat.specs.Reaching.{Reaches}
 use Rattle.go_vm.specs.Ahead.{Went}
 use Rattle.go_vm.specs.Told.{state_of}
 use Rattle.go_vm.specs.declared.machine.World.{World}
@@ -14,7 +13,7 @@ loop-pace-smaller c =
     let w : World = record c.loop-pace.world { ticks = c.run_flat.new.ticks } in
     omega (
       arith,
-      reaches_less image (state_of c.loop-pace.frames [] c.loop-pace.world) (state_of c.run_flat.new.frames [] w) (c.in_ok-run_flat.ensures image [] c.loop-pace.world),
+      reaches_less image (state_of c.loop-pace.frames [] c.loop-pace.world) (state_of c.run_flat.new.frames [] w) (c.in_ok-run_flat.ensures [] c.loop-pace.world),
       comes_less image (state_of c.run_flat.new.frames [] w) (state_of c.advance.new.frames [] c.advance.new.world)
           (subst (λ flow. Went image (state_of c.run_flat.new.frames [] w) flow (state_of c.advance.new.frames [] c.advance.new.world)) c.in-GoesOn.is (c.in_ok-advance.ensures [])),
     )
@@ -24,7 +23,7 @@ loop-pace-preserved c = λ starts final l.
     let image = c.args.image.now in
     let w : World = record c.loop-pace.world { ticks = c.run_flat.new.ticks } in
     c.loop-pace.invariant starts final
-    (reaches_leads image (state_of c.loop-pace.frames starts c.loop-pace.world) (state_of c.run_flat.new.frames starts w) final (c.in_ok-run_flat.ensures image starts c.loop-pace.world)
+    (reaches_leads image (state_of c.loop-pace.frames starts c.loop-pace.world) (state_of c.run_flat.new.frames starts w) final (c.in_ok-run_flat.ensures starts c.loop-pace.world)
     (comes_leads image (state_of c.run_flat.new.frames starts w) (state_of c.advance.new.frames starts c.advance.new.world) final
     (subst (λ flow. Went image (state_of c.run_flat.new.frames starts w) flow (state_of c.advance.new.frames starts c.advance.new.world)) c.in-GoesOn.is (c.in_ok-advance.ensures starts)) l))
 
@@ -33,6 +32,6 @@ returns-in-Leaves c = λ starts final l.
     let image = c.args.image.now in
     let w : World = record c.loop-pace.world { ticks = c.run_flat.new.ticks } in
     c.loop-pace.invariant starts final
-    (reaches_leads image (state_of c.loop-pace.frames starts c.loop-pace.world) (state_of c.run_flat.new.frames starts w) final (c.in_ok-run_flat.ensures image starts c.loop-pace.world)
+    (reaches_leads image (state_of c.loop-pace.frames starts c.loop-pace.world) (state_of c.run_flat.new.frames starts w) final (c.in_ok-run_flat.ensures starts c.loop-pace.world)
     (comes_out image (state_of c.run_flat.new.frames starts w) c.in-Leaves.exit c.advance.new.frames starts c.advance.new.world
     (subst (λ flow. Went image (state_of c.run_flat.new.frames starts w) flow (state_of c.advance.new.frames starts c.advance.new.world)) c.in-Leaves.is (c.in_ok-advance.ensures starts)) final l))
