@@ -112,7 +112,7 @@ fn drives(
     Ok(backs)
 }
 
-fn reads(
+fn built_reads(
     rt: &impl Abort,
     alloc: Global,
     shape: Shape,
@@ -143,8 +143,7 @@ fn reads(
 }
 
 fn is_within(reads: &Reads) -> bool {
-    reads.jobs <= reads.looks
-        && reads.looks <= 8 * reads.jobs + 8 * reads.imports + 4 * reads.backs
+    reads.jobs <= reads.looks && reads.looks <= 8 * reads.jobs + 8 * reads.imports + 4 * reads.backs
 }
 
 #[test]
@@ -156,11 +155,11 @@ fn looks_are_bounded(rt: HostRuntime) -> Result<(), Fail> {
         Shape::Tree,
         Shape::Whole,
     ] {
-        let few = reads(&rt, rt.alloc(), shape, 1, true)?;
+        let few = built_reads(&rt, rt.alloc(), shape, 1, true)?;
         assert!(rt; is_within(&few));
-        let once = reads(&rt, rt.alloc(), shape, 56, false)?;
+        let once = built_reads(&rt, rt.alloc(), shape, 56, false)?;
         assert!(rt; is_within(&once));
-        let twice = reads(&rt, rt.alloc(), shape, 56, true)?;
+        let twice = built_reads(&rt, rt.alloc(), shape, 56, true)?;
         assert!(rt; is_within(&twice) && twice.backs == 56);
         // A back costs a look at most: that of the take that gives the job again.
         assert!(rt; twice.looks <= once.looks + twice.backs);
