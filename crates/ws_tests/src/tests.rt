@@ -7,6 +7,5 @@ mod entries;
 mod fixture;
 mod groupings;
 mod joins;
-mod looks;
 mod replicas;
 mod snapshots;
