@@ -49,13 +49,24 @@ index_send = search (id_send, crosses, maps.crosses, sendable) depth 20
 
 fields_send : IsSend (inside.the_field).row
 fields_send = struct_send (declared.shape inside.the_type) (
-    search (crosses, sendable) depth 20,
-    (rows_send,
-    (search sendable depth 20,
-    (index_send,
-    (cache_send,
-    (cache_send,
-    (search (event.the_field_send, crosses, sendable) depth 20, tt)))))))
+  search (crosses, sendable) depth 20,
+  (
+    rows_send,
+    (
+      search sendable depth 20,
+      (
+        index_send,
+        (
+          cache_send,
+          (
+            cache_send,
+            (search (event.the_field_send, crosses, sendable) depth 20, tt),
+          ),
+        ),
+      ),
+    ),
+  ),
+)
 
 inside_send : IsSend inside.the_row
 inside_send = recorded_send (inside.the_field).row _ _ (inside.the_type).to_one fields_send
