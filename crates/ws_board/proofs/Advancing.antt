@@ -11,7 +11,7 @@ use Rattle.std.proofs.lemmas.List.{length-append}
 use Rattle.ws_action.specs.Actions.{Action, action_id}
 use Rattle.ws_board.specs.declared.work.Status.{Status}
 use Rattle.ws_board.specs.declared.work.Status.TheVariants.{Waiting, Ready, Running, Blocked, Done}
-use Rattle.ws_board.specs.declared.rows.Row.{Row}
+use Rattle.ws_board.specs.declared.table.Row.{Row}
 use Rattle.ws_board.specs.declared.rows.Rows.{Rows}
 use Rattle.ws_board.specs.declared.index.Ready.{Ready as AReady}
 use Rattle.ws_board.specs.declared.moves.Moves.{Moves}
@@ -19,7 +19,8 @@ use Rattle.ws_board.specs.Work.{Work, Job, Standings}
 use Rattle.ws_board.specs.Machine.{Held, Stands, Verdict, Wait, Stop, Act, IsVerdict, Follows, IsPlaced, is_open, is_waiting, is_ready, is_running, status_at, action_at, has_action_id}
 use Rattle.ws_board.specs.Carrying.{IsUnder}
 use Rattle.ws_board.specs.Ends.{imports_at, work_in}
-use Rattle.ws_board.specs.Rows.{row_at, standings_of, times, those_of, is_new, ready_of, due, owed, untold, telling, watched, AreKnownBy, AreCarriedBy, AllPast, AreWithin, IsOpenPast, IsHeldUp, Waits, Becomes, CarriesOn}
+use Rattle.ws_board.specs.Rows.{times, those_of, is_new, ready_of, due, owed, untold, telling, watched, AreKnownBy, AreCarriedBy, AllPast, AreWithin, IsOpenPast, IsHeldUp, Waits, Becomes, CarriesOn}
+use Rattle.ws_board.specs.Table.{row_at, standings_of}
 use Rattle.ws_board.proofs.Carry.{keep_under, waiting_is, waiting_or, waits_bare}
 use Rattle.ws_board.proofs.Runs.{stands_rests}
 use Rattle.ws_board.proofs.Standing.{status_row, action_row, length_statuses, length_actions, statuses_set, actions_set, standings_parts, row_same, row_other, open_inside, waiting_open, owed_set, runs_set, opens_set}

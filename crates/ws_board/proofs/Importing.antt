@@ -9,11 +9,12 @@ use Rattle.std.proofs.lemmas.List.Elements.{Contains-append_left, Contains-push,
 use Rattle.std.proofs.lemmas.List.Sums.{sum_by-set, sum_by-cons, sum_by_more}
 use Rattle.std.proofs.lemmas.Option.{slice_get_past, slice_get-get_or}
 use Rattle.ws_board.specs.declared.work.Status.TheVariants.{Waiting}
-use Rattle.ws_board.specs.declared.rows.Row.{Row}
+use Rattle.ws_board.specs.declared.table.Row.{Row}
 use Rattle.ws_board.specs.Work.{Job}
 use Rattle.ws_board.specs.Machine.{is_waiting, is_open}
 use Rattle.ws_board.specs.Ends.{imports_in, imports_at}
-use Rattle.ws_board.specs.Rows.{blank, row_at, due, owed, import_count, first_row, AreFirst, Adds, AreImporters, AreKnownBy, AreCarriedBy, AllPast, AreWithin}
+use Rattle.ws_board.specs.Rows.{due, owed, import_count, first_row, AreFirst, Adds, AreImporters, AreKnownBy, AreCarriedBy, AllPast, AreWithin}
+use Rattle.ws_board.specs.Table.{blank, row_at}
 use Rattle.ws_board.proofs.Standing.{row_past, open_inside, waiting_open}
 
 set_past : {X : Type 0} (xs : List X) (k : ℕ) (x : X) → length xs ≤ k → set xs k x ≡ xs

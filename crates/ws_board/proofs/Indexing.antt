@@ -54,11 +54,6 @@ marks_one old new jobs i may lt inside each k = by_job (cases_eq k (get_or jobs 
         get_or-set_other new (get_or jobs i 0) k may false ne ∙ each k
         ∙ sym (ap (λ b. if list_any (λ j. eqb j k) (take i jobs) || b then may else get_or old k false) (eqb_not (get_or jobs i 0) k (λ e. ne (sym e))) ∙ or_false (list_any (λ j. eqb j k) (take i jobs)))
 
-pub least_one : (jobs : List ℕ) (i m n : ℕ) → i < length jobs → n ≤ m → n ≤ get_or jobs i 0 → All (λ j. m ≤ j) (take i jobs) → All (λ j. n ≤ j) (take (i + 1) jobs)
-least_one jobs i m n lt le at all =
-    subst (All (λ j. n ≤ j)) (sym (take_more jobs i 0 lt))
-    (All-push (λ j. n ≤ j) (take i jobs) (get_or jobs i 0) (λ k d l. (let h : m ≤ get_or (take i jobs) k d = all k d l in omega (arith, le, h))) at)
-
 -- ---- jobs with their ids
 
 those_cons : (id : List ℕ) (one : AReady) (ready : List AReady) → those_of id (one ∷ ready) ≡ those_of id (one ∷ []) ++ those_of id ready
@@ -127,10 +122,10 @@ module _ (now base : List ℕ → List ℕ) (ready : List AReady) (n : ℕ) (d :
 -- ---- nothing but the ids' jobs changed
 
 pub same_none : (index : Index) → IsSameBut index index
-same_none index = record { runs = λ id. refl; free = refl; from = refl; running = refl }
+same_none index = record { runs = λ id. refl; free = refl; running = refl }
 
 pub same_then : (a b c : Index) → IsSameBut a b → IsSameBut b c → IsSameBut a c
-same_then a b c p q = record { runs = λ id. q.runs id ∙ p.runs id; free = q.free ∙ p.free; from = q.from ∙ p.from; running = q.running ∙ p.running }
+same_then a b c p q = record { runs = λ id. q.runs id ∙ p.runs id; free = q.free ∙ p.free; running = q.running ∙ p.running }
 
 -- ---- jobs that may be given
 
@@ -192,15 +187,3 @@ module _ (run ran : List ℕ → Option Run) (same : (id : List ℕ) → ran id 
       either true false c = refl
       either false true c = refl
       either false false c = refl
-
-  pub from_more : (from least : ℕ) → least ≤ from → ((k : ℕ) → released run (take n ready) k ≡ true → from ≤ k) → (released ran (next ∷ []) next.job ≡ true → least ≤ next.job)
-      → (k : ℕ) → released run (take (n + 1) ready) k ≡ true → least ≤ k
-  from_more from least lower each its k h = by_parts (or_parts (released run (take n ready) k) (released ran (next ∷ []) k) (sym (more k) ∙ h))
-    where
-      by_parts : (released run (take n ready) k ≡ true) ⊎ (released ran (next ∷ []) k ≡ true) → least ≤ k
-      by_parts (inl e) = let f = each k e in omega (arith, lower, f)
-      by_parts (inr e) =
-          let a : ((eqb next.job k) && is_none (ran next.id)) ≡ true = sym (or_false ((eqb next.job k) && is_none (ran next.id))) ∙ e in
-          let j : next.job ≡ k = eqb_is next.job k (and_first (eqb next.job k) (is_none (ran next.id)) a) in
-          let f : least ≤ next.job = its (subst (λ i. released ran (next ∷ []) i ≡ true) (sym j) e) in
-          omega (arith, f, j)

@@ -35,7 +35,7 @@ settled-preserved c =
       on = carries_then h 0 0 c.args.rows.now l c.tell.new.rows c.args.moves.now c.settled.moves c.tell.new.moves c.args.looks.now c.settled.looks c.tell.new.looks c.requires.good p.on
           (carries_popped h (telling (length (slice_index_or l.importers.items job []))) l c.tell.new.rows c.settled.moves popped c.tell.new.moves job c.settled.looks c.tell.new.looks refl c.in-Some.ensures.items refl q.on);
       undone = undone_then c.args.rows.now l c.tell.new.rows c.args.moves.now c.settled.moves c.tell.new.moves p.undone (popped_undone l c.tell.new.rows c.settled.moves popped c.tell.new.moves refl c.tell.ensures.undone);
-      waits = q.waits (popped_waits l.jobs.items l.importers.items l.rows.items c.pop.new.self.items c.settled.moves.settled.items job p.on.good c.in-Some.ensures.items p.waits);
+      waits = q.waits (popped_waits l.jobs.items l.importers.items l.rows c.pop.new.self.items c.settled.moves.settled.items job p.on.good c.in-Some.ensures.items p.waits);
     }
 
 pub settled-smaller : goal.settled-smaller

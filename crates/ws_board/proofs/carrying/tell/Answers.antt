@@ -29,7 +29,7 @@ importers-preserved c =
       on = told_one h n c.args.rows.now c.importers.rows c.advance.new.rows c.args.moves.now c.importers.moves c.advance.new.moves c.args.looks.now c.importers.looks c.importer.new.looks c.advance.new.looks c.requires.good p.on c.importer.ensures.one q.on;
       undone = undone_then c.args.rows.now c.importers.rows c.advance.new.rows c.args.moves.now c.importers.moves c.advance.new.moves p.undone c.advance.ensures.undone;
       within = omega (arith, lt);
-      waits = λ w. q.waits (λ j. list_any (λ i. eqb i j) (drop (n + 1) ks)) (told_waits c.importers.rows.jobs.items c.importers.rows.rows.items c.importers.moves.settled.items ks n k lt at (p.waits w));
+      waits = λ w. q.waits (λ j. list_any (λ i. eqb i j) (drop (n + 1) ks)) (told_waits c.importers.rows.jobs.items c.importers.rows.rows c.importers.moves.settled.items ks n k lt at (p.waits w));
     }
 
 pub importers-smaller : goal.importers-smaller
@@ -54,4 +54,4 @@ returns-clause-waits c =
     let n = c.importers.number in
     let ks = slice_index_or c.args.rows.now.importers.items c.args.job [] in
     let past : length ks ≤ n = get_past ks n (ap (λ l. slice_get (slice_index_or l c.args.job []) n) (sym p.on.importers) ∙ sym c.importer.ensures.is ∙ c.in_default.is) in
-    λ w. told_none c.importers.rows.jobs.items c.importers.rows.rows.items c.importers.moves.settled.items ks n past (p.waits w)
+    λ w. told_none c.importers.rows.jobs.items c.importers.rows.rows c.importers.moves.settled.items ks n past (p.waits w)

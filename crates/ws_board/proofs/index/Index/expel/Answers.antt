@@ -37,7 +37,6 @@ loop-count-preserved c =
       same = record {
         runs = λ id. c.leave.ensures.runs id ∙ c.loop-count.invariant.same.runs id;
         free = c.loop-count.invariant.same.free;
-        from = c.loop-count.invariant.same.from;
         running = c.loop-count.invariant.same.running;
       };
     }
