@@ -1,12 +1,11 @@
 -- The index once a job is taken, given back or done.
-use Rattle.std.proofs.Common.{◌≡◌, ℕ, ◌+◌, ◌<◌, ◌≤◌, Bool, true, false, ◌&&◌, cond, eqb, List, [], length, count_by, Option, Some, None, refl, sym, ap, ◌∙◌, arith, inl, inr, ◌⊎◌}
+use Rattle.std.proofs.Common.{◌≡◌, ℕ, ◌+◌, ◌<◌, Bool, true, false, ◌&&◌, cond, eqb, List, [], length, count_by, Option, Some, None, refl, sym, ap, ◌∙◌, arith, inl, inr, ◌⊎◌}
 use Rattle.std.specs.Prelude.{if◌then◌else◌, is_none}
-use Rattle.std.specs.List.{list_any, All}
+use Rattle.std.specs.List.{list_any}
 use Rattle.std.specs.Str.{bytes_eq}
 use Rattle.std.proofs.Math.ListN.{set, length-set}
 use Rattle.std.proofs.lemmas.Bool.{cases_eq}
 use Rattle.std.proofs.lemmas.Slice.Eq.{bytes_eq-Decides}
-use Rattle.std.proofs.lemmas.List.Elements.{All-contains}
 use Rattle.ws_action.specs.Actions.{Action, action_id}
 use Rattle.ws_board.specs.declared.work.Status.{Status}
 use Rattle.ws_board.specs.declared.work.Status.TheVariants.{Waiting, Ready, Running, Blocked, Done}
@@ -19,7 +18,6 @@ use Rattle.ws_board.specs.Indexes.{is_unrun, AgreesBy}
 use Rattle.ws_board.proofs.Runs.{at_most}
 use Rattle.ws_board.proofs.Ids.{of_id, at_id, off_id, same_id_or}
 use Rattle.ws_board.proofs.Standing.{status_row, length_statuses, row_same, row_other, runs_set}
-use Rattle.ws_board.proofs.Listing.{any_contains}
 use Rattle.ws_board.proofs.Agreeing.{both_of, both_and, none_of, ready_is, running_is, has_its, id_is, listed_active, one_run, unrun_none}
 
 run_parts : (hand other j k : ℕ) (a b : Action) → ◌≡◌ {A = Option Run} (Some (record { hand = hand; job = j; action = a })) (Some (record { hand = other; job = k; action = b })) → (hand ≡ other) × (j ≡ k) × (a ≡ b)

@@ -1,28 +1,27 @@
 -- Carrying on, one step after another.
-use Rattle.std.proofs.Common.{◌≡◌, ℕ, zero, suc, ◌+◌, ◌-◌, ◌*◌, ◌<◌, ◌≤◌, Bool, true, false, ◌&&◌, ◌||◌, cond, eqb, List, [], ◌∷◌, ◌++◌, length, drop, get_or, count_by, Option, Some, None, refl, sym, ap, ◌∙◌, subst, arith, inl, inr, ◌⊎◌}
+use Rattle.std.proofs.Common.{◌≡◌, ℕ, zero, suc, ◌+◌, ◌-◌, ◌*◌, ◌<◌, ◌≤◌, Bool, true, false, ◌&&◌, ◌||◌, eqb, List, [], ◌∷◌, ◌++◌, length, drop, get_or, count_by, Option, Some, None, refl, sym, ap, ◌∙◌, subst, arith, inl, inr, ◌⊎◌}
 use Rattle.std.specs.Prelude.{if◌then◌else◌, nat_le}
 use Rattle.std.specs.List.{list_any, slice_index_or, slice_get, Contains}
-use Rattle.std.proofs.lemmas.Bool.{cases_eq, cases_lt}
+use Rattle.std.proofs.lemmas.Bool.{cases_eq}
 use Rattle.std.proofs.lemmas.Bool.Decides.{nat_tests}
 use Rattle.std.proofs.lemmas.List.{length_push, drop_more}
 use Rattle.std.proofs.lemmas.List.Sums.{sum_by_push}
 use Rattle.std.proofs.lemmas.List.Elements.{Contains-get_or}
 use Rattle.ws_action.specs.Actions.{Action}
-use Rattle.ws_board.specs.declared.work.Status.{Status}
-use Rattle.ws_board.specs.declared.work.Status.TheVariants.{Waiting, Ready, Running, Blocked, Done}
+use Rattle.ws_board.specs.declared.work.Status.TheVariants.{Waiting}
 use Rattle.ws_board.specs.declared.table.Row.{Row}
 use Rattle.ws_board.specs.declared.rows.Rows.{Rows}
 use Rattle.ws_board.specs.declared.moves.Moves.{Moves}
 use Rattle.ws_board.specs.Work.{Work, Job, Standings}
 use Rattle.ws_board.specs.Machine.{Held, Carried, is_open, is_waiting, is_ready, is_running, status_at, action_at, has_action_id, any_open, Stands, Wait, IsVerdict}
-use Rattle.ws_board.specs.Carrying.{IsUnder, RestsAt, AllRest}
+use Rattle.ws_board.specs.Carrying.{IsUnder}
 use Rattle.ws_board.specs.Ends.{imports_at, imports_in, work_in}
 use Rattle.ws_board.specs.Rows.{times, those_of, is_new, owed, untold, telling, watched, AreCarried, AreCarriedBy, IsHeldUp, Waits, CarriesOn, IsUndone, undone, AreWritten}
 use Rattle.ws_board.specs.Table.{row_at, standings_of}
 use Rattle.ws_board.proofs.Carry.{start_under, waiting_or, waiting_is, end_carried}
 use Rattle.ws_board.proofs.Standing.{status_row, action_row, open_inside, waiting_open}
 use Rattle.ws_board.proofs.Advancing.{not_new}
-use Rattle.ws_board.proofs.Listing.{any_push, any_append, contains_any, eqb_same, eqb_not, eqb_is}
+use Rattle.ws_board.proofs.Listing.{any_push, contains_any, eqb_not}
 
 bare_of : (J : List Job) (I : List (List ℕ)) (R : List Row) → AreCarriedBy J I R → (k : ℕ) → status_at (standings_of R).statuses k ≡ Waiting → action_at (standings_of R).actions k ≡ None
 bare_of J I R good k w = action_row R k ∙ good.bare k (sym (status_row R k) ∙ w)

@@ -1,20 +1,16 @@
 -- Rows of jobs, and where the jobs stand by them.
-use Rattle.std.proofs.Common.{◌≡◌, ℕ, zero, suc, ◌+◌, ◌<◌, ◌≤◌, Bool, true, false, cond, List, [], ◌∷◌, length, map, get_or, count_by, Option, Some, None, refl, sym, ap, ◌∙◌, subst, arith, inl, inr, get_or-set_other, get_or-set_same}
-use Rattle.std.proofs.Math.ListN.{set, length-set, get_or-map}
-use Rattle.std.specs.List.{sum_by, slice_get}
-use Rattle.std.proofs.lemmas.List.{map-set, length-map, set-get_or}
-use Rattle.std.proofs.lemmas.List.Sums.{sum_by-set, sum_by-cons, get_or-le-sum_by, sum_by_push, count_by-le-length}
-use Rattle.std.proofs.lemmas.Bool.{cases_eq, cases_lt}
-use Rattle.std.proofs.lemmas.Option.{slice_get_past, slice_get-get_or}
-use Rattle.ws_action.specs.Actions.{Action}
+use Rattle.std.proofs.Common.{◌≡◌, ℕ, zero, suc, ◌+◌, ◌<◌, ◌≤◌, true, false, cond, List, [], ◌∷◌, length, get_or, count_by, refl, sym, ap, ◌∙◌, arith, inl, inr, get_or-set_other, get_or-set_same}
+use Rattle.std.proofs.Math.ListN.{set, get_or-map}
+use Rattle.std.proofs.lemmas.List.{map-set, length-map}
+use Rattle.std.proofs.lemmas.List.Sums.{sum_by-set, sum_by-cons, get_or-le-sum_by, count_by-le-length}
+use Rattle.std.proofs.lemmas.Bool.{cases_lt}
 use Rattle.ws_board.specs.declared.work.Status.{Status}
 use Rattle.ws_board.specs.declared.work.Status.TheVariants.{Waiting, Ready, Running, Blocked, Done}
 use Rattle.ws_board.specs.declared.table.Row.{Row}
-use Rattle.ws_board.specs.Work.{Job, Standings}
+use Rattle.ws_board.specs.Work.{Standings}
 use Rattle.ws_board.specs.Machine.{is_waiting, is_open, is_running, status_at, action_at}
-use Rattle.ws_board.specs.Rows.{due, owed, telling, untold}
+use Rattle.ws_board.specs.Rows.{due, owed}
 use Rattle.ws_board.specs.Table.{blank, row_at, standings_of}
-use Rattle.ws_board.proofs.Runs.{set_runs}
 
 pub status_row : (rows : List Row) (k : ℕ) → status_at (standings_of rows).statuses k ≡ (row_at rows k).status
 status_row rows k = get_or-map (λ (r : Row). r.status) rows k blank

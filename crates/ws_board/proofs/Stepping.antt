@@ -20,7 +20,7 @@ use Rattle.ws_board.specs.Work.{Job, Standings, Entries}
 use Rattle.ws_board.specs.Machine.{Held, Carried, Stands, Verdict, Wait, Stop, Act, Follows, IsPlaced, is_waiting, is_ready, is_running, status_at, action_at, has_id, has_action_id, is_run_of, is_back_of, IsFree, NoneFree, stood, unopened}
 use Rattle.ws_board.specs.Carrying.{IsUnder, held_with}
 use Rattle.ws_board.specs.Calls.{SomeRuns}
-use Rattle.ws_board.specs.Rows.{is_new, is_back, owed, AreFirst, AreCarriedBy, IsPaid, IsBounded, Waits}
+use Rattle.ws_board.specs.Rows.{is_new, is_back, AreFirst, AreCarriedBy, IsPaid, IsBounded, Waits}
 use Rattle.ws_board.specs.Table.{row_at, standings_of}
 use Rattle.ws_board.specs.Indexes.{is_unrun, AgreesBy}
 use Rattle.ws_board.proofs.Carry.{start_under}

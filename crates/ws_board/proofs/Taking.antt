@@ -1,9 +1,8 @@
 -- What a board keeps when a job is taken, and when it is given back.
-use Rattle.std.proofs.Common.{◌≡◌, ℕ, ◌+◌, ◌^◌, ◌<◌, ◌≤◌, true, false, eqb, List, [], ◌∷◌, ◌++◌, length, count_by, Some, None, refl, sym, ap, ◌∙◌, subst, arith, inl, inr}
+use Rattle.std.proofs.Common.{◌≡◌, ℕ, ◌+◌, ◌^◌, ◌<◌, ◌≤◌, true, false, eqb, List, [], ◌∷◌, ◌++◌, length, count_by, Some, None, refl, sym, ap, ◌∙◌, arith}
 use Rattle.std.specs.Prelude.{if◌then◌else◌, ◌↔◌, ◌≢◌}
 use Rattle.std.specs.List.{All, list_any}
 use Rattle.std.proofs.Math.ListN.{set}
-use Rattle.std.proofs.lemmas.Bool.{cases_lt}
 use Rattle.std.proofs.lemmas.List.Sums.{count_by-le-length}
 use Rattle.ws_action.specs.Actions.{Action, action_id}
 use Rattle.ws_board.specs.declared.work.Status.TheVariants.{Ready, Running}
@@ -15,7 +14,7 @@ use Rattle.ws_board.specs.Work.{Job}
 use Rattle.ws_board.specs.Machine.{is_open, is_active, has_action_id, is_running, IsFree, IsRunBy, NoneFree, stood}
 use Rattle.ws_board.specs.Rows.{is_active_of, is_back, AreCarriedBy, Waits, KnowsBacks, IsPaid}
 use Rattle.ws_board.specs.Table.{row_at, standings_of}
-use Rattle.ws_board.specs.Indexes.{id_in, jobs_in, run_in, is_free_in, Changes, AgreesBy, Agrees}
+use Rattle.ws_board.specs.Indexes.{id_in, jobs_in, run_in, is_free_in, Changes, Agrees}
 use Rattle.ws_board.proofs.Standing.{length_statuses, open_inside, row_same}
 use Rattle.ws_board.proofs.Listing.{eqb_same, eqb_not}
 use Rattle.ws_board.proofs.Agreeing.{both_and, has_its, listed_some, jobs_inside, free_unrun, free_so}

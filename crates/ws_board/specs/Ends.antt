@@ -1,5 +1,5 @@
 -- What becomes of jobs, from the jobs alone: no ids, no cache, no hands, no order.
-use Rattle.std.specs.Prelude.{◌≡◌, ℕ, ◌<◌, Bool, true, List, [], ◌∷◌, ◌++◌, map, length, Option, Some, None, ◌⊎◌}
+use Rattle.std.specs.Prelude.{◌≡◌, ℕ, ◌<◌, true, List, [], ◌∷◌, ◌++◌, map, length, Option, Some, None}
 use Rattle.std.specs.List.{All, AllZip, slice_get, slice_index_or, Contains, IsDistinct, count_by}
 use Rattle.std.specs.Str.{bytes_eq}
 use Rattle.std.specs.FinMap.{get}
@@ -133,7 +133,7 @@ IsShown E statuses imports end Ready action =
 IsShown E statuses imports end (Done good) action =
     AllGood statuses imports
     × ((its : Action) × (result : Compiled) × (action ≡ Some its) × (end ≡ Came its result)
-        × Contains E its × (good ≡ is_good_result result) × Compiles its result)
+    × Contains E its × (good ≡ is_good_result result) × Compiles its result)
 
 abbrev pub IsShownAt : List Action → List Job → Standings → End → ℕ → Type 0
 IsShownAt E jobs now end k = IsShown E now.statuses (imports_at jobs k) end (status_at now.statuses k) (action_at now.actions k)

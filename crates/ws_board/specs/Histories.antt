@@ -1,5 +1,5 @@
 -- What a legal history promises of each job and of each id.
-use Rattle.std.specs.Prelude.{◌≡◌, ℕ, ◌<◌, Bool, true, false, List, ◌∷◌, ◌++◌, Option}
+use Rattle.std.specs.Prelude.{◌≡◌, ℕ, Bool, true, false, List, ◌∷◌, ◌++◌, Option}
 use Rattle.std.specs.List.{list_any}
 use Rattle.ws_action.specs.Actions.{Action}
 use Rattle.ws_board.specs.declared.work.Event.{Event}

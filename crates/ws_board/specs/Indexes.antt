@@ -1,12 +1,12 @@
 -- What the index of a board says of its rows.
-use Rattle.std.specs.Prelude.{◌≡◌, ℕ, ◌+◌, ◌≤◌, ◌<◌, ◌==◌, ◌&&◌, ◌↔◌, if◌then◌else◌, Bool, true, false, List, [], ◌∷◌, ◌++◌, length, is_none, Option, None, Some}
+use Rattle.std.specs.Prelude.{◌≡◌, ℕ, ◌==◌, ◌&&◌, ◌↔◌, if◌then◌else◌, Bool, false, List, [], ◌∷◌, ◌++◌, length, is_none, Option, None, Some}
 use Rattle.std.specs.List.{list_any, slice_index_or, count_by}
 use Rattle.std.specs.Str.{bytes_eq}
 use Rattle.std.specs.Map.{lookup}
 use Rattle.std.specs.BTreeMap.{is_at}
 use Rattle.ws_map.specs.Keyed.{bytes_cmp}
 use Rattle.ws_action.specs.Actions.{Action, action_id}
-use Rattle.ws_board.specs.declared.work.Status.TheVariants.{Waiting, Ready, Running}
+use Rattle.ws_board.specs.declared.work.Status.TheVariants.{Running}
 use Rattle.ws_board.specs.declared.table.Row.{Row}
 use Rattle.ws_board.specs.declared.index.Id.{Id}
 use Rattle.ws_board.specs.declared.index.Run.{Run}

@@ -1,5 +1,5 @@
 -- Rows of jobs, what may still be read of them, and how they wait.
-use Rattle.std.specs.Prelude.{◌≡◌, ℕ, ◌+◌, ◌-◌, ◌*◌, ◌≤◌, ◌<◌, ◌||◌, ◌&&◌, ◌==◌, ◌^◌, if◌then◌else◌, ◌⊎◌, ◌↔◌, Bool, true, false, List, [], ◌∷◌, ◌++◌, length, map, take, Option, None, Some, slice_set}
+use Rattle.std.specs.Prelude.{◌≡◌, ℕ, ◌+◌, ◌-◌, ◌*◌, ◌≤◌, ◌<◌, ◌||◌, ◌&&◌, ◌==◌, ◌^◌, if◌then◌else◌, ◌⊎◌, Bool, true, false, List, [], ◌∷◌, ◌++◌, length, take, Option, None, Some, slice_set}
 use Rattle.std.specs.List.{All, AllZip, sum_by, slice_get, slice_index_or, list_any, count_by, Contains}
 use Rattle.std.specs.Str.{bytes_eq}
 use Rattle.go_export.specs.Summaries.{Summary}

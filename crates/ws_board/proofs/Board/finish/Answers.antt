@@ -9,7 +9,7 @@ use Rattle.ws_board.specs.declared.index.Ready.{Ready as AReady}
 use Rattle.ws_board.specs.Work.{Job, Entries, Opening, State, Seen}
 use Rattle.ws_board.specs.Machine.{Held, is_running, IsMarked, IsRunBy, Finishes, BoardStep, IsHistory}
 use Rattle.ws_board.specs.Carrying.{held_with}
-use Rattle.ws_board.specs.Rows.{those_of, import_count, is_back, undone, FinishesRows, KnowsBacks}
+use Rattle.ws_board.specs.Rows.{those_of, import_count, is_back, FinishesRows, KnowsBacks}
 use Rattle.ws_board.specs.Table.{standings_of}
 use Rattle.ws_board.specs.Indexes.{jobs_in, is_free_in, is_released, Agrees}
 use Rattle.ws_board.proofs.Histories.{history_more, finish_step}

@@ -1,13 +1,13 @@
-use Rattle.std.proofs.Common.{◌≡◌, ◌<◌, ◌≤◌, ◌+◌, ◌∷◌, ◌++◌, [], ℕ, Bool, true, false, List, Option, Some, None, IfSome, IfNone, length, refl, sym, ap, ◌∙◌, subst, arith}
+use Rattle.std.proofs.Common.{◌≡◌, ◌≤◌, ◌+◌, false, Option, IfSome, IfNone, refl, ◌∙◌, subst, arith}
 use Rattle.std.specs.Prelude.{if◌then◌else◌}
 use Rattle.ws_board.specs.declared.table.Row.{Row}
 use Rattle.ws_board.specs.Machine.{is_open, is_waiting}
 use Rattle.ws_board.specs.Carrying.{held_by}
-use Rattle.ws_board.specs.Rows.{due, telling, Becomes, CarriesOn, Waits}
+use Rattle.ws_board.specs.Rows.{due, telling, Becomes}
 use Rattle.ws_board.specs.Table.{row_at}
 use Rattle.ws_board.proofs.Advanced.{advanced, advanced_held}
 use Rattle.ws_board.proofs.Advancing.{still_waits}
-use Rattle.ws_board.proofs.Onward.{carries_none, undone_none, undone_then}
+use Rattle.ws_board.proofs.Onward.{carries_none, undone_none}
 use Rattle.ws_board.proofs.carrying.advance.Goals as goal
 
 pub returns-in_default-clause-on : goal.returns-in_default-clause-on

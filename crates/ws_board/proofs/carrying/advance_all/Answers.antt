@@ -1,7 +1,7 @@
-use Rattle.std.proofs.Common.{◌≡◌, ◌<◌, ◌≤◌, ◌+◌, ◌*◌, ℕ, length, refl, sym, ap, ◌∙◌, subst, arith}
+use Rattle.std.proofs.Common.{◌≡◌, ◌+◌, ◌*◌, length, refl, sym, ap, ◌∙◌, subst, arith}
 use Rattle.std.specs.Prelude.{nat_le}
 use Rattle.ws_board.specs.Carrying.{held_by}
-use Rattle.ws_board.specs.Rows.{Waits, CarriesOn, AreCarried}
+use Rattle.ws_board.specs.Rows.{CarriesOn}
 use Rattle.ws_board.proofs.Onward.{carries_none, carries_then, spare_is, advanced_waits, none_advanced, all_advanced}
 use Rattle.ws_board.proofs.carrying.advance_all.Goals as goal
 

@@ -1,4 +1,4 @@
-use Rattle.std.proofs.Common.{◌+◌, ◌*◌, ◌≤◌, leb}
+use Rattle.std.proofs.Common.{◌+◌, ◌*◌, ◌≤◌}
 use Rattle.std.specs.Prelude.{nat_le}
 use Rattle.ws_board.specs.Carrying.{held_by}
 use Rattle.ws_board.specs.Rows.{Waits, CarriesOn}

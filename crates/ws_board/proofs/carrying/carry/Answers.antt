@@ -1,9 +1,9 @@
-use Rattle.std.proofs.Common.{◌≡◌, ◌<◌, ◌≤◌, ◌+◌, ◌∷◌, ◌++◌, [], false, ℕ, List, Some, None, length, refl, sym, ap, ◌∙◌, subst, arith, rules}
+use Rattle.std.proofs.Common.{◌≡◌, ◌+◌, [], length, refl, ap, ◌∙◌, arith}
 use Rattle.std.specs.List.{slice_index_or}
 use Rattle.std.proofs.lemmas.List.{length_push}
 use Rattle.ws_board.specs.declared.moves.Moves.{Moves}
 use Rattle.ws_board.specs.Carrying.{held_by}
-use Rattle.ws_board.specs.Rows.{Waits, CarriesOn, AreCarried, IsUndone, telling, untold}
+use Rattle.ws_board.specs.Rows.{telling}
 use Rattle.ws_board.proofs.Onward.{carries_none, carries_then, carries_popped, popped_waits, popped_undone, popped_untold, undone_none, undone_then}
 use Rattle.ws_board.proofs.carrying.carry.Goals as goal
 

@@ -1,4 +1,4 @@
-use Rattle.std.proofs.Common.{◌≡◌, ◌≤◌, ◌+◌, ◌*◌, ℕ, length, arith}
+use Rattle.std.proofs.Common.{◌+◌, ◌*◌, length, arith}
 use Rattle.ws_board.specs.Carrying.{held_by}
 use Rattle.ws_board.proofs.Onward.{carries_then, spare_is}
 use Rattle.ws_board.proofs.carrying.carry_all.Goals as goal

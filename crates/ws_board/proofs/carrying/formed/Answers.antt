@@ -1,4 +1,4 @@
-use Rattle.std.proofs.Common.{◌≡◌, List, Option, Some, None, IfSome, IfNone, map, sym, subst}
+use Rattle.std.proofs.Common.{◌≡◌, List, Option, IfSome, IfNone, map, sym, subst}
 use Rattle.std.specs.Arc.{arc_value}
 use Rattle.std.specs.List.{All}
 use Rattle.go_export.specs.Summaries.{Summary}

@@ -1,8 +1,5 @@
-use Rattle.std.proofs.Common.{◌≡◌, ◌<◌, ◌≤◌, ◌-◌, length, Some, None, sym, ◌∙◌, arith, rules}
-use Rattle.std.specs.List.{slice_get}
-use Rattle.ws_board.specs.Machine.{is_open}
+use Rattle.std.proofs.Common.{◌≤◌, ◌-◌, length, sym, ◌∙◌, arith, rules}
 use Rattle.ws_board.specs.Ends.{imports_at}
-use Rattle.ws_board.specs.Table.{row_at}
 use Rattle.ws_board.proofs.Onward.{get_past}
 use Rattle.ws_board.proofs.Standby.{past_less, last_open}
 use Rattle.ws_board.proofs.carrying.left_of.Goals as goal

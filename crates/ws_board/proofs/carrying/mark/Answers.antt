@@ -1,14 +1,11 @@
-use Rattle.std.proofs.Common.{◌≡◌, ◌<◌, ◌≤◌, ◌+◌, ◌∷◌, ◌++◌, [], ℕ, List, length, Option, IfSome, IfNone, get_or, refl, sym, ap, ◌∙◌, subst, arith}
-use Rattle.std.specs.Prelude.{if◌then◌else◌}
+use Rattle.std.proofs.Common.{◌≡◌, ◌<◌, ◌≤◌, ◌∷◌, ◌++◌, [], length, Option, IfSome, IfNone, get_or, refl, sym, ap, ◌∙◌, subst, arith}
 use Rattle.std.proofs.Math.ListN.{set}
 use Rattle.ws_board.specs.declared.table.Row.{Row}
 use Rattle.ws_board.specs.declared.moves.Moves.{Moves}
 use Rattle.ws_board.specs.declared.work.Status.TheVariants.{Done}
-use Rattle.ws_board.specs.Machine.{is_active}
-use Rattle.ws_board.specs.Rows.{is_active_of, owed, untold, IsUndone, Marks}
+use Rattle.ws_board.specs.Rows.{untold}
 use Rattle.ws_board.specs.Table.{row_at}
-use Rattle.ws_board.proofs.Standing.{due_at}
-use Rattle.ws_board.proofs.Marking.{MarksSome, marks_none, mark_active, mark_inside, mark_some, mark_rest, mark_paid, mark_owes, marked_all, none_left}
+use Rattle.ws_board.proofs.Marking.{marks_none, mark_inside, mark_some, mark_rest, mark_paid, mark_owes, marked_all, none_left}
 use Rattle.ws_board.proofs.Onward.{undone_none, undone_then, popped_undone}
 use Rattle.ws_board.proofs.carrying.mark.Goals as goal
 

@@ -1,12 +1,11 @@
-use Rattle.std.proofs.Common.{◌≡◌, ◌<◌, ◌≤◌, ◌-◌, ℕ, true, false, length, Option, Some, None, IfSome, IfNone, refl, sym, ap, ◌∙◌, subst, arith, rules}
+use Rattle.std.proofs.Common.{◌≡◌, ◌<◌, ◌≤◌, true, false, length, Option, Some, None, IfSome, IfNone, refl, sym, ap, ◌∙◌, subst, arith, rules}
 use Rattle.std.specs.Prelude.{option_copied}
-use Rattle.std.specs.List.{slice_get, slice_index_or}
+use Rattle.std.specs.List.{slice_get}
 use Rattle.ws_action.specs.Actions.{Action, action_id}
 use Rattle.ws_board.specs.declared.work.Status.{Status}
 use Rattle.ws_board.specs.declared.work.Status.TheVariants.{Waiting, Blocked}
 use Rattle.ws_board.specs.declared.table.Row.{Row}
-use Rattle.ws_board.specs.Work.{Work}
-use Rattle.ws_board.specs.Machine.{is_waiting, is_open, MayForm, IsFormed, IsPlaced}
+use Rattle.ws_board.specs.Machine.{is_waiting, MayForm, IsFormed, IsPlaced}
 use Rattle.ws_board.specs.Carrying.{held_by}
 use Rattle.ws_board.specs.Ends.{imports_at, work_at}
 use Rattle.ws_board.specs.Rows.{IsOpenPast}

@@ -1,12 +1,12 @@
-use Rattle.std.proofs.Common.{◌≡◌, ◌∙◌, List, Option, Some, None, ap, sym, subst}
+use Rattle.std.proofs.Common.{◌≡◌, ◌∙◌, Some, ap, sym}
 use Rattle.go_code.specs.Packages.{Object}
 use Rattle.go_export.specs.Summaries.{Summary}
 use Rattle.ws_action.specs.Actions.{Action, action_id}
-use Rattle.ws_cache.specs.Compiles.{Compiled, Compiles, Good, Faulty, compiled_of}
+use Rattle.ws_cache.specs.Compiles.{Compiled, Good, Faulty, compiled_of}
 use Rattle.ws_board.specs.declared.table.Row.{Row}
 use Rattle.ws_board.specs.Machine.{action_at}
 use Rattle.ws_board.specs.Carrying.{held_by}
-use Rattle.ws_board.specs.Table.{row_at, standings_of}
+use Rattle.ws_board.specs.Table.{standings_of}
 use Rattle.ws_board.proofs.Gathered.{faulty_none}
 use Rattle.ws_board.proofs.Standing.{action_row}
 use Rattle.ws_board.proofs.Standby.{past_has}

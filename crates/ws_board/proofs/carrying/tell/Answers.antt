@@ -1,8 +1,8 @@
-use Rattle.std.proofs.Common.{◌≡◌, ◌<◌, ◌≤◌, ◌+◌, ◌*◌, ◌-◌, ℕ, List, [], Some, None, eqb, drop, length, get_or, refl, sym, ap, ◌∙◌, subst, arith, inl, inr}
+use Rattle.std.proofs.Common.{◌≡◌, ◌<◌, ◌≤◌, ◌+◌, ◌*◌, [], Some, eqb, drop, length, get_or, refl, sym, ap, ◌∙◌, arith}
 use Rattle.std.specs.List.{slice_get, slice_index_or, list_any}
 use Rattle.std.proofs.lemmas.Option.{slice_get_within, get_or_from_slice_get}
 use Rattle.ws_board.specs.Carrying.{held_by}
-use Rattle.ws_board.specs.Rows.{Waits, CarriesOn, AreCarried, telling, owed, untold}
+use Rattle.ws_board.specs.Rows.{telling}
 use Rattle.ws_board.proofs.Onward.{carries_none, undone_none, undone_then, told_one, told_end, told_waits, told_none, get_past}
 use Rattle.ws_board.proofs.carrying.tell.Goals as goal
 

@@ -1,4 +1,4 @@
-use Rattle.std.proofs.Common.{◌+◌, ◌-◌, ◌*◌, ◌≤◌, [], false, eqb, length, drop}
+use Rattle.std.proofs.Common.{◌-◌, ◌*◌, ◌≤◌, [], eqb, length, drop}
 use Rattle.std.specs.List.{list_any, slice_index_or}
 use Rattle.ws_board.specs.Carrying.{held_by}
 use Rattle.ws_board.specs.Rows.{Waits, CarriesOn, IsUndone}

@@ -1,4 +1,4 @@
-use Rattle.std.proofs.Common.{◌≡◌, ◌*◌, ◌+◌, ◌<◌, ◌∙◌, ℕ, true, false, get_or, sym, ap, subst, arith}
+use Rattle.std.proofs.Common.{◌≡◌, ◌*◌, ◌+◌, ◌<◌, ◌∙◌, false, get_or, sym, ap, subst, arith}
 use Rattle.std.proofs.lemmas.Nat.{pow_pos}
 use Rattle.ws_board.proofs.Trees.{Leads, root_leads, leaf_leads, first_leads, second_leads, second_stands}
 use Rattle.ws_board.proofs.flags.first_below.Goals as goal

@@ -1,4 +1,4 @@
-use Rattle.std.proofs.Common.{◌≡◌, ◌≢◌, ◌/◌, ◌≤◌, ◌<◌, ℕ, length, drop}
+use Rattle.std.proofs.Common.{◌≡◌, ◌/◌, ◌≤◌, ◌<◌, ℕ, length, drop}
 use Rattle.std.proofs.Math.ListN.{set}
 use Rattle.ws_board.specs.Flags.{SaysBelow}
 use Rattle.ws_board.proofs.flags.write.Given as goal

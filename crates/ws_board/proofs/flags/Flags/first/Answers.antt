@@ -1,4 +1,4 @@
-use Rattle.std.proofs.Common.{◌≡◌, ◌+◌, ◌≤◌, ◌<◌, ◌∙◌, ℕ, false, true, get_or, sym, ap, arith}
+use Rattle.std.proofs.Common.{◌+◌, ◌∙◌, false, get_or, sym, ap, arith}
 use Rattle.std.proofs.lemmas.List.{get_or-drop}
 use Rattle.ws_board.proofs.Trees.{root_none}
 use Rattle.ws_board.proofs.flags.Flags.first.Goals as goal

@@ -1,4 +1,4 @@
-use Rattle.std.proofs.Common.{◌≡◌, ◌≤◌, ℕ, true, length, take}
+use Rattle.std.proofs.Common.{◌≡◌, ℕ, true, length, take}
 use Rattle.std.specs.Prelude.{if◌then◌else◌}
 use Rattle.ws_board.specs.Indexes.{is_free_in, is_released}
 use Rattle.ws_board.proofs.index.Index.release.Given as goal

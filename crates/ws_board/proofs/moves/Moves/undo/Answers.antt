@@ -1,8 +1,7 @@
-use Rattle.std.proofs.Common.{◌≡◌, ◌<◌, ◌∷◌, ◌++◌, [], List, length, refl, sym, ap, ◌∙◌, subst, arith}
-use Rattle.std.proofs.Math.ListN.{set, length-set}
-use Rattle.ws_board.specs.declared.moves.Change.{Change}
-use Rattle.ws_board.specs.Rows.{undone, AreWritten}
-use Rattle.ws_board.proofs.Undoing.{undone_more, undone_popped, written_last, written_rest}
+use Rattle.std.proofs.Common.{length, sym, ap, ◌∙◌, subst}
+use Rattle.std.proofs.Math.ListN.{length-set}
+use Rattle.ws_board.specs.Rows.{AreWritten}
+use Rattle.ws_board.proofs.Undoing.{undone_popped, written_last, written_rest}
 use Rattle.ws_board.proofs.moves.Moves.undo.Goals as goal
 
 pub put-requires : goal.put-requires

@@ -1,9 +1,8 @@
-use Rattle.std.proofs.Common.{◌≡◌, ◌<◌, ◌∷◌, ◌++◌, [], List, length, refl, sym, ap, ◌∙◌, subst, arith}
+use Rattle.std.proofs.Common.{◌≡◌, ◌<◌, ◌∷◌, ◌++◌, [], length, sym, ap, ◌∙◌, subst}
 use Rattle.std.proofs.lemmas.List.Elements.{All-push}
 use Rattle.std.proofs.Math.ListN.{set, length-set}
 use Rattle.ws_board.specs.declared.moves.Change.{Change}
 use Rattle.ws_board.specs.Rows.{undone, AreWritten}
-use Rattle.ws_board.specs.Table.{row_at}
 use Rattle.ws_board.proofs.Undoing.{undone_more, put_back}
 use Rattle.ws_board.proofs.moves.Moves.write.Goals as goal
 

@@ -1,4 +1,4 @@
-use Rattle.std.proofs.Common.{◌≡◌, ◌≤◌, ◌<◌, ℕ, List, length, take, sym, subst, arith}
+use Rattle.std.proofs.Common.{◌≤◌, ◌<◌, length, sym, subst, arith}
 use Rattle.std.specs.Prelude.{◌^◌}
 use Rattle.std.specs.List.{sum_by}
 use Rattle.std.proofs.lemmas.List.{take_all}
