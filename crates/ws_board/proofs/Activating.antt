@@ -6,12 +6,13 @@ use Rattle.std.proofs.lemmas.Bool.{cases_eq}
 use Rattle.ws_board.specs.declared.work.Status.{Status}
 use Rattle.ws_board.specs.declared.work.Status.TheVariants.{Waiting, Ready, Running, Blocked, Done}
 use Rattle.ws_board.specs.declared.work.Event.{Event}
-use Rattle.ws_board.specs.declared.rows.Row.{Row}
+use Rattle.ws_board.specs.declared.table.Row.{Row}
 use Rattle.ws_board.specs.declared.index.Id.{Id}
 use Rattle.ws_board.specs.Work.{Job}
 use Rattle.ws_board.specs.Machine.{is_open, is_waiting, is_active, is_back_of}
 use Rattle.ws_board.specs.Ends.{imports_at}
-use Rattle.ws_board.specs.Rows.{row_at, due, due_of, owed, telling, watched, times, AreCarriedBy, IsHeldUp, Waits, KnowsBacks, IsPaid}
+use Rattle.ws_board.specs.Rows.{due, due_of, owed, telling, watched, times, AreCarriedBy, IsHeldUp, Waits, KnowsBacks, IsPaid}
+use Rattle.ws_board.specs.Table.{row_at}
 use Rattle.ws_board.specs.Indexes.{jobs_of}
 use Rattle.ws_board.proofs.Standing.{row_same, row_other, owed_set}
 use Rattle.ws_board.proofs.Stepping.{backs_other, backs_here}

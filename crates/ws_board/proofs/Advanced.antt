@@ -1,17 +1,17 @@
 -- One job is carried on: all that the step says.
-use Rattle.std.proofs.Common.{◌≡◌, ℕ, ◌+◌, ◌<◌, ◌≤◌, Bool, true, false, ◌||◌, cond, eqb, List, [], ◌∷◌, ◌++◌, length, Option, Some, None, refl, sym, ap, ◌∙◌, subst, arith}
+use Rattle.std.proofs.Common.{◌≡◌, ℕ, ◌+◌, ◌≤◌, Bool, ◌||◌, eqb, List, [], ◌∷◌, ◌++◌, sym, subst}
 use Rattle.std.specs.Prelude.{if◌then◌else◌}
 use Rattle.std.proofs.Math.ListN.{set}
-use Rattle.ws_board.specs.declared.rows.Row.{Row}
+use Rattle.ws_board.specs.declared.table.Row.{Row}
 use Rattle.ws_board.specs.declared.rows.Rows.{Rows}
 use Rattle.ws_board.specs.declared.moves.Moves.{Moves}
-use Rattle.ws_board.specs.Work.{Job, Standings}
-use Rattle.ws_board.specs.Machine.{Held, is_open, is_waiting}
-use Rattle.ws_board.specs.Rows.{row_at, ready_of, due, telling, untold, owed, AreCarried, AreCarriedBy, Becomes, CarriesOn, Waits}
-use Rattle.ws_board.proofs.Advancing.{set_backs, set_good, set_under, set_runs_same, set_listed, set_fewer, set_paid, set_waits, still_waits}
-use Rattle.ws_board.proofs.Onward.{waits_parts}
+use Rattle.ws_board.specs.Work.{Job}
+use Rattle.ws_board.specs.Machine.{Held, is_open}
+use Rattle.ws_board.specs.Rows.{ready_of, due, telling, untold, owed, AreCarried, AreCarriedBy, Becomes, CarriesOn, Waits}
+use Rattle.ws_board.specs.Table.{row_at}
+use Rattle.ws_board.proofs.Advancing.{set_backs, set_good, set_under, set_runs_same, set_listed, set_fewer, set_paid, set_waits}
 
-module _ (h : Held) (old new : Rows) (job : ℕ) (row : Row) (before after : Moves) (good : AreCarried old) (becomes : Becomes h old.jobs.items old.rows.items job row) (written : new.rows.items ≡ set old.rows.items job row)
+module _ (h : Held) (old new : Rows) (job : ℕ) (row : Row) (before after : Moves) (good : AreCarried old) (becomes : Becomes h old.jobs.items old.rows job row) (written : new.rows ≡ set old.rows job row)
     (jobs : new.jobs.items ≡ old.jobs.items) (importers : new.importers.items ≡ old.importers.items)
     (settled : after.settled.items ≡ (if is_open row.status then before.settled.items else (before.settled.items ++ job ∷ []))) (ready : after.ready.items ≡ before.ready.items ++ ready_of job row.status row.action) where
   abbrev J : List Job
@@ -21,10 +21,10 @@ module _ (h : Held) (old new : Rows) (job : ℕ) (row : Row) (before after : Mov
   I = old.importers.items
 
   abbrev O : List Row
-  O = old.rows.items
+  O = old.rows
 
   abbrev N : List Row
-  N = new.rows.items
+  N = new.rows
 
   next_good : AreCarried new
   next_good = subst (λ j. AreCarriedBy j new.importers.items N) (sym jobs) (subst (λ i. AreCarriedBy J i N) (sym importers) (set_good h J I O N job row good becomes written))

@@ -1,7 +1,7 @@
 -- One job is carried on.
-use Rattle.std.proofs.Common.{◌≡◌, ℕ, ◌+◌, ◌-◌, ◌*◌, ◌<◌, ◌≤◌, Bool, true, false, ◌&&◌, ◌||◌, cond, eqb, List, [], ◌∷◌, ◌++◌, length, count_by, Option, Some, None, refl, sym, ap, ◌∙◌, subst, arith, inl, inr}
+use Rattle.std.proofs.Common.{◌≡◌, ℕ, ◌+◌, ◌-◌, ◌<◌, ◌≤◌, Bool, true, false, ◌&&◌, ◌||◌, cond, eqb, List, [], ◌∷◌, ◌++◌, length, count_by, Option, Some, None, refl, sym, ap, ◌∙◌, subst, arith, inl, inr}
 use Rattle.std.specs.Prelude.{if◌then◌else◌}
-use Rattle.std.specs.List.{list_any, slice_get, slice_index_or, Contains}
+use Rattle.std.specs.List.{list_any, slice_get, slice_index_or}
 use Rattle.std.specs.Str.{bytes_eq}
 use Rattle.std.proofs.Math.ListN.{set, length-set}
 use Rattle.std.proofs.lemmas.Bool.{cases_eq}
@@ -11,18 +11,17 @@ use Rattle.std.proofs.lemmas.List.{length-append}
 use Rattle.ws_action.specs.Actions.{Action, action_id}
 use Rattle.ws_board.specs.declared.work.Status.{Status}
 use Rattle.ws_board.specs.declared.work.Status.TheVariants.{Waiting, Ready, Running, Blocked, Done}
-use Rattle.ws_board.specs.declared.rows.Row.{Row}
-use Rattle.ws_board.specs.declared.rows.Rows.{Rows}
+use Rattle.ws_board.specs.declared.table.Row.{Row}
 use Rattle.ws_board.specs.declared.index.Ready.{Ready as AReady}
-use Rattle.ws_board.specs.declared.moves.Moves.{Moves}
 use Rattle.ws_board.specs.Work.{Work, Job, Standings}
 use Rattle.ws_board.specs.Machine.{Held, Stands, Verdict, Wait, Stop, Act, IsVerdict, Follows, IsPlaced, is_open, is_waiting, is_ready, is_running, status_at, action_at, has_action_id}
 use Rattle.ws_board.specs.Carrying.{IsUnder}
 use Rattle.ws_board.specs.Ends.{imports_at, work_in}
-use Rattle.ws_board.specs.Rows.{row_at, standings_of, times, those_of, is_new, ready_of, due, owed, untold, telling, watched, AreKnownBy, AreCarriedBy, AllPast, AreWithin, IsOpenPast, IsHeldUp, Waits, Becomes, CarriesOn}
+use Rattle.ws_board.specs.Rows.{times, those_of, is_new, ready_of, due, owed, untold, telling, watched, AreKnownBy, AreCarriedBy, AllPast, AreWithin, IsOpenPast, IsHeldUp, Waits, Becomes}
+use Rattle.ws_board.specs.Table.{row_at, standings_of}
 use Rattle.ws_board.proofs.Carry.{keep_under, waiting_is, waiting_or, waits_bare}
 use Rattle.ws_board.proofs.Runs.{stands_rests}
-use Rattle.ws_board.proofs.Standing.{status_row, action_row, length_statuses, length_actions, statuses_set, actions_set, standings_parts, row_same, row_other, open_inside, waiting_open, owed_set, runs_set, opens_set}
+use Rattle.ws_board.proofs.Standing.{status_row, action_row, length_statuses, length_actions, statuses_set, actions_set, standings_parts, row_same, row_other, open_inside, owed_set, runs_set, opens_set}
 use Rattle.ws_board.proofs.Listing.{any_push, eqb_same, eqb_not}
 
 pub waits_runs_not : (s : Status) → is_waiting s ≡ true → is_running s ≡ false

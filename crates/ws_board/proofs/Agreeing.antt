@@ -9,11 +9,12 @@ use Rattle.std.proofs.lemmas.List.Elements.{Contains-get_or}
 use Rattle.ws_action.specs.Actions.{Action, action_id}
 use Rattle.ws_board.specs.declared.work.Status.{Status}
 use Rattle.ws_board.specs.declared.work.Status.TheVariants.{Waiting, Ready, Running, Blocked, Done}
-use Rattle.ws_board.specs.declared.rows.Row.{Row}
+use Rattle.ws_board.specs.declared.table.Row.{Row}
 use Rattle.ws_board.specs.declared.index.Run.{Run}
 use Rattle.ws_board.specs.declared.index.Ready.{Ready as AReady}
 use Rattle.ws_board.specs.Machine.{is_waiting, is_ready, is_active, is_running, has_action_id}
-use Rattle.ws_board.specs.Rows.{row_at, standings_of, times, those_of, is_active_of, is_new}
+use Rattle.ws_board.specs.Rows.{times, those_of, is_active_of, is_new}
+use Rattle.ws_board.specs.Table.{row_at, standings_of}
 use Rattle.ws_board.specs.Indexes.{is_unrun, AgreesBy}
 use Rattle.ws_board.proofs.Carry.{waiting_or, waiting_is}
 use Rattle.ws_board.proofs.Listing.{contains_any, times_some, times_any}
@@ -136,8 +137,8 @@ has_released run (one ∷ ready) k id some none = by_id (bytes_eq one.id id) ref
     by_id false same later s = or_second ((eqb one.job k) && is_none (run one.id)) (list_any (λ one. (eqb one.job k) && is_none (run one.id)) ready) (later s)
 
 -- from the one to the other, jobs that waited became ready, and these joined those of their ids
-pub released_agrees : (O N : List Row) (jobs more : List ℕ → List ℕ) (run ran : List ℕ → Option Run) (free freed : ℕ → Bool) (count from least running : ℕ) (ready : List AReady)
-    → AgreesBy O jobs run free count from running
+pub released_agrees : (O N : List Row) (jobs more : List ℕ → List ℕ) (run ran : List ℕ → Option Run) (free freed : ℕ → Bool) (count running : ℕ) (ready : List AReady)
+    → AgreesBy O jobs run free count running
     → length N ≡ length O
     → ((k : ℕ) → is_waiting (row_at O k).status ≡ false → ((row_at N k).status ≡ (row_at O k).status) × ((row_at N k).action ≡ (row_at O k).action))
     → ((k : ℕ) → is_waiting (row_at O k).status ≡ true → is_running (row_at N k).status ≡ false)
@@ -146,9 +147,8 @@ pub released_agrees : (O N : List Row) (jobs more : List ℕ → List ℕ) (run 
     → ((id : List ℕ) (k : ℕ) → times k (more id) ≡ times k (jobs id) + times k (those_of id ready))
     → ((id : List ℕ) → ran id ≡ run id)
     → ((k : ℕ) → freed k ≡ (if list_any (λ one. (eqb one.job k) && is_none (ran one.id)) ready then true else free k))
-    → (least ≤ from) → ((k : ℕ) → list_any (λ one. (eqb one.job k) && is_none (ran one.id)) ready ≡ true → least ≤ k)
-    → AgreesBy N more ran freed count least running
-released_agrees O N jobs more run ran free freed count from least running ready agrees same others rests listed runs joined ran_is freed_is lower each = record {
+    → AgreesBy N more ran freed count running
+released_agrees O N jobs more run ran free freed count running ready agrees same others rests listed runs joined ran_is freed_is = record {
   jobs = λ id k. joined id k ∙ counts id k (waiting_or (row_at O k).status);
   runs = λ id hand job action. (
     λ e. forth job hand action id ((agrees.runs id hand job action).0 (sym (ran_is id) ∙ e)),
@@ -156,7 +156,6 @@ released_agrees O N jobs more run ran free freed count from least running ready 
   );
   count = agrees.count ∙ sym same;
   free = λ k. freed_is k ∙ free_is k (waiting_or (row_at O k).status);
-  below = λ k lt. freed_is k ∙ low k lt (list_any (λ one. (eqb one.job k) && is_none (ran one.id)) ready) refl;
   running = agrees.running ∙ sym runs;
 }
   where
@@ -242,13 +241,9 @@ released_agrees O N jobs more run ran free freed count from least running ready 
             let one : ◌≡◌ {A = ℕ} (if is_new O N id k then 1 else 0) 1 = ap (λ b. if b then 1 else 0) new in
             has_released ran ready k id (omega (arith, listed k id, one)) a.2
 
-    low : (k : ℕ) → k < least → (b : Bool) → released k ≡ b → (if released k then true else free k) ≡ false
-    low k lt true e = absurd (omega (arith, lt, each k e))
-    low k lt false e = if_false (released k) (free k) e ∙ agrees.below k (omega (arith, lt, lower))
-
 -- ---- one id that a hand runs
 
-module _ (R : List Row) (jobs : List ℕ → List ℕ) (run : List ℕ → Option Run) (free : ℕ → Bool) (count from running : ℕ) (agrees : AgreesBy R jobs run free count from running) where
+module _ (R : List Row) (jobs : List ℕ → List ℕ) (run : List ℕ → Option Run) (free : ℕ → Bool) (count running : ℕ) (agrees : AgreesBy R jobs run free count running) where
   pub listed_active : (id : List ℕ) (k : ℕ) → list_any (λ j. eqb j k) (jobs id) ≡ is_active_of R id k
   listed_active id k = times_any (jobs id) k (is_active_of R id k) (agrees.jobs id k)
 
@@ -296,14 +291,13 @@ module _ (R : List Row) (jobs : List ℕ → List ℕ) (run : List ℕ → Optio
   unrun_none id none k hand a s t i = let c : ◌≡◌ {A = Option Run} None (Some (record { hand = hand; job = k; action = a })) = sym none ∙ (agrees.runs id hand k a).1 (s, t, i) in absurd (cc)
 
 -- what says the same agrees as well
-pub same_agrees : (R : List Row) (jobs more : List ℕ → List ℕ) (run ran : List ℕ → Option Run) (free freed : ℕ → Bool) (count many from least running now : ℕ) → AgreesBy R jobs run free count from running
-    → ((id : List ℕ) → more id ≡ jobs id) → ((id : List ℕ) → ran id ≡ run id) → ((k : ℕ) → freed k ≡ free k) → many ≡ count → least ≡ from → now ≡ running → AgreesBy R more ran freed many least now
-same_agrees R jobs more run ran free freed count many from least running now agrees more_is ran_is freed_is many_is least_is now_is = record {
+pub same_agrees : (R : List Row) (jobs more : List ℕ → List ℕ) (run ran : List ℕ → Option Run) (free freed : ℕ → Bool) (count many running now : ℕ) → AgreesBy R jobs run free count running
+    → ((id : List ℕ) → more id ≡ jobs id) → ((id : List ℕ) → ran id ≡ run id) → ((k : ℕ) → freed k ≡ free k) → many ≡ count → now ≡ running → AgreesBy R more ran freed many now
+same_agrees R jobs more run ran free freed count many running now agrees more_is ran_is freed_is many_is now_is = record {
   jobs = λ id k. ap (times k) (more_is id) ∙ agrees.jobs id k;
   runs = λ id hand job action. (λ e. (agrees.runs id hand job action).0 (sym (ran_is id) ∙ e), λ p. ran_is id ∙ (agrees.runs id hand job action).1 p);
   count = many_is ∙ agrees.count;
   free = λ k. freed_is k ∙ agrees.free k ∙ ap (λ b. is_ready (row_at R k).status && b) (sym (unrun_same (row_at R k).action));
-  below = λ k lt. freed_is k ∙ agrees.below k (omega (arith, lt, least_is));
   running = now_is ∙ agrees.running;
 }
   where

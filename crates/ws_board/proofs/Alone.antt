@@ -2,9 +2,7 @@
 use Rattle.std.proofs.Common.{◌≡◌, ℕ, Bool, true, false, ◌&&◌, ◌||◌, ◌⊎◌, List, [], ◌∷◌, ◌++◌, Option, Some, None, refl, sym, ap, ◌∙◌, subst, inl, inr, get_or-set_other, get_or-set_same}
 use Rattle.std.specs.Prelude.{if◌then◌else◌}
 use Rattle.std.specs.List.{list_any}
-use Rattle.std.specs.Option.{option_or}
 use Rattle.std.specs.Str.{bytes_eq}
-use Rattle.std.specs.FinMap.{get}
 use Rattle.std.proofs.Math.ListN.{set}
 use Rattle.std.proofs.lemmas.Bool.{cases_eq}
 use Rattle.std.proofs.lemmas.Slice.Eq.{bytes_eq-Decides}
@@ -14,12 +12,11 @@ use Rattle.ws_board.specs.declared.work.Status.TheVariants.{Waiting, Ready, Runn
 use Rattle.ws_board.specs.declared.work.Event.{Event}
 use Rattle.ws_board.specs.declared.work.Event.TheVariants.{Take, Finish, Back, Idle}
 use Rattle.ws_board.specs.Work.{Standings, Opening, State, Seen}
-use Rattle.ws_board.specs.Machine.{is_running, is_waiting, is_active, status_at, action_at, has_action_id, has_id, held, is_run_of, IsFree, mark, Finishes, BoardStep, Replays, IsFirst, IsHistory, is_idle}
+use Rattle.ws_board.specs.Machine.{is_running, is_waiting, is_active, status_at, action_at, has_action_id, has_id, held, is_run_of, IsFree, Finishes, BoardStep, Replays, IsFirst, IsHistory, is_idle}
 use Rattle.ws_board.specs.Histories.{AreSettled, RunsAlone, is_back_with, IsTakenOnce}
 use Rattle.ws_board.proofs.Carry.{waiting_or}
-use Rattle.ws_board.proofs.Grown.{Grows}
 use Rattle.ws_board.proofs.Idle.{after_idle, all_settled}
-use Rattle.ws_board.proofs.Runs.{inside_of, stands_rests, carried_ran, mark_ran, has_its_id, opening_rests, counted_none}
+use Rattle.ws_board.proofs.Runs.{inside_of, carried_ran, mark_ran, opening_rests, counted_none}
 use Rattle.ws_board.proofs.Sounds.{KeepsIn, finish_grows, finish_half, step_keeps, replays_keep, first_keeps, history_keeps}
 
 both : (a b : Bool) → (a && b) ≡ true → (a ≡ true) × (b ≡ true)

@@ -8,13 +8,14 @@ use Rattle.std.proofs.lemmas.List.Sums.{count_by-le-length}
 use Rattle.ws_action.specs.Actions.{Action}
 use Rattle.ws_board.specs.declared.work.Event.{Event}
 use Rattle.ws_board.specs.declared.work.Status.TheVariants.{Running}
-use Rattle.ws_board.specs.declared.rows.Row.{Row}
+use Rattle.ws_board.specs.declared.table.Row.{Row}
 use Rattle.ws_board.specs.declared.rows.Rows.{Rows}
 use Rattle.ws_board.specs.declared.moves.Change.{Change}
 use Rattle.ws_board.specs.declared.moves.Moves.{Moves}
 use Rattle.ws_board.specs.Work.{Job, Entries, Standings, Seen}
 use Rattle.ws_board.specs.Machine.{is_running, status_at, is_back_of, IsRunBy, IsHistory}
-use Rattle.ws_board.specs.Rows.{row_at, standings_of, owed, untold, is_back, import_count, undone, AreWritten, IsUndone, AreCarriedBy, Waits, KnowsBacks, IsPaid, IsBounded}
+use Rattle.ws_board.specs.Rows.{owed, untold, is_back, import_count, undone, AreWritten, IsUndone, AreCarriedBy, Waits, KnowsBacks, IsPaid, IsBounded}
+use Rattle.ws_board.specs.Table.{row_at, standings_of}
 use Rattle.ws_board.proofs.Runs.{counted_none}
 use Rattle.ws_board.proofs.Standing.{status_row, action_row}
 use Rattle.ws_board.proofs.Onward.{waits_parts}
@@ -102,10 +103,10 @@ within J K I R looks backs jobs good paid = bounded looks R (length K) (import_c
 
 -- ---- want of memory
 
-pub undone_all : (O N : Rows) (before after : Moves) → before.log.items ≡ [] → IsUndone O N before after → (undone after.log.items N.rows.items ≡ O.rows.items) × AreWritten (length N.rows.items) after.log.items
+pub undone_all : (O N : Rows) (before after : Moves) → before.log.items ≡ [] → IsUndone O N before after → (undone after.log.items N.rows ≡ O.rows) × AreWritten (length N.rows) after.log.items
 undone_all O N before after none u = (
-  u.rows ∙ ap (λ l. undone l O.rows.items) none,
-  subst (λ n. AreWritten n after.log.items) (sym u.count) (u.written (subst (AreWritten (length O.rows.items)) (sym none) (All-nil (λ (change : Change). change.job < length O.rows.items)))),
+  u.rows ∙ ap (λ l. undone l O.rows) none,
+  subst (λ n. AreWritten n after.log.items) (sym u.count) (u.written (subst (AreWritten (length O.rows)) (sym none) (All-nil (λ (change : Change). change.job < length O.rows)))),
 )
 
 -- who joined is taken out again

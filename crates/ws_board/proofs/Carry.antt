@@ -1,5 +1,5 @@
 -- Carrying on: the code's passes over the jobs.
-use Rattle.std.proofs.Common.{◌≡◌, ℕ, ◌+◌, ◌<◌, ◌≤◌, Bool, true, false, cond, List, [], ◌∷◌, length, get_or, count_by, map, replicate, Option, Some, None, refl, sym, ap, ◌∙◌, subst, inl, inr, ◌⊎◌, arith, get_or-set_other, get_or-set_same}
+use Rattle.std.proofs.Common.{◌≡◌, ℕ, ◌+◌, ◌<◌, ◌≤◌, Bool, true, false, cond, List, [], ◌∷◌, length, get_or, count_by, replicate, Option, Some, None, refl, sym, ap, ◌∙◌, subst, inl, inr, ◌⊎◌, arith, get_or-set_other, get_or-set_same}
 use Rattle.std.proofs.Math.ListN.{set, length-set}
 use Rattle.std.specs.List.{slice_get}
 use Rattle.std.specs.Bool.{OnTrue, OnFalse}
@@ -12,7 +12,7 @@ use Rattle.ws_board.specs.declared.work.Status.{Status}
 use Rattle.ws_board.specs.declared.work.Status.TheVariants.{Waiting, Ready, Running, Blocked, Done}
 use Rattle.ws_board.specs.Work.{Job, Standings}
 use Rattle.ws_board.specs.Machine.{Held, is_open, is_waiting, status_at, action_at, Verdict, Wait, Stop, Act, Follows, IsPlaced, Stands, Carried, unopened}
-use Rattle.ws_board.specs.Carrying.{IsUnder, RestsAt, AllRest, AreOf}
+use Rattle.ws_board.specs.Carrying.{IsUnder, RestsAt, AllRest}
 use Rattle.ws_board.proofs.Later.{Later, stands_stays}
 
 -- the two agree wherever the first is settled

@@ -1,5 +1,5 @@
 -- A finish as a whole, and the opening: rows, index and what was read.
-use Rattle.std.proofs.Common.{◌≡◌, ℕ, zero, suc, ◌+◌, ◌<◌, ◌≤◌, Bool, true, false, ◌&&◌, cond, eqb, List, [], ◌++◌, length, replicate, get_or, count_by, Option, Some, None, refl, sym, ap, ◌∙◌, arith, inl, inr, ◌⊎◌}
+use Rattle.std.proofs.Common.{◌≡◌, ℕ, zero, suc, ◌+◌, ◌<◌, Bool, true, false, ◌&&◌, cond, eqb, List, [], ◌++◌, length, replicate, get_or, count_by, Option, Some, None, refl, sym, ap, ◌∙◌, arith, inl, inr, ◌⊎◌}
 use Rattle.std.specs.Prelude.{if◌then◌else◌, is_none}
 use Rattle.std.specs.List.{list_any}
 use Rattle.std.specs.Str.{bytes_eq}
@@ -8,13 +8,14 @@ use Rattle.std.proofs.lemmas.List.Sums.{sum_by-append}
 use Rattle.ws_action.specs.Actions.{Action, action_id}
 use Rattle.ws_board.specs.declared.work.Status.{Status}
 use Rattle.ws_board.specs.declared.work.Status.TheVariants.{Waiting, Ready, Running, Blocked, Done}
-use Rattle.ws_board.specs.declared.rows.Row.{Row}
+use Rattle.ws_board.specs.declared.table.Row.{Row}
 use Rattle.ws_board.specs.declared.index.Run.{Run}
 use Rattle.ws_board.specs.declared.index.Ready.{Ready as AReady}
 use Rattle.ws_board.specs.Work.{Job, Standings}
 use Rattle.ws_board.specs.Machine.{Held, is_waiting, is_ready, is_active, is_running, has_action_id, Carried}
 use Rattle.ws_board.specs.Carrying.{IsUnder}
-use Rattle.ws_board.specs.Rows.{row_at, standings_of, times, those_of, is_new, AreFirst, AreCarriedBy, Marks, Waits}
+use Rattle.ws_board.specs.Rows.{times, those_of, is_new, AreFirst, AreCarriedBy, Marks, Waits}
+use Rattle.ws_board.specs.Table.{row_at, standings_of}
 use Rattle.ws_board.specs.Indexes.{AgreesBy, is_unrun}
 use Rattle.ws_board.proofs.Runs.{none_counted}
 use Rattle.ws_board.proofs.Standing.{status_row, row_past}
@@ -36,7 +37,7 @@ module _ (J : List Job) (h : Held) (I : List (List ℕ)) (O M N : List Row) (fro
   pub closing_rests : (k : ℕ) → is_waiting (row_at M k).status ≡ true → is_running (row_at N k).status ≡ false
   closing_rests = waited_rests J h M N closing
 
-  pub finish_agrees : (jobs : List ℕ → List ℕ) (run : List ℕ → Option Run) (free : ℕ → Bool) (count least running : ℕ) → AgreesBy O jobs run free count least running
+  pub finish_agrees : (jobs : List ℕ → List ℕ) (run : List ℕ → Option Run) (free : ℕ → Bool) (count running : ℕ) → AgreesBy O jobs run free count running
       → (id : List ℕ) (good : Bool) (settled : List ℕ) → Marks id good O M settled → (hand k : ℕ) (action : Action) → (row_at O k).status ≡ Running hand → (row_at O k).action ≡ Some action → action_id action ≡ id → k < length O
       → (e : Action) → h id ≡ Some e
       → (ready : List AReady) → ((k : ℕ) (i : List ℕ) → times k (those_of i ready) ≡ (if is_new M N i k then 1 else 0))
@@ -44,12 +45,12 @@ module _ (J : List Job) (h : Held) (I : List (List ℕ)) (O M N : List Row) (fro
       → (more ended : List ℕ → List ℕ) → ((i : List ℕ) → more i ≡ jobs i ++ those_of i ready) → ((i : List ℕ) → ended i ≡ (if bytes_eq id i then [] else more i))
       → (ran : List ℕ → Option Run) → ((i : List ℕ) → ran i ≡ (if bytes_eq id i then None else run i))
       → (freed : ℕ → Bool) → ((k : ℕ) → freed k ≡ (if list_any (λ one. (eqb one.job k) && is_none (ran one.id)) ready then true else free k))
-      → (low now : ℕ) → low ≤ least → ((k : ℕ) → list_any (λ one. (eqb one.job k) && is_none (ran one.id)) ready ≡ true → low ≤ k) → now + 1 ≡ running
-      → AgreesBy N ended ran freed count low now
-  finish_agrees jobs run free count least running agrees id done settled marks hand k action runs its same inside e there ready listed still more ended more_is ended_is ran ran_is freed freed_is low now lower each less =
-      released_agrees M N (λ i. if bytes_eq id i then [] else jobs i) ended (λ i. if bytes_eq id i then None else run i) ran free freed count least low now ready
-      (done_agrees O M jobs run free count least running agrees id done settled marks hand k action runs its same inside now less)
-      (good.known.jobs ∙ sym from.known.jobs) closing_others closing_rests listed_by still joined ran_is freed_is lower each
+      → (now : ℕ) → now + 1 ≡ running
+      → AgreesBy N ended ran freed count now
+  finish_agrees jobs run free count running agrees id done settled marks hand k action runs its same inside e there ready listed still more ended more_is ended_is ran ran_is freed freed_is now less =
+      released_agrees M N (λ i. if bytes_eq id i then [] else jobs i) ended (λ i. if bytes_eq id i then None else run i) ran free freed count now ready
+      (done_agrees O M jobs run free count running agrees id done settled marks hand k action runs its same inside now less)
+      (good.known.jobs ∙ sym from.known.jobs) closing_others closing_rests listed_by still joined ran_is freed_is
     where
       listed_by : (k : ℕ) (i : List ℕ) → times k (those_of i ready) ≡ (if is_new M N i k then 1 else 0)
       listed_by = listed
@@ -92,20 +93,19 @@ module _ (J : List Job) (h : Held) (I : List (List ℕ)) (O N : List Row) (first
   empty_free (suc n) zero = refl
   empty_free (suc n) (suc k) = empty_free n k
 
-  pub opened_agrees : (jobs more : List ℕ → List ℕ) (run ran : List ℕ → Option Run) (free freed : ℕ → Bool) (count least low now : ℕ) (ready : List AReady)
+  pub opened_agrees : (jobs more : List ℕ → List ℕ) (run ran : List ℕ → Option Run) (free freed : ℕ → Bool) (count now : ℕ) (ready : List AReady)
       → ((id : List ℕ) → jobs id ≡ []) → ((id : List ℕ) → run id ≡ None) → ((k : ℕ) → free k ≡ get_or (replicate (length J) false) k false) → count ≡ length J → now ≡ 0
       → ((k : ℕ) (i : List ℕ) → times k (those_of i ready) ≡ (if is_new O N i k then 1 else 0))
       → count_by is_running (standings_of N).statuses ≡ count_by is_running (standings_of O).statuses
       → ((i : List ℕ) → more i ≡ jobs i ++ those_of i ready) → ((i : List ℕ) → ran i ≡ run i)
       → ((k : ℕ) → freed k ≡ (if list_any (λ one. (eqb one.job k) && is_none (ran one.id)) ready then true else free k))
-      → low ≤ least → ((k : ℕ) → list_any (λ one. (eqb one.job k) && is_none (ran one.id)) ready ≡ true → low ≤ k)
-      → AgreesBy N more ran freed count low now
-  opened_agrees jobs more run ran free freed count least low now ready none unrun free_is len still_none listed still more_is ran_is freed_is lower each =
-      released_agrees O N jobs more run ran free freed count least low now ready start
+      → AgreesBy N more ran freed count now
+  opened_agrees jobs more run ran free freed count now ready none unrun free_is len still_none listed still more_is ran_is freed_is =
+      released_agrees O N jobs more run ran free freed count now ready start
       (good.known.jobs ∙ sym from.known.jobs) (under_others J h I O N from under) (waited_rests J h O N (carried_on J h I O N from good under waits)) listed still
-      (λ i k. ap (times k) (more_is i) ∙ sum_by-append (λ j. cond (eqb j k) 1 0) (jobs i) (those_of i ready)) ran_is freed_is lower each
+      (λ i k. ap (times k) (more_is i) ∙ sum_by-append (λ j. cond (eqb j k) 1 0) (jobs i) (those_of i ready)) ran_is freed_is
     where
-      start : AgreesBy O jobs run free count least now
+      start : AgreesBy O jobs run free count now
       start = record {
         jobs = λ id k. ap (times k) (none id) ∙ sym (ap (λ b. if b && has_action_id id (row_at O k).action then 1 else 0) (first_status k).0);
         runs = λ id hand job action. (
@@ -114,7 +114,6 @@ module _ (J : List Job) (h : Held) (I : List (List ℕ)) (O N : List Row) (first
         );
         count = len ∙ sym first.count;
         free = λ k. free_is k ∙ empty_free (length J) k ∙ sym (not_ready k);
-        below = λ k lt. free_is k ∙ empty_free (length J) k;
         running = still_none ∙ sym first_none;
       }
         where

@@ -8,14 +8,15 @@ use Rattle.std.proofs.lemmas.List.{length-replicate}
 use Rattle.ws_action.specs.Actions.{Action, action_id}
 use Rattle.ws_board.specs.declared.work.Event.{Event}
 use Rattle.ws_board.specs.declared.work.Event.TheVariants.{Finish}
-use Rattle.ws_board.specs.declared.rows.Row.{Row}
+use Rattle.ws_board.specs.declared.table.Row.{Row}
 use Rattle.ws_board.specs.declared.rows.Rows.{Rows}
 use Rattle.ws_board.specs.declared.moves.Moves.{Moves}
 use Rattle.ws_board.specs.declared.index.Ready.{Ready as AReady}
 use Rattle.ws_board.specs.declared.index.Index.{Index}
 use Rattle.ws_board.specs.Work.{Job, Standings}
 use Rattle.ws_board.specs.Machine.{Held, is_back_of, is_open, is_waiting, is_ready, has_action_id, Carried, IsMarked, IsRunBy, unopened}
-use Rattle.ws_board.specs.Rows.{row_at, standings_of, times, those_of, is_new, owed, untold, import_count, is_back, AreFirst, AreCarriedBy, AreCarried, CarriesOn, Waits, FinishesRows, KnowsBacks, IsPaid}
+use Rattle.ws_board.specs.Rows.{times, those_of, is_new, owed, untold, import_count, is_back, AreFirst, AreCarriedBy, AreCarried, CarriesOn, Waits, FinishesRows, KnowsBacks, IsPaid}
+use Rattle.ws_board.specs.Table.{row_at, standings_of}
 use Rattle.ws_board.specs.Indexes.{id_in, jobs_of, run_of, jobs_in, run_in, is_free_in, is_released, Changes, IsSameBut, AgreesBy, Agrees}
 use Rattle.ws_board.proofs.Standing.{open_inside}
 use Rattle.ws_board.proofs.Marking.{marked_is}
@@ -63,53 +64,53 @@ ready_inside O N ready listed n d lt =
     open_inside N one.job (ap is_open (ready_is (row_at N one.job).status s.0))
 
 -- an index whose ids and flags are those of another
-same_index : (R : List Row) (x y : Index) (free : ℕ → Bool) (count : ℕ) → AgreesBy R (jobs_in x) (run_in x) free count y.from y.running → y.ids ≡ x.ids → ((k : ℕ) → is_free_in y k ≡ free k) → length y.free.items ≡ count → Agrees R y
+same_index : (R : List Row) (x y : Index) (free : ℕ → Bool) (count : ℕ) → AgreesBy R (jobs_in x) (run_in x) free count y.running → y.ids ≡ x.ids → ((k : ℕ) → is_free_in y k ≡ free k) → length y.free ≡ count → Agrees R y
 same_index R x y free count agrees ids flags len =
-    same_agrees R (jobs_in x) (jobs_in y) (run_in x) (run_in y) free (is_free_in y) count (length y.free.items) y.from y.from y.running y.running agrees
-    (λ id. ap (λ m. jobs_of (id_in m.entries id)) ids) (λ id. ap (λ m. run_of (id_in m.entries id)) ids) flags len refl refl
+    same_agrees R (jobs_in x) (jobs_in y) (run_in x) (run_in y) free (is_free_in y) count (length y.free) y.running y.running agrees
+    (λ id. ap (λ m. jobs_of (id_in m.entries id)) ids) (λ id. ap (λ m. run_of (id_in m.entries id)) ids) flags len refl
 
 -- an index whose jobs were taken out again
 pub index_still : (R N : List Row) (x y : Index) → N ≡ R → Agrees R x → ((i : List ℕ) → jobs_in y i ≡ jobs_in x i) → IsSameBut x y → Agrees N y
 index_still R N x y rows agrees jobs but =
     subst (λ r. Agrees r y) (sym rows)
-    (same_agrees R (jobs_in x) (jobs_in y) (run_in x) (run_in y) (is_free_in x) (is_free_in y) (length x.free.items) (length y.free.items) x.from y.from x.running y.running agrees jobs but.runs
-    (λ k. ap (λ l. get_or l k false) but.free) (ap length but.free) but.from but.running)
+    (same_agrees R (jobs_in x) (jobs_in y) (run_in x) (run_in y) (is_free_in x) (is_free_in y) (length x.free) (length y.free) x.running y.running agrees jobs but.runs
+    (λ k. ap (λ l. get_or l k false) but.free) (ap length but.free) but.running)
 
 -- ---- a task is finished
 
 module _ (h : Held) (id : List ℕ) (good : Bool) (old new : Rows) (ready : List AReady) (done : FinishesRows h id good old new ready) where
-  pub finish_carried : Carried old.jobs.items h (standings_of done.marked) (standings_of new.rows.items)
-  finish_carried = closing old.jobs.items h old.importers.items old.rows.items done.marked new.rows.items done.from done.good done.under done.waits
+  pub finish_carried : Carried old.jobs.items h (standings_of done.marked) (standings_of new.rows)
+  finish_carried = closing old.jobs.items h old.importers.items old.rows done.marked new.rows done.from done.good done.under done.waits
 
-  pub finish_marked : IsMarked id good (standings_of old.rows.items) (standings_of done.marked)
-  finish_marked = marked_is id good old.rows.items done.marked done.settled done.marks
+  pub finish_marked : IsMarked id good (standings_of old.rows) (standings_of done.marked)
+  finish_marked = marked_is id good old.rows done.marked done.settled done.marks
 
-  pub finish_count : length new.rows.items ≡ length old.rows.items
+  pub finish_count : length new.rows ≡ length old.rows
   finish_count = done.good.known.jobs ∙ sym done.from.known.jobs ∙ done.marks.count
 
-  pub finish_backs : (history all : List Event) (hand k : ℕ) → all ≡ history ++ Finish hand k ∷ [] → KnowsBacks old.rows.items history → KnowsBacks new.rows.items all
-  finish_backs history all hand k is = still_backs old.rows.items new.rows.items history all (Finish hand k) finish_count done.backs is (λ j. refl)
+  pub finish_backs : (history all : List Event) (hand k : ℕ) → all ≡ history ++ Finish hand k ∷ [] → KnowsBacks old.rows history → KnowsBacks new.rows all
+  finish_backs history all hand k is = still_backs old.rows new.rows history all (Finish hand k) finish_count done.backs is (λ j. refl)
 
-  pub finish_paid : (looks next imports : ℕ) (history all : List Event) (hand k : ℕ) → all ≡ history ++ Finish hand k ∷ [] → looks ≤ next → next + owed new.rows.items ≤ looks + owed old.rows.items
-      → IsPaid looks old.rows.items imports (count_by is_back history) → IsPaid next new.rows.items imports (count_by is_back all)
-  finish_paid looks next imports history all hand k is more less = still_paid looks next old.rows.items new.rows.items imports history all (Finish hand k) finish_count more less is refl
+  pub finish_paid : (looks next imports : ℕ) (history all : List Event) (hand k : ℕ) → all ≡ history ++ Finish hand k ∷ [] → looks ≤ next → next + owed new.rows ≤ looks + owed old.rows
+      → IsPaid looks old.rows imports (count_by is_back history) → IsPaid next new.rows imports (count_by is_back all)
+  finish_paid looks next imports history all hand k is more less = still_paid looks next old.rows new.rows imports history all (Finish hand k) finish_count more less is refl
 
-  module _ (x joins ends y : Index) (agrees : Agrees old.rows.items x) (hand k : ℕ) (action e : Action) (run : IsRunBy (standings_of old.rows.items) hand k action) (same : action_id action ≡ id) (there : h id ≡ Some e)
+  module _ (x joins ends y : Index) (agrees : Agrees old.rows x) (hand k : ℕ) (action e : Action) (run : IsRunBy (standings_of old.rows) hand k action) (same : action_id action ≡ id) (there : h id ≡ Some e)
       (joined : (i : List ℕ) → jobs_in joins i ≡ jobs_in x i ++ those_of i ready) (but : IsSameBut x joins)
-      (changes : Changes joins ends id [] None) (flags : ends.free.items ≡ joins.free.items) (place : ends.from ≡ joins.from) (fewer : ends.running + 1 ≡ joins.running)
-      (ids : y.ids ≡ ends.ids) (marks : (j : ℕ) → is_free_in y j ≡ (if is_released ends ready j then true else is_free_in ends j)) (len : length y.free.items ≡ length ends.free.items)
-      (lower : y.from ≤ ends.from) (each : (j : ℕ) → is_released ends ready j ≡ true → y.from ≤ j) (still : y.running ≡ ends.running) where
-    flags_same : ends.free.items ≡ x.free.items
+      (changes : Changes joins ends id [] None) (flags : ends.free ≡ joins.free) (fewer : ends.running + 1 ≡ joins.running)
+      (ids : y.ids ≡ ends.ids) (marks : (j : ℕ) → is_free_in y j ≡ (if is_released ends ready j then true else is_free_in ends j)) (len : length y.free ≡ length ends.free)
+      (still : y.running ≡ ends.running) where
+    flags_same : ends.free ≡ x.free
     flags_same = flags ∙ but.free
 
-    pub finish_index : Agrees new.rows.items y
+    pub finish_index : Agrees new.rows y
     finish_index =
-        same_index new.rows.items ends y (is_free_in y) (length x.free.items)
-        (finish_agrees old.jobs.items h old.importers.items old.rows.items done.marked new.rows.items done.from done.good done.under done.waits
-        (jobs_in x) (run_in x) (is_free_in x) (length x.free.items) x.from x.running agrees id good done.settled done.marks hand k action
-        (run_row old.rows.items hand k action run).0 (run_row old.rows.items hand k action run).1 same (open_inside old.rows.items k (ap is_open (run_row old.rows.items hand k action run).0)) e there
+        same_index new.rows ends y (is_free_in y) (length x.free)
+        (finish_agrees old.jobs.items h old.importers.items old.rows done.marked new.rows done.from done.good done.under done.waits
+        (jobs_in x) (run_in x) (is_free_in x) (length x.free) x.running agrees id good done.settled done.marks hand k action
+        (run_row old.rows hand k action run).0 (run_row old.rows hand k action run).1 same (open_inside old.rows k (ap is_open (run_row old.rows hand k action run).0)) e there
         ready done.listed done.runs (jobs_in joins) (jobs_in ends) joined changes.jobs (run_in ends) ran_is
-        (is_free_in y) freed_is y.from y.running (omega (arith, lower, place, but.from)) each (omega (arith, still, fewer, but.running)))
+        (is_free_in y) freed_is y.running (omega (arith, still, fewer, but.running)))
         ids (λ j. refl) (len ∙ ap length flags_same)
       where
         ran_is : (i : List ℕ) → run_in ends i ≡ (if bytes_eq id i then None else run_in x i)
@@ -120,48 +121,48 @@ module _ (h : Held) (id : List ℕ) (good : Bool) (old new : Rows) (ready : List
 
 -- ---- the opening
 
-module _ (h : Held) (spare : ℕ) (old new : Rows) (before after : Moves) (looks next : ℕ) (none : before.ready.items ≡ []) (first : AreFirst old.jobs.items old.importers.items (length old.jobs.items) old.rows.items)
-    (from : AreCarried old) (on : CarriesOn h spare old new before after looks next) (waits : Waits new.jobs.items new.rows.items [] (λ j. false)) where
-  opened_good : AreCarriedBy old.jobs.items old.importers.items new.rows.items
-  opened_good = good_parts new.jobs.items old.jobs.items new.importers.items old.importers.items new.rows.items (sym on.jobs) (sym on.importers) on.good
+module _ (h : Held) (spare : ℕ) (old new : Rows) (before after : Moves) (looks next : ℕ) (none : before.ready.items ≡ []) (first : AreFirst old.jobs.items old.importers.items (length old.jobs.items) old.rows)
+    (from : AreCarried old) (on : CarriesOn h spare old new before after looks next) (waits : Waits new.jobs.items new.rows [] (λ j. false)) where
+  opened_good : AreCarriedBy old.jobs.items old.importers.items new.rows
+  opened_good = good_parts new.jobs.items old.jobs.items new.importers.items old.importers.items new.rows (sym on.jobs) (sym on.importers) on.good
 
-  opened_waits : Waits old.jobs.items new.rows.items [] (λ j. false)
-  opened_waits = waits_parts new.jobs.items old.jobs.items new.rows.items new.rows.items [] [] (λ j. false) (sym on.jobs) refl refl waits
+  opened_waits : Waits old.jobs.items new.rows [] (λ j. false)
+  opened_waits = waits_parts new.jobs.items old.jobs.items new.rows new.rows [] [] (λ j. false) (sym on.jobs) refl refl waits
 
-  pub open_carried : Carried old.jobs.items h (unopened old.jobs.items) (standings_of new.rows.items)
+  pub open_carried : Carried old.jobs.items h (unopened old.jobs.items) (standings_of new.rows)
   open_carried =
-      subst (λ (s : Standings). Carried old.jobs.items h s (standings_of new.rows.items)) (first_standings old.jobs.items old.importers.items old.rows.items first)
-      (carried_on old.jobs.items h old.importers.items old.rows.items new.rows.items from opened_good on.under opened_waits)
+      subst (λ (s : Standings). Carried old.jobs.items h s (standings_of new.rows)) (first_standings old.jobs.items old.importers.items old.rows first)
+      (carried_on old.jobs.items h old.importers.items old.rows new.rows from opened_good on.under opened_waits)
 
-  pub opened_listed : (k : ℕ) (i : List ℕ) → times k (those_of i after.ready.items) ≡ (if is_new old.rows.items new.rows.items i k then 1 else 0)
+  pub opened_listed : (k : ℕ) (i : List ℕ) → times k (those_of i after.ready.items) ≡ (if is_new old.rows new.rows i k then 1 else 0)
   opened_listed k i =
       let e : times k (those_of i before.ready.items) ≡ 0 = ap (λ l. times k (those_of i l)) none in
       omega (arith, on.listed k i, e)
 
-  pub open_index : (x joins y : Index) → ((id : List ℕ) → (jobs_in x id ≡ []) × (run_in x id ≡ None)) → x.free.items ≡ replicate (length old.jobs.items) false → (x.from ≡ 0) × (x.running ≡ 0)
+  pub open_index : (x joins y : Index) → ((id : List ℕ) → (jobs_in x id ≡ []) × (run_in x id ≡ None)) → x.free ≡ replicate (length old.jobs.items) false → x.running ≡ 0
       → ((i : List ℕ) → jobs_in joins i ≡ jobs_in x i ++ those_of i after.ready.items) → IsSameBut x joins → y.ids ≡ joins.ids
-      → ((j : ℕ) → is_free_in y j ≡ (if is_released joins after.ready.items j then true else is_free_in joins j)) → length y.free.items ≡ length joins.free.items
-      → y.from ≤ joins.from → ((j : ℕ) → is_released joins after.ready.items j ≡ true → y.from ≤ j) → y.running ≡ joins.running → Agrees new.rows.items y
-  open_index x joins y empty flags start joined but ids marks len lower each still =
-      same_index new.rows.items joins y (is_free_in y) (length (replicate (length old.jobs.items) false))
-      (opened_agrees old.jobs.items h old.importers.items old.rows.items new.rows.items first from opened_good on.under opened_waits
-      (jobs_in x) (jobs_in joins) (run_in x) (run_in joins) (is_free_in x) (is_free_in y) (length (replicate (length old.jobs.items) false)) x.from y.from y.running after.ready.items
-      (λ id. (empty id).0) (λ id. (empty id).1) (λ j. ap (λ l. get_or l j false) flags) (length-replicate (length old.jobs.items) false) (still ∙ but.running ∙ start.1) opened_listed on.runs joined but.runs
-      (λ j. marks j ∙ ap (λ l. if is_released joins after.ready.items j then true else get_or l j false) but.free) (omega (arith, lower, but.from)) each)
+      → ((j : ℕ) → is_free_in y j ≡ (if is_released joins after.ready.items j then true else is_free_in joins j)) → length y.free ≡ length joins.free
+      → y.running ≡ joins.running → Agrees new.rows y
+  open_index x joins y empty flags start joined but ids marks len still =
+      same_index new.rows joins y (is_free_in y) (length (replicate (length old.jobs.items) false))
+      (opened_agrees old.jobs.items h old.importers.items old.rows new.rows first from opened_good on.under opened_waits
+      (jobs_in x) (jobs_in joins) (run_in x) (run_in joins) (is_free_in x) (is_free_in y) (length (replicate (length old.jobs.items) false)) y.running after.ready.items
+      (λ id. (empty id).0) (λ id. (empty id).1) (λ j. ap (λ l. get_or l j false) flags) (length-replicate (length old.jobs.items) false) (still ∙ but.running ∙ start) opened_listed on.runs joined but.runs
+      (λ j. marks j ∙ ap (λ l. if is_released joins after.ready.items j then true else get_or l j false) but.free))
       ids (λ j. refl) (len ∙ ap length (but.free ∙ flags))
 
-  pub open_parts : AreCarriedBy old.jobs.items old.importers.items new.rows.items × Waits old.jobs.items new.rows.items [] (λ j. false)
+  pub open_parts : AreCarriedBy old.jobs.items old.importers.items new.rows × Waits old.jobs.items new.rows [] (λ j. false)
   open_parts = (opened_good, opened_waits)
 
-  pub open_backs : (history : List Event) → history ≡ [] → KnowsBacks new.rows.items history
+  pub open_backs : (history : List Event) → history ≡ [] → KnowsBacks new.rows history
   open_backs history is k lt =
       let at : k < length old.jobs.items = omega (arith, lt, opened_good.known.jobs) in
       on.backs k ∙ ap (λ (r : Row). r.was_back) (first.each k at) ∙ sym (ap (list_any (is_back_of k)) is)
 
-  pub open_paid : looks ≡ 0 → spare ≡ 3 * length old.rows.items → before.settled.items ≡ [] → sum_by (λ list. length list) old.importers.items ≤ import_count old.jobs.items → looks + length old.rows.items ≤ next
-      → IsPaid next new.rows.items (import_count old.jobs.items) 0
+  pub open_paid : looks ≡ 0 → spare ≡ 3 * length old.rows → before.settled.items ≡ [] → sum_by (λ list. length list) old.importers.items ≤ import_count old.jobs.items → looks + length old.rows ≤ next
+      → IsPaid next new.rows (import_count old.jobs.items) 0
   open_paid start is settled few least =
-      let o = first_owes old.jobs.items old.importers.items old.rows.items first from.known.lists in
+      let o = first_owes old.jobs.items old.importers.items old.rows first from.known.lists in
       let n : untold old.importers.items before.settled.items ≡ 0 = ap (untold old.importers.items) settled in (
         omega (arith, opened_good.known.jobs, first.count, least, start),
         omega (arith, o, n, on.paid, few, first.count, opened_good.known.jobs, start, is),

@@ -11,8 +11,10 @@ use Rattle.ws_board.specs.contracts.work.Identified as identified
 use Rattle.ws_board.specs.contracts.work.Work as work
 use Rattle.ws_board.specs.contracts.work.Job as job
 use Rattle.ws_board.specs.contracts.rows.Numbers as numbers
-use Rattle.ws_board.specs.contracts.rows.Row as row
+use Rattle.ws_board.specs.contracts.table.Row as row
+use Rattle.ws_board.specs.contracts.table.Table as table
 use Rattle.ws_board.specs.contracts.rows.Rows as rows
+use Rattle.ws_board.specs.contracts.flags.Flags as flags
 use Rattle.ws_board.specs.contracts.index.Run as run
 use Rattle.ws_board.specs.contracts.index.Id as id
 use Rattle.ws_board.specs.contracts.index.Index as index
@@ -35,8 +37,14 @@ numbers_send = search (crosses, sendable) depth 20
 row_send : IsSend row.the_row
 row_send = search (identified_send, status.the_field_send, crosses, sendable) depth 20
 
+table_send : IsSend table.the_row
+table_send = search (row_send, crosses, sendable) depth 20
+
 rows_send : IsSend (rows.the_field).row
-rows_send = search (job_send, numbers_send, row_send, crosses, sendable) depth 20
+rows_send = search (job_send, numbers_send, table_send, crosses, sendable) depth 20
+
+flags_send : IsSend flags.the_row
+flags_send = search (crosses, sendable) depth 20
 
 run_send : IsSend run.the_row
 run_send = search (identified_send, crosses, sendable) depth 20
@@ -45,7 +53,7 @@ id_send : IsSend id.the_row
 id_send = search (run_send, crosses, sendable) depth 20
 
 index_send : IsSend (index.the_field).row
-index_send = search (id_send, crosses, maps.crosses, sendable) depth 20
+index_send = search (id_send, flags_send, crosses, maps.crosses, sendable) depth 20
 
 fields_send : IsSend (inside.the_field).row
 fields_send = struct_send (declared.shape inside.the_type) (

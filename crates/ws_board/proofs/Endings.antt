@@ -1,8 +1,6 @@
 -- When nothing is left to do, the jobs came to their ends.
-use Rattle.std.proofs.Common.{◌≡◌, ℕ, Bool, true, false, List, [], ◌∷◌, ◌++◌, map, count_by, length, Option, Some, None, refl, sym, ap, ◌∙◌, subst, inl, inr, ◌⊎◌}
+use Rattle.std.proofs.Common.{◌≡◌, ℕ, Bool, true, false, List, ◌++◌, map, count_by, Option, Some, None, refl, sym, ap, ◌∙◌, subst, inl, inr, ◌⊎◌}
 use Rattle.std.specs.List.{list_any, Contains}
-use Rattle.std.specs.FinMap.{get}
-use Rattle.std.specs.Option.{option_or}
 use Rattle.std.proofs.lemmas.List.{length-map}
 use Rattle.std.proofs.lemmas.List.Elements.{Contains-append_left, Contains-append_right, Contains-append_cases}
 use Rattle.ws_map.specs.Kept.{joined, SameMembers}
@@ -14,12 +12,12 @@ use Rattle.ws_cache.specs.Joined.{lesser}
 use Rattle.ws_cache.proofs.Joined.{joined_stands}
 use Rattle.ws_board.specs.declared.work.Status.{Status}
 use Rattle.ws_board.specs.declared.work.Status.TheVariants.{Waiting, Ready, Running, Blocked as Stays, Done}
-use Rattle.ws_board.specs.Work.{Entries, Opening, State, Seen}
+use Rattle.ws_board.specs.Work.{Opening, State, Seen}
 use Rattle.ws_board.specs.Machine.{Held, is_open, status_at, action_at, held, IsHistory, is_idle, is_finish}
 use Rattle.ws_board.specs.Calls.{result_of}
-use Rattle.ws_board.specs.Ends.{End, Blocked, Came, end_at, came_of, came, AreEnds, IsRanked, AreClear, ComesTo, ComesToEnds}
+use Rattle.ws_board.specs.Ends.{End, Blocked, Came, end_at, came_of, came, AreEnds, IsRanked, AreClear, ComesToEnds}
 use Rattle.ws_board.proofs.Counts.{known, id_known, known_id, count_is, not_true}
-use Rattle.ws_board.proofs.Finished.{IsDoneFor, AreEntered, none_put, history_entered}
+use Rattle.ws_board.proofs.Finished.{AreEntered, none_put, history_entered}
 use Rattle.ws_board.proofs.Idle.{after_idle, all_settled}
 use Rattle.ws_board.proofs.Meeting.{Meets, meets, came_has, came_from}
 use Rattle.ws_board.proofs.Sounds.{KeepsIn, history_keeps}

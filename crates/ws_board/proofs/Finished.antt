@@ -14,7 +14,7 @@ use Rattle.ws_cache.proofs.Joined.{cache_stands, empty_stands, taken_stands}
 use Rattle.ws_board.specs.declared.work.Status.TheVariants.{Done}
 use Rattle.ws_board.specs.declared.work.Event.{Event}
 use Rattle.ws_board.specs.declared.work.Event.TheVariants.{Take, Finish, Back, Idle}
-use Rattle.ws_board.specs.Work.{Entries, Standings, Opening, State, Seen}
+use Rattle.ws_board.specs.Work.{Entries, Opening, State, Seen}
 use Rattle.ws_board.specs.Machine.{is_open, is_waiting, status_at, action_at, held, Finishes, BoardStep, Replays, IsFirst, IsHistory, is_finish}
 use Rattle.ws_board.specs.Ends.{AreFinished}
 use Rattle.ws_board.proofs.Runs.{finished_done, marked_done}

@@ -1,13 +1,14 @@
 -- The jobs with an id are done, and from there jobs were carried on.
 use Rattle.std.proofs.Common.{◌≡◌, ℕ, Bool, false, List, [], refl, sym, ap, ◌∙◌, subst, arith}
 use Rattle.std.specs.Prelude.{if◌then◌else◌}
-use Rattle.ws_board.specs.declared.rows.Row.{Row}
+use Rattle.ws_board.specs.declared.table.Row.{Row}
 use Rattle.ws_board.specs.declared.rows.Rows.{Rows}
 use Rattle.ws_board.specs.declared.moves.Moves.{Moves}
 use Rattle.ws_board.specs.Work.{Job, Standings}
 use Rattle.ws_board.specs.Machine.{Held}
 use Rattle.ws_board.specs.Carrying.{IsUnder}
-use Rattle.ws_board.specs.Rows.{standings_of, times, those_of, is_new, AreCarriedBy, AreCarried, Waits, CarriesOn, Marks, FinishesRows}
+use Rattle.ws_board.specs.Rows.{times, those_of, is_new, AreCarriedBy, AreCarried, Waits, CarriesOn, Marks, FinishesRows}
+use Rattle.ws_board.specs.Table.{standings_of}
 use Rattle.ws_board.proofs.Marking.{marked_good, marked_held, marked_backs}
 use Rattle.ws_board.proofs.Onward.{waits_parts}
 
@@ -15,37 +16,37 @@ pub good_parts : (J K : List Job) (I L : List (List ℕ)) (R : List Row) → K �
 good_parts J K I L R jobs importers good = subst (λ l. AreCarriedBy l L R) (sym jobs) (subst (λ l. AreCarriedBy J l R) (sym importers) good)
 
 module _ (h : Held) (id : List ℕ) (good : Bool) (O M : Rows) (marking : Moves) (known : AreCarried O)
-    (marks : Marks id good O.rows.items M.rows.items marking.settled.items) (jobs : M.jobs.items ≡ O.jobs.items) (importers : M.importers.items ≡ O.importers.items) where
-  from : AreCarriedBy O.jobs.items O.importers.items M.rows.items
-  from = marked_good id good O.rows.items M.rows.items marking.settled.items marks O.jobs.items O.importers.items known
+    (marks : Marks id good O.rows M.rows marking.settled.items) (jobs : M.jobs.items ≡ O.jobs.items) (importers : M.importers.items ≡ O.importers.items) where
+  from : AreCarriedBy O.jobs.items O.importers.items M.rows
+  from = marked_good id good O.rows M.rows marking.settled.items marks O.jobs.items O.importers.items known
 
   pub marked_carried : AreCarried M
-  marked_carried = good_parts O.jobs.items M.jobs.items O.importers.items M.importers.items M.rows.items jobs importers from
+  marked_carried = good_parts O.jobs.items M.jobs.items O.importers.items M.importers.items M.rows jobs importers from
 
-  pub marked_waiting : Waits O.jobs.items O.rows.items [] (λ j. false) → Waits M.jobs.items M.rows.items marking.settled.items (λ j. false)
+  pub marked_waiting : Waits O.jobs.items O.rows [] (λ j. false) → Waits M.jobs.items M.rows marking.settled.items (λ j. false)
   marked_waiting waits =
-      waits_parts O.jobs.items M.jobs.items M.rows.items M.rows.items marking.settled.items marking.settled.items (λ j. false) jobs refl refl
-      (marked_held id good O.rows.items M.rows.items marking.settled.items marks O.jobs.items waits)
+      waits_parts O.jobs.items M.jobs.items M.rows M.rows marking.settled.items marking.settled.items (λ j. false) jobs refl refl
+      (marked_held id good O.rows M.rows marking.settled.items marks O.jobs.items waits)
 
-  module _ (N : Rows) (after : Moves) (looks next : ℕ) (none : marking.ready.items ≡ []) (on : CarriesOn h 0 M N marking after looks next) (waits : Waits N.jobs.items N.rows.items [] (λ j. false)) where
-    listed : (k : ℕ) (i : List ℕ) → times k (those_of i after.ready.items) ≡ (if is_new M.rows.items N.rows.items i k then 1 else 0)
+  module _ (N : Rows) (after : Moves) (looks next : ℕ) (none : marking.ready.items ≡ []) (on : CarriesOn h 0 M N marking after looks next) (waits : Waits N.jobs.items N.rows [] (λ j. false)) where
+    listed : (k : ℕ) (i : List ℕ) → times k (those_of i after.ready.items) ≡ (if is_new M.rows N.rows i k then 1 else 0)
     listed k i =
         let e : times k (those_of i marking.ready.items) ≡ 0 = ap (λ l. times k (those_of i l)) none in
         omega (arith, on.listed k i, e)
 
-    under : (first : Standings) → IsUnder O.jobs.items h first (standings_of M.rows.items) → IsUnder O.jobs.items h first (standings_of N.rows.items)
-    under first u = subst (λ J. IsUnder J h first (standings_of N.rows.items)) jobs (on.under first (subst (λ J. IsUnder J h first (standings_of M.rows.items)) (sym jobs) u))
+    under : (first : Standings) → IsUnder O.jobs.items h first (standings_of M.rows) → IsUnder O.jobs.items h first (standings_of N.rows)
+    under first u = subst (λ J. IsUnder J h first (standings_of N.rows)) jobs (on.under first (subst (λ J. IsUnder J h first (standings_of M.rows)) (sym jobs) u))
 
     pub finishes_rows : FinishesRows h id good O N after.ready.items
     finishes_rows = record {
-      marked = M.rows.items;
+      marked = M.rows;
       settled = marking.settled.items;
       marks = marks;
       from = from;
-      good = good_parts N.jobs.items O.jobs.items N.importers.items O.importers.items N.rows.items (sym (on.jobs ∙ jobs)) (sym (on.importers ∙ importers)) on.good;
+      good = good_parts N.jobs.items O.jobs.items N.importers.items O.importers.items N.rows (sym (on.jobs ∙ jobs)) (sym (on.importers ∙ importers)) on.good;
       under = under;
-      waits = waits_parts N.jobs.items O.jobs.items N.rows.items N.rows.items [] [] (λ j. false) (sym (on.jobs ∙ jobs)) refl refl waits;
-      backs = λ k. on.backs k ∙ marked_backs id good O.rows.items M.rows.items marking.settled.items marks k;
+      waits = waits_parts N.jobs.items O.jobs.items N.rows N.rows [] [] (λ j. false) (sym (on.jobs ∙ jobs)) refl refl waits;
+      backs = λ k. on.backs k ∙ marked_backs id good O.rows M.rows marking.settled.items marks k;
       runs = on.runs;
       listed = listed;
     }

@@ -9,11 +9,10 @@ use Rattle.std.proofs.lemmas.Slice.Eq.{bytes_eq-Decides}
 use Rattle.ws_map.specs.Kept.{taken}
 use Rattle.ws_action.specs.Actions.{Action, action_id}
 use Rattle.ws_cache.specs.Joined.{lesser}
-use Rattle.ws_board.specs.declared.work.Status.{Status}
-use Rattle.ws_board.specs.declared.work.Status.TheVariants.{Waiting, Ready, Running, Blocked, Done}
+use Rattle.ws_board.specs.declared.work.Status.TheVariants.{Waiting, Ready, Blocked}
 use Rattle.ws_board.specs.declared.work.Event.{Event}
 use Rattle.ws_board.specs.Work.{Job, Entries, Standings, Opening, State}
-use Rattle.ws_board.specs.Machine.{Held, is_waiting, status_at, action_at, held, IsGoodness, Carried, IsMarked, IsRunBy, Finishes, BoardStep, Replays, IsFirst, IsHistory, unopened}
+use Rattle.ws_board.specs.Machine.{is_waiting, status_at, action_at, held, IsGoodness, Carried, IsMarked, IsRunBy, Finishes, BoardStep, Replays, IsFirst, IsHistory, unopened}
 use Rattle.ws_board.specs.Carrying.{held_with, AreOf}
 use Rattle.ws_board.proofs.Grown.{taken_here, taken_other, grows}
 use Rattle.ws_board.proofs.Sounds.{IsSound, KeepsIn, history_keeps, running_unheld, half_marked}

@@ -8,8 +8,8 @@ use Rattle.ws_board.specs.declared.work.Status.TheVariants.{Waiting, Ready, Runn
 use Rattle.ws_board.specs.declared.work.Event.{Event}
 use Rattle.ws_board.specs.declared.work.Event.TheVariants.{Take, Finish, Back, Idle}
 use Rattle.ws_board.specs.Work.{Work, Job, Standings, Opening, State}
-use Rattle.ws_board.specs.Machine.{Held, is_open, is_waiting, is_active, status_at, action_at, any_open, IsVerdict, Wait, IsIdle, Replays, is_idle}
-use Rattle.ws_board.specs.Ends.{work_in, imports_in, imports_at, IsRanked}
+use Rattle.ws_board.specs.Machine.{Held, is_open, is_waiting, is_active, status_at, action_at, IsVerdict, Wait, IsIdle, Replays, is_idle}
+use Rattle.ws_board.specs.Ends.{work_in, imports_in, IsRanked}
 use Rattle.ws_board.proofs.OneEnd.{ranked}
 use Rattle.ws_board.proofs.Sounds.{IsSound, Keeps}
 

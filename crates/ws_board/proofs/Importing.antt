@@ -1,19 +1,20 @@
 -- The lists of those that import a job, and the rows at first.
-use Rattle.std.proofs.Common.{◌≡◌, ℕ, zero, suc, ◌+◌, ◌*◌, ◌<◌, ◌≤◌, true, false, List, [], ◌∷◌, ◌++◌, length, take, get_or, replicate, Option, Some, None, refl, sym, ap, ◌∙◌, subst, arith, inl, inr, ◌⊎◌, get_or-set_other, get_or-set_same}
+use Rattle.std.proofs.Common.{◌≡◌, ℕ, zero, suc, ◌+◌, ◌*◌, ◌<◌, ◌≤◌, true, false, List, [], ◌∷◌, ◌++◌, length, get_or, replicate, None, refl, sym, ap, ◌∙◌, subst, arith, inl, inr, ◌⊎◌, get_or-set_other, get_or-set_same}
 use Rattle.std.specs.Prelude.{◌^◌}
-use Rattle.std.specs.List.{sum_by, slice_get, slice_index_or, Contains}
+use Rattle.std.specs.List.{sum_by, slice_index_or, Contains}
 use Rattle.std.proofs.Math.ListN.{set, length-set}
 use Rattle.std.proofs.lemmas.Bool.{cases_eq, cases_lt}
-use Rattle.std.proofs.lemmas.List.{get_or_at, get_or_append_left, length_push, take_all, length-replicate, get_or-replicate}
+use Rattle.std.proofs.lemmas.List.{get_or_at, get_or_append_left, length_push, length-replicate}
 use Rattle.std.proofs.lemmas.List.Elements.{Contains-append_left, Contains-push, Contains-push_cases}
 use Rattle.std.proofs.lemmas.List.Sums.{sum_by-set, sum_by-cons, sum_by_more}
 use Rattle.std.proofs.lemmas.Option.{slice_get_past, slice_get-get_or}
 use Rattle.ws_board.specs.declared.work.Status.TheVariants.{Waiting}
-use Rattle.ws_board.specs.declared.rows.Row.{Row}
+use Rattle.ws_board.specs.declared.table.Row.{Row}
 use Rattle.ws_board.specs.Work.{Job}
-use Rattle.ws_board.specs.Machine.{is_waiting, is_open}
+use Rattle.ws_board.specs.Machine.{is_waiting}
 use Rattle.ws_board.specs.Ends.{imports_in, imports_at}
-use Rattle.ws_board.specs.Rows.{blank, row_at, due, owed, import_count, first_row, AreFirst, Adds, AreImporters, AreKnownBy, AreCarriedBy, AllPast, AreWithin}
+use Rattle.ws_board.specs.Rows.{due, owed, import_count, first_row, AreFirst, Adds, AreImporters, AreKnownBy, AreCarriedBy}
+use Rattle.ws_board.specs.Table.{blank, row_at}
 use Rattle.ws_board.proofs.Standing.{row_past, open_inside, waiting_open}
 
 set_past : {X : Type 0} (xs : List X) (k : ℕ) (x : X) → length xs ≤ k → set xs k x ≡ xs

@@ -1,19 +1,12 @@
 -- What the index's loops come to: jobs that are marked, and jobs that join their ids and leave them.
-use Rattle.std.proofs.Common.{◌≡◌, ℕ, ◌+◌, ◌-◌, ◌<◌, ◌≤◌, Bool, true, false, ◌||◌, ◌&&◌, eqb, List, [], ◌∷◌, ◌++◌, length, take, drop, get_or, Option, refl, sym, ap, ◌∙◌, subst, arith, inl, inr, ◌⊎◌, append_assoc, get_or-set_other, get_or-set_same, length-append}
-use Rattle.std.specs.Prelude.{if◌then◌else◌, is_none, Result, Ok, Err, OnErr}
-use Rattle.std.specs.List.{All, list_any}
+use Rattle.std.proofs.Common.{◌≡◌, ℕ, ◌+◌, ◌-◌, ◌<◌, Bool, true, false, List, [], ◌∷◌, ◌++◌, length, take, drop, get_or, refl, sym, ap, ◌∙◌, arith, inl, inr, ◌⊎◌, append_assoc, length-append}
+use Rattle.std.specs.Prelude.{if◌then◌else◌, Result, Ok, Err, OnErr}
 use Rattle.std.specs.Str.{bytes_eq}
-use Rattle.std.proofs.Math.ListN.{set}
-use Rattle.std.proofs.lemmas.Bool.{cases_eq}
 use Rattle.std.proofs.lemmas.List.{take_more, take_all, take-append-le, drop_more, append-nil, append_cancel_right}
-use Rattle.std.proofs.lemmas.List.Elements.{All-push}
-use Rattle.std.proofs.lemmas.List.Folds.{list_any-append}
-use Rattle.ws_board.specs.declared.index.Run.{Run}
 use Rattle.ws_board.specs.declared.index.Ready.{Ready as AReady}
 use Rattle.ws_board.specs.declared.index.Index.{Index}
 use Rattle.ws_board.specs.Rows.{those_of}
 use Rattle.ws_board.specs.Indexes.{IsSameBut}
-use Rattle.ws_board.proofs.Listing.{any_push, eqb_same, eqb_not, eqb_is}
 use Rattle.ws_board.proofs.Ids.{at_id, off_id, same_id_or}
 
 pub on_err : {T E : Type 0} (P : Type 0) (r : Result T E) → P → OnErr r P
@@ -27,37 +20,6 @@ popped old new before job n is count rest =
     let m : n - 1 ≡ length before = omega (arith, count, len, length-append before (job ∷ [])) in
     let same : new ≡ before = rest ∙ ap (λ i. take i old) m ∙ ap (take (length before)) is ∙ take-append-le (length before) before (job ∷ []) (omega arith) ∙ take_all (length before) before (omega arith) in
     is ∙ ap (λ l. l ++ job ∷ []) (sym same)
-
--- one more job is marked
-pub marks_one : (old new : List Bool) (jobs : List ℕ) (i : ℕ) (may : Bool) → i < length jobs → get_or jobs i 0 < length new
-    → ((k : ℕ) → get_or new k false ≡ (if list_any (λ j. eqb j k) (take i jobs) then may else get_or old k false))
-    → (k : ℕ) → get_or (set new (get_or jobs i 0) may) k false ≡ (if list_any (λ j. eqb j k) (take (i + 1) jobs) then may else get_or old k false)
-marks_one old new jobs i may lt inside each k = by_job (cases_eq k (get_or jobs i 0)) ∙ ap (λ b. if b then may else get_or old k false) (sym more)
-  where
-    more : list_any (λ j. eqb j k) (take (i + 1) jobs) ≡ (list_any (λ j. eqb j k) (take i jobs) || eqb (get_or jobs i 0) k)
-    more = ap (list_any (λ j. eqb j k)) (take_more jobs i 0 lt) ∙ any_push (λ j. eqb j k) (take i jobs) (get_or jobs i 0)
-
-    or_true : (b : Bool) → (if b || true then may else get_or old k false) ≡ may
-    or_true true = refl
-    or_true false = refl
-
-    or_false : (b : Bool) → (if b || false then may else get_or old k false) ≡ (if b then may else get_or old k false)
-    or_false true = refl
-    or_false false = refl
-
-    by_job : (k ≡ get_or jobs i 0) ⊎ (k ≡ get_or jobs i 0 → ⊥)
-        → get_or (set new (get_or jobs i 0) may) k false ≡ (if list_any (λ j. eqb j k) (take i jobs) || eqb (get_or jobs i 0) k then may else get_or old k false)
-    by_job (inl e) =
-        ap (λ j. get_or (set new (get_or jobs i 0) may) j false) e ∙ get_or-set_same new (get_or jobs i 0) may false inside
-        ∙ sym (ap (λ b. if list_any (λ j. eqb j k) (take i jobs) || b then may else get_or old k false) (ap (λ j. eqb (get_or jobs i 0) j) e ∙ eqb_same (get_or jobs i 0)) ∙ or_true (list_any (λ j. eqb j k) (take i jobs)))
-    by_job (inr ne) =
-        get_or-set_other new (get_or jobs i 0) k may false ne ∙ each k
-        ∙ sym (ap (λ b. if list_any (λ j. eqb j k) (take i jobs) || b then may else get_or old k false) (eqb_not (get_or jobs i 0) k (λ e. ne (sym e))) ∙ or_false (list_any (λ j. eqb j k) (take i jobs)))
-
-pub least_one : (jobs : List ℕ) (i m n : ℕ) → i < length jobs → n ≤ m → n ≤ get_or jobs i 0 → All (λ j. m ≤ j) (take i jobs) → All (λ j. n ≤ j) (take (i + 1) jobs)
-least_one jobs i m n lt le at all =
-    subst (All (λ j. n ≤ j)) (sym (take_more jobs i 0 lt))
-    (All-push (λ j. n ≤ j) (take i jobs) (get_or jobs i 0) (λ k d l. (let h : m ≤ get_or (take i jobs) k d = all k d l in omega (arith, le, h))) at)
 
 -- ---- jobs with their ids
 
@@ -127,80 +89,7 @@ module _ (now base : List ℕ → List ℕ) (ready : List AReady) (n : ℕ) (d :
 -- ---- nothing but the ids' jobs changed
 
 pub same_none : (index : Index) → IsSameBut index index
-same_none index = record { runs = λ id. refl; free = refl; from = refl; running = refl }
+same_none index = record { runs = λ id. refl; free = refl; running = refl }
 
 pub same_then : (a b c : Index) → IsSameBut a b → IsSameBut b c → IsSameBut a c
-same_then a b c p q = record { runs = λ id. q.runs id ∙ p.runs id; free = q.free ∙ p.free; from = q.from ∙ p.from; running = q.running ∙ p.running }
-
--- ---- jobs that may be given
-
-abbrev pub released : (List ℕ → Option Run) → List AReady → ℕ → Bool
-released run ready k = list_any (λ one. (eqb one.job k) && is_none (run one.id)) ready
-
-or_false : (b : Bool) → (b || false) ≡ b
-or_false true = refl
-or_false false = refl
-
-and_false : (b : Bool) → (b && false) ≡ false
-and_false true = refl
-and_false false = refl
-
-and_true : (b : Bool) → (b && true) ≡ b
-and_true true = refl
-and_true false = refl
-
-or_parts : (a b : Bool) → (a || b) ≡ true → (a ≡ true) ⊎ (b ≡ true)
-or_parts true b h = inl refl
-or_parts false b h = inr h
-
-and_first : (a b : Bool) → (a && b) ≡ true → a ≡ true
-and_first true b h = refl
-and_first false b h = absurd (cc)
-
--- nobody runs the id, and its job is marked
-pub release_yes : (run : List ℕ → Option Run) (old new : List Bool) (one : AReady) → is_none (run one.id) ≡ true → one.job < length old → new ≡ set old one.job true
-    → (k : ℕ) → get_or new k false ≡ (if released run (one ∷ []) k then true else get_or old k false)
-release_yes run old new one none inside written k =
-    ap (λ l. get_or l k false) written ∙ by_job (cases_eq k one.job)
-    ∙ ap (λ b. if b then true else get_or old k false) (sym (or_false ((eqb one.job k) && is_none (run one.id)) ∙ ap (λ b. (eqb one.job k) && b) none ∙ and_true (eqb one.job k)))
-  where
-    by_job : (k ≡ one.job) ⊎ (k ≡ one.job → ⊥) → get_or (set old one.job true) k false ≡ (if eqb one.job k then true else get_or old k false)
-    by_job (inl e) = ap (λ j. get_or (set old one.job true) j false) e ∙ get_or-set_same old one.job true false inside ∙ sym (ap (λ b. if b then true else get_or old k false) (ap (eqb one.job) e ∙ eqb_same one.job))
-    by_job (inr ne) = get_or-set_other old one.job k true false ne ∙ sym (ap (λ b. if b then true else get_or old k false) (eqb_not one.job k (λ e. ne (sym e))))
-
--- a hand runs it, and nothing changes
-pub release_no : (run : List ℕ → Option Run) (one : AReady) → is_none (run one.id) ≡ false → (k : ℕ) → released run (one ∷ []) k ≡ false
-release_no run one some k = or_false ((eqb one.job k) && is_none (run one.id)) ∙ ap (λ b. (eqb one.job k) && b) some ∙ and_false (eqb one.job k)
-
-module _ (run ran : List ℕ → Option Run) (same : (id : List ℕ) → ran id ≡ run id) (ready : List AReady) (n : ℕ) (d : AReady) (lt : n < length ready) where
-  abbrev next : AReady
-  next = get_or ready n d
-
-  more : (k : ℕ) → released run (take (n + 1) ready) k ≡ (released run (take n ready) k || released ran (next ∷ []) k)
-  more k =
-      ap (list_any (λ one. (eqb one.job k) && is_none (run one.id))) (take_more ready n d lt) ∙ list_any-append (λ one. (eqb one.job k) && is_none (run one.id)) (take n ready) (next ∷ [])
-      ∙ ap (λ o. released run (take n ready) k || (((eqb next.job k) && is_none o) || false)) (sym (same next.id))
-
-  pub freed_more : (free mid new : ℕ → Bool) → ((k : ℕ) → mid k ≡ (if released run (take n ready) k then true else free k)) → ((k : ℕ) → new k ≡ (if released ran (next ∷ []) k then true else mid k))
-      → (k : ℕ) → new k ≡ (if released run (take (n + 1) ready) k then true else free k)
-  freed_more free mid new mid_is new_is k =
-      new_is k ∙ ap (λ b. if released ran (next ∷ []) k then true else b) (mid_is k) ∙ either (released ran (next ∷ []) k) (released run (take n ready) k) (free k)
-      ∙ ap (λ b. if b then true else free k) (sym (more k))
-    where
-      either : (a b c : Bool) → (if a then true else (if b then true else c)) ≡ (if b || a then true else c)
-      either true true c = refl
-      either true false c = refl
-      either false true c = refl
-      either false false c = refl
-
-  pub from_more : (from least : ℕ) → least ≤ from → ((k : ℕ) → released run (take n ready) k ≡ true → from ≤ k) → (released ran (next ∷ []) next.job ≡ true → least ≤ next.job)
-      → (k : ℕ) → released run (take (n + 1) ready) k ≡ true → least ≤ k
-  from_more from least lower each its k h = by_parts (or_parts (released run (take n ready) k) (released ran (next ∷ []) k) (sym (more k) ∙ h))
-    where
-      by_parts : (released run (take n ready) k ≡ true) ⊎ (released ran (next ∷ []) k ≡ true) → least ≤ k
-      by_parts (inl e) = let f = each k e in omega (arith, lower, f)
-      by_parts (inr e) =
-          let a : ((eqb next.job k) && is_none (ran next.id)) ≡ true = sym (or_false ((eqb next.job k) && is_none (ran next.id))) ∙ e in
-          let j : next.job ≡ k = eqb_is next.job k (and_first (eqb next.job k) (is_none (ran next.id)) a) in
-          let f : least ≤ next.job = its (subst (λ i. released ran (next ∷ []) i ≡ true) (sym j) e) in
-          omega (arith, f, j)
+same_then a b c p q = record { runs = λ id. q.runs id ∙ p.runs id; free = q.free ∙ p.free; running = q.running ∙ p.running }

@@ -38,4 +38,5 @@ pub mod Standing
 pub mod Stepping
 pub mod Taking
 pub mod Tells
+pub mod Trees
 pub mod Undoing

@@ -1,22 +1,23 @@
 -- The jobs with an id are done, one after another.
-use Rattle.std.proofs.Common.{◌≡◌, ℕ, suc, ◌+◌, ◌-◌, ◌<◌, ◌≤◌, Bool, true, false, ◌&&◌, ◌||◌, cond, eqb, List, [], ◌∷◌, ◌++◌, length, drop, get_or, count_by, Option, Some, None, refl, sym, ap, ◌∙◌, subst, arith, inl, inr, ◌⊎◌}
+use Rattle.std.proofs.Common.{◌≡◌, ℕ, ◌+◌, ◌-◌, ◌<◌, ◌≤◌, Bool, true, false, ◌&&◌, ◌||◌, cond, eqb, List, [], ◌∷◌, ◌++◌, length, drop, get_or, Option, None, refl, sym, ap, ◌∙◌, subst, arith, inl, inr, ◌⊎◌}
 use Rattle.std.specs.Prelude.{if◌then◌else◌}
 use Rattle.std.specs.List.{list_any, slice_index_or}
 use Rattle.std.proofs.Math.ListN.{set, length-set}
-use Rattle.std.proofs.lemmas.Bool.{cases_eq, cases_lt}
+use Rattle.std.proofs.lemmas.Bool.{cases_eq}
 use Rattle.std.proofs.lemmas.List.{drop_more, ext_get_or}
 use Rattle.std.proofs.lemmas.List.Sums.{sum_by-cons, sum_by_push}
 use Rattle.ws_action.specs.Actions.{Action}
 use Rattle.ws_board.specs.declared.work.Status.{Status}
 use Rattle.ws_board.specs.declared.work.Status.TheVariants.{Waiting, Ready, Running, Blocked, Done}
-use Rattle.ws_board.specs.declared.rows.Row.{Row}
-use Rattle.ws_board.specs.Work.{Job, Standings}
-use Rattle.ws_board.specs.Machine.{is_open, is_waiting, is_active, is_running, has_action_id, status_at, action_at, IsMarked, mark}
+use Rattle.ws_board.specs.declared.table.Row.{Row}
+use Rattle.ws_board.specs.Work.{Job}
+use Rattle.ws_board.specs.Machine.{is_open, is_waiting, is_active, has_action_id, status_at, IsMarked, mark}
 use Rattle.ws_board.specs.Ends.{imports_at}
-use Rattle.ws_board.specs.Rows.{row_at, standings_of, times, is_active_of, marked_row, due, due_of, owed, untold, telling, watched, Marks, Waits, IsHeldUp, AreKnownBy, AreCarriedBy}
-use Rattle.ws_board.proofs.Standing.{status_row, action_row, length_statuses, length_actions, row_same, row_other, row_past, open_inside, owed_set, due_at}
+use Rattle.ws_board.specs.Rows.{times, is_active_of, marked_row, due, due_of, owed, untold, telling, watched, Marks, Waits, IsHeldUp, AreKnownBy, AreCarriedBy}
+use Rattle.ws_board.specs.Table.{row_at, standings_of}
+use Rattle.ws_board.proofs.Standing.{status_row, action_row, length_statuses, length_actions, row_same, row_other, open_inside, owed_set, due_at}
 use Rattle.ws_board.proofs.Onward.{drop_past}
-use Rattle.ws_board.proofs.Listing.{any_push, eqb_same, eqb_not, eqb_is, times_any}
+use Rattle.ws_board.proofs.Listing.{any_push, eqb_same, eqb_not}
 
 -- some of the jobs with the id are done
 pub record MarksSome (id : List ℕ) (good : Bool) (old new : List Row) (settled : List ℕ) : Type 0 where

@@ -1,9 +1,8 @@
 -- What is formed comes, and what is settled came to its end, where ids tell the actions that come.
-use Rattle.std.proofs.Common.{◌≡◌, ◌⊎◌, ℕ, zero, suc, ◌<◌, Bool, true, false, ◌||◌, List, [], ◌∷◌, map, Option, Some, None, refl, sym, ap, ◌∙◌, subst, inl, inr}
-use Rattle.std.specs.List.{slice_get, list_any, Contains, AllZip, All}
+use Rattle.std.proofs.Common.{◌≡◌, ℕ, zero, suc, ◌<◌, Bool, false, List, [], ◌∷◌, map, Option, Some, None, refl, sym, ap, ◌∙◌, subst, inl, inr}
+use Rattle.std.specs.List.{slice_get, Contains, AllZip}
 use Rattle.go_import.specs.Names.{importable_by}
 use Rattle.go_export.specs.Summaries.{Summary}
-use Rattle.go_export.specs.Writable.{IsWritten}
 use Rattle.ws_action.specs.Actions.{Action, action_id, IsSized}
 use Rattle.ws_action.proofs.Members.{none_in_empty, head_or_later, later, at_head}
 use Rattle.ws_cache.specs.Compiles as compiles
@@ -11,9 +10,9 @@ use Rattle.ws_cache.specs.Compiles.{Compiled, Compiles, IsResult}
 use Rattle.ws_cache.proofs.Outcomes.{held_is_result}
 use Rattle.ws_board.specs.declared.work.Status.{Status}
 use Rattle.ws_board.specs.declared.work.Status.TheVariants.{Waiting, Ready, Running, Blocked as Stays, Done}
-use Rattle.ws_board.specs.Work.{Work, Job, Standings, acted}
-use Rattle.ws_board.specs.Machine.{Held, is_open, is_good_result, status_at, action_at, any_open, HasSummary, MayForm, IsFormed, IsGoodness, IsVerdict, Wait, Stop, Act}
-use Rattle.ws_board.specs.Ends.{End, Blocked, Came, summary_in, end_at, HasAction, IsEnd, AreEnds, came_of, somes, came, work_in, imports_in, imports_at, work_at, IsRanked}
+use Rattle.ws_board.specs.Work.{Work, Job, Standings}
+use Rattle.ws_board.specs.Machine.{Held, is_open, is_good_result, status_at, action_at, any_open, HasSummary, IsFormed, IsGoodness, IsVerdict, Stop, Act}
+use Rattle.ws_board.specs.Ends.{End, Blocked, Came, summary_in, end_at, HasAction, IsEnd, AreEnds, came_of, somes, came, work_in, imports_in, IsRanked}
 use Rattle.ws_board.proofs.Later.{first_false, second_false}
 use Rattle.ws_board.proofs.OneEnd.{ranked, IsEndIn, zip_at, HaveSummaries, one_work, same_summaries, one_action, result_with, has_work}
 use Rattle.ws_board.proofs.Sounds.{IsSound, Keeps}

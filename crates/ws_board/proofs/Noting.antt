@@ -1,30 +1,29 @@
 -- The index once a job is taken, given back or done.
-use Rattle.std.proofs.Common.{◌≡◌, ℕ, ◌+◌, ◌<◌, ◌≤◌, Bool, true, false, ◌&&◌, cond, eqb, List, [], length, count_by, Option, Some, None, refl, sym, ap, ◌∙◌, arith, inl, inr, ◌⊎◌}
+use Rattle.std.proofs.Common.{◌≡◌, ℕ, ◌+◌, ◌<◌, Bool, true, false, ◌&&◌, cond, eqb, List, [], length, count_by, Option, Some, None, refl, sym, ap, ◌∙◌, arith, inl, inr, ◌⊎◌}
 use Rattle.std.specs.Prelude.{if◌then◌else◌, is_none}
-use Rattle.std.specs.List.{list_any, All}
+use Rattle.std.specs.List.{list_any}
 use Rattle.std.specs.Str.{bytes_eq}
 use Rattle.std.proofs.Math.ListN.{set, length-set}
 use Rattle.std.proofs.lemmas.Bool.{cases_eq}
 use Rattle.std.proofs.lemmas.Slice.Eq.{bytes_eq-Decides}
-use Rattle.std.proofs.lemmas.List.Elements.{All-contains}
 use Rattle.ws_action.specs.Actions.{Action, action_id}
 use Rattle.ws_board.specs.declared.work.Status.{Status}
 use Rattle.ws_board.specs.declared.work.Status.TheVariants.{Waiting, Ready, Running, Blocked, Done}
-use Rattle.ws_board.specs.declared.rows.Row.{Row}
+use Rattle.ws_board.specs.declared.table.Row.{Row}
 use Rattle.ws_board.specs.declared.index.Run.{Run}
 use Rattle.ws_board.specs.Machine.{is_ready, is_active, is_running, has_action_id}
-use Rattle.ws_board.specs.Rows.{row_at, standings_of, times, is_active_of, Marks}
+use Rattle.ws_board.specs.Rows.{times, is_active_of, Marks}
+use Rattle.ws_board.specs.Table.{row_at, standings_of}
 use Rattle.ws_board.specs.Indexes.{is_unrun, AgreesBy}
 use Rattle.ws_board.proofs.Runs.{at_most}
 use Rattle.ws_board.proofs.Ids.{of_id, at_id, off_id, same_id_or}
 use Rattle.ws_board.proofs.Standing.{status_row, length_statuses, row_same, row_other, runs_set}
-use Rattle.ws_board.proofs.Listing.{any_contains}
 use Rattle.ws_board.proofs.Agreeing.{both_of, both_and, none_of, ready_is, running_is, has_its, id_is, listed_active, one_run, unrun_none}
 
 run_parts : (hand other j k : ℕ) (a b : Action) → ◌≡◌ {A = Option Run} (Some (record { hand = hand; job = j; action = a })) (Some (record { hand = other; job = k; action = b })) → (hand ≡ other) × (j ≡ k) × (a ≡ b)
 run_parts hand other j k a b e = (ap (λ (o : Option Run). elim o [ None ↦ hand | Some r ↦ r.hand ]) e, ap (λ (o : Option Run). elim o [ None ↦ j | Some r ↦ r.job ]) e, ap (λ (o : Option Run). elim o [ None ↦ a | Some r ↦ r.action ]) e)
 
-module _ (R N : List Row) (jobs : List ℕ → List ℕ) (run : List ℕ → Option Run) (free : ℕ → Bool) (count from running : ℕ) (agrees : AgreesBy R jobs run free count from running)
+module _ (R N : List Row) (jobs : List ℕ → List ℕ) (run : List ℕ → Option Run) (free : ℕ → Bool) (count running : ℕ) (agrees : AgreesBy R jobs run free count running)
     (k : ℕ) (row : Row) (written : N ≡ set R k row) (inside : k < length R) (action : Action) (its : (row_at R k).action ≡ Some action) (keeps : row.action ≡ (row_at R k).action)
     (was : is_active (row_at R k).status ≡ true) (is : is_active row.status ≡ true) where
   abbrev id : List ℕ
@@ -55,7 +54,7 @@ module _ (R N : List Row) (jobs : List ℕ → List ℕ) (run : List ℕ → Opt
   active_still i j = ap (λ b. b && has_action_id i (row_at N j).action) (actives_same j) ∙ ap (λ (a : Option Action). is_active (row_at R j).status && has_action_id i a) (actions_same j)
 
   listed_here : list_any (λ j. eqb j k) (jobs id) ≡ true
-  listed_here = listed_active R jobs run free count from running agrees id k ∙ both_and (is_active (row_at R k).status) (has_action_id id (row_at R k).action) was (has_its id (row_at R k).action action its refl)
+  listed_here = listed_active R jobs run free count running agrees id k ∙ both_and (is_active (row_at R k).status) (has_action_id id (row_at R k).action) was (has_its id (row_at R k).action action its refl)
 
   count_same : count ≡ length N
   count_same = agrees.count ∙ sym (ap length written ∙ length-set R k row)
@@ -90,14 +89,13 @@ module _ (R N : List Row) (jobs : List ℕ → List ℕ) (run : List ℕ → Opt
       → ((i : List ℕ) → new i ≡ (if bytes_eq id i then jobs id else jobs i))
       → ((i : List ℕ) → ran i ≡ (if bytes_eq id i then Some (record { hand = hand; job = k; action = action }) else run i))
       → ((j : ℕ) → freed j ≡ (if list_any (λ i. eqb i j) (jobs id) then false else free j))
-      → ((j : ℕ) → j < k → free j ≡ false) → length_of ≡ count → now ≡ running + 1
-      → AgreesBy N new ran freed length_of k now
-  taken_agrees hand new ran freed length_of now ready runs none new_is ran_is freed_is low len more = record {
+      → length_of ≡ count → now ≡ running + 1
+      → AgreesBy N new ran freed length_of now
+  taken_agrees hand new ran freed length_of now ready runs none new_is ran_is freed_is len more = record {
     jobs = jobs_still new new_is;
     runs = λ i h j a. (forth i h j a (same_id_or id i), back i h j a (same_id_or id i));
     count = len ∙ count_same;
     free = λ j. freed_is j ∙ free_is j (is_active_of R id j) refl;
-    below = λ j lt. freed_is j ∙ below j lt (list_any (λ i. eqb i j) (jobs id));
     running = (
         let a : ◌≡◌ {A = ℕ} (cond (is_running (row_at R k).status) 1 0) 0 = ap (λ s. cond (is_running s) 1 0) ready in
         let b : ◌≡◌ {A = ℕ} (cond (is_running row.status) 1 0) 1 = ap (λ s. cond (is_running s) 1 0) runs in
@@ -130,7 +128,7 @@ module _ (R N : List Row) (jobs : List ℕ → List ℕ) (run : List ℕ → Opt
               let hands : hand ≡ h = cc in
               let acts : action ≡ a = cc in
               λ x. Some (record { hand = hands x; job = sym same x; action = acts x })
-          by_job (inr ne) = absurd (unrun_none R jobs run free count from running agrees id none j h a (ap (λ (r : Row). r.status) (sym (other j ne)) ∙ q.0) (sym (actions_same j) ∙ q.1) (q.2 ∙ sym e))
+          by_job (inr ne) = absurd (unrun_none R jobs run free count running agrees id none j h a (ap (λ (r : Row). r.status) (sym (other j ne)) ∙ q.0) (sym (actions_same j) ∙ q.1) (q.2 ∙ sym e))
       back i h j a (inr ne) q =
           ran_is i ∙ off_id id i (Some (record { hand = hand; job = k; action = action })) (run i) ne
           ∙ (agrees.runs i h j a).1 (ap (λ (r : Row). r.status) (sym (other j (apart (cases_eq j k)))) ∙ q.0, sym (actions_same j) ∙ q.1, q.2)
@@ -151,29 +149,24 @@ module _ (R N : List Row) (jobs : List ℕ → List ℕ) (run : List ℕ → Opt
 
       free_is : (j : ℕ) (b : Bool) → is_active_of R id j ≡ b → (if list_any (λ i. eqb i j) (jobs id) then false else free j) ≡ (is_ready (row_at N j).status && is_unrun ran (row_at N j).action)
       free_is j true e =
-          ap (λ b. if b then false else free j) (listed_active R jobs run free count from running agrees id j ∙ e)
+          ap (λ b. if b then false else free j) (listed_active R jobs run free count running agrees id j ∙ e)
           ∙ sym (and_false (is_ready (row_at N j).status) (is_unrun ran (row_at N j).action) (shut (row_at N j).action (ap (has_action_id id) (actions_same j) ∙ (both_of (is_active (row_at R j).status) (has_action_id id (row_at R j).action) e).1)))
       free_is j false e =
-          ap (λ b. if b then false else free j) (listed_active R jobs run free count from running agrees id j ∙ e) ∙ unlisted ran (Some (record { hand = hand; job = k; action = action })) ran_is j e
-
-      below : (j : ℕ) → j < k → (b : Bool) → (if b then false else free j) ≡ false
-      below j lt true = refl
-      below j lt false = low j lt
+          ap (λ b. if b then false else free j) (listed_active R jobs run free count running agrees id j ∙ e) ∙ unlisted ran (Some (record { hand = hand; job = k; action = action })) ran_is j e
 
   -- ---- a job is given back
 
-  pub given_agrees : (hand : ℕ) (new : List ℕ → List ℕ) (ran : List ℕ → Option Run) (freed : ℕ → Bool) (length_of least now : ℕ) → (row_at R k).status ≡ Running hand → row.status ≡ Ready
+  pub given_agrees : (hand : ℕ) (new : List ℕ → List ℕ) (ran : List ℕ → Option Run) (freed : ℕ → Bool) (length_of now : ℕ) → (row_at R k).status ≡ Running hand → row.status ≡ Ready
       → ((i : List ℕ) → new i ≡ (if bytes_eq id i then jobs id else jobs i))
       → ((i : List ℕ) → ran i ≡ (if bytes_eq id i then None else run i))
       → ((j : ℕ) → freed j ≡ (if list_any (λ i. eqb i j) (jobs id) then true else free j))
-      → least ≤ from → All (λ j. least ≤ j) (jobs id) → length_of ≡ count → now + 1 ≡ running
-      → AgreesBy N new ran freed length_of least now
-  given_agrees hand new ran freed length_of least now runs ready new_is ran_is freed_is lower each len fewer = record {
+      → length_of ≡ count → now + 1 ≡ running
+      → AgreesBy N new ran freed length_of now
+  given_agrees hand new ran freed length_of now runs ready new_is ran_is freed_is len fewer = record {
     jobs = jobs_still new new_is;
     runs = λ i h j a. (forth i h j a (same_id_or id i), back i h j a (same_id_or id i));
     count = len ∙ count_same;
     free = λ j. freed_is j ∙ free_is j (is_active_of R id j) refl;
-    below = λ j lt. freed_is j ∙ below j lt (list_any (λ i. eqb i j) (jobs id)) refl;
     running = (
         let a : ◌≡◌ {A = ℕ} (cond (is_running (row_at R k).status) 1 0) 1 = ap (λ s. cond (is_running s) 1 0) runs in
         let b : ◌≡◌ {A = ℕ} (cond (is_running row.status) 1 0) 0 = ap (λ s. cond (is_running s) 1 0) ready in
@@ -198,7 +191,7 @@ module _ (R N : List Row) (jobs : List ℕ → List ℕ) (run : List ℕ → Opt
       back : (i : List ℕ) (h j : ℕ) (a : Action) → (id ≡ i) ⊎ (id ≡ i → ⊥) → ((row_at N j).status ≡ Running h) × ((row_at N j).action ≡ Some a) × (action_id a ≡ i) → ran i ≡ Some (record { hand = h; job = j; action = a })
       back i h j a (inl e) q =
           let ne = apart_of j h q.0 in
-          absurd (ne (one_run R jobs run free count from running agrees id h hand j k a action (ap (λ (r : Row). r.status) (sym (other j ne)) ∙ q.0) (sym (actions_same j) ∙ q.1) (q.2 ∙ sym e) runs its refl))
+          absurd (ne (one_run R jobs run free count running agrees id h hand j k a action (ap (λ (r : Row). r.status) (sym (other j ne)) ∙ q.0) (sym (actions_same j) ∙ q.1) (q.2 ∙ sym e) runs its refl))
       back i h j a (inr ne) q =
           ran_is i ∙ off_id id i None (run i) ne ∙ (agrees.runs i h j a).1 (ap (λ (r : Row). r.status) (sym (other j (apart_of j h q.0))) ∙ q.0, sym (actions_same j) ∙ q.1, q.2)
 
@@ -225,23 +218,19 @@ module _ (R N : List Row) (jobs : List ℕ → List ℕ) (run : List ℕ → Opt
           by_running ne true e =
               let r = running_is (row_at R j).status e in
               let a = id_is id (row_at R j).action has in
-              absurd (ne (one_run R jobs run free count from running agrees id r.0 hand j k a.0 action r.1 a.1 a.2 runs its refl))
+              absurd (ne (one_run R jobs run free count running agrees id r.0 hand j k a.0 action r.1 a.1 a.2 runs its refl))
 
       free_is : (j : ℕ) (b : Bool) → is_active_of R id j ≡ b → (if list_any (λ i. eqb i j) (jobs id) then true else free j) ≡ (is_ready (row_at N j).status && is_unrun ran (row_at N j).action)
       free_is j true e =
           let p = both_of (is_active (row_at R j).status) (has_action_id id (row_at R j).action) e in
-          ap (λ b. if b then true else free j) (listed_active R jobs run free count from running agrees id j ∙ e)
+          ap (λ b. if b then true else free j) (listed_active R jobs run free count running agrees id j ∙ e)
           ∙ sym (both_and (is_ready (row_at N j).status) (is_unrun ran (row_at N j).action) (ready_now j p.0 p.1) (opened (row_at N j).action (ap (has_action_id id) (actions_same j) ∙ p.1)))
       free_is j false e =
-          ap (λ b. if b then true else free j) (listed_active R jobs run free count from running agrees id j ∙ e) ∙ unlisted ran None ran_is j e
-
-      below : (j : ℕ) → j < least → (b : Bool) → list_any (λ i. eqb i j) (jobs id) ≡ b → (if list_any (λ i. eqb i j) (jobs id) then true else free j) ≡ false
-      below j lt true e = absurd (omega (arith, lt, All-contains (λ j. least ≤ j) (jobs id) j each (any_contains (jobs id) j e)))
-      below j lt false e = ap (λ b. if b then true else free j) e ∙ agrees.below j (omega (arith, lt, lower))
+          ap (λ b. if b then true else free j) (listed_active R jobs run free count running agrees id j ∙ e) ∙ unlisted ran None ran_is j e
 
 -- ---- an id is done
 
-module _ (R N : List Row) (jobs : List ℕ → List ℕ) (run : List ℕ → Option Run) (free : ℕ → Bool) (count from running : ℕ) (agrees : AgreesBy R jobs run free count from running)
+module _ (R N : List Row) (jobs : List ℕ → List ℕ) (run : List ℕ → Option Run) (free : ℕ → Bool) (count running : ℕ) (agrees : AgreesBy R jobs run free count running)
     (id : List ℕ) (good : Bool) (settled : List ℕ) (marks : Marks id good R N settled) (hand k : ℕ) (action : Action) (runs : (row_at R k).status ≡ Running hand) (its : (row_at R k).action ≡ Some action) (same : action_id action ≡ id) (inside : k < length R) where
   still : (j : ℕ) → is_active_of R id j ≡ false → row_at N j ≡ row_at R j
   still j e = marks.each j ∙ ap (λ (b : Bool). if b then record (row_at R j) { status = Done good } else row_at R j) e
@@ -320,16 +309,15 @@ module _ (R N : List Row) (jobs : List ℕ → List ℕ) (run : List ℕ → Opt
             ap (λ (r : Row). is_running r.status) (still j (none_of (is_active_of R id j) (λ e. (
             let h = running_is (row_at R j).status ran in
             let a = id_is id (row_at R j).action (both_of (is_active (row_at R j).status) (has_action_id id (row_at R j).action) e).1 in
-            ne (one_run R jobs run free count from running agrees id h.0 hand j k a.0 action h.1 a.1 a.2 runs its same))))) ∙ ran)
+            ne (one_run R jobs run free count running agrees id h.0 hand j k a.0 action h.1 a.1 a.2 runs its same))))) ∙ ran)
       ]
 
-  pub done_agrees : (now : ℕ) → now + 1 ≡ running → AgreesBy N (λ i. if bytes_eq id i then [] else jobs i) (λ i. if bytes_eq id i then None else run i) free count from now
+  pub done_agrees : (now : ℕ) → now + 1 ≡ running → AgreesBy N (λ i. if bytes_eq id i then [] else jobs i) (λ i. if bytes_eq id i then None else run i) free count now
   done_agrees now less = record {
     jobs = λ i j. jobs_are i j (same_id_or id i);
     runs = λ i h j a. (forth i h j a (same_id_or id i), back i h j a (same_id_or id i));
     count = agrees.count ∙ sym marks.count;
     free = λ j. free_is j (is_active_of R id j) refl;
-    below = agrees.below;
     running = omega (arith, fewer, less, agrees.running);
   }
     where

@@ -1,27 +1,27 @@
 -- Carrying on, one step after another.
-use Rattle.std.proofs.Common.{◌≡◌, ℕ, zero, suc, ◌+◌, ◌-◌, ◌*◌, ◌<◌, ◌≤◌, Bool, true, false, ◌&&◌, ◌||◌, cond, eqb, List, [], ◌∷◌, ◌++◌, length, drop, get_or, count_by, Option, Some, None, refl, sym, ap, ◌∙◌, subst, arith, inl, inr, ◌⊎◌}
+use Rattle.std.proofs.Common.{◌≡◌, ℕ, zero, suc, ◌+◌, ◌-◌, ◌*◌, ◌<◌, ◌≤◌, Bool, true, false, ◌&&◌, ◌||◌, eqb, List, [], ◌∷◌, ◌++◌, length, drop, get_or, count_by, Option, Some, None, refl, sym, ap, ◌∙◌, subst, arith, inl, inr, ◌⊎◌}
 use Rattle.std.specs.Prelude.{if◌then◌else◌, nat_le}
 use Rattle.std.specs.List.{list_any, slice_index_or, slice_get, Contains}
-use Rattle.std.proofs.lemmas.Bool.{cases_eq, cases_lt}
+use Rattle.std.proofs.lemmas.Bool.{cases_eq}
 use Rattle.std.proofs.lemmas.Bool.Decides.{nat_tests}
 use Rattle.std.proofs.lemmas.List.{length_push, drop_more}
 use Rattle.std.proofs.lemmas.List.Sums.{sum_by_push}
 use Rattle.std.proofs.lemmas.List.Elements.{Contains-get_or}
 use Rattle.ws_action.specs.Actions.{Action}
-use Rattle.ws_board.specs.declared.work.Status.{Status}
-use Rattle.ws_board.specs.declared.work.Status.TheVariants.{Waiting, Ready, Running, Blocked, Done}
-use Rattle.ws_board.specs.declared.rows.Row.{Row}
+use Rattle.ws_board.specs.declared.work.Status.TheVariants.{Waiting}
+use Rattle.ws_board.specs.declared.table.Row.{Row}
 use Rattle.ws_board.specs.declared.rows.Rows.{Rows}
 use Rattle.ws_board.specs.declared.moves.Moves.{Moves}
 use Rattle.ws_board.specs.Work.{Work, Job, Standings}
 use Rattle.ws_board.specs.Machine.{Held, Carried, is_open, is_waiting, is_ready, is_running, status_at, action_at, has_action_id, any_open, Stands, Wait, IsVerdict}
-use Rattle.ws_board.specs.Carrying.{IsUnder, RestsAt, AllRest}
+use Rattle.ws_board.specs.Carrying.{IsUnder}
 use Rattle.ws_board.specs.Ends.{imports_at, imports_in, work_in}
-use Rattle.ws_board.specs.Rows.{row_at, standings_of, times, those_of, is_new, owed, untold, telling, watched, AreCarried, AreCarriedBy, IsHeldUp, Waits, CarriesOn, IsUndone, undone, AreWritten}
+use Rattle.ws_board.specs.Rows.{times, those_of, is_new, owed, untold, telling, watched, AreCarried, AreCarriedBy, IsHeldUp, Waits, CarriesOn, IsUndone, undone, AreWritten}
+use Rattle.ws_board.specs.Table.{row_at, standings_of}
 use Rattle.ws_board.proofs.Carry.{start_under, waiting_or, waiting_is, end_carried}
 use Rattle.ws_board.proofs.Standing.{status_row, action_row, open_inside, waiting_open}
 use Rattle.ws_board.proofs.Advancing.{not_new}
-use Rattle.ws_board.proofs.Listing.{any_push, any_append, contains_any, eqb_same, eqb_not, eqb_is}
+use Rattle.ws_board.proofs.Listing.{any_push, contains_any, eqb_not}
 
 bare_of : (J : List Job) (I : List (List ℕ)) (R : List Row) → AreCarriedBy J I R → (k : ℕ) → status_at (standings_of R).statuses k ≡ Waiting → action_at (standings_of R).actions k ≡ None
 bare_of J I R good k w = action_row R k ∙ good.bare k (sym (status_row R k) ∙ w)
@@ -73,24 +73,24 @@ new_then O M N id k first second = by_old (waiting_or (row_at O k).status) (wait
         ap (λ x. (if is_new O M id k then 1 else 0) + (if x then 1 else 0)) b ∙ none_add (if is_new O M id k then 1 else 0) ∙ ap (λ x. if x then 1 else 0) c
 
 -- nothing changed but reads
-pub carries_none : (h : Held) (spare : ℕ) (old new : Rows) (before after : Moves) (looks next : ℕ) → AreCarried old → new.jobs.items ≡ old.jobs.items → new.importers.items ≡ old.importers.items → new.rows.items ≡ old.rows.items
+pub carries_none : (h : Held) (spare : ℕ) (old new : Rows) (before after : Moves) (looks next : ℕ) → AreCarried old → new.jobs.items ≡ old.jobs.items → new.importers.items ≡ old.importers.items → new.rows ≡ old.rows
     → after.settled.items ≡ before.settled.items → after.ready.items ≡ before.ready.items → looks ≤ next → next ≤ looks + spare → CarriesOn h spare old new before after looks next
 carries_none h spare old new before after looks next good jobs importers rows settled ready more paid = record {
   jobs = jobs;
   importers = importers;
-  good = subst (λ J. AreCarriedBy J new.importers.items new.rows.items) (sym jobs) (subst (λ I. AreCarriedBy old.jobs.items I new.rows.items) (sym importers) (subst (AreCarriedBy old.jobs.items old.importers.items) (sym rows) good));
+  good = subst (λ J. AreCarriedBy J new.importers.items new.rows) (sym jobs) (subst (λ I. AreCarriedBy old.jobs.items I new.rows) (sym importers) (subst (AreCarriedBy old.jobs.items old.importers.items) (sym rows) good));
   under = λ first u. subst (λ R. IsUnder old.jobs.items h first (standings_of R)) (sym rows) u;
   backs = λ k. ap (λ R. (row_at R k).was_back) rows;
   runs = ap (λ R. count_by is_running (standings_of R).statuses) rows;
-  listed = λ k id. ap (λ l. times k (those_of id l)) ready ∙ add_none (times k (those_of id before.ready.items)) (if is_new old.rows.items new.rows.items id k then 1 else 0)
-      (ap (λ R. if is_new old.rows.items R id k then 1 else 0) rows ∙ ap (λ b. if b then 1 else 0) (not_new old.rows.items id k));
+  listed = λ k id. ap (λ l. times k (those_of id l)) ready ∙ add_none (times k (those_of id before.ready.items)) (if is_new old.rows new.rows id k then 1 else 0)
+      (ap (λ R. if is_new old.rows R id k then 1 else 0) rows ∙ ap (λ b. if b then 1 else 0) (not_new old.rows id k));
   fewer = (
       let a : length after.settled.items ≡ length before.settled.items = ap length settled in
-      let b : count_by is_open (standings_of new.rows.items).statuses ≡ count_by is_open (standings_of old.rows.items).statuses = ap (λ R. count_by is_open (standings_of R).statuses) rows in
+      let b : count_by is_open (standings_of new.rows).statuses ≡ count_by is_open (standings_of old.rows).statuses = ap (λ R. count_by is_open (standings_of R).statuses) rows in
       omega (arith, a, b)
       );
   paid = (
-      let a : owed new.rows.items ≡ owed old.rows.items = ap owed rows in
+      let a : owed new.rows ≡ owed old.rows = ap owed rows in
       let b : untold new.importers.items after.settled.items ≡ untold old.importers.items before.settled.items = ap (λ I. untold I after.settled.items) importers ∙ ap (untold old.importers.items) settled in
       omega (arith, a, b, paid)
       );
@@ -114,25 +114,25 @@ carries_then h s t a b c ma mb mc la lb lc good p q = record {
   more = omega (arith, p.more, q.more);
 }
   where
-    onward : (first : Standings) → IsUnder a.jobs.items h first (standings_of b.rows.items) → IsUnder a.jobs.items h first (standings_of c.rows.items)
-    onward first u = subst (λ J. IsUnder J h first (standings_of c.rows.items)) p.jobs (q.under first (subst (λ J. IsUnder J h first (standings_of b.rows.items)) (sym p.jobs) u))
+    onward : (first : Standings) → IsUnder a.jobs.items h first (standings_of b.rows) → IsUnder a.jobs.items h first (standings_of c.rows)
+    onward first u = subst (λ J. IsUnder J h first (standings_of c.rows)) p.jobs (q.under first (subst (λ J. IsUnder J h first (standings_of b.rows)) (sym p.jobs) u))
 
-    under : (first : Standings) → IsUnder a.jobs.items h first (standings_of a.rows.items) → IsUnder a.jobs.items h first (standings_of c.rows.items)
+    under : (first : Standings) → IsUnder a.jobs.items h first (standings_of a.rows) → IsUnder a.jobs.items h first (standings_of c.rows)
     under first u = onward first (p.under first u)
 
-    mid : AreCarriedBy a.jobs.items b.importers.items b.rows.items
-    mid = subst (λ J. AreCarriedBy J b.importers.items b.rows.items) p.jobs p.good
+    mid : AreCarriedBy a.jobs.items b.importers.items b.rows
+    mid = subst (λ J. AreCarriedBy J b.importers.items b.rows) p.jobs p.good
 
     add_assoc : (x y z n m : ℕ) → n ≡ m + y → m ≡ x + z → n ≡ x + (z + y)
     add_assoc x y z n m e f = omega (arith, e, f)
 
-    listed : (k : ℕ) (id : List ℕ) → times k (those_of id mc.ready.items) ≡ times k (those_of id ma.ready.items) + (if is_new a.rows.items c.rows.items id k then 1 else 0)
+    listed : (k : ℕ) (id : List ℕ) → times k (those_of id mc.ready.items) ≡ times k (those_of id ma.ready.items) + (if is_new a.rows c.rows id k then 1 else 0)
     listed k id =
-        add_assoc (times k (those_of id ma.ready.items)) (if is_new b.rows.items c.rows.items id k then 1 else 0) (if is_new a.rows.items b.rows.items id k then 1 else 0)
+        add_assoc (times k (those_of id ma.ready.items)) (if is_new b.rows c.rows id k then 1 else 0) (if is_new a.rows b.rows id k then 1 else 0)
         (times k (those_of id mc.ready.items)) (times k (those_of id mb.ready.items)) (q.listed k id) (p.listed k id)
-        ∙ ap (λ n. times k (those_of id ma.ready.items) + n) (new_then a.rows.items b.rows.items c.rows.items id k
-        (λ w. (under_others a.jobs.items h a.importers.items a.rows.items b.rows.items good p.under k w).0)
-        (under_others a.jobs.items h b.importers.items b.rows.items c.rows.items mid onward k))
+        ∙ ap (λ n. times k (those_of id ma.ready.items) + n) (new_then a.rows b.rows c.rows id k
+        (λ w. (under_others a.jobs.items h a.importers.items a.rows b.rows good p.under k w).0)
+        (under_others a.jobs.items h b.importers.items b.rows c.rows mid onward k))
 
 -- a job that was settled is told
 pub carries_popped : (h : Held) (s : ℕ) (a b : Rows) (m popped after : Moves) (job looks next : ℕ) → s ≡ telling (length (slice_index_or a.importers.items job [])) → m.settled.items ≡ popped.settled.items ++ job ∷ [] → popped.ready.items ≡ m.ready.items
@@ -144,7 +144,7 @@ carries_popped h s a b m popped after job looks next is settled ready on = recor
   under = on.under;
   backs = on.backs;
   runs = on.runs;
-  listed = λ k id. on.listed k id ∙ ap (λ l. times k (those_of id l) + (if is_new a.rows.items b.rows.items id k then 1 else 0)) ready;
+  listed = λ k id. on.listed k id ∙ ap (λ l. times k (those_of id l) + (if is_new a.rows b.rows id k then 1 else 0)) ready;
   fewer = (
       let e : length m.settled.items ≡ length popped.settled.items + 1 = ap length settled ∙ length_push popped.settled.items job in
       omega (arith, e, on.fewer)
@@ -161,11 +161,11 @@ popped_untold I ys xs job is = ap (untold I) is ∙ sum_by_push (λ k. telling (
 
 pub popped_undone : (a b : Rows) (m popped after : Moves) → popped.log.items ≡ m.log.items → IsUndone a b popped after → IsUndone a b m after
 popped_undone a b m popped after log u = record {
-  rows = u.rows ∙ ap (λ l. undone l a.rows.items) log;
+  rows = u.rows ∙ ap (λ l. undone l a.rows) log;
   count = u.count;
   jobs = u.jobs;
   importers = u.importers;
-  written = λ w. u.written (subst (AreWritten (length a.rows.items)) (sym log) w);
+  written = λ w. u.written (subst (AreWritten (length a.rows)) (sym log) w);
 }
 
 -- ---- who waits, where a job is told
@@ -234,13 +234,13 @@ waits_parts J K R S xs ys p jobs rows settled w =
 
 -- ---- undone
 
-pub undone_none : (old new : Rows) (before after : Moves) → new.rows.items ≡ old.rows.items → new.jobs.items ≡ old.jobs.items → new.importers.items ≡ old.importers.items → after.log.items ≡ before.log.items → IsUndone old new before after
+pub undone_none : (old new : Rows) (before after : Moves) → new.rows ≡ old.rows → new.jobs.items ≡ old.jobs.items → new.importers.items ≡ old.importers.items → after.log.items ≡ before.log.items → IsUndone old new before after
 undone_none old new before after rows jobs importers log = record {
-  rows = ap (λ l. undone l new.rows.items) log ∙ ap (undone before.log.items) rows;
+  rows = ap (λ l. undone l new.rows) log ∙ ap (undone before.log.items) rows;
   count = ap length rows;
   jobs = jobs;
   importers = importers;
-  written = λ w. subst (AreWritten (length old.rows.items)) (sym log) w;
+  written = λ w. subst (AreWritten (length old.rows)) (sym log) w;
 }
 
 pub undone_then : (a b c : Rows) (ma mb mc : Moves) → IsUndone a b ma mb → IsUndone b c mb mc → IsUndone a c ma mc

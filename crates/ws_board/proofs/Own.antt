@@ -1,5 +1,5 @@
 -- A board whose entries are those of its jobs' own actions comes to the jobs' ends, whatever else was added.
-use Rattle.std.proofs.Common.{◌≡◌, ℕ, List, [], ◌∷◌, ◌++◌, Option, Some, refl, sym, ap, subst, inl, inr}
+use Rattle.std.proofs.Common.{◌≡◌, ℕ, List, [], ◌∷◌, ◌++◌, Some, sym, ap, subst, inl, inr}
 use Rattle.std.specs.List.{slice_get, Contains}
 use Rattle.std.proofs.lemmas.List.Elements.{Contains-push_cases}
 use Rattle.ws_map.specs.Kept.{taken}
@@ -9,12 +9,11 @@ use Rattle.ws_action.proofs.Members.{none_in_empty}
 use Rattle.ws_cache.specs.Held.{CacheStandsFor}
 use Rattle.ws_cache.specs.Joined.{lesser}
 use Rattle.ws_cache.proofs.Joined.{empty_stands, taken_stands}
-use Rattle.ws_board.specs.declared.work.Event.{Event}
-use Rattle.ws_board.specs.declared.work.Event.TheVariants.{Take, Finish, Back, Idle}
+use Rattle.ws_board.specs.declared.work.Event.TheVariants.{Take, Back, Idle}
 use Rattle.ws_board.specs.Work.{Entries, Opening, State, Seen}
 use Rattle.ws_board.specs.Machine.{status_at, action_at, held}
 use Rattle.ws_board.specs.Calls.{IsFresh, Happens}
-use Rattle.ws_board.specs.Ends.{End, end_at, came_of, came, AreEnds, IsRanked, AreClear, ComesToEnds, AddsOwn}
+use Rattle.ws_board.specs.Ends.{End, came_of, came, AreEnds, IsRanked, AreClear, ComesToEnds, AddsOwn}
 use Rattle.ws_board.proofs.Meeting.{comes, came_has, formed_of}
 use Rattle.ws_board.proofs.Sounds.{KeepsIn}
 use Rattle.ws_board.proofs.Tells.{clear_with, clear_alone, tells_by}

@@ -1,5 +1,5 @@
 -- What is refused makes no action.
-use Rattle.std.proofs.Common.{◌≡◌, ◌≢◌, ℕ, true, false, List, [], ◌∷◌, sym, ap, ◌∙◌}
+use Rattle.std.proofs.Common.{◌≡◌, ℕ, true, false, List, [], ◌∷◌, sym, ap, ◌∙◌}
 use Rattle.std.proofs.lemmas.List.Elements.{All-contains}
 use Rattle.go_ast.specs.Trees.{Name, File}
 use Rattle.go_ast.specs.Parse.{Parse, Derived, Stopped, Parsed, IsPackage, IsNamed}

@@ -10,7 +10,7 @@ use Rattle.ws_action.specs.Actions.{Action, action_id}
 use Rattle.ws_board.specs.declared.work.Status.{Status}
 use Rattle.ws_board.specs.declared.work.Status.TheVariants.{Waiting, Running, Blocked, Done}
 use Rattle.ws_board.specs.Work.{Job, Standings}
-use Rattle.ws_board.specs.Machine.{Held, is_open, is_running, is_waiting, is_active, status_at, action_at, has_id, has_action_id, Verdict, Wait, Stop, Act, Follows, IsPlaced, Stands, Carried, mark, IsMarked, IsRunBy, unopened}
+use Rattle.ws_board.specs.Machine.{Held, is_open, is_running, is_active, status_at, action_at, has_id, has_action_id, Verdict, Wait, Stop, Act, Follows, IsPlaced, Stands, Carried, mark, IsMarked, IsRunBy, unopened}
 use Rattle.ws_board.proofs.Carry.{past_end, waiting_or, carried_agrees}
 
 cond_le : (a b : Bool) → (a ≡ true → b ≡ true) → cond a 1 0 ≤ cond b 1 0

@@ -1,6 +1,6 @@
 -- A board that is opened and never run shows how the jobs' actions stand among those that are held.
-use Rattle.std.proofs.Common.{◌≡◌, ℕ, Bool, true, false, ◌||◌, List, [], ◌∷◌, ◌++◌, Option, Some, None, refl, sym, ap, ◌∙◌, subst, inl, inr, ◌⊎◌}
-use Rattle.std.specs.List.{slice_get, Contains, All, AllZip}
+use Rattle.std.proofs.Common.{◌≡◌, ℕ, true, false, ◌||◌, List, [], ◌∷◌, Option, Some, None, refl, sym, ap, ◌∙◌, subst, inl, inr}
+use Rattle.std.specs.List.{slice_get, Contains, AllZip}
 use Rattle.std.specs.FinMap.{get}
 use Rattle.std.specs.Option.{option_or}
 use Rattle.std.proofs.lemmas.List.Elements.{All-nil, All-cons, All-head, All-tail}
@@ -11,11 +11,10 @@ use Rattle.ws_cache.specs.Held.{CacheStandsFor}
 use Rattle.ws_cache.proofs.Joined.{empty_stands}
 use Rattle.ws_board.specs.declared.work.Status.{Status}
 use Rattle.ws_board.specs.declared.work.Status.TheVariants.{Waiting, Ready, Running, Blocked as Stays, Done}
-use Rattle.ws_board.specs.Work.{Work, Job, Standings, Opening, State, Seen}
+use Rattle.ws_board.specs.Work.{Work, Job, Standings, Opening, Seen}
 use Rattle.ws_board.specs.Machine.{Held, is_open, is_running, is_active, status_at, action_at, any_open, held, HasSummary, IsVerdict, Wait}
 use Rattle.ws_board.specs.Calls.{IsFresh}
-use Rattle.ws_board.specs.Ends.{End, Came, end_at, came, imports_in, AreEnds, IsRanked, AreClear, AllGood, IsShown, ShowsEnds}
-use Rattle.ws_board.proofs.Later.{first_false}
+use Rattle.ws_board.specs.Ends.{End, end_at, came, imports_in, AreEnds, IsRanked, AreClear, AllGood, IsShown, ShowsEnds}
 use Rattle.ws_board.proofs.Meeting.{Meets, meets, formed_of, comes}
 use Rattle.ws_board.proofs.Runs.{counted_none}
 use Rattle.ws_board.proofs.Sounds.{IsSound, KeepsIn, first_keeps}

@@ -1,5 +1,5 @@
 -- Along a legal history each job stands as its imports say, and nothing is held for what is ready or runs.
-use Rattle.std.proofs.Common.{◌≡◌, ◌⊎◌, ℕ, zero, suc, Bool, true, false, ◌||◌, cond, List, [], ◌∷◌, map, Option, Some, None, refl, sym, ap, ◌∙◌, subst, inl, inr}
+use Rattle.std.proofs.Common.{◌≡◌, ◌⊎◌, ℕ, zero, suc, Bool, true, false, ◌||◌, cond, List, [], ◌∷◌, Option, Some, None, refl, sym, ap, ◌∙◌, subst, inl, inr}
 use Rattle.std.specs.Prelude.{slice_set}
 use Rattle.std.specs.List.{slice_get, list_any}
 use Rattle.std.specs.Str.{bytes_eq}
@@ -12,7 +12,7 @@ use Rattle.ws_board.specs.declared.work.Status.TheVariants.{Waiting, Ready, Runn
 use Rattle.ws_board.specs.declared.work.Event.{Event}
 use Rattle.ws_board.specs.declared.work.Event.TheVariants.{Take, Finish, Back, Idle}
 use Rattle.ws_board.specs.Work.{Work, Job, Standings, Opening, State}
-use Rattle.ws_board.specs.Machine.{Held, is_waiting, is_active, is_open, status_at, action_at, has_action_id, has_id, any_open, Verdict, Wait, Stop, Act, IsVerdict, IsGoodness, IsPlaced, Follows, Stands, Carried, held, mark, IsMarked, stood, IsRunBy, Finishes, BoardStep, Replays, unopened, IsFirst, IsHistory}
+use Rattle.ws_board.specs.Machine.{Held, is_waiting, is_active, is_open, status_at, action_at, has_action_id, has_id, Verdict, Wait, Stop, Act, IsVerdict, IsGoodness, IsPlaced, Follows, Stands, Carried, held, mark, IsMarked, stood, IsRunBy, Finishes, BoardStep, Replays, unopened, IsFirst, IsHistory}
 use Rattle.ws_board.proofs.Grown.{Grows, grows}
 use Rattle.ws_board.proofs.Later.{Later, act_stays, stop_stays}
 use Rattle.ws_board.proofs.Carry.{shut_waits_not}

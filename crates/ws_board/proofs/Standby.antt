@@ -1,5 +1,5 @@
 -- What a job's imports make of it, by the rows that are read.
-use Rattle.std.proofs.Common.{◌≡◌, ℕ, zero, suc, ◌+◌, ◌*◌, ◌-◌, ◌<◌, ◌≤◌, Bool, true, false, ◌||◌, cond, List, [], ◌∷◌, length, get_or, Option, Some, None, refl, sym, ap, ◌∙◌, subst, arith, inl, inr}
+use Rattle.std.proofs.Common.{◌≡◌, ℕ, suc, ◌+◌, ◌*◌, ◌-◌, ◌<◌, ◌≤◌, true, false, ◌||◌, cond, List, [], ◌∷◌, length, get_or, Option, Some, None, refl, sym, ap, ◌∙◌, subst, arith, inl, inr}
 use Rattle.std.specs.List.{slice_get, slice_index_or}
 use Rattle.std.proofs.lemmas.Bool.{cases_lt}
 use Rattle.std.proofs.lemmas.Option.{get_or_from_slice_get}
@@ -8,12 +8,13 @@ use Rattle.go_export.specs.Summaries.{Summary}
 use Rattle.ws_action.specs.Actions.{Action, action_id}
 use Rattle.ws_cache.specs.Compiles.{Compiles, Good}
 use Rattle.ws_board.specs.declared.work.Status.{Status}
-use Rattle.ws_board.specs.declared.work.Status.TheVariants.{Waiting, Ready, Running, Blocked, Done}
-use Rattle.ws_board.specs.declared.rows.Row.{Row}
+use Rattle.ws_board.specs.declared.work.Status.TheVariants.{Waiting, Blocked, Done}
+use Rattle.ws_board.specs.declared.table.Row.{Row}
 use Rattle.ws_board.specs.Work.{Work, Job, Standings}
-use Rattle.ws_board.specs.Machine.{Held, Stands, Wait, Stop, Act, IsVerdict, IsFormed, MayForm, IsPlaced, is_open, is_waiting, status_at, any_open, HasSummary}
+use Rattle.ws_board.specs.Machine.{Held, Stands, Stop, Act, IsVerdict, IsFormed, MayForm, IsPlaced, is_open, is_waiting, any_open, HasSummary}
 use Rattle.ws_board.specs.Ends.{imports_in, imports_at, work_in, work_at}
-use Rattle.ws_board.specs.Rows.{row_at, standings_of, due, due_of, telling, IsOpenPast, Becomes}
+use Rattle.ws_board.specs.Rows.{due, due_of, telling, IsOpenPast, Becomes}
+use Rattle.ws_board.specs.Table.{row_at, standings_of}
 use Rattle.ws_board.proofs.Carry.{waiting_is}
 use Rattle.ws_board.proofs.Standing.{status_row, action_row, row_past}
 use Rattle.ws_board.proofs.Onward.{waits_stands, import_open}

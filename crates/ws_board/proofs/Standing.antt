@@ -1,19 +1,16 @@
 -- Rows of jobs, and where the jobs stand by them.
-use Rattle.std.proofs.Common.{◌≡◌, ℕ, zero, suc, ◌+◌, ◌<◌, ◌≤◌, Bool, true, false, cond, List, [], ◌∷◌, length, map, get_or, count_by, Option, Some, None, refl, sym, ap, ◌∙◌, subst, arith, inl, inr, get_or-set_other, get_or-set_same}
-use Rattle.std.proofs.Math.ListN.{set, length-set, get_or-map}
-use Rattle.std.specs.List.{sum_by, slice_get}
-use Rattle.std.proofs.lemmas.List.{map-set, length-map, set-get_or}
-use Rattle.std.proofs.lemmas.List.Sums.{sum_by-set, sum_by-cons, get_or-le-sum_by, sum_by_push}
-use Rattle.std.proofs.lemmas.Bool.{cases_eq, cases_lt}
-use Rattle.std.proofs.lemmas.Option.{slice_get_past, slice_get-get_or}
-use Rattle.ws_action.specs.Actions.{Action}
+use Rattle.std.proofs.Common.{◌≡◌, ℕ, zero, suc, ◌+◌, ◌<◌, ◌≤◌, true, false, cond, List, [], ◌∷◌, length, get_or, count_by, refl, sym, ap, ◌∙◌, arith, inl, inr, get_or-set_other, get_or-set_same}
+use Rattle.std.proofs.Math.ListN.{set, get_or-map}
+use Rattle.std.proofs.lemmas.List.{map-set, length-map}
+use Rattle.std.proofs.lemmas.List.Sums.{sum_by-set, sum_by-cons, get_or-le-sum_by, count_by-le-length}
+use Rattle.std.proofs.lemmas.Bool.{cases_lt}
 use Rattle.ws_board.specs.declared.work.Status.{Status}
 use Rattle.ws_board.specs.declared.work.Status.TheVariants.{Waiting, Ready, Running, Blocked, Done}
-use Rattle.ws_board.specs.declared.rows.Row.{Row}
-use Rattle.ws_board.specs.Work.{Job, Standings}
+use Rattle.ws_board.specs.declared.table.Row.{Row}
+use Rattle.ws_board.specs.Work.{Standings}
 use Rattle.ws_board.specs.Machine.{is_waiting, is_open, is_running, status_at, action_at}
-use Rattle.ws_board.specs.Rows.{blank, row_at, standings_of, due, owed, telling, untold}
-use Rattle.ws_board.proofs.Runs.{set_runs}
+use Rattle.ws_board.specs.Rows.{due, owed}
+use Rattle.ws_board.specs.Table.{blank, row_at, standings_of}
 
 pub status_row : (rows : List Row) (k : ℕ) → status_at (standings_of rows).statuses k ≡ (row_at rows k).status
 status_row rows k = get_or-map (λ (r : Row). r.status) rows k blank
@@ -89,6 +86,32 @@ opens_set rows k row inside =
     let a : ◌≡◌ {A = ℕ} (cond (is_open (get_or (standings_of rows).statuses k Blocked)) 1 0) (cond (is_open (row_at rows k).status) 1 0) = ap (λ s. cond (is_open s) 1 0) (status_row rows k) in
     let b : count_by is_open (standings_of (set rows k row)).statuses ≡ count_by is_open (set (standings_of rows).statuses k row.status) = ap (count_by is_open) (statuses_set rows k row) in
     omega (arith, e, a, b)
+
+-- how many are open, once one job stands otherwise
+pub opens_stood : (rows : List Row) (k : ℕ) (status : Status) → k < length rows
+    → count_by is_open (set (standings_of rows).statuses k status) + cond (is_open (row_at rows k).status) 1 0 ≡ count_by is_open (standings_of rows).statuses + cond (is_open status) 1 0
+opens_stood rows k status inside =
+    let lt : k < length (standings_of rows).statuses = omega (arith, inside, length_statuses rows) in
+    let e = sum_by-set (λ s. cond (is_open s) 1 0) (standings_of rows).statuses k status Blocked lt in
+    let a : ◌≡◌ {A = ℕ} (cond (is_open (get_or (standings_of rows).statuses k Blocked)) 1 0) (cond (is_open (row_at rows k).status) 1 0) = ap (λ s. cond (is_open s) 1 0) (status_row rows k) in
+    omega (arith, e, a)
+
+-- one that is open counts
+pub opens_some : (rows : List Row) (k : ℕ) → k < length rows → is_open (row_at rows k).status ≡ true → 0 < count_by is_open (standings_of rows).statuses
+opens_some rows k inside hit =
+    let e = opens_stood rows k Blocked inside in
+    let a : ◌≡◌ {A = ℕ} (cond (is_open (row_at rows k).status) 1 0) 1 = ap (λ b. cond b 1 0) hit in
+    omega (arith, e, a)
+
+pub opens_few : (rows : List Row) → count_by is_open (standings_of rows).statuses ≤ length rows
+opens_few rows = omega (arith, count_by-le-length is_open (standings_of rows).statuses, length_statuses rows)
+
+-- a row is written whose job stands so
+pub opens_written : (rows view : List Row) (k : ℕ) (row : Row) (status : Status) (count : ℕ) → rows ≡ view → row.status ≡ status
+    → count ≡ count_by is_open (set (standings_of view).statuses k status) → count ≡ count_by is_open (standings_of (set rows k row)).statuses
+opens_written rows view k row status count same is counted =
+    counted ∙ ap (λ (l : List Row). count_by is_open (set (standings_of l).statuses k status)) (sym same)
+    ∙ sym (ap (count_by is_open) (statuses_set rows k row ∙ ap (λ s. set (standings_of rows).statuses k s) is))
 
 pub opens_of : (rows : List Row) → count_by is_open (standings_of rows).statuses ≡ count_by (λ (r : Row). is_open r.status) rows
 opens_of [] = refl

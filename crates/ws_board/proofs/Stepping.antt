@@ -14,13 +14,14 @@ use Rattle.ws_action.specs.Actions.{Action, action_id}
 use Rattle.ws_board.specs.declared.work.Status.{Status}
 use Rattle.ws_board.specs.declared.work.Status.TheVariants.{Waiting, Ready, Blocked, Done}
 use Rattle.ws_board.specs.declared.work.Event.{Event}
-use Rattle.ws_board.specs.declared.rows.Row.{Row}
+use Rattle.ws_board.specs.declared.table.Row.{Row}
 use Rattle.ws_board.specs.declared.index.Run.{Run}
 use Rattle.ws_board.specs.Work.{Job, Standings, Entries}
 use Rattle.ws_board.specs.Machine.{Held, Carried, Stands, Verdict, Wait, Stop, Act, Follows, IsPlaced, is_waiting, is_ready, is_running, status_at, action_at, has_id, has_action_id, is_run_of, is_back_of, IsFree, NoneFree, stood, unopened}
 use Rattle.ws_board.specs.Carrying.{IsUnder, held_with}
 use Rattle.ws_board.specs.Calls.{SomeRuns}
-use Rattle.ws_board.specs.Rows.{row_at, standings_of, is_new, is_back, owed, AreFirst, AreCarriedBy, IsPaid, IsBounded, Waits}
+use Rattle.ws_board.specs.Rows.{is_new, is_back, AreFirst, AreCarriedBy, IsPaid, IsBounded, Waits}
+use Rattle.ws_board.specs.Table.{row_at, standings_of}
 use Rattle.ws_board.specs.Indexes.{is_unrun, AgreesBy}
 use Rattle.ws_board.proofs.Carry.{start_under}
 use Rattle.ws_board.proofs.Runs.{stands_rests}
@@ -30,13 +31,13 @@ use Rattle.ws_board.proofs.Agreeing.{both_of, both_and, none_of, ready_is, runni
 
 -- ---- which may be given
 
-module _ (R : List Row) (jobs : List ℕ → List ℕ) (run : List ℕ → Option Run) (free : ℕ → Bool) (count from running : ℕ) (agrees : AgreesBy R jobs run free count from running) where
+module _ (R : List Row) (jobs : List ℕ → List ℕ) (run : List ℕ → Option Run) (free : ℕ → Bool) (count running : ℕ) (agrees : AgreesBy R jobs run free count running) where
   pub unrun_apart : (id : List ℕ) → run id ≡ None → (k : ℕ) → is_run_of (standings_of R) id k ≡ false
   unrun_apart id none k = none_of (is_run_of (standings_of R) id k) (λ e. (
       let p = both_of (is_running (status_at (standings_of R).statuses k)) (has_id (standings_of R).actions id k) e in
       let r = running_is (row_at R k).status (ap is_running (sym (status_row R k)) ∙ p.0) in
       let a = id_is id (row_at R k).action (ap (has_action_id id) (sym (action_row R k)) ∙ p.1) in
-      unrun_none R jobs run free count from running agrees id none k r.0 a.0 r.1 a.1 a.2))
+      unrun_none R jobs run free count running agrees id none k r.0 a.0 r.1 a.1 a.2))
 
   pub free_is_free : (k : ℕ) (action : Action) → (row_at R k).status ≡ Ready → (row_at R k).action ≡ Some action → run (action_id action) ≡ None → IsFree (standings_of R) k action
   free_is_free k action ready its none = record { ready = status_row R k ∙ ready; its = action_row R k ∙ its; apart = unrun_apart (action_id action) none }
@@ -70,23 +71,12 @@ module _ (R : List Row) (jobs : List ℕ → List ℕ) (run : List ℕ → Optio
       unrun true e = e
       unrun false e = let r = some_run (action_id action) e in let c : false ≡ true = sym (f.apart r.0) ∙ r.1 in absurd (cc)
 
-  -- none may be given, where from the place on none is marked
-  pub none_marked : ((k : ℕ) → from ≤ k → free k ≡ false) → (k : ℕ) → free k ≡ false
-  none_marked none k = elim (cases_lt k from) [
-    | inl lt ↦ agrees.below k lt
-    | inr le ↦ none k le
-  ]
-
   -- the first that is marked is the first that may be given
-  pub least_free : (k : ℕ) → ((j : ℕ) → j < k → from ≤ j → free j ≡ false) → (j : ℕ) (action : Action) → IsFree (standings_of R) j action → k ≤ j
+  pub least_free : (k : ℕ) → ((j : ℕ) → j < k → free j ≡ false) → (j : ℕ) (action : Action) → IsFree (standings_of R) j action → k ≤ j
   least_free k none j action f = elim (cases_lt j k) [
-    | inl lt ↦ (let c : false ≡ true = sym (shut lt (cases_lt j from)) ∙ free_marked j action f in absurd (cc))
+    | inl lt ↦ (let c : false ≡ true = sym (none j lt) ∙ free_marked j action f in absurd (cc))
     | inr le ↦ le
   ]
-    where
-      shut : j < k → (j < from) ⊎ (from ≤ j) → free j ≡ false
-      shut lt (inl below) = agrees.below j below
-      shut lt (inr le) = none j lt le
 
 -- where some run, one does
 pub counted_some : (xs : List Status) → 0 < count_by is_running xs → SomeRuns xs

@@ -1,25 +1,25 @@
 -- What a board keeps when a job is taken, and when it is given back.
-use Rattle.std.proofs.Common.{◌≡◌, ℕ, ◌+◌, ◌^◌, ◌<◌, ◌≤◌, true, false, eqb, List, [], ◌∷◌, ◌++◌, length, count_by, Some, None, refl, sym, ap, ◌∙◌, subst, arith, inl, inr}
+use Rattle.std.proofs.Common.{◌≡◌, ℕ, ◌+◌, ◌^◌, ◌<◌, ◌≤◌, true, false, eqb, List, [], ◌∷◌, ◌++◌, length, count_by, Some, None, refl, sym, ap, ◌∙◌, arith}
 use Rattle.std.specs.Prelude.{if◌then◌else◌, ◌↔◌, ◌≢◌}
 use Rattle.std.specs.List.{All, list_any}
 use Rattle.std.proofs.Math.ListN.{set}
-use Rattle.std.proofs.lemmas.Bool.{cases_lt}
 use Rattle.std.proofs.lemmas.List.Sums.{count_by-le-length}
 use Rattle.ws_action.specs.Actions.{Action, action_id}
 use Rattle.ws_board.specs.declared.work.Status.TheVariants.{Ready, Running}
 use Rattle.ws_board.specs.declared.work.Event.{Event}
 use Rattle.ws_board.specs.declared.work.Event.TheVariants.{Take, Back}
-use Rattle.ws_board.specs.declared.rows.Row.{Row}
+use Rattle.ws_board.specs.declared.table.Row.{Row}
 use Rattle.ws_board.specs.declared.index.Index.{Index}
 use Rattle.ws_board.specs.Work.{Job}
 use Rattle.ws_board.specs.Machine.{is_open, is_active, has_action_id, is_running, IsFree, IsRunBy, NoneFree, stood}
-use Rattle.ws_board.specs.Rows.{row_at, standings_of, is_active_of, is_back, AreCarriedBy, Waits, KnowsBacks, IsPaid}
-use Rattle.ws_board.specs.Indexes.{id_in, jobs_in, run_in, is_free_in, Changes, AgreesBy, Agrees}
+use Rattle.ws_board.specs.Rows.{is_active_of, is_back, AreCarriedBy, Waits, KnowsBacks, IsPaid}
+use Rattle.ws_board.specs.Table.{row_at, standings_of}
+use Rattle.ws_board.specs.Indexes.{id_in, jobs_in, run_in, is_free_in, Changes, Agrees}
 use Rattle.ws_board.proofs.Standing.{length_statuses, open_inside, row_same}
 use Rattle.ws_board.proofs.Listing.{eqb_same, eqb_not}
 use Rattle.ws_board.proofs.Agreeing.{both_and, has_its, listed_some, jobs_inside, free_unrun, free_so}
 use Rattle.ws_board.proofs.Noting.{taken_agrees, given_agrees}
-use Rattle.ws_board.proofs.Stepping.{free_is_free, none_is_free, none_marked, least_free, stood_row}
+use Rattle.ws_board.proofs.Stepping.{free_is_free, none_is_free, least_free, stood_row}
 use Rattle.ws_board.proofs.Activating.{kept_of, act_good, act_waits, act_backs, back_backs, taken_paid, back_paid}
 use Rattle.ws_board.proofs.Boarding.{run_row, row_run, runs_some, still_count, more_count}
 
@@ -30,33 +30,25 @@ few_run R = omega (arith, count_by-le-length is_running (standings_of R).statuse
 
 module _ (R : List Row) (x : Index) (agrees : Agrees R x) where
   pub free_job : (k : ℕ) → is_free_in x k ≡ true → (action : Action) × ((row_at R k).status ≡ Ready) × ((row_at R k).action ≡ Some action) × (run_in x (action_id action) ≡ None)
-  free_job k f = free_unrun R (jobs_in x) (run_in x) (is_free_in x) (length x.free.items) x.from x.running agrees k f
+  free_job k f = free_unrun R (jobs_in x) (run_in x) (is_free_in x) (length x.free) x.running agrees k f
 
   pub free_inside : (k : ℕ) → is_free_in x k ≡ true → k < length R
   free_inside k f = open_inside R k (ap is_open (free_job k f).1)
 
-  pub listed_inside : (id : List ℕ) → All (λ j. j < length x.free.items) (jobs_in x id)
-  listed_inside id = jobs_inside R (jobs_in x) (run_in x) (is_free_in x) (length x.free.items) x.from x.running agrees id
+  pub listed_inside : (id : List ℕ) → All (λ j. j < length x.free) (jobs_in x id)
+  listed_inside id = jobs_inside R (jobs_in x) (run_in x) (is_free_in x) (length x.free) x.running agrees id
 
   pub listed_kept : (id : List ℕ) (k : ℕ) → is_active_of R id k ≡ true → id_in x.ids.entries id ≢ None
-  listed_kept id k active = kept_of (id_in x.ids.entries id) k (listed_some R (jobs_in x) (run_in x) (is_free_in x) (length x.free.items) x.from x.running agrees id k active)
+  listed_kept id k active = kept_of (id_in x.ids.entries id) k (listed_some R (jobs_in x) (run_in x) (is_free_in x) (length x.free) x.running agrees id k active)
 
   pub one_more_runs : length R < 2 ^ 63 → x.running + 1 < 2 ^ 64
   one_more_runs fits = omega (arith, fits, agrees.running, few_run R)
 
-  pub none_free : ((k : ℕ) → x.from ≤ k → is_free_in x k ≡ false) → NoneFree (standings_of R)
-  none_free none =
-      none_is_free R (jobs_in x) (run_in x) (is_free_in x) (length x.free.items) x.from x.running agrees
-      (none_marked R (jobs_in x) (run_in x) (is_free_in x) (length x.free.items) x.from x.running agrees none)
+  pub none_free : ((k : ℕ) → is_free_in x k ≡ false) → NoneFree (standings_of R)
+  none_free none = none_is_free R (jobs_in x) (run_in x) (is_free_in x) (length x.free) x.running agrees none
 
-  pub first_least : (k : ℕ) → ((j : ℕ) → j < k → x.from ≤ j → is_free_in x j ≡ false) → (j : ℕ) (action : Action) → IsFree (standings_of R) j action → k ≤ j
-  first_least = least_free R (jobs_in x) (run_in x) (is_free_in x) (length x.free.items) x.from x.running agrees
-
-  pub all_below : (k : ℕ) → ((j : ℕ) → j < k → x.from ≤ j → is_free_in x j ≡ false) → (j : ℕ) → j < k → is_free_in x j ≡ false
-  all_below k none j lt = elim (cases_lt j x.from) [
-    | inl below ↦ agrees.below j below
-    | inr le ↦ none j lt le
-  ]
+  pub first_least : (k : ℕ) → ((j : ℕ) → j < k → is_free_in x j ≡ false) → (j : ℕ) (action : Action) → IsFree (standings_of R) j action → k ≤ j
+  first_least = least_free R (jobs_in x) (run_in x) (is_free_in x) (length x.free) x.running agrees
 
   -- who runs an id, by the index and by the rows
   pub runs_by : (hand job : ℕ) (action : Action) → (run_in x (action_id action) ≡ Some (record { hand = hand; job = job; action = action })) ↔ IsRunBy (standings_of R) hand job action
@@ -73,7 +65,7 @@ module _ (J : List Job) (I : List (List ℕ)) (R N : List Row) (x y : Index) (k 
   runs = record (row_at R k) { status = Running hand }
 
   so : ((row_at R k).status ≡ Ready) × (run_in x (action_id action) ≡ None) × (is_active_of R (action_id action) k ≡ true)
-  so = free_so R (jobs_in x) (run_in x) (is_free_in x) (length x.free.items) x.from x.running agrees k action free its
+  so = free_so R (jobs_in x) (run_in x) (is_free_in x) (length x.free) x.running agrees k action free its
 
   inside : k < length R
   inside = free_inside R x agrees k free
@@ -85,7 +77,7 @@ module _ (J : List Job) (I : List (List ℕ)) (R N : List Row) (x y : Index) (k 
   take_kept = listed_kept R x agrees (action_id action) k so.2
 
   pub take_free : IsFree (standings_of R) k action
-  take_free = free_is_free R (jobs_in x) (run_in x) (is_free_in x) (length x.free.items) x.from x.running agrees k action so.0 its so.1
+  take_free = free_is_free R (jobs_in x) (run_in x) (is_free_in x) (length x.free) x.running agrees k action so.0 its so.1
 
   pub take_stood : standings_of N ≡ stood (standings_of R) k (Running hand)
   take_stood = stood_row R N k runs (Running hand) written refl refl
@@ -111,11 +103,10 @@ module _ (J : List Job) (I : List (List ℕ)) (R N : List Row) (x y : Index) (k 
 
   pub take_agrees : Changes x y (action_id action) (jobs_in x (action_id action)) (Some (record { hand = hand; job = k; action = action }))
       → ((j : ℕ) → is_free_in y j ≡ (if list_any (λ i. eqb i j) (jobs_in x (action_id action)) then false else is_free_in x j))
-      → length y.free.items ≡ length x.free.items → y.from ≡ k → y.running ≡ x.running + 1 → ((j : ℕ) → j < k → x.from ≤ j → is_free_in x j ≡ false) → Agrees N y
-  take_agrees changes marked len from more least =
-      subst (λ n. AgreesBy N (jobs_in y) (run_in y) (is_free_in y) (length y.free.items) n y.running) (sym from)
-      (taken_agrees R N (jobs_in x) (run_in x) (is_free_in x) (length x.free.items) x.from x.running agrees k runs written inside action its refl was refl hand
-      (jobs_in y) (run_in y) (is_free_in y) (length y.free.items) y.running so.0 refl so.1 changes.jobs changes.runs marked (all_below R x agrees k least) len more)
+      → length y.free ≡ length x.free → y.running ≡ x.running + 1 → Agrees N y
+  take_agrees changes marked len more =
+      taken_agrees R N (jobs_in x) (run_in x) (is_free_in x) (length x.free) x.running agrees k runs written inside action its refl was refl hand
+      (jobs_in y) (run_in y) (is_free_in y) (length y.free) y.running so.0 refl so.1 changes.jobs changes.runs marked len more
 
 -- ---- a job is given back
 
@@ -163,7 +154,7 @@ module _ (J : List Job) (I : List (List ℕ)) (R N : List Row) (x y : Index) (k 
       back_paid J I R N k ready good written stands acts refl refl refl refl looks imports (count_by is_back history) (count_by is_back all) hand at.0 refl (more_count history all (Back by k) is refl) paid
 
   pub back_agrees : Changes x y (action_id action) (jobs_in x (action_id action)) None → ((j : ℕ) → is_free_in y j ≡ (if list_any (λ i. eqb i j) (jobs_in x (action_id action)) then true else is_free_in x j))
-      → length y.free.items ≡ length x.free.items → y.from ≤ x.from → All (λ j. y.from ≤ j) (jobs_in x (action_id action)) → y.running + 1 ≡ x.running → Agrees N y
-  back_agrees changes marked len lower each fewer =
-      given_agrees R N (jobs_in x) (run_in x) (is_free_in x) (length x.free.items) x.from x.running agrees k ready written stands action at.1 refl acts refl hand
-      (jobs_in y) (run_in y) (is_free_in y) (length y.free.items) y.from y.running at.0 refl changes.jobs changes.runs marked lower each len fewer
+      → length y.free ≡ length x.free → y.running + 1 ≡ x.running → Agrees N y
+  back_agrees changes marked len fewer =
+      given_agrees R N (jobs_in x) (run_in x) (is_free_in x) (length x.free) x.running agrees k ready written stands action at.1 refl acts refl hand
+      (jobs_in y) (run_in y) (is_free_in y) (length y.free) y.running at.0 refl changes.jobs changes.runs marked len fewer

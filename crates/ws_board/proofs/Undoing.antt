@@ -3,9 +3,10 @@ use Rattle.std.proofs.Common.{◌≡◌, ◌<◌, ℕ, List, [], ◌∷◌, ◌+
 use Rattle.std.proofs.lemmas.List.{set-get_or}
 use Rattle.std.proofs.lemmas.List.Elements.{All-pop}
 use Rattle.std.proofs.Math.ListN.{set, length-set}
-use Rattle.ws_board.specs.declared.rows.Row.{Row}
+use Rattle.ws_board.specs.declared.table.Row.{Row}
 use Rattle.ws_board.specs.declared.moves.Change.{Change}
-use Rattle.ws_board.specs.Rows.{blank, row_at, undone, AreWritten}
+use Rattle.ws_board.specs.Rows.{undone, AreWritten}
+use Rattle.ws_board.specs.Table.{blank, row_at}
 
 pub undone_more : (log : List Change) (change : Change) (rows : List Row) → undone (log ++ change ∷ []) rows ≡ undone log (set rows change.job change.was)
 undone_more [] change rows = refl

@@ -1,5 +1,5 @@
 -- On the way to where nothing changes.
-use Rattle.std.specs.Prelude.{◌≡◌, ℕ, Bool, true, false, List, length, Option, Some, None, ◌⊎◌, if◌then◌else◌, option_copied}
+use Rattle.std.specs.Prelude.{◌≡◌, ℕ, true, false, List, length, Option, Some, None, ◌⊎◌, if◌then◌else◌, option_copied}
 use Rattle.std.specs.List.{slice_get}
 use Rattle.std.specs.Option.{option_or}
 use Rattle.std.specs.Str.{bytes_eq}
@@ -16,8 +16,10 @@ use Rattle.ws_board.specs.Machine.{Held, is_waiting, status_at, action_at, Stand
 -- what waited at first still waits, or stands as its imports say; and what waits has no action
 pub record IsUnder (jobs : List Job) (held : Held) (first now : Standings) : Type 0 where
   pub same_length : (length now.statuses ≡ length first.statuses) × (length now.actions ≡ length first.actions)
-  pub others : (j : ℕ) → is_waiting (status_at first.statuses j) ≡ false → (status_at now.statuses j ≡ status_at first.statuses j) × (action_at now.actions j ≡ action_at first.actions j)
-  pub waiting : (j : ℕ) → is_waiting (status_at first.statuses j) ≡ true → (status_at now.statuses j ≡ Waiting) ⊎ Stands held now (slice_get jobs j) (status_at now.statuses j) (action_at now.actions j)
+  pub others : (j : ℕ) → is_waiting (status_at first.statuses j) ≡ false
+      → (status_at now.statuses j ≡ status_at first.statuses j) × (action_at now.actions j ≡ action_at first.actions j)
+  pub waiting : (j : ℕ) → is_waiting (status_at first.statuses j) ≡ true
+      → (status_at now.statuses j ≡ Waiting) ⊎ Stands held now (slice_get jobs j) (status_at now.statuses j) (action_at now.actions j)
   pub bare : (j : ℕ) → status_at now.statuses j ≡ Waiting → action_at now.actions j ≡ None
 
 -- if this job waits, its imports say so

@@ -1,5 +1,5 @@
 -- What becomes of jobs, from the jobs alone: no ids, no cache, no hands, no order.
-use Rattle.std.specs.Prelude.{◌≡◌, ℕ, ◌<◌, Bool, true, List, [], ◌∷◌, ◌++◌, map, length, Option, Some, None, ◌⊎◌}
+use Rattle.std.specs.Prelude.{◌≡◌, ℕ, ◌<◌, true, List, [], ◌∷◌, ◌++◌, map, length, Option, Some, None}
 use Rattle.std.specs.List.{All, AllZip, slice_get, slice_index_or, Contains, IsDistinct, count_by}
 use Rattle.std.specs.Str.{bytes_eq}
 use Rattle.std.specs.FinMap.{get}
@@ -14,7 +14,7 @@ use Rattle.ws_cache.specs.Held.{CacheStandsFor}
 use Rattle.ws_cache.specs.Joined.{lesser}
 use Rattle.ws_board.specs.declared.work.Status.{Status}
 use Rattle.ws_board.specs.declared.work.Status.TheVariants.{Waiting, Ready, Running, Blocked as Stays, Done}
-use Rattle.ws_board.specs.Work.{Work, Job, Seen, acted}
+use Rattle.ws_board.specs.Work.{Work, Job, Standings, Seen, acted}
 use Rattle.ws_board.specs.Machine.{is_good_result, status_at, action_at, is_finish}
 use Rattle.ws_board.specs.Calls.{result_at}
 
@@ -113,8 +113,8 @@ pub record AddsOwn (seen : Seen) : Type 0 where
   pub entries : List Action
   pub stands : CacheStandsFor seen.state.added entries
   pub sized : AllSized entries
-  pub among : (E : List Action) (rank : ℕ → ℕ) (ends : List End) → CacheStandsFor seen.opening.cache E → IsRanked rank seen.opening.jobs → AreEnds seen.opening.jobs ends
-      → AreClear E (came ends) → Includes (came ends) entries
+  pub among : (E : List Action) (rank : ℕ → ℕ) (ends : List End) → CacheStandsFor seen.opening.cache E
+      → IsRanked rank seen.opening.jobs → AreEnds seen.opening.jobs ends → AreClear E (came ends) → Includes (came ends) entries
 
 -- ---- boards that are opened and never run
 
@@ -131,10 +131,15 @@ IsShown E statuses imports end (Running hand) action = ⊥
 IsShown E statuses imports end Ready action =
     AllGood statuses imports × ((its : Action) × (result : Compiled) × (action ≡ Some its) × (end ≡ Came its result) × ¬ (Contains E its))
 IsShown E statuses imports end (Done good) action =
-    AllGood statuses imports × ((its : Action) × (result : Compiled) × (action ≡ Some its) × (end ≡ Came its result) × Contains E its × (good ≡ is_good_result result) × Compiles its result)
+    AllGood statuses imports
+    × ((its : Action) × (result : Compiled) × (action ≡ Some its) × (end ≡ Came its result)
+    × Contains E its × (good ≡ is_good_result result) × Compiles its result)
+
+abbrev pub IsShownAt : List Action → List Job → Standings → End → ℕ → Type 0
+IsShownAt E jobs now end k = IsShown E now.statuses (imports_at jobs k) end (status_at now.statuses k) (action_at now.actions k)
 
 -- Over any such E, where imports lead down, the jobs end so, and the texts of E and of what comes don't clash, each job stands so.
 abbrev pub ShowsEnds : Seen → Type 0
 ShowsEnds seen =
     (E : List Action) (rank : ℕ → ℕ) (ends : List End) → CacheStandsFor seen.opening.cache E → IsRanked rank seen.opening.jobs → AreEnds seen.opening.jobs ends
-    → AreClear E (came ends) → (k : ℕ) → IsShown E seen.state.standings.statuses (imports_at seen.opening.jobs k) (end_at ends k) (status_at seen.state.standings.statuses k) (action_at seen.state.standings.actions k)
+    → AreClear E (came ends) → (k : ℕ) → IsShownAt E seen.opening.jobs seen.state.standings (end_at ends k) k

@@ -1,5 +1,5 @@
 -- What a legal history promises of each job and of each id.
-use Rattle.std.specs.Prelude.{◌≡◌, ℕ, ◌<◌, Bool, true, false, List, ◌∷◌, ◌++◌, Option}
+use Rattle.std.specs.Prelude.{◌≡◌, ℕ, Bool, true, false, List, ◌∷◌, ◌++◌, Option}
 use Rattle.std.specs.List.{list_any}
 use Rattle.ws_action.specs.Actions.{Action}
 use Rattle.ws_board.specs.declared.work.Event.{Event}
@@ -25,5 +25,7 @@ is_back_with actions id (Idle hand) = false
 
 -- Where two takes give jobs whose actions have one id, a job whose action has it was given back between.
 pub record IsTakenOnce (seen : Seen) : Type 0 where
-  pub backs : (id : List ℕ) (before between after : List Event) (hand other j k : ℕ) → seen.history ≡ before ++ (Take hand j ∷ (between ++ (Take other k ∷ after)))
-      → has_id seen.state.standings.actions id j ≡ true → has_id seen.state.standings.actions id k ≡ true → list_any (is_back_with seen.state.standings.actions id) between ≡ true
+  pub backs : (id : List ℕ) (before between after : List Event) (hand other j k : ℕ)
+      → seen.history ≡ before ++ (Take hand j ∷ (between ++ (Take other k ∷ after)))
+      → has_id seen.state.standings.actions id j ≡ true → has_id seen.state.standings.actions id k ≡ true
+      → list_any (is_back_with seen.state.standings.actions id) between ≡ true

@@ -1,5 +1,5 @@
 -- The board as a machine: how jobs stand, which events may come, and what each makes of it.
-use Rattle.std.specs.Prelude.{◌≡◌, ◌≢◌, ℕ, Bool, true, false, ◌==◌, ◌&&◌, ◌||◌, if◌then◌else◌, List, [], ◌∷◌, length, map, Option, Some, None, slice_set}
+use Rattle.std.specs.Prelude.{◌≡◌, ℕ, Bool, true, false, ◌==◌, ◌&&◌, ◌||◌, if◌then◌else◌, List, [], ◌∷◌, length, map, Option, Some, None, slice_set}
 use Rattle.std.specs.List.{All, AllZip, slice_get, slice_index_or, list_any}
 use Rattle.std.specs.Option.{option_or}
 use Rattle.std.specs.Str.{bytes_eq}
@@ -138,8 +138,10 @@ Stands held now (Some job) status action = (verdict : Verdict) × IsVerdict held
 -- Waiting jobs are carried on until nothing changes: each that waited stands as its imports say, as they stand then.
 pub record Carried (jobs : List Job) (held : Held) (old new : Standings) : Type 0 where
   pub same_length : (length new.statuses ≡ length old.statuses) × (length new.actions ≡ length old.actions)
-  pub others : (j : ℕ) → is_waiting (status_at old.statuses j) ≡ false → (status_at new.statuses j ≡ status_at old.statuses j) × (action_at new.actions j ≡ action_at old.actions j)
-  pub waiting : (j : ℕ) → is_waiting (status_at old.statuses j) ≡ true → Stands held new (slice_get jobs j) (status_at new.statuses j) (action_at new.actions j)
+  pub others : (j : ℕ) → is_waiting (status_at old.statuses j) ≡ false
+      → (status_at new.statuses j ≡ status_at old.statuses j) × (action_at new.actions j ≡ action_at old.actions j)
+  pub waiting : (j : ℕ) → is_waiting (status_at old.statuses j) ≡ true
+      → Stands held new (slice_get jobs j) (status_at new.statuses j) (action_at new.actions j)
 
 -- ---- events
 

@@ -1,37 +1,40 @@
 -- Rows of jobs, what may still be read of them, and how they wait.
-use Rattle.std.specs.Prelude.{◌≡◌, ℕ, ◌+◌, ◌-◌, ◌*◌, ◌≤◌, ◌<◌, ◌||◌, ◌&&◌, ◌==◌, ◌^◌, if◌then◌else◌, ◌⊎◌, ◌↔◌, Bool, true, false, List, [], ◌∷◌, length, map, take, Option, None, Some, slice_set}
-use Rattle.std.specs.List.{All, sum_by, slice_get, slice_index_or, list_any, count_by, Contains}
+use Rattle.std.specs.Prelude.{◌≡◌, ℕ, ◌+◌, ◌-◌, ◌*◌, ◌≤◌, ◌<◌, ◌||◌, ◌&&◌, ◌==◌, ◌^◌, if◌then◌else◌, ◌⊎◌, Bool, true, false, List, [], ◌∷◌, ◌++◌, length, take, Option, None, Some, slice_set}
+use Rattle.std.specs.List.{All, AllZip, sum_by, slice_get, slice_index_or, list_any, count_by, Contains}
 use Rattle.std.specs.Str.{bytes_eq}
+use Rattle.go_export.specs.Summaries.{Summary}
 use Rattle.ws_action.specs.Actions.{Action, action_id}
 use Rattle.ws_board.specs.declared.work.Status.{Status}
 use Rattle.ws_board.specs.declared.work.Status.TheVariants.{Waiting, Ready, Running, Blocked, Done}
 use Rattle.ws_board.specs.declared.work.Event.{Event}
 use Rattle.ws_board.specs.declared.work.Event.TheVariants.{Take, Finish, Back, Idle}
-use Rattle.ws_board.specs.declared.rows.Row.{Row}
+use Rattle.ws_board.specs.declared.table.Row.{Row}
 use Rattle.ws_board.specs.declared.rows.Rows.{Rows}
 use Rattle.ws_board.specs.declared.ending.Parts.{Parts}
 use Rattle.ws_board.specs.declared.index.Ready.{Ready as AReady}
 use Rattle.ws_board.specs.declared.moves.Change.{Change}
 use Rattle.ws_board.specs.declared.moves.Moves.{Moves}
-use Rattle.ws_board.specs.Work.{Work, Job, Standings, Seen}
-use Rattle.ws_board.specs.Machine.{Held, Stands, is_waiting, is_open, is_running, is_ready, is_active, has_action_id, is_back_of}
+use Rattle.ws_board.specs.Work.{Work, Job, Standings, Entries, Seen}
+use Rattle.ws_board.specs.Machine.{Held, HasSummary, MayForm, IsFormed, Stands, is_waiting, is_open, is_running, is_ready, is_active, has_action_id, is_back_of, IsHistory}
 use Rattle.ws_board.specs.Carrying.{IsUnder}
 use Rattle.ws_board.specs.Ends.{imports_at, work_at}
+use Rattle.ws_board.specs.Table.{row_at, standings_of}
 
--- where there is no job, that of one that is blocked
-abbrev pub blank : Row
-blank = record { status = Blocked; action = None; left = 0; was_back = false; imports = 0; importers = 0 }
+-- what a board's value says, by its parts
+abbrev pub seen_by : List Job → List Row → Entries → Entries → List Event → ℕ → Seen
+seen_by jobs rows opened added history looks = record {
+  opening = record { jobs = jobs; cache = opened };
+  state = record { standings = standings_of rows; added = added };
+  history = history;
+  looks = looks;
+}
 
-abbrev pub row_at : List Row → ℕ → Row
-row_at rows k = slice_index_or rows k blank
-
--- where the jobs stand, by their rows
-abbrev pub standings_of : List Row → Standings
-standings_of rows = record { statuses = map (λ r. r.status) rows; actions = map (λ r. r.action) rows }
-
--- what a board's value says
 abbrev pub seen_of : Parts → Seen
-seen_of parts = record { opening = record { jobs = parts.jobs.items; cache = parts.opened }; state = record { standings = standings_of parts.rows.items; added = parts.added }; history = parts.history.items; looks = parts.looks }
+seen_of parts = seen_by parts.jobs.items parts.rows.items parts.opened parts.added parts.history.items parts.looks
+
+-- what happened may have happened, from the opening on
+abbrev pub IsLegal : Seen → Type 0
+IsLegal seen = IsHistory seen.opening seen.history seen.state
 
 -- ---- reads
 
@@ -56,6 +59,25 @@ owed rows = sum_by due rows
 -- and those that are done or blocked, and of which no importer was told
 abbrev pub untold : List (List ℕ) → List ℕ → ℕ
 untold importers settled = sum_by (λ k. telling (length (slice_index_or importers k []))) settled
+
+-- what was read, and what a row may still cost, with what tells its importers, once its job is done or blocked
+abbrev pub charged_for : ℕ → Row → ℕ
+charged_for looks row = looks + due row + (if is_open row.status then 0 else telling row.importers)
+
+-- what imports a job
+abbrev pub importers_at : Rows → ℕ → List ℕ
+importers_at rows job = slice_index_or rows.importers.items job []
+
+-- whether the second imports the first
+abbrev pub imports_it : Rows → ℕ → ℕ → Bool
+imports_it rows job j = list_any (λ k. k == j) (importers_at rows job)
+
+abbrev pub telling_at : Rows → ℕ → ℕ
+telling_at rows job = telling (length (importers_at rows job))
+
+-- what was read, and what may still be
+abbrev pub charged : ℕ → Rows → Moves → ℕ
+charged looks rows moves = looks + owed rows.rows + untold rows.importers.items moves.settled.items
 
 -- how many imports all jobs have
 abbrev pub import_count : List Job → ℕ
@@ -92,7 +114,7 @@ pub record AreKnownBy (every : List Job) (told : List (List ℕ)) (rows : List R
   pub inside : (j k : ℕ) → Contains (slice_index_or told k []) j → j < length every
 
 abbrev pub AreKnown : Rows → Type 0
-AreKnown rows = AreKnownBy rows.jobs.items rows.importers.items rows.rows.items
+AreKnown rows = AreKnownBy rows.jobs.items rows.importers.items rows.rows
 
 -- the job joined the lists of those that it imports
 pub record Adds (old new : List (List ℕ)) (imports : List ℕ) (job : ℕ) : Type 0 where
@@ -109,9 +131,12 @@ pub record AreImporters (jobs : List Job) (n : ℕ) (lists : List (List ℕ)) : 
   pub inside : (j k : ℕ) → Contains (slice_index_or lists k []) j → j < n
   pub count : sum_by (λ list. length list) lists ≤ import_count (take n jobs)
 
--- the row of a job of whose imports nothing is known
+-- the row of a job with so many imports and importers, of which nothing is known
+abbrev pub waiting_row : ℕ → ℕ → Row
+waiting_row imports importers = record { status = Waiting; action = None; left = imports; was_back = false; imports = imports; importers = importers }
+
 abbrev pub first_row : List Job → List (List ℕ) → ℕ → Row
-first_row jobs importers k = record { status = Waiting; action = None; left = length (imports_at jobs k); was_back = false; imports = length (imports_at jobs k); importers = length (slice_index_or importers k []) }
+first_row jobs importers k = waiting_row (length (imports_at jobs k)) (length (slice_index_or importers k []))
 
 -- at first jobs wait, and of their imports nothing is known
 pub record AreFirst (jobs : List Job) (importers : List (List ℕ)) (n : ℕ) (rows : List Row) : Type 0 where
@@ -136,9 +161,13 @@ pub record IsHeldUp (jobs : List Job) (rows : List Row) (settled : List ℕ) (j 
 abbrev pub Waits : List Job → List Row → List ℕ → (ℕ → Bool) → Type 0
 Waits jobs rows settled pending = (j : ℕ) → is_waiting (row_at rows j).status ≡ true → pending j ≡ false → IsHeldUp jobs rows settled j
 
+abbrev pub AreWaiting : Rows → Moves → (ℕ → Bool) → Type 0
+AreWaiting rows moves pending = Waits rows.jobs.items rows.rows moves.settled.items pending
+
 -- behind its first so many imports none is open
 abbrev pub IsOpenPast : List Job → List Row → ℕ → ℕ → Type 0
-IsOpenPast jobs rows job left = (i : ℕ) → left ≤ i → i < length (imports_at jobs job) → is_open (row_at rows (slice_index_or (imports_at jobs job) i 0)).status ≡ false
+IsOpenPast jobs rows job left =
+    (i : ℕ) → left ≤ i → i < length (imports_at jobs job) → is_open (row_at rows (slice_index_or (imports_at jobs job) i 0)).status ≡ false
 
 abbrev pub AllPast : List Job → List Row → Type 0
 AllPast jobs rows = (job : ℕ) → is_waiting (row_at rows job).status ≡ true → IsOpenPast jobs rows job (row_at rows job).left
@@ -174,7 +203,22 @@ pub record AreCarriedBy (jobs : List Job) (importers : List (List ℕ)) (rows : 
   pub bare : (k : ℕ) → (row_at rows k).status ≡ Waiting → (row_at rows k).action ≡ None
 
 abbrev pub AreCarried : Rows → Type 0
-AreCarried rows = AreCarriedBy rows.jobs.items rows.importers.items rows.rows.items
+AreCarried rows = AreCarriedBy rows.jobs.items rows.importers.items rows.rows
+
+-- a job's import with that number
+abbrev pub import_at : Rows → ℕ → ℕ → ℕ
+import_at rows job number = slice_index_or (imports_at rows.jobs.items job) number 0
+
+-- the imports of a job have these summaries, as they stand
+abbrev pub HaveSummaries : Held → Rows → ℕ → List Summary → Type 0
+HaveSummaries h rows job summaries = AllZip (HasSummary h (standings_of rows.rows)) (imports_at rows.jobs.items job) summaries
+
+-- these may make this action with its work, or make it
+abbrev pub MayFormAt : Held → Rows → ℕ → Work → Action → Type 0
+MayFormAt h rows job work action = MayForm h (standings_of rows.rows) work (imports_at rows.jobs.items job) action
+
+abbrev pub IsFormedAt : Held → Rows → ℕ → Work → Action → Type 0
+IsFormedAt h rows job work action = IsFormed h (standings_of rows.rows) work (imports_at rows.jobs.items job) action
 
 -- the row of a job that waited, as its imports say, as they stand
 pub record Becomes (h : Held) (jobs : List Job) (rows : List Row) (job : ℕ) (row : Row) : Type 0 where
@@ -195,17 +239,25 @@ ready_of job (Running hand) action = []
 ready_of job Blocked action = []
 ready_of job (Done good) action = []
 
+-- the job joins these, if it is done or blocked
+abbrev pub settled_with : List ℕ → ℕ → Status → List ℕ
+settled_with settled job status = if is_open status then settled else (settled ++ job ∷ [])
+
+-- how many jobs are open, or are done or blocked and their importers are to be told
+abbrev pub unsettled : Rows → Moves → ℕ
+unsettled rows moves = length moves.settled.items + count_by is_open (standings_of rows.rows).statuses
+
 -- From the one to the other jobs were carried on by what is held, for so many reads beside those that were owed.
 pub record CarriesOn (h : Held) (spare : ℕ) (old new : Rows) (before after : Moves) (looks next : ℕ) : Type 0 where
   pub jobs : new.jobs.items ≡ old.jobs.items
   pub importers : new.importers.items ≡ old.importers.items
   pub good : AreCarried new
-  pub under : (first : Standings) → IsUnder old.jobs.items h first (standings_of old.rows.items) → IsUnder old.jobs.items h first (standings_of new.rows.items)
-  pub backs : (k : ℕ) → (row_at new.rows.items k).was_back ≡ (row_at old.rows.items k).was_back
-  pub runs : count_by is_running (standings_of new.rows.items).statuses ≡ count_by is_running (standings_of old.rows.items).statuses
-  pub listed : AreListed old.rows.items new.rows.items before.ready.items after.ready.items
-  pub fewer : length after.settled.items + count_by is_open (standings_of new.rows.items).statuses ≤ length before.settled.items + count_by is_open (standings_of old.rows.items).statuses
-  pub paid : next + owed new.rows.items + untold new.importers.items after.settled.items ≤ looks + owed old.rows.items + untold old.importers.items before.settled.items + spare
+  pub under : (first : Standings) → IsUnder old.jobs.items h first (standings_of old.rows) → IsUnder old.jobs.items h first (standings_of new.rows)
+  pub backs : (k : ℕ) → (row_at new.rows k).was_back ≡ (row_at old.rows k).was_back
+  pub runs : count_by is_running (standings_of new.rows).statuses ≡ count_by is_running (standings_of old.rows).statuses
+  pub listed : AreListed old.rows new.rows before.ready.items after.ready.items
+  pub fewer : unsettled new after ≤ unsettled old before
+  pub paid : charged next new after ≤ charged looks old before + spare
   pub more : looks ≤ next
 
 -- whether the job is ready or runs, and its action has the id
@@ -226,14 +278,14 @@ pub record Marks (id : List ℕ) (good : Bool) (old new : List Row) (settled : L
 pub record FinishesRows (h : Held) (id : List ℕ) (result : Bool) (old new : Rows) (ready : List AReady) : Type 0 where
   pub marked : List Row
   pub settled : List ℕ
-  pub marks : Marks id result old.rows.items marked settled
+  pub marks : Marks id result old.rows marked settled
   pub from : AreCarriedBy old.jobs.items old.importers.items marked
-  pub good : AreCarriedBy old.jobs.items old.importers.items new.rows.items
-  pub under : (first : Standings) → IsUnder old.jobs.items h first (standings_of marked) → IsUnder old.jobs.items h first (standings_of new.rows.items)
-  pub waits : Waits old.jobs.items new.rows.items [] (λ j. false)
-  pub backs : (k : ℕ) → (row_at new.rows.items k).was_back ≡ (row_at old.rows.items k).was_back
-  pub runs : count_by is_running (standings_of new.rows.items).statuses ≡ count_by is_running (standings_of marked).statuses
-  pub listed : (k : ℕ) (i : List ℕ) → times k (those_of i ready) ≡ (if is_new marked new.rows.items i k then 1 else 0)
+  pub good : AreCarriedBy old.jobs.items old.importers.items new.rows
+  pub under : (first : Standings) → IsUnder old.jobs.items h first (standings_of marked) → IsUnder old.jobs.items h first (standings_of new.rows)
+  pub waits : Waits old.jobs.items new.rows [] (λ j. false)
+  pub backs : (k : ℕ) → (row_at new.rows k).was_back ≡ (row_at old.rows k).was_back
+  pub runs : count_by is_running (standings_of new.rows).statuses ≡ count_by is_running (standings_of marked).statuses
+  pub listed : (k : ℕ) (i : List ℕ) → times k (those_of i ready) ≡ (if is_new marked new.rows i k then 1 else 0)
 
 -- ---- putting back
 
@@ -248,11 +300,11 @@ AreWritten n log = All (λ change. change.job < n) log
 
 -- what was written can be put back
 pub record IsUndone (old new : Rows) (before after : Moves) : Type 0 where
-  pub rows : undone after.log.items new.rows.items ≡ undone before.log.items old.rows.items
-  pub count : length new.rows.items ≡ length old.rows.items
+  pub rows : undone after.log.items new.rows ≡ undone before.log.items old.rows
+  pub count : length new.rows ≡ length old.rows
   pub jobs : new.jobs.items ≡ old.jobs.items
   pub importers : new.importers.items ≡ old.importers.items
-  pub written : AreWritten (length old.rows.items) before.log.items → AreWritten (length old.rows.items) after.log.items
+  pub written : AreWritten (length old.rows) before.log.items → AreWritten (length old.rows) after.log.items
 
 -- whether each job was ever given back
 abbrev pub KnowsBacks : List Row → List Event → Type 0

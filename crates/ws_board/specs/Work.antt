@@ -112,7 +112,8 @@ abbrev pub status_code : Coded Status
 status_code = code_by StatusTold (coded⊎ (coded_option (coded_option coded_ℕ)) (coded_option coded_bool)) status_out status_in status_same
 
 abbrev pub event_code : Coded Event
-event_code = code_by EventTold (coded⊎ (coded× coded_ℕ coded_ℕ) (coded⊎ (coded× coded_ℕ coded_ℕ) (coded⊎ (coded× coded_ℕ coded_ℕ) coded_ℕ))) event_out event_in event_same
+event_code = code_by EventTold (coded⊎ (coded× coded_ℕ coded_ℕ) (coded⊎ (coded× coded_ℕ coded_ℕ) (coded⊎ (coded× coded_ℕ coded_ℕ) coded_ℕ)))
+    event_out event_in event_same
 
 pub parsed_same : (f : Parsed) → record { name = f.name; text = f.text; edition = One } ≡ f
 parsed_same f = λ i. record { name = f.name; text = f.text; edition = only_one f.edition i }
@@ -121,25 +122,31 @@ parsed_same f = λ i. record { name = f.name; text = f.text; edition = only_one 
     only_one One = refl
 
 abbrev pub parsed_code : Coded Parsed
-parsed_code = code_by (List ℕ × List ℕ) (coded× (coded_list coded_ℕ) (coded_list coded_ℕ)) (λ f. (f.name, f.text)) (λ p. record { name = p.0; text = p.1; edition = One }) parsed_same
+parsed_code = code_by (List ℕ × List ℕ) (coded× (coded_list coded_ℕ) (coded_list coded_ℕ))
+    (λ f. (f.name, f.text)) (λ p. record { name = p.0; text = p.1; edition = One }) parsed_same
 
 abbrev pub work_code : Coded Work
-work_code = code_by (ℕ × (List ℕ × List Parsed)) (coded× coded_ℕ (coded× (coded_list coded_ℕ) (coded_list parsed_code))) (λ w. (w.edition, (w.path, w.files))) (λ p. record { edition = p.0; path = p.1.0; files = p.1.1 }) (λ _. refl)
+work_code = code_by (ℕ × (List ℕ × List Parsed)) (coded× coded_ℕ (coded× (coded_list coded_ℕ) (coded_list parsed_code)))
+    (λ w. (w.edition, (w.path, w.files))) (λ p. record { edition = p.0; path = p.1.0; files = p.1.1 }) (λ _. refl)
 
 abbrev pub job_code : Coded Job
-job_code = code_by (Option Work × List ℕ) (coded× (coded_option work_code) (coded_list coded_ℕ)) (λ j. (j.work, j.imports)) (λ p. record { work = p.0; imports = p.1 }) (λ _. refl)
+job_code = code_by (Option Work × List ℕ) (coded× (coded_option work_code) (coded_list coded_ℕ))
+    (λ j. (j.work, j.imports)) (λ p. record { work = p.0; imports = p.1 }) (λ _. refl)
 
 abbrev pub standings_code : Coded Standings
-standings_code = code_by (List Status × List (Option Action)) (coded× (coded_list status_code) (coded_list (coded_option action_code))) (λ s. (s.statuses, s.actions)) (λ p. record { statuses = p.0; actions = p.1 }) (λ _. refl)
+standings_code = code_by (List Status × List (Option Action)) (coded× (coded_list status_code) (coded_list (coded_option action_code)))
+    (λ s. (s.statuses, s.actions)) (λ p. record { statuses = p.0; actions = p.1 }) (λ _. refl)
 
 abbrev pub task_code : Coded Task
-task_code = code_by (ℕ × (Action × Bool)) (coded× coded_ℕ (coded× action_code coded_bool)) (λ t. (t.job, (t.action, t.was_back))) (λ p. record { job = p.0; action = p.1.0; was_back = p.1.1 }) (λ _. refl)
+task_code = code_by (ℕ × (Action × Bool)) (coded× coded_ℕ (coded× action_code coded_bool))
+    (λ t. (t.job, (t.action, t.was_back))) (λ p. record { job = p.0; action = p.1.0; was_back = p.1.1 }) (λ _. refl)
 
 abbrev pub entries_code : Coded Entries
 entries_code = code (coded_list coded_ℕ) action_code
 
 abbrev pub state_code : Coded State
-state_code = code_by (Standings × Entries) (coded× standings_code entries_code) (λ s. (s.standings, s.added)) (λ p. record { standings = p.0; added = p.1 }) (λ _. refl)
+state_code = code_by (Standings × Entries) (coded× standings_code entries_code)
+    (λ s. (s.standings, s.added)) (λ p. record { standings = p.0; added = p.1 }) (λ _. refl)
 
 abbrev pub SeenTold : Type 0
 SeenTold = (List Job × Entries) × (State × (List Event × ℕ))
@@ -148,4 +155,5 @@ abbrev pub seen_in : SeenTold → Seen
 seen_in p = record { opening = record { jobs = p.0.0; cache = p.0.1 }; state = p.1.0; history = p.1.1.0; looks = p.1.1.1 }
 
 abbrev pub seen_code : Coded Seen
-seen_code = code_by SeenTold (coded× (coded× (coded_list job_code) entries_code) (coded× state_code (coded× (coded_list event_code) coded_ℕ))) (λ s. ((s.opening.jobs, s.opening.cache), (s.state, (s.history, s.looks)))) seen_in (λ _. refl)
+seen_code = code_by SeenTold (coded× (coded× (coded_list job_code) entries_code) (coded× state_code (coded× (coded_list event_code) coded_ℕ)))
+    (λ s. ((s.opening.jobs, s.opening.cache), (s.state, (s.history, s.looks)))) seen_in (λ _. refl)

@@ -1,19 +1,30 @@
 //! Jobs are carried on: what their imports make of them, one after another, as these come to an end.
-ghost use Rattle.std.specs.Prelude.{◌≡◌, ◌<◌, ◌≤◌, ◌+◌, ◌*◌, ◌-◌, ◌^◌, ◌∷◌, ◌++◌, ◌||◌, ◌==◌, if◌then◌else◌, ℕ, Bool, List, [], length, map, true, false, None, Some, IfOk, OnOk, IfSome, IfNone, IsTrue, option_copied, slice_set};
+//!
+//! A job that waits knows how many of its imports, the first ones, may be open. The last of these is
+//! open, or its importers are about to be told. What is done or blocked has each of its importers
+//! advanced: where that import isn't the last that may be open, the importer waits on; else it goes
+//! back to the last that is open, or, where none is, its action is formed. So it is enough to know
+//! who imports whom, and no count of open imports has to be kept equal to a count.
+//!
+//! Each read is paid for: a row owes what it may still cost (`due`), and a job that is done or
+//! blocked what it costs to tell its importers (`telling`).
+ghost use Rattle.std.specs.Prelude.{◌≡◌, ◌<◌, ◌≤◌, ◌+◌, ◌*◌, ◌-◌, ◌^◌, ◌++◌, ◌||◌, ◌==◌, if◌then◌else◌, ℕ, Bool, List, [], length, map, true, false, None, Some, IfOk, OnOk, IfSome, IfNone, option_copied};
 ghost use Rattle.std.specs.Arc.{arc_value};
-ghost use Rattle.std.specs.List.{All, AllZip, list_any, slice_get, slice_index_or};
+ghost use Rattle.std.specs.List.{All};
 ghost use Rattle.go_export.specs.Summaries.{Summary as ASummary};
 ghost use Rattle.go_export.specs.Writable.{IsWritten};
 ghost use Rattle.ws_action.specs.Actions.{Action as AnAction};
 ghost use Rattle.ws_board.specs.declared.work.Status.TheVariants as status;
-ghost use Rattle.ws_board.specs.Machine.{is_open, is_waiting, HasSummary, MayForm, IsFormed, IsPlaced, IsGoodness};
+ghost use Rattle.ws_board.specs.Machine.{is_open, is_waiting, HasSummary, IsPlaced, IsGoodness};
 ghost use Rattle.ws_board.specs.Carrying.{held_by};
-ghost use Rattle.ws_board.specs.Ends.{imports_at, work_at};
-ghost use Rattle.ws_board.specs.Rows.{row_at, standings_of, times, is_active_of, due, owed, untold, telling, ready_of, AreKnown, Waits, AllPast, AreWithin, AreCarried, IsOpenPast, Becomes, CarriesOn, Marks, IsUndone};
+ghost use Rattle.ws_board.specs.Ends.{imports_at};
+ghost use Rattle.ws_board.specs.Rows.{times, is_active_of, due, charged_for, charged, telling_at, imports_it, import_at, ready_of, settled_with, AreKnown, Waits, AreWaiting, AllPast, AreWithin, AreCarried, IsOpenPast, HaveSummaries, MayFormAt, IsFormedAt, Becomes, CarriesOn, Marks, IsUndone};
+ghost use Rattle.ws_board.specs.Table.{row_at, standings_of};
 
 use crate::index::Ready;
 use crate::moves::Moves;
-use crate::rows::{Row, Rows};
+use crate::rows::Rows;
+use crate::table::Row;
 use crate::work::{Identified, Status, Work};
 use go_export::summary::Summary;
 use std::alloc::{AllocError, Global};
@@ -66,8 +77,8 @@ fn placed(holds: Holds<'_>, id: &[u8; 32]) -> Status
 // Where the job with that number stands; where there is none, as one that is blocked.
 fn status_of(rows: &Rows, looks: &mut u128, k: usize) -> Status
     requires counted { looks.old + 1 < 2 ^ 128 }
-    requires jobs { length rows.now.rows.items ≡ length rows.now.jobs.items }
-    ensures is { result ≡ (row_at rows.now.rows.items k).status }
+    requires jobs { length rows.now.rows ≡ length rows.now.jobs.items }
+    ensures is { result ≡ (row_at rows.now.rows k).status }
     ensures one { looks.new ≡ looks.old + 1 }
 {
     match rows.job(looks, k) {
@@ -81,10 +92,10 @@ fn status_of(rows: &Rows, looks: &mut u128, k: usize) -> Status
 fn left_of(rows: &Rows, looks: &mut u128, job: usize, left: usize) -> usize
     requires counted { looks.old + 2 * left + 2 < 2 ^ 128 }
     requires within { left ≤ length (imports_at rows.now.jobs.items job) }
-    requires jobs { length rows.now.rows.items ≡ length rows.now.jobs.items }
+    requires jobs { length rows.now.rows ≡ length rows.now.jobs.items }
     ensures fewer { result ≤ left }
-    ensures past { IsOpenPast rows.now.jobs.items rows.now.rows.items job left → IsOpenPast rows.now.jobs.items rows.now.rows.items job result }
-    ensures on { 0 < result → is_open (row_at rows.now.rows.items (slice_index_or (imports_at rows.now.jobs.items job) (result - 1) 0)).status ≡ true }
+    ensures past { IsOpenPast rows.now.jobs.items rows.now.rows job left → IsOpenPast rows.now.jobs.items rows.now.rows job result }
+    ensures on { 0 < result → is_open (row_at rows.now.rows (import_at rows.now job (result - 1))).status ≡ true }
     ensures paid { looks.new + 2 * result ≤ looks.old + 2 * left + 2 }
     ensures all { result ≡ 0 → looks.new ≤ looks.old + 2 * left }
     ensures more { looks.old ≤ looks.new }
@@ -110,10 +121,10 @@ fn summary_held<'a>(
     k: usize,
 ) -> Option<&'a Arc<Summary>>
     requires counted { looks.old + 1 < 2 ^ 128 }
-    requires jobs { length rows.now.rows.items ≡ length rows.now.jobs.items }
-    ensures some { IfSome result (λ summary. HasSummary (held_by holds.entry) (standings_of rows.now.rows.items) k (arc_value summary.now)) }
+    requires jobs { length rows.now.rows ≡ length rows.now.jobs.items }
+    ensures some { IfSome result (λ summary. HasSummary (held_by holds.entry) (standings_of rows.now.rows) k (arc_value summary.now)) }
     ensures written { IfSome result (λ summary. IsWritten (arc_value summary.now)) }
-    ensures none { IfNone result ((summary : ASummary) → ¬ (HasSummary (held_by holds.entry) (standings_of rows.now.rows.items) k summary)) }
+    ensures none { IfNone result ((summary : ASummary) → ¬ (HasSummary (held_by holds.entry) (standings_of rows.now.rows) k summary)) }
     ensures one { looks.new ≡ looks.old + 1 }
 {
     let Some(found) = rows.job(looks, k) else {
@@ -144,10 +155,10 @@ fn summaries_held(
 ) -> Result<Option<Vec<Arc<Summary>>>, AllocError>
     requires counted { looks.old + 2 * imports < 2 ^ 128 }
     requires all { imports ≡ length (imports_at rows.now.jobs.items job) }
-    requires jobs { length rows.now.rows.items ≡ length rows.now.jobs.items }
-    ensures some { let are = AllZip (HasSummary (held_by holds.entry) (standings_of rows.now.rows.items)) (imports_at rows.now.jobs.items job) in IfOk result (λ found. IfSome found (λ ss. are (map arc_value ss.items))) }
+    requires jobs { length rows.now.rows ≡ length rows.now.jobs.items }
+    ensures some { IfOk result (λ found. IfSome found (λ ss. HaveSummaries (held_by holds.entry) rows.now job (map arc_value ss.items))) }
     ensures written { IfOk result (λ found. IfSome found (λ ss. All IsWritten (map arc_value ss.items))) }
-    ensures none { let are = AllZip (HasSummary (held_by holds.entry) (standings_of rows.now.rows.items)) (imports_at rows.now.jobs.items job) in IfOk result (λ found. IfNone found ((ss : List ASummary) → ¬ (are ss))) }
+    ensures none { IfOk result (λ found. IfNone found ((ss : List ASummary) → ¬ (HaveSummaries (held_by holds.entry) rows.now job ss))) }
     ensures paid { looks.new ≤ looks.old + 2 * imports }
     ensures more { looks.old ≤ looks.new }
 {
@@ -176,9 +187,9 @@ fn formed(
 ) -> Result<Option<Identified>, AllocError>
     requires counted { looks.old + 2 * imports < 2 ^ 128 }
     requires all { imports ≡ length (imports_at rows.now.jobs.items job) }
-    requires jobs { length rows.now.rows.items ≡ length rows.now.jobs.items }
-    ensures some { IfOk result (λ made. IfSome made (λ action. IsFormed (held_by holds.entry) (standings_of rows.now.rows.items) work.now (imports_at rows.now.jobs.items job) action)) }
-    ensures none { IfOk result (λ made. IfNone made ((action : AnAction) → ¬ (MayForm (held_by holds.entry) (standings_of rows.now.rows.items) work.now (imports_at rows.now.jobs.items job) action))) }
+    requires jobs { length rows.now.rows ≡ length rows.now.jobs.items }
+    ensures some { IfOk result (λ made. IfSome made (λ action. IsFormedAt (held_by holds.entry) rows.now job work.now action)) }
+    ensures none { IfOk result (λ made. IfNone made ((action : AnAction) → ¬ (MayFormAt (held_by holds.entry) rows.now job work.now action))) }
     ensures paid { looks.new ≤ looks.old + 2 * imports }
     ensures more { looks.old ≤ looks.new }
 {
@@ -214,13 +225,13 @@ fn stands(
     job: usize,
 ) -> Result<Option<Row>, AllocError>
     requires known { AreKnown rows.now }
-    requires counted { looks.old + due (row_at rows.now.rows.items job) + 3 < 2 ^ 128 }
-    requires past { AllPast rows.now.jobs.items rows.now.rows.items }
-    requires within { AreWithin rows.now.jobs.items rows.now.rows.items }
-    ensures becomes { IfOk result (λ row. IfSome row (Becomes (held_by holds.entry) rows.now.jobs.items rows.now.rows.items job)) }
-    ensures paid { IfOk result (λ row. IfSome row (λ row. looks.new + due row + (if is_open row.status then 0 else telling row.importers) ≤ looks.old + due (row_at rows.now.rows.items job) + 3)) }
+    requires counted { looks.old + due (row_at rows.now.rows job) + 3 < 2 ^ 128 }
+    requires past { AllPast rows.now.jobs.items rows.now.rows }
+    requires within { AreWithin rows.now.jobs.items rows.now.rows }
+    ensures becomes { IfOk result (λ row. IfSome row (Becomes (held_by holds.entry) rows.now.jobs.items rows.now.rows job)) }
+    ensures paid { IfOk result (λ row. IfSome row (λ row. charged_for looks.new row ≤ looks.old + due (row_at rows.now.rows job) + 3)) }
     ensures still { IfOk result (λ row. IfNone row (looks.new ≡ looks.old + 1)) }
-    ensures none { IfOk result (λ row. IfNone row (is_waiting (row_at rows.now.rows.items job).status ≡ false)) }
+    ensures none { IfOk result (λ row. IfNone row (is_waiting (row_at rows.now.rows job).status ≡ false)) }
     ensures more { looks.old < looks.new }
 {
     let Some(found) = rows.job(looks, job) else {
@@ -249,7 +260,7 @@ fn stands(
 // The job is noted, where it is ready, and where it is done or blocked. An `Err` only where memory
 // ran out.
 fn note(moves: &mut Moves, job: usize, row: &Row) -> Result<(), AllocError>
-    ensures settled { OnOk result (moves.new.settled.items ≡ (if is_open row.now.status then moves.old.settled.items else (moves.old.settled.items ++ job ∷ []))) }
+    ensures settled { OnOk result (moves.new.settled.items ≡ settled_with moves.old.settled.items job row.now.status) }
     ensures ready { OnOk result (moves.new.ready.items ≡ (moves.old.ready.items ++ ready_of job row.now.status row.now.action)) }
     ensures log { moves.new.log.items ≡ moves.old.log.items }
 {
@@ -278,10 +289,10 @@ fn advance(
     job: usize,
 ) -> Result<(), AllocError>
     requires good { AreCarried rows.old }
-    requires room { looks.old + owed rows.old.rows.items + untold rows.old.importers.items moves.old.settled.items + 3 < 2 ^ 128 }
+    requires room { charged looks.old rows.old moves.old + 3 < 2 ^ 128 }
     ensures undone { IsUndone rows.old rows.new moves.old moves.new }
     ensures on { OnOk result (CarriesOn (held_by holds.entry) 3 rows.old rows.new moves.old moves.new looks.old looks.new) }
-    ensures waits { OnOk result ((pending : ℕ → Bool) → Waits rows.old.jobs.items rows.old.rows.items moves.old.settled.items (λ j. (j == job) || pending j) → Waits rows.new.jobs.items rows.new.rows.items moves.new.settled.items pending) }
+    ensures waits { OnOk result ((pending : ℕ → Bool) → AreWaiting rows.old moves.old (λ j. (j == job) || pending j) → AreWaiting rows.new moves.new pending) }
     ensures read { OnOk result (looks.old < looks.new) }
 {
     let Some(row) = stands(alloc, holds, rows, looks, job)? else {
@@ -302,10 +313,10 @@ fn tell(
     job: usize,
 ) -> Result<(), AllocError>
     requires good { AreCarried rows.old }
-    requires room { looks.old + owed rows.old.rows.items + untold rows.old.importers.items moves.old.settled.items + telling (length (slice_index_or rows.old.importers.items job [])) < 2 ^ 128 }
+    requires room { charged looks.old rows.old moves.old + telling_at rows.old job < 2 ^ 128 }
     ensures undone { IsUndone rows.old rows.new moves.old moves.new }
-    ensures on { OnOk result (CarriesOn (held_by holds.entry) (telling (length (slice_index_or rows.old.importers.items job []))) rows.old rows.new moves.old moves.new looks.old looks.new) }
-    ensures waits { OnOk result (Waits rows.old.jobs.items rows.old.rows.items moves.old.settled.items (λ j. list_any (λ k. k == j) (slice_index_or rows.old.importers.items job [])) → Waits rows.new.jobs.items rows.new.rows.items moves.new.settled.items (λ j. false)) }
+    ensures on { OnOk result (CarriesOn (held_by holds.entry) (telling_at rows.old job) rows.old rows.new moves.old moves.new looks.old looks.new) }
+    ensures waits { OnOk result (AreWaiting rows.old moves.old (imports_it rows.old job) → AreWaiting rows.new moves.new (λ j. false)) }
 {
     let mut number = 0;
     'importers: while let Some(importer) = rows.importer(looks, job, number) {
@@ -325,11 +336,11 @@ pub(super) fn carry(
     moves: &mut Moves,
 ) -> Result<(), AllocError>
     requires good { AreCarried rows.old }
-    requires room { looks.old + owed rows.old.rows.items + untold rows.old.importers.items moves.old.settled.items + 0 < 2 ^ 128 }
-    requires waits { Waits rows.old.jobs.items rows.old.rows.items moves.old.settled.items (λ j. false) }
+    requires room { charged looks.old rows.old moves.old + 0 < 2 ^ 128 }
+    requires waits { AreWaiting rows.old moves.old (λ j. false) }
     ensures undone { IsUndone rows.old rows.new moves.old moves.new }
     ensures on { OnOk result (CarriesOn (held_by holds.entry) 0 rows.old rows.new moves.old moves.new looks.old looks.new) }
-    ensures waits { OnOk result (Waits rows.new.jobs.items rows.new.rows.items [] (λ j. false)) }
+    ensures waits { OnOk result (Waits rows.new.jobs.items rows.new.rows [] (λ j. false)) }
     ensures settled { OnOk result (moves.new.settled.items ≡ []) }
 {
     'settled: while let Some(job) = moves.settled.pop() {
@@ -347,10 +358,10 @@ fn advance_all(
     moves: &mut Moves,
 ) -> Result<(), AllocError>
     requires good { AreCarried rows.old }
-    requires room { looks.old + owed rows.old.rows.items + untold rows.old.importers.items moves.old.settled.items + (3 * length rows.old.rows.items) < 2 ^ 128 }
-    ensures on { OnOk result (CarriesOn (held_by holds.entry) (3 * length rows.old.rows.items) rows.old rows.new moves.old moves.new looks.old looks.new) }
-    ensures waits { OnOk result (Waits rows.new.jobs.items rows.new.rows.items moves.new.settled.items (λ j. false)) }
-    ensures read { OnOk result (looks.old + length rows.old.rows.items ≤ looks.new) }
+    requires room { charged looks.old rows.old moves.old + (3 * length rows.old.rows) < 2 ^ 128 }
+    ensures on { OnOk result (CarriesOn (held_by holds.entry) (3 * length rows.old.rows) rows.old rows.new moves.old moves.new looks.old looks.new) }
+    ensures waits { OnOk result (AreWaiting rows.new moves.new (λ j. false)) }
+    ensures read { OnOk result (looks.old + length rows.old.rows ≤ looks.new) }
 {
     for job in 0..rows.len() {
         advance(alloc, holds, rows, looks, moves, job)?;
@@ -367,11 +378,11 @@ pub(super) fn carry_all(
     moves: &mut Moves,
 ) -> Result<(), AllocError>
     requires good { AreCarried rows.old }
-    requires room { looks.old + owed rows.old.rows.items + untold rows.old.importers.items moves.old.settled.items + (3 * length rows.old.rows.items) < 2 ^ 128 }
-    ensures on { OnOk result (CarriesOn (held_by holds.entry) (3 * length rows.old.rows.items) rows.old rows.new moves.old moves.new looks.old looks.new) }
-    ensures waits { OnOk result (Waits rows.new.jobs.items rows.new.rows.items [] (λ j. false)) }
+    requires room { charged looks.old rows.old moves.old + (3 * length rows.old.rows) < 2 ^ 128 }
+    ensures on { OnOk result (CarriesOn (held_by holds.entry) (3 * length rows.old.rows) rows.old rows.new moves.old moves.new looks.old looks.new) }
+    ensures waits { OnOk result (Waits rows.new.jobs.items rows.new.rows [] (λ j. false)) }
     ensures settled { OnOk result (moves.new.settled.items ≡ []) }
-    ensures read { OnOk result (looks.old + length rows.old.rows.items ≤ looks.new) }
+    ensures read { OnOk result (looks.old + length rows.old.rows ≤ looks.new) }
 {
     advance_all(alloc, holds, rows, looks, moves)?;
     carry(alloc, holds, rows, looks, moves)?;
@@ -386,9 +397,9 @@ fn done_row(
     good: bool,
 ) -> Result<Option<Row>, AllocError>
     requires counted { looks.old + 1 < 2 ^ 128 }
-    requires jobs { length rows.now.rows.items ≡ length rows.now.jobs.items }
-    ensures row { IfOk result (λ row. IfSome row (λ row. row ≡ record (row_at rows.now.rows.items job) { status = status.Done good })) }
-    ensures none { IfOk result (λ row. IfNone row (length rows.now.rows.items ≤ job)) }
+    requires jobs { length rows.now.rows ≡ length rows.now.jobs.items }
+    ensures row { IfOk result (λ row. IfSome row (λ row. row ≡ record (row_at rows.now.rows job) { status = status.Done good })) }
+    ensures none { IfOk result (λ row. IfNone row (length rows.now.rows ≤ job)) }
     ensures one { looks.new ≡ looks.old + 1 }
 {
     let Some(found) = rows.job(looks, job) else {
@@ -412,13 +423,13 @@ pub(super) fn mark(
     good: bool,
 ) -> Result<(), AllocError>
     requires known { AreKnown rows.old }
-    requires jobs { (k : ℕ) → times k jobs.now ≡ (if is_active_of rows.old.rows.items id.now k then 1 else 0) }
-    requires room { looks.old + owed rows.old.rows.items + untold rows.old.importers.items moves.old.settled.items < 2 ^ 128 }
+    requires jobs { (k : ℕ) → times k jobs.now ≡ (if is_active_of rows.old.rows id.now k then 1 else 0) }
+    requires room { charged looks.old rows.old moves.old < 2 ^ 128 }
     ensures undone { IsUndone rows.old rows.new moves.old moves.new }
-    ensures marks { OnOk result (Marks id.now good rows.old.rows.items rows.new.rows.items moves.new.settled.items) }
+    ensures marks { OnOk result (Marks id.now good rows.old.rows rows.new.rows moves.new.settled.items) }
     ensures parts { OnOk result ((rows.new.jobs.items ≡ rows.old.jobs.items) × (rows.new.importers.items ≡ rows.old.importers.items)) }
     ensures ready { OnOk result (moves.new.ready.items ≡ moves.old.ready.items) }
-    ensures paid { OnOk result (looks.new + owed rows.new.rows.items + untold rows.new.importers.items moves.new.settled.items ≤ looks.old + owed rows.old.rows.items + untold rows.old.importers.items moves.old.settled.items) }
+    ensures paid { OnOk result (charged looks.new rows.new moves.new ≤ charged looks.old rows.old moves.old) }
     ensures more { OnOk result (looks.old ≤ looks.new) }
 {
     for job in jobs {

@@ -9,10 +9,11 @@ ghost use Rattle.ws_cache.specs.Joined.{lesser};
 ghost use Rattle.ws_board.specs.Machine.{is_finish, is_idle, status_at, action_at, IsHistory};
 ghost use Rattle.ws_board.specs.Calls.{result_at};
 ghost use Rattle.ws_board.specs.Histories.{AreSettled, IsTakenOnce};
-ghost use Rattle.ws_board.specs.Rows.{standings_of, seen_of};
+ghost use Rattle.ws_board.specs.Rows.{seen_of};
+ghost use Rattle.ws_board.specs.Table.{standings_of};
 
 use crate::carrying::{Holds, held};
-use crate::rows::Row;
+use crate::table::Row;
 use crate::work::{Event, Identified, Job, Status};
 use std::alloc::AllocError;
 use std::marker::Model;
@@ -130,7 +131,7 @@ impl Model for Built {
     ghost use Rattle.std.specs.List.{list_any};
     ghost use Rattle.ws_board.specs.Work as work;
     ghost use Rattle.ws_board.specs.Machine as machine;
-    ghost use Rattle.ws_board.specs.Rows.{seen_of};
+    ghost use Rattle.ws_board.specs.Rows.{seen_of, IsLegal};
 
     ghost Value = { work.Seen };
 
@@ -138,7 +139,7 @@ impl Model for Built {
 
     ghost view = { λ a. seen_of a.parts };
 
-    ghost invariant = { λ a. machine.IsHistory (seen_of a.parts).opening (seen_of a.parts).history (seen_of a.parts).state × (list_any machine.is_idle (seen_of a.parts).history ≡ true) };
+    ghost invariant = { λ a. IsLegal (seen_of a.parts) × (list_any machine.is_idle (seen_of a.parts).history ≡ true) };
 }
 
 impl Built {

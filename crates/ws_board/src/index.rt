@@ -1,11 +1,15 @@
 //! Which jobs may be given, and which have an id: no row is read for it.
-ghost use Rattle.std.specs.Prelude.{◌≡◌, ◌≢◌, ◌≤◌, ◌<◌, ◌↔◌, ◌+◌, ◌^◌, ◌==◌, if◌then◌else◌, ℕ, Bool, ◌++◌, ◌∷◌, OnErr, List, [], length, true, false, Some, None, OnOk, IfOk, IfSome, IfNone, IsTrue, option_copied, replicate};
+//!
+//! That a job stands once with its id is said by how often its number stands there (`times`), so
+//! that nothing has to be said of lists without repetition.
+ghost use Rattle.std.specs.Prelude.{◌≡◌, ◌≢◌, ◌<◌, ◌↔◌, ◌+◌, ◌^◌, ◌==◌, if◌then◌else◌, ℕ, ◌++◌, ◌∷◌, OnErr, List, [], length, true, false, Some, None, OnOk, IfOk, IfSome, IfNone, IsTrue, option_copied, replicate};
 ghost use Rattle.std.specs.List.{All, list_any, slice_index_or};
 ghost use Rattle.std.specs.Str.{bytes_eq};
 ghost use Rattle.ws_action.specs.Actions.{action_id};
 ghost use Rattle.ws_board.specs.Rows.{times, those_of};
-ghost use Rattle.ws_board.specs.Indexes.{id_in, jobs_of, run_of, jobs_in, run_in, is_free_in, is_released, Changes, IsSameBut};
+ghost use Rattle.ws_board.specs.Indexes.{id_in, run_with, jobs_by, run_by, jobs_in, run_in, is_free_in, is_released, Changes, SetsRun, JoinsIn, MarksFree, IsSameBut};
 
+use crate::flags::Flags;
 use crate::work::{Hand, Identified, Task};
 use std::alloc::{AllocError, Global};
 use std::collections::BTreeMap;
@@ -32,36 +36,24 @@ pub(super) struct Ready {
     pub(super) id: [u8; 32],
 }
 
-/// Jobs by their ids, and which jobs may be given: those that are ready, and whose id no hand
-/// runs. None below a place may be given.
+/// Jobs by their ids, which jobs may be given: those that are ready, and whose id no hand runs; and
+/// how many jobs run.
 #[derive(Drop)]
 pub(super) struct Index {
     ids: BTreeMap<[u8; 32], Id>,
-    free: Vec<bool>,
-    from: usize,
+    free: Flags,
     running: usize,
 }
 
 // Whether these may be given.
-fn mark_free(free: &mut Vec<bool>, jobs: &[usize], may: bool)
-    requires { All (λ job. job < length free.old.items) jobs.now }
-    ensures len { length free.new.items ≡ length free.old.items }
-    ensures each { (k : ℕ) → slice_index_or free.new.items k false ≡ (if list_any (λ j. j == k) jobs.now then may else slice_index_or free.old.items k false) }
+fn mark_free(free: &mut Flags, jobs: &[usize], may: bool)
+    requires { All (λ job. job < length free.old) jobs.now }
+    ensures len { length free.new ≡ length free.old }
+    ensures each { (k : ℕ) → slice_index_or free.new k false ≡ (if list_any (λ j. j == k) jobs.now then may else slice_index_or free.old k false) }
 {
     for job in jobs {
-        free[*job] = may;
+        free.set(*job, may);
     }
-}
-
-fn least(jobs: &[usize], from: usize) -> usize
-    ensures below { result ≤ from }
-    ensures each { All (λ job. result ≤ job) jobs.now }
-{
-    let mut least = from;
-    for job in jobs {
-        least = least.min(*job);
-    }
-    least
 }
 
 fn of_id<'a>(ids: &'a BTreeMap<[u8; 32], Id>, id: &[u8; 32]) -> Option<&'a Id>
@@ -71,7 +63,7 @@ fn of_id<'a>(ids: &'a BTreeMap<[u8; 32], Id>, id: &[u8; 32]) -> Option<&'a Id>
 }
 
 fn jobs_of<'a>(ids: &'a BTreeMap<[u8; 32], Id>, id: &[u8; 32]) -> &'a [usize]
-    ensures { result.now ≡ jobs_of (id_in ids.now.entries id.now) }
+    ensures { result.now ≡ jobs_by ids.now.entries id.now }
 {
     match of_id(ids, id) {
         Some(its) => its.jobs.as_slice(),
@@ -81,8 +73,8 @@ fn jobs_of<'a>(ids: &'a BTreeMap<[u8; 32], Id>, id: &[u8; 32]) -> &'a [usize]
 
 fn set_run(ids: &mut BTreeMap<[u8; 32], Id>, id: &[u8; 32], run: Option<Run>)
     requires { id_in ids.old.entries id.now ≢ None }
-    ensures jobs { (other : List ℕ) → jobs_of (id_in ids.new.entries other) ≡ jobs_of (id_in ids.old.entries other) }
-    ensures runs { (other : List ℕ) → run_of (id_in ids.new.entries other) ≡ (if bytes_eq id.now other then run else run_of (id_in ids.old.entries other)) }
+    ensures jobs { (other : List ℕ) → jobs_by ids.new.entries other ≡ jobs_by ids.old.entries other }
+    ensures runs { (other : List ℕ) → run_by ids.new.entries other ≡ (if bytes_eq id.now other then run else run_by ids.old.entries other) }
 {
     if let Some(its) = ids.get_mut(id) {
         its.run = run;
@@ -92,9 +84,9 @@ fn set_run(ids: &mut BTreeMap<[u8; 32], Id>, id: &[u8; 32], run: Option<Run>)
 // The job joins those of the id, which is kept. An `Err`, for want of memory, changes nothing.
 fn join(ids: &mut BTreeMap<[u8; 32], Id>, id: &[u8; 32], job: usize) -> Result<(), AllocError>
     requires { id_in ids.old.entries id.now ≢ None }
-    ensures ok { OnOk result ((other : List ℕ) → jobs_of (id_in ids.new.entries other) ≡ (if bytes_eq id.now other then (jobs_of (id_in ids.old.entries id.now) ++ job ∷ []) else jobs_of (id_in ids.old.entries other))) }
-    ensures err { OnErr result ((other : List ℕ) → jobs_of (id_in ids.new.entries other) ≡ jobs_of (id_in ids.old.entries other)) }
-    ensures runs { (other : List ℕ) → run_of (id_in ids.new.entries other) ≡ run_of (id_in ids.old.entries other) }
+    ensures ok { OnOk result (JoinsIn (jobs_by ids.old.entries) (jobs_by ids.new.entries) id.now job) }
+    ensures err { OnErr result ((other : List ℕ) → jobs_by ids.new.entries other ≡ jobs_by ids.old.entries other) }
+    ensures runs { (other : List ℕ) → run_by ids.new.entries other ≡ run_by ids.old.entries other }
 {
     if let Some(its) = ids.get_mut(id) {
         its.jobs.push(job)?;
@@ -104,9 +96,9 @@ fn join(ids: &mut BTreeMap<[u8; 32], Id>, id: &[u8; 32], job: usize) -> Result<(
 
 // The last job that joined those of the id is none of them any more.
 fn leave(ids: &mut BTreeMap<[u8; 32], Id>, id: &[u8; 32], job: usize)
-    requires { (before : List ℕ) × (jobs_of (id_in ids.old.entries id.now) ≡ before ++ job ∷ []) }
-    ensures jobs { (other : List ℕ) → jobs_of (id_in ids.old.entries other) ≡ (if bytes_eq id.now other then (jobs_of (id_in ids.new.entries id.now) ++ job ∷ []) else jobs_of (id_in ids.new.entries other)) }
-    ensures runs { (other : List ℕ) → run_of (id_in ids.new.entries other) ≡ run_of (id_in ids.old.entries other) }
+    requires { (before : List ℕ) × (jobs_by ids.old.entries id.now ≡ before ++ job ∷ []) }
+    ensures jobs { JoinsIn (jobs_by ids.new.entries) (jobs_by ids.old.entries) id.now job }
+    ensures runs { (other : List ℕ) → run_by ids.new.entries other ≡ run_by ids.old.entries other }
 {
     if let Some(its) = ids.get_mut(id) {
         its.jobs.pop();
@@ -121,9 +113,9 @@ fn begin(
     job: usize,
 ) -> Result<(), AllocError>
     requires { id_in ids.old.entries id ≡ None }
-    ensures ok { OnOk result ((other : List ℕ) → jobs_of (id_in ids.new.entries other) ≡ (if bytes_eq id other then job ∷ [] else jobs_of (id_in ids.old.entries other))) }
-    ensures err { OnErr result ((other : List ℕ) → jobs_of (id_in ids.new.entries other) ≡ jobs_of (id_in ids.old.entries other)) }
-    ensures runs { (other : List ℕ) → run_of (id_in ids.new.entries other) ≡ run_of (id_in ids.old.entries other) }
+    ensures ok { OnOk result ((other : List ℕ) → jobs_by ids.new.entries other ≡ (if bytes_eq id other then job ∷ [] else jobs_by ids.old.entries other)) }
+    ensures err { OnErr result ((other : List ℕ) → jobs_by ids.new.entries other ≡ jobs_by ids.old.entries other) }
+    ensures runs { (other : List ℕ) → run_by ids.new.entries other ≡ run_by ids.old.entries other }
 {
     let mut jobs = Vec::new(alloc);
     jobs.push(job)?;
@@ -141,13 +133,12 @@ impl Index {
     /// Of so many jobs none is ready or runs.
     pub(super) fn new(alloc: Global, jobs: usize) -> Result<Index, AllocError>
         ensures ids { IfOk result (λ index. (id : List ℕ) → (jobs_in index id ≡ []) × (run_in index id ≡ None)) }
-        ensures free { IfOk result (λ index. index.free.items ≡ replicate jobs false) }
-        ensures counts { IfOk result (λ index. (index.from ≡ 0) × (index.running ≡ 0)) }
+        ensures free { IfOk result (λ index. index.free ≡ replicate jobs false) }
+        ensures running { IfOk result (λ index. index.running ≡ 0) }
     {
         Ok(Index {
             ids: BTreeMap::new(alloc),
-            free: vec![in alloc; false; jobs]?,
-            from: 0,
+            free: Flags::new(alloc, jobs)?,
             running: 0,
         })
     }
@@ -155,15 +146,10 @@ impl Index {
     /// The first job that may be given.
     pub(super) fn first_free(&self) -> Option<usize>
         ensures some { IfSome result (λ job. is_free_in self.now job ≡ true) }
-        ensures least { IfSome result (λ job. (k : ℕ) → k < job → self.now.from ≤ k → is_free_in self.now k ≡ false) }
-        ensures none { IfNone result ((k : ℕ) → self.now.from ≤ k → is_free_in self.now k ≡ false) }
+        ensures least { IfSome result (λ job. (k : ℕ) → k < job → is_free_in self.now k ≡ false) }
+        ensures none { IfNone result ((k : ℕ) → is_free_in self.now k ≡ false) }
     {
-        for job in self.from..self.free.len() {
-            if self.free[job] {
-                return Some(job);
-            }
-        }
-        None
+        self.free.first()
     }
 
     /// Whether any job runs.
@@ -182,7 +168,7 @@ impl Index {
 
     /// Whether the hand runs the task.
     pub(super) fn runs(&self, hand: &Hand, task: &Task) -> bool
-        ensures { IsTrue result ↔ (run_in self.now (action_id task.now.action) ≡ Some (record { hand = hand.now; job = task.now.job; action = task.now.action })) }
+        ensures { IsTrue result ↔ (run_in self.now (action_id task.now.action) ≡ Some (run_with hand.now task.now.job task.now.action)) }
     {
         let Some(its) = of_id(&self.ids, &task.id()) else {
             return false;
@@ -198,35 +184,30 @@ impl Index {
     /// The hand runs the job, which is among those of its id.
     pub(super) fn run(&mut self, hand: u64, job: usize, action: Identified)
         requires kept { id_in self.old.ids.entries (action_id action) ≢ None }
-        requires inside { All (λ j. j < length self.old.free.items) (jobs_in self.old (action_id action)) }
+        requires inside { All (λ j. j < length self.old.free) (jobs_in self.old (action_id action)) }
         requires room { self.old.running + 1 < 2 ^ 64 }
-        ensures changes { Changes self.old self.new (action_id action) (jobs_in self.old (action_id action)) (Some (record { hand = hand; job = job; action = action })) }
-        ensures free { (k : ℕ) → is_free_in self.new k ≡ (if list_any (λ j. j == k) (jobs_in self.old (action_id action)) then false else is_free_in self.old k) }
-        ensures len { length self.new.free.items ≡ length self.old.free.items }
-        ensures from { self.new.from ≡ job }
+        ensures changes { SetsRun self.old self.new (action_id action) (Some (run_with hand job action)) }
+        ensures free { MarksFree self.old self.new (action_id action) false }
+        ensures len { length self.new.free ≡ length self.old.free }
         ensures running { self.new.running ≡ self.old.running + 1 }
     {
         let id = action.id();
         mark_free(&mut self.free, jobs_of(&self.ids, &id), false);
         set_run(&mut self.ids, &id, Some(Run { hand, job, action }));
-        self.from = job;
         self.running += 1;
     }
 
     /// No hand runs the id any more.
     pub(super) fn stop(&mut self, id: &[u8; 32])
         requires kept { id_in self.old.ids.entries id.now ≢ None }
-        requires inside { All (λ j. j < length self.old.free.items) (jobs_in self.old id.now) }
+        requires inside { All (λ j. j < length self.old.free) (jobs_in self.old id.now) }
         requires some { 0 < self.old.running }
-        ensures changes { Changes self.old self.new id.now (jobs_in self.old id.now) None }
-        ensures free { (k : ℕ) → is_free_in self.new k ≡ (if list_any (λ j. j == k) (jobs_in self.old id.now) then true else is_free_in self.old k) }
-        ensures len { length self.new.free.items ≡ length self.old.free.items }
-        ensures from { (self.new.from ≤ self.old.from) × All (λ j. self.new.from ≤ j) (jobs_in self.old id.now) }
+        ensures changes { SetsRun self.old self.new id.now None }
+        ensures free { MarksFree self.old self.new id.now true }
+        ensures len { length self.new.free ≡ length self.old.free }
         ensures running { self.new.running + 1 ≡ self.old.running }
     {
-        let jobs = jobs_of(&self.ids, id);
-        mark_free(&mut self.free, jobs, true);
-        self.from = least(jobs, self.from);
+        mark_free(&mut self.free, jobs_of(&self.ids, id), true);
         set_run(&mut self.ids, id, None);
         self.running -= 1;
     }
@@ -235,8 +216,7 @@ impl Index {
     pub(super) fn end(&mut self, id: &[u8; 32])
         requires some { 0 < self.old.running }
         ensures changes { Changes self.old self.new id.now [] None }
-        ensures free { self.new.free.items ≡ self.old.free.items }
-        ensures from { self.new.from ≡ self.old.from }
+        ensures free { self.new.free ≡ self.old.free }
         ensures running { self.new.running + 1 ≡ self.old.running }
     {
         forget(&mut self.ids, id);
@@ -245,7 +225,7 @@ impl Index {
 
     // A job that became ready joins those of its id. An `Err`, for want of memory, changes nothing.
     fn admit_one(&mut self, alloc: Global, one: Ready) -> Result<(), AllocError>
-        ensures ok { OnOk result ((id : List ℕ) → jobs_in self.new id ≡ (if bytes_eq one.id id then (jobs_in self.old one.id ++ one.job ∷ []) else jobs_in self.old id)) }
+        ensures ok { OnOk result (JoinsIn (jobs_in self.old) (jobs_in self.new) one.id one.job) }
         ensures err { OnErr result ((id : List ℕ) → jobs_in self.new id ≡ jobs_in self.old id) }
         ensures same { IsSameBut self.old self.new }
     {
@@ -286,11 +266,10 @@ impl Index {
     }
 
     fn release_one(&mut self, one: Ready)
-        requires { one.job < length self.old.free.items }
+        requires { one.job < length self.old.free }
         ensures ids { self.new.ids ≡ self.old.ids }
         ensures free { (k : ℕ) → is_free_in self.new k ≡ (if is_released self.old (one ∷ []) k then true else is_free_in self.old k) }
-        ensures len { length self.new.free.items ≡ length self.old.free.items }
-        ensures from { (self.new.from ≤ self.old.from) × (is_released self.old (one ∷ []) one.job ≡ true → self.new.from ≤ one.job) }
+        ensures len { length self.new.free ≡ length self.old.free }
         ensures running { self.new.running ≡ self.old.running }
     {
         let runs = match of_id(&self.ids, &one.id) {
@@ -298,18 +277,16 @@ impl Index {
             None => false,
         };
         if !runs {
-            self.free[one.job] = true;
-            self.from = self.from.min(one.job);
+            self.free.set(one.job, true);
         }
     }
 
     /// These, which joined, may be given where no hand runs their ids.
     pub(super) fn release(&mut self, ready: &[Ready])
-        requires { All (λ one. one.job < length self.old.free.items) ready.now }
+        requires { All (λ one. one.job < length self.old.free) ready.now }
         ensures ids { self.new.ids ≡ self.old.ids }
         ensures free { (k : ℕ) → is_free_in self.new k ≡ (if is_released self.old ready.now k then true else is_free_in self.old k) }
-        ensures len { length self.new.free.items ≡ length self.old.free.items }
-        ensures from { (self.new.from ≤ self.old.from) × ((k : ℕ) → is_released self.old ready.now k ≡ true → self.new.from ≤ k) }
+        ensures len { length self.new.free ≡ length self.old.free }
         ensures running { self.new.running ≡ self.old.running }
     {
         for one in ready {

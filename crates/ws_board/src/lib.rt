@@ -1,7 +1,7 @@
 //! The board: which jobs of a build wait, which are to be compiled, by whom they are run, and what happened.
 #![tactic(auto)]
 
-ghost use Rattle.std.specs.Prelude.{◌≡◌, ◌<◌, ◌+◌, ◌≤◌, ℕ, List, [], length, true, Some, None, IfOk, IfErr, IfSome, IfNone, IsTrue, OnOk, OnErr, ◌↔◌, map};
+ghost use Rattle.std.specs.Prelude.{◌≡◌, ◌<◌, ◌+◌, ◌≤◌, ℕ, List, [], true, Some, None, IfOk, IfErr, IsTrue, OnOk, OnErr, ◌↔◌};
 ghost use Rattle.std.specs.Bool.{OnTrue, OnFalse};
 ghost use Rattle.std.specs.List.{list_any, count_by};
 ghost use Rattle.ws_map.specs.Kept.{taken};
@@ -10,12 +10,11 @@ ghost use Rattle.ws_cache.specs.Held.{CacheStandsFor};
 ghost use Rattle.ws_cache.specs.Joined.{lesser};
 ghost use Rattle.ws_board.specs.Work.{Job as AJob};
 ghost use Rattle.ws_board.specs.declared.work.Event.TheVariants as event;
-ghost use Rattle.ws_board.specs.Machine.{is_open, is_idle, IsRunBy, IsFree, IsHistory};
-ghost use Rattle.ws_board.specs.Carrying.{IsFinished};
+ghost use Rattle.ws_board.specs.Machine.{is_open, is_idle, IsRunBy, IsHistory};
 ghost use Rattle.ws_board.specs.Calls.{IsFresh, Happens, TakeStep, IsLeast};
 ghost use Rattle.ws_board.specs.Ends.{AreFinished, AddsOwn, ComesToEnds, ShowsEnds, IsRanked, AreEnds, End};
 ghost use Rattle.ws_board.specs.Histories.{RunsAlone};
-ghost use Rattle.ws_board.specs.Rows.{standings_of, seen_of, IsWithin, AreWritten, undone};
+ghost use Rattle.ws_board.specs.Rows.{seen_of, IsWithin};
 
 use carrying::{Holds, carry_all, is_good};
 use ending::Parts;
@@ -31,10 +30,12 @@ pub use ws_cache::{Cache, Entry};
 
 mod carrying;
 mod ending;
+mod flags;
 mod index;
 mod moves;
 mod rows;
 mod steps;
+mod table;
 mod work;
 
 /// The jobs of a build, where they stand, the cache that they were opened over, the entries that
@@ -56,20 +57,21 @@ impl Model for Board {
     ghost use Rattle.std.specs.List.{count_by};
     ghost use Rattle.ws_board.specs.Work as work;
     ghost use Rattle.ws_board.specs.Machine as machine;
-    ghost use Rattle.ws_board.specs.Rows.{standings_of, import_count, is_back, AreCarried, Waits, KnowsBacks, IsPaid};
+    ghost use Rattle.ws_board.specs.Rows.{seen_by, import_count, is_back, AreCarried, Waits, KnowsBacks, IsPaid, IsLegal};
+    ghost use Rattle.ws_board.specs.Table.{standings_of};
     ghost use Rattle.ws_board.specs.Indexes.{Agrees};
 
     ghost Value = { work.Seen };
 
     ghost coded = { work.seen_code };
 
-    ghost view = { λ a. record { opening = record { jobs = a.rows.jobs.items; cache = a.opened }; state = record { standings = standings_of a.rows.rows.items; added = a.added }; history = a.history.items; looks = a.looks } };
+    ghost view = { λ a. seen_by a.rows.jobs.items a.rows.rows a.opened a.added a.history.items a.looks };
 
-    ghost invariant = { λ a. machine.IsHistory (record { jobs = a.rows.jobs.items; cache = a.opened }) a.history.items (record { standings = standings_of a.rows.rows.items; added = a.added })
-        × AreCarried a.rows × Waits a.rows.jobs.items a.rows.rows.items [] (λ _. false)
-        × Agrees a.rows.rows.items a.index × KnowsBacks a.rows.rows.items a.history.items
-        × IsPaid a.looks a.rows.rows.items (import_count a.rows.jobs.items) (count_by is_back a.history.items)
-        × (vec_len a.history + count_by machine.is_running (standings_of a.rows.rows.items).statuses ≤ vec_capacity a.history) };
+    ghost invariant = { λ a. IsLegal (seen_by a.rows.jobs.items a.rows.rows a.opened a.added a.history.items a.looks)
+        × AreCarried a.rows × Waits a.rows.jobs.items a.rows.rows [] (λ _. false)
+        × Agrees a.rows.rows a.index × KnowsBacks a.rows.rows a.history.items
+        × IsPaid a.looks a.rows.rows (import_count a.rows.jobs.items) (count_by is_back a.history.items)
+        × (vec_len a.history + count_by machine.is_running (standings_of a.rows.rows).statuses ≤ vec_capacity a.history) };
 }
 
 impl Board {
@@ -234,7 +236,7 @@ impl Board {
     pub fn left(&self) -> usize
         ensures { result ≡ count_by is_open self.now.state.standings.statuses }
     {
-        self.rows.count_open()
+        self.rows.open()
     }
 
     /// Whether a hand was told that nothing is left to do.

@@ -3,7 +3,8 @@ ghost use Rattle.std.specs.Prelude.{◌≡◌, ◌<◌, [], length, OnOk, slice_
 ghost use Rattle.ws_board.specs.Rows.{undone, AreWritten, IsUndone};
 
 use crate::index::Ready;
-use crate::rows::{Row, Rows};
+use crate::rows::Rows;
+use crate::table::Row;
 use std::alloc::{AllocError, Global};
 
 /// A job's row as it was.
@@ -42,8 +43,8 @@ impl Moves {
 
     /// Puts all rows back that were written.
     pub(super) fn undo(self, rows: &mut Rows)
-        requires { AreWritten (length rows.old.rows.items) self.log.items }
-        ensures rows { rows.new.rows.items ≡ undone self.log.items rows.old.rows.items }
+        requires { AreWritten (length rows.old.rows) self.log.items }
+        ensures rows { rows.new.rows ≡ undone self.log.items rows.old.rows }
         ensures jobs { rows.new.jobs.items ≡ rows.old.jobs.items }
         ensures importers { rows.new.importers.items ≡ rows.old.importers.items }
     {
@@ -56,8 +57,8 @@ impl Moves {
 
     /// Writes a job's row, and keeps what stood there. An `Err`, for want of memory, changes nothing.
     pub(super) fn write(&mut self, rows: &mut Rows, job: usize, row: Row) -> Result<(), AllocError>
-        requires { job < length rows.old.rows.items }
-        ensures rows { OnOk result (rows.new.rows.items ≡ slice_set rows.old.rows.items job row) }
+        requires { job < length rows.old.rows }
+        ensures rows { OnOk result (rows.new.rows ≡ slice_set rows.old.rows job row) }
         ensures undone { IsUndone rows.old rows.new self.old self.new }
         ensures settled { self.new.settled.items ≡ self.old.settled.items }
         ensures ready { self.new.ready.items ≡ self.old.ready.items }

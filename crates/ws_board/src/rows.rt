@@ -1,30 +1,15 @@
 //! Rows of a board's jobs and of their imports, whose reads are counted until the board is built.
-ghost use Rattle.std.specs.Prelude.{◌≡◌, true, false, option_copied, ◌+◌, ◌≤◌, ◌<◌, ◌^◌, ℕ, None, [], length, replicate, IfOk, IfSome, IfNone, OnOk, slice_set, ◌++◌, ◌∷◌};
+ghost use Rattle.std.specs.Prelude.{◌≡◌, false, option_copied, ◌+◌, ◌≤◌, ◌<◌, ◌^◌, ℕ, None, [], length, replicate, IfOk, IfSome, IfNone, OnOk, slice_set, ◌++◌, ◌∷◌};
 ghost use Rattle.std.specs.List.{sum_by, count_by, slice_get, slice_index_or};
-ghost use Rattle.ws_board.specs.declared.work.Status.TheVariants as status;
 ghost use Rattle.ws_board.specs.Machine.{is_open};
 ghost use Rattle.ws_board.specs.Ends.{imports_at, work_at};
-ghost use Rattle.ws_board.specs.Rows.{row_at, standings_of, AreKnown, AreFirst, Adds, AreImporters, import_count};
+ghost use Rattle.ws_board.specs.Rows.{waiting_row, AreKnown, AreFirst, Adds, AreImporters, import_count};
+ghost use Rattle.ws_board.specs.Table.{row_at, standings_of, given_to, given_back};
 
-use crate::work::{Identified, Job, Status, Work};
+use crate::table::{Row, Table};
+use crate::work::{Job, Status, Work};
 use std::alloc::{AllocError, Global};
 use std::marker::Model;
-use std::mem;
-
-/// Where a job stands.
-#[derive(Drop)]
-pub(super) struct Row {
-    pub(super) status: Status,
-    /// Its action, once it is formed.
-    pub(super) action: Option<Identified>,
-    /// How many of its imports, the first ones, may be open: those behind them are done or blocked.
-    pub(super) left: usize,
-    /// Whether it was ever given back.
-    pub(super) was_back: bool,
-    /// How many imports it has, and how many imports name it.
-    pub(super) imports: usize,
-    pub(super) importers: usize,
-}
 
 /// Numbers of jobs.
 #[derive(Drop)]
@@ -72,7 +57,7 @@ impl Numbers {
 pub(super) struct Rows {
     jobs: Vec<Job>,
     importers: Vec<Numbers>,
-    rows: Vec<Row>,
+    rows: Table,
 }
 
 /// What stands in the row of a job.
@@ -160,7 +145,7 @@ fn count_imports(jobs: &[Job]) -> Result<usize, AllocError>
 }
 
 fn waiting_row(imports: usize, importers: usize) -> Row
-    ensures { result ≡ record { status = status.Waiting; action = None; left = imports; was_back = false; imports = imports; importers = importers } }
+    ensures { result ≡ waiting_row imports importers }
 {
     Row {
         status: Status::Waiting,
@@ -197,7 +182,7 @@ impl Rows {
     pub(super) fn new(alloc: Global, jobs: Vec<Job>) -> Result<Rows, AllocError>
         ensures jobs { IfOk result (λ rows. rows.jobs.items ≡ jobs.items) }
         ensures known { IfOk result (λ rows. AreKnown rows) }
-        ensures first { IfOk result (λ rows. AreFirst rows.jobs.items rows.importers.items (length rows.jobs.items) rows.rows.items) }
+        ensures first { IfOk result (λ rows. AreFirst rows.jobs.items rows.importers.items (length rows.jobs.items) rows.rows) }
         ensures count { IfOk result (λ rows. sum_by (λ list. length list) rows.importers.items ≤ import_count jobs.items) }
     {
         count_imports(&jobs)?;
@@ -206,13 +191,13 @@ impl Rows {
         Ok(Rows {
             jobs,
             importers,
-            rows,
+            rows: Table::new(rows),
         })
     }
 
     /// How many jobs there are.
     pub(super) fn len(&self) -> usize
-        ensures { result ≡ length self.now.rows.items }
+        ensures { result ≡ length self.now.rows }
     {
         self.rows.len()
     }
@@ -220,10 +205,10 @@ impl Rows {
     /// Reads the row of a job, if there is one with that number.
     pub(super) fn job(&self, looks: &mut u128, k: usize) -> Option<Found<'_>>
         requires counted { looks.old + 1 < 2 ^ 128 }
-        requires jobs { length self.now.rows.items ≡ length self.now.jobs.items }
-        ensures row { IfSome result (λ found. (found.row.now ≡ row_at self.now.rows.items k) × (k < length self.now.rows.items)) }
+        requires jobs { length self.now.rows ≡ length self.now.jobs.items }
+        ensures row { IfSome result (λ found. (found.row.now ≡ row_at self.now.rows k) × (k < length self.now.rows)) }
         ensures work { IfSome result (λ found. option_copied found.work ≡ work_at self.now.jobs.items k) }
-        ensures none { IfNone result (length self.now.rows.items ≤ k) }
+        ensures none { IfNone result (length self.now.rows ≤ k) }
         ensures one { looks.new ≡ looks.old + 1 }
     {
         count_read(looks);
@@ -258,50 +243,48 @@ impl Rows {
         Some(*importer)
     }
 
-    /// How many jobs are neither done nor blocked. It asks all rows, and is no read of one.
-    pub(super) fn count_open(&self) -> usize
-        ensures { result ≡ count_by is_open (standings_of self.now.rows.items).statuses }
+    /// How many jobs are neither done nor blocked, which is no read of a row.
+    pub(super) fn open(&self) -> usize
+        ensures { result ≡ count_by is_open (standings_of self.now.rows).statuses }
     {
-        self.rows.iter().filter(|row| row.status.is_open()).count()
+        self.rows.open()
     }
 
     /// Writes the row of a job, and hands out what stood there.
     pub(super) fn put(&mut self, k: usize, row: Row) -> Row
-        requires { k < length self.old.rows.items }
-        ensures rows { self.new.rows.items ≡ slice_set self.old.rows.items k row }
-        ensures was { result ≡ row_at self.old.rows.items k }
+        requires { k < length self.old.rows }
+        ensures rows { self.new.rows ≡ slice_set self.old.rows k row }
+        ensures was { result ≡ row_at self.old.rows k }
         ensures jobs { self.new.jobs.items ≡ self.old.jobs.items }
         ensures importers { self.new.importers.items ≡ self.old.importers.items }
     {
-        mem::replace(&mut self.rows[k], row)
+        self.rows.put(k, row)
     }
 
     /// The job is run by the hand with that number.
     pub(super) fn run(&mut self, k: usize, hand: u64)
-        requires { k < length self.old.rows.items }
-        ensures rows { self.new.rows.items ≡ slice_set self.old.rows.items k (record (row_at self.old.rows.items k) { status = status.Running hand }) }
+        requires { k < length self.old.rows }
+        ensures rows { self.new.rows ≡ slice_set self.old.rows k (given_to hand (row_at self.old.rows k)) }
         ensures jobs { self.new.jobs.items ≡ self.old.jobs.items }
         ensures importers { self.new.importers.items ≡ self.old.importers.items }
     {
-        self.rows[k].status = Status::Running(hand);
+        self.rows.run(k, hand);
     }
 
     /// The job is ready again.
     pub(super) fn give_back(&mut self, k: usize)
-        requires { k < length self.old.rows.items }
-        ensures rows { self.new.rows.items ≡ slice_set self.old.rows.items k (record (row_at self.old.rows.items k) { status = status.Ready; was_back = true }) }
+        requires { k < length self.old.rows }
+        ensures rows { self.new.rows ≡ slice_set self.old.rows k (given_back (row_at self.old.rows k)) }
         ensures jobs { self.new.jobs.items ≡ self.old.jobs.items }
         ensures importers { self.new.importers.items ≡ self.old.importers.items }
     {
-        let row = &mut self.rows[k];
-        row.status = Status::Ready;
-        row.was_back = true;
+        self.rows.give_back(k);
     }
 
     /// The jobs, and where they stand: no read is counted any more.
     pub(super) fn into_parts(self) -> (Vec<Job>, Vec<Row>)
-        ensures { (result.0.items ≡ self.jobs.items) × (result.1.items ≡ self.rows.items) }
+        ensures { (result.0.items ≡ self.jobs.items) × (result.1.items ≡ self.rows) }
     {
-        (self.jobs, self.rows)
+        (self.jobs, self.rows.into_rows())
     }
 }

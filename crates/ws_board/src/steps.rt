@@ -2,7 +2,8 @@
 ghost use Rattle.std.specs.Prelude.{◌≡◌, ◌≤◌, ◌<◌, ◌+◌, ◌^◌, ◌++◌, if◌then◌else◌, ℕ, List, [], length, false, Some, IfOk, OnOk, OnErr};
 ghost use Rattle.ws_action.specs.Actions.{Action as AnAction};
 ghost use Rattle.ws_board.specs.Carrying.{held_by};
-ghost use Rattle.ws_board.specs.Rows.{row_at, times, is_active_of, those_of, owed, untold, AreCarried, Waits, IsUndone, FinishesRows};
+ghost use Rattle.ws_board.specs.Rows.{times, is_active_of, those_of, owed, AreCarried, Waits, IsUndone, FinishesRows};
+ghost use Rattle.ws_board.specs.Table.{row_at};
 ghost use Rattle.ws_board.specs.Indexes.{jobs_in, IsSameBut};
 
 use crate::carrying::{Holds, carry, mark};
@@ -20,11 +21,11 @@ pub(super) fn given(
     job: usize,
 ) -> Result<(Task, Identified), AllocError>
     requires counted { looks.old + 1 < 2 ^ 128 }
-    requires jobs { length rows.now.rows.items ≡ length rows.now.jobs.items }
-    requires inside { job < length rows.now.rows.items }
-    requires formed { (action : AnAction) × ((row_at rows.now.rows.items job).action ≡ Some action) }
-    ensures task { IfOk result (λ given. given.0 ≡ record { job = job; action = given.1; was_back = (row_at rows.now.rows.items job).was_back }) }
-    ensures action { IfOk result (λ given. (row_at rows.now.rows.items job).action ≡ Some given.1) }
+    requires jobs { length rows.now.rows ≡ length rows.now.jobs.items }
+    requires inside { job < length rows.now.rows }
+    requires formed { (action : AnAction) × ((row_at rows.now.rows job).action ≡ Some action) }
+    ensures task { IfOk result (λ given. given.0 ≡ record { job = job; action = given.1; was_back = (row_at rows.now.rows job).was_back }) }
+    ensures action { IfOk result (λ given. (row_at rows.now.rows job).action ≡ Some given.1) }
     ensures one { looks.new ≡ looks.old + 1 }
 {
     let Some(found) = rows.job(looks, job) else {
@@ -50,13 +51,13 @@ fn carried(
     good: bool,
 ) -> Result<(), AllocError>
     requires good { AreCarried rows.old }
-    requires waits { Waits rows.old.jobs.items rows.old.rows.items [] (λ j. false) }
-    requires jobs { (k : ℕ) → times k jobs.now ≡ (if is_active_of rows.old.rows.items id.now k then 1 else 0) }
+    requires waits { Waits rows.old.jobs.items rows.old.rows [] (λ j. false) }
+    requires jobs { (k : ℕ) → times k jobs.now ≡ (if is_active_of rows.old.rows id.now k then 1 else 0) }
     requires none { (moves.old.settled.items ≡ []) × (moves.old.ready.items ≡ []) }
-    requires room { looks.old + owed rows.old.rows.items < 2 ^ 128 }
+    requires room { looks.old + owed rows.old.rows < 2 ^ 128 }
     ensures undone { IsUndone rows.old rows.new moves.old moves.new }
     ensures ok { OnOk result (FinishesRows (held_by holds.entry) id.now good rows.old rows.new moves.new.ready.items) }
-    ensures paid { OnOk result (looks.new + owed rows.new.rows.items ≤ looks.old + owed rows.old.rows.items) }
+    ensures paid { OnOk result (looks.new + owed rows.new.rows ≤ looks.old + owed rows.old.rows) }
     ensures more { OnOk result (looks.old ≤ looks.new) }
 {
     mark(rows, looks, moves, id, jobs, good)?;
@@ -77,13 +78,13 @@ pub(super) fn finish_rows(
     good: bool,
 ) -> Result<(), AllocError>
     requires good { AreCarried rows.old }
-    requires waits { Waits rows.old.jobs.items rows.old.rows.items [] (λ j. false) }
-    requires jobs { (k : ℕ) → times k (jobs_in index.old id.now) ≡ (if is_active_of rows.old.rows.items id.now k then 1 else 0) }
+    requires waits { Waits rows.old.jobs.items rows.old.rows [] (λ j. false) }
+    requires jobs { (k : ℕ) → times k (jobs_in index.old id.now) ≡ (if is_active_of rows.old.rows id.now k then 1 else 0) }
     requires none { (moves.old.settled.items ≡ []) × (moves.old.ready.items ≡ []) }
-    requires room { looks.old + owed rows.old.rows.items < 2 ^ 128 }
+    requires room { looks.old + owed rows.old.rows < 2 ^ 128 }
     ensures undone { IsUndone rows.old rows.new moves.old moves.new }
     ensures ok { OnOk result (FinishesRows (held_by holds.entry) id.now good rows.old rows.new moves.new.ready.items) }
-    ensures paid { OnOk result (looks.new + owed rows.new.rows.items ≤ looks.old + owed rows.old.rows.items) }
+    ensures paid { OnOk result (looks.new + owed rows.new.rows ≤ looks.old + owed rows.old.rows) }
     ensures more { OnOk result (looks.old ≤ looks.new) }
     ensures joined { OnOk result ((i : List ℕ) → jobs_in index.new i ≡ jobs_in index.old i ++ those_of i moves.new.ready.items) }
     ensures still { OnErr result ((i : List ℕ) → jobs_in index.new i ≡ jobs_in index.old i) }

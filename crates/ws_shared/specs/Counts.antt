@@ -10,8 +10,11 @@ pub record Counts : Type 0 where
   pub backs : ℕ
   pub idles : ℕ
 
+abbrev pub so_many : ℕ → ℕ → ℕ → ℕ → Counts
+so_many takes finishes backs idles = record { takes = takes; finishes = finishes; backs = backs; idles = idles }
+
 abbrev pub none_made : Counts
-none_made = record { takes = 0; finishes = 0; backs = 0; idles = 0 }
+none_made = so_many 0 0 0 0
 
 -- with one event more
 abbrev pub counted : Counts → Event → Counts
@@ -53,4 +56,5 @@ stake_code = code_by (ℕ × Counts) (coded× coded_ℕ counts_code) (λ s. (s.p
 
 abbrev pub names_code : Coded Names
 names_code = code_by ((ℕ × ℕ) × (ℕ × (ℕ × ℕ))) (coded× (coded× coded_ℕ coded_ℕ) (coded× coded_ℕ (coded× coded_ℕ coded_ℕ)))
-    (λ n. ((n.takes, n.finishes), (n.backs, (n.idles, n.hands)))) (λ p. record { takes = p.0.0; finishes = p.0.1; backs = p.1.0; idles = p.1.1.0; hands = p.1.1.1 }) (λ _. refl)
+    (λ n. ((n.takes, n.finishes), (n.backs, (n.idles, n.hands))))
+    (λ p. record { takes = p.0.0; finishes = p.0.1; backs = p.1.0; idles = p.1.1.0; hands = p.1.1.1 }) (λ _. refl)

@@ -159,7 +159,7 @@ impl<L: Desk> Model for Tally<L> {
 
     ghost coded = { counts.stake_code };
 
-    ghost view = { λ a. record { parts = a.of.takes.parts; made = record { takes = a.of.takes.amount; finishes = a.of.finishes.amount; backs = a.of.backs.amount; idles = a.of.idles.amount } } };
+    ghost view = { λ a. record { parts = a.of.takes.parts; made = counts.so_many a.of.takes.amount a.of.finishes.amount a.of.backs.amount a.of.idles.amount } };
 
     ghost invariant = { λ a. (a.of.finishes.parts ≡ a.of.takes.parts) × (a.of.backs.parts ≡ a.of.takes.parts) × (a.of.idles.parts ≡ a.of.takes.parts) };
 }

@@ -1,14 +1,15 @@
-use Rattle.std.proofs.Common.{ℕ, List, ◌∙◌, ◌≡◌, ◌≢◌, ◌<◌, ◌≤◌, ◌+◌, ◌∷◌, ◌++◌, [], None, true, eqb, arith, ap, subst, sym, refl, length, count_by}
+use Rattle.std.proofs.Common.{ℕ, List, ◌∙◌, ◌≡◌, ◌≢◌, ◌<◌, ◌∷◌, ◌++◌, [], None, true, eqb, arith, ap, subst, sym, refl, length, count_by}
 use Rattle.std.proofs.Math.ListN.{set}
 use Rattle.std.specs.Prelude.{if◌then◌else◌}
-use Rattle.std.specs.List.{All, list_any}
+use Rattle.std.specs.List.{list_any}
 use Rattle.ws_action.specs.Actions.{Action, action_id}
 use Rattle.ws_board.specs.declared.work.Status.TheVariants.{Ready}
 use Rattle.ws_board.specs.declared.work.Event.TheVariants.{Back}
-use Rattle.ws_board.specs.declared.rows.Row.{Row}
+use Rattle.ws_board.specs.declared.table.Row.{Row}
 use Rattle.ws_board.specs.Work.{Job, Standings, Opening, State, Seen}
 use Rattle.ws_board.specs.Machine.{IsRunBy, BoardStep, IsHistory, stood}
-use Rattle.ws_board.specs.Rows.{row_at, standings_of, import_count, is_back, IsPaid}
+use Rattle.ws_board.specs.Rows.{import_count, is_back, IsPaid}
+use Rattle.ws_board.specs.Table.{row_at, standings_of}
 use Rattle.ws_board.specs.Indexes.{id_in, jobs_in, is_free_in, Changes, Agrees}
 use Rattle.ws_board.proofs.Histories.{history_more}
 use Rattle.ws_board.proofs.Boarding.{moved, within}
@@ -20,21 +21,21 @@ stop-requires-clause-kept c =
     let b = c.self.inside in
     let job = c.args.task.job in
     let action : Action = c.args.task.action in
-    let R = b.rows.rows.items in
+    let R = b.rows.rows in
     let run : IsRunBy (standings_of R) c.args.hand.now job action = subst (λ (v : Seen). IsRunBy v.state.standings c.args.hand.now job action) (sym c.self.view_is) c.requires in
     let row : Row = record (row_at R job) { status = Ready; was_back = true } in
     subst (λ i. id_in b.index.ids.entries i ≢ None) (sym c.id.ensures)
     (back_kept b.rows.jobs.items b.rows.importers.items R (set R job row) b.index b.index job c.args.hand.now action c.self.invariant.1 c.self.invariant.3 run refl)
 
 pub stop-requires-clause-inside : goal.stop-requires-clause-inside
-stop-requires-clause-inside c = listed_inside c.self.inside.rows.rows.items c.self.inside.index c.self.invariant.3 c.id.result
+stop-requires-clause-inside c = listed_inside c.self.inside.rows.rows c.self.inside.index c.self.invariant.3 c.id.result
 
 pub stop-requires-clause-some : goal.stop-requires-clause-some
 stop-requires-clause-some c =
     let b = c.self.inside in
     let job = c.args.task.job in
     let action : Action = c.args.task.action in
-    let R = b.rows.rows.items in
+    let R = b.rows.rows in
     let run : IsRunBy (standings_of R) c.args.hand.now job action = subst (λ (v : Seen). IsRunBy v.state.standings c.args.hand.now job action) (sym c.self.view_is) c.requires in
     let row : Row = record (row_at R job) { status = Ready; was_back = true } in
     back_some b.rows.jobs.items b.rows.importers.items R (set R job row) b.index b.index job c.args.hand.now action c.self.invariant.1 c.self.invariant.3 run refl
@@ -44,7 +45,7 @@ give_back-requires c =
     let b = c.self.inside in
     let job = c.args.task.job in
     let action : Action = c.args.task.action in
-    let R = b.rows.rows.items in
+    let R = b.rows.rows in
     let run : IsRunBy (standings_of R) c.args.hand.now job action = subst (λ (v : Seen). IsRunBy v.state.standings c.args.hand.now job action) (sym c.self.view_is) c.requires in
     let row : Row = record (row_at R job) { status = Ready; was_back = true } in
     subst (λ k. k < length R) (sym c.spend-job.ensures)
@@ -58,10 +59,10 @@ invariant_of-self c =
     let action : Action = c.args.task.action in
     let J = b.rows.jobs.items in
     let I = b.rows.importers.items in
-    let R = b.rows.rows.items in
+    let R = b.rows.rows in
     let K = c.give_back.new.self.jobs.items in
     let L = c.give_back.new.self.importers.items in
-    let N = c.give_back.new.self.rows.items in
+    let N = c.give_back.new.self.rows in
     let index = c.stop.new.self in
     let all = c.push_reserved.new.self.items in
     let opening : Opening = record { jobs = J; cache = b.opened } in
@@ -74,11 +75,10 @@ invariant_of-self c =
     let step : BoardStep opening now (Back hand job) new = (action, run, refl) in
     let legal : IsHistory opening all new = history_more opening b.history.items all now (Back hand job) new c.self.invariant.0 step pushed in
     let changes : Changes b.index index (action_id action) (jobs_in b.index (action_id action)) None = subst (λ i. Changes b.index index i (jobs_in b.index i) None) c.id.ensures c.stop.ensures.changes in
-    let each : All (λ j. index.from ≤ j) (jobs_in b.index (action_id action)) = subst (λ i. All (λ j. index.from ≤ j) (jobs_in b.index i)) c.id.ensures c.stop.ensures.from.1 in
     let agrees : Agrees N index =
     back_agrees J I R N b.index index job hand action c.self.invariant.1 c.self.invariant.3 run written changes
     (λ j. c.stop.ensures.free j ∙ ap (λ i. if list_any (λ k. eqb k j) (jobs_in b.index i) then true else is_free_in b.index j) c.id.ensures)
-    c.stop.ensures.len c.stop.ensures.from.0 each c.stop.ensures.running in
+    c.stop.ensures.len c.stop.ensures.running in
     let paid : IsPaid b.looks N (import_count J) (count_by is_back all) = back_pays J I R N b.index index job hand action c.self.invariant.1 c.self.invariant.3 run written b.looks (import_count J) b.history.items all hand pushed c.self.invariant.5 in
     let parts =
     moved J K I L N b.opened b.added all (stood (standings_of R) job Ready) b.looks (count_by is_back all) c.give_back.ensures.jobs c.give_back.ensures.importers
@@ -101,8 +101,8 @@ returns-clause-step c =
     let job = c.args.task.job in
     let action : Action = c.args.task.action in
     let J = b.rows.jobs.items in
-    let R = b.rows.rows.items in
-    let N = c.give_back.new.self.rows.items in
+    let R = b.rows.rows in
+    let N = c.give_back.new.self.rows in
     let all = c.push_reserved.new.self.items in
     let run : IsRunBy (standings_of R) hand job action = subst (λ (v : Seen). IsRunBy v.state.standings hand job action) (sym c.self.view_is) c.requires in
     let written : N ≡ set R job (record (row_at R job) { status = Ready; was_back = true }) = c.give_back.ensures.rows ∙ ap (λ (k : ℕ). set R k (record (row_at R k) { status = Ready; was_back = true })) c.spend-job.ensures in
@@ -123,8 +123,8 @@ returns-clause-looks c =
     let action : Action = c.args.task.action in
     let J = b.rows.jobs.items in
     let I = b.rows.importers.items in
-    let R = b.rows.rows.items in
-    let N = c.give_back.new.self.rows.items in
+    let R = b.rows.rows in
+    let N = c.give_back.new.self.rows in
     let all = c.push_reserved.new.self.items in
     let run : IsRunBy (standings_of R) hand job action = subst (λ (v : Seen). IsRunBy v.state.standings hand job action) (sym c.self.view_is) c.requires in
     let written : N ≡ set R job (record (row_at R job) { status = Ready; was_back = true }) = c.give_back.ensures.rows ∙ ap (λ (k : ℕ). set R k (record (row_at R k) { status = Ready; was_back = true })) c.spend-job.ensures in

@@ -9,7 +9,8 @@ use Rattle.ws_board.specs.declared.index.Ready.{Ready as AReady}
 use Rattle.ws_board.specs.Work.{Job, Entries, Opening, State, Seen}
 use Rattle.ws_board.specs.Machine.{Held, is_running, IsMarked, IsRunBy, Finishes, BoardStep, IsHistory}
 use Rattle.ws_board.specs.Carrying.{held_with}
-use Rattle.ws_board.specs.Rows.{standings_of, those_of, import_count, is_back, undone, FinishesRows, KnowsBacks}
+use Rattle.ws_board.specs.Rows.{those_of, import_count, is_back, FinishesRows, KnowsBacks}
+use Rattle.ws_board.specs.Table.{standings_of}
 use Rattle.ws_board.specs.Indexes.{jobs_in, is_free_in, is_released, Agrees}
 use Rattle.ws_board.proofs.Histories.{history_more, finish_step}
 use Rattle.ws_board.proofs.Own.{own_finish}
@@ -32,8 +33,8 @@ finish_rows-requires-clause-jobs c = λ k. c.self.invariant.3.jobs c.id-id.resul
 pub finish_rows-requires-clause-room : goal.finish_rows-requires-clause-room
 finish_rows-requires-clause-room c =
     let b = c.self.inside in
-    let fits = reads_fit b.looks b.rows.rows.items (import_count b.rows.jobs.items) (count_by is_back b.history.items) c.self.invariant.5
-    (omega (arith, b.rows.rows.ok.0, b.rows.rows.ok.1, b.rows.rows.small)) c.self.invariant.1.known.fits (omega (arith, backs_few b.history.items, b.history.ok.0, b.history.ok.1, b.history.small)) in
+    let fits = reads_fit b.looks b.rows.rows (import_count b.rows.jobs.items) (count_by is_back b.history.items) c.self.invariant.5
+    (omega (arith, c.self.invariant.1.known.jobs, b.rows.jobs.ok.0, b.rows.jobs.ok.1, b.rows.jobs.small)) c.self.invariant.1.known.fits (omega (arith, backs_few b.history.items, b.history.ok.0, b.history.ok.1, b.history.small)) in
     omega (arith, fits)
 
 -- ---- want of memory
@@ -52,7 +53,7 @@ expel-requires c = (jobs_in c.self.inside.index, λ i. c.in-Ok.ensures.joined i 
 pub end-requires : goal.end-requires
 end-requires c =
     let b = c.self.inside in
-    let R = b.rows.rows.items in
+    let R = b.rows.rows in
     let run : IsRunBy (standings_of R) c.args.hand.now c.args.task.job c.args.task.action = subst (λ (v : Seen). IsRunBy v.state.standings c.args.hand.now c.args.task.job c.args.task.action) (sym c.self.view_is) c.requires.runs in
     omega (arith, c.finish_rows.ensures.same.running, c.self.invariant.3.running, runs_some R c.args.hand.now c.args.task.job (run_row R c.args.hand.now c.args.task.job c.args.task.action run).0)
 
@@ -60,10 +61,10 @@ pub release-requires : goal.release-requires
 release-requires c =
     let b = c.self.inside in
     let done : FinishesRows (held_with b.opened b.added (Some c.args.entry)) c.id-id.result c.is_good.result b.rows c.finish_rows.new.rows c.finish_rows.new.moves.ready.items = c.in-Ok.ensures.ok in
-    let inside : All (λ (one : AReady). one.job < length c.finish_rows.new.rows.rows.items) c.finish_rows.new.moves.ready.items = ready_inside done.marked c.finish_rows.new.rows.rows.items c.finish_rows.new.moves.ready.items done.listed in
-    let count : length c.end.new.self.free.items ≡ length c.finish_rows.new.rows.rows.items =
+    let inside : All (λ (one : AReady). one.job < length c.finish_rows.new.rows.rows) c.finish_rows.new.moves.ready.items = ready_inside done.marked c.finish_rows.new.rows.rows c.finish_rows.new.moves.ready.items done.listed in
+    let count : length c.end.new.self.free ≡ length c.finish_rows.new.rows.rows =
     ap length (c.end.ensures.free ∙ c.finish_rows.ensures.same.free) ∙ c.self.invariant.3.count ∙ sym (finish_count (held_with b.opened b.added (Some c.args.entry)) c.id-id.result c.is_good.result b.rows c.finish_rows.new.rows c.finish_rows.new.moves.ready.items done) in
-    subst (λ l. All (λ (one : AReady). one.job < length c.end.new.self.free.items) l) (sym c.ready-2.ensures)
+    subst (λ l. All (λ (one : AReady). one.job < length c.end.new.self.free) l) (sym c.ready-2.ensures)
     (subst (λ n. All (λ (one : AReady). one.job < n) c.finish_rows.new.moves.ready.items) (sym count) inside)
 
 pub invariant_of-self-2 : goal.invariant_of-self-2
@@ -78,14 +79,14 @@ invariant_of-self-2 c =
     let J = b.rows.jobs.items in
     let I = b.rows.importers.items in
     let new = c.finish_rows.new.rows in
-    let N = new.rows.items in
+    let N = new.rows in
     let ready = c.finish_rows.new.moves.ready.items in
     let h : Held = held_with b.opened b.added (Some entry) in
     let all = c.push_reserved.new.self.items in
     let added = c.put.new.self in
     let y = c.release.new.self in
     let opening : Opening = record { jobs = J; cache = b.opened } in
-    let old : State = record { standings = standings_of b.rows.rows.items; added = b.added } in
+    let old : State = record { standings = standings_of b.rows.rows; added = b.added } in
     let now : State = record { standings = standings_of N; added = added } in
     let run : IsRunBy old.standings hand job action = subst (λ (v : Seen). IsRunBy v.state.standings hand job action) (sym c.self.view_is) c.requires.runs in
     let done : FinishesRows h id good b.rows new ready = c.in-Ok.ensures.ok in
@@ -102,10 +103,9 @@ invariant_of-self-2 c =
     let there = held_there b.opened b.added entry id (c.requires.fits ∙ sym c.id-id.ensures) in
     let agrees : Agrees N y =
     finish_index h id good b.rows new ready done b.index c.finish_rows.new.index c.end.new.self y c.self.invariant.3 hand job action there.0 run (sym c.id-id.ensures) there.1
-    c.in-Ok.ensures.joined c.finish_rows.ensures.same c.end.ensures.changes c.end.ensures.free c.end.ensures.from c.end.ensures.running c.release.ensures.ids
+    c.in-Ok.ensures.joined c.finish_rows.ensures.same c.end.ensures.changes c.end.ensures.free c.end.ensures.running c.release.ensures.ids
     (λ j. c.release.ensures.free j ∙ ap (λ l. if is_released c.end.new.self l j then true else is_free_in c.end.new.self j) c.ready-2.ensures)
-    c.release.ensures.len c.release.ensures.from.0
-    (λ j e. c.release.ensures.from.1 j (ap (λ l. is_released c.end.new.self l j) c.ready-2.ensures ∙ e)) c.release.ensures.running in
+    c.release.ensures.len c.release.ensures.running in
     let paid = finish_paid h id good b.rows new ready done b.looks c.finish_rows.new.looks (import_count J) b.history.items all hand job pushed c.in-Ok.ensures.more c.in-Ok.ensures.paid c.self.invariant.5 in
     let parts =
     moved J new.jobs.items I new.importers.items N b.opened added all (standings_of N) c.finish_rows.new.looks (count_by is_back all) c.finish_rows.ensures.undone.jobs c.finish_rows.ensures.undone.importers refl
@@ -134,8 +134,8 @@ invariant_of-self c =
     let b = c.self.inside in
     let J = b.rows.jobs.items in
     let I = b.rows.importers.items in
-    let R = b.rows.rows.items in
-    let N = c.undo.new.rows.rows.items in
+    let R = b.rows.rows in
+    let N = c.undo.new.rows.rows in
     let put = undone_all b.rows c.finish_rows.new.rows c.new-moves.result c.finish_rows.new.moves c.new-moves.ensures.0 c.finish_rows.ensures.undone in
     let rows : N ≡ R = c.undo.ensures.rows ∙ put.0 in
     let parts =
@@ -154,21 +154,21 @@ pub returns-in_default-clause-err : goal.returns-in_default-clause-err
 returns-in_default-clause-err c =
     let b = c.self.inside in
     let put = undone_all b.rows c.finish_rows.new.rows c.new-moves.result c.finish_rows.new.moves c.new-moves.ensures.0 c.finish_rows.ensures.undone in
-    rw (← c.self.view_is) (seen_same b.rows.jobs.items c.undo.new.rows.jobs.items b.rows.rows.items c.undo.new.rows.rows.items b.opened b.added b.added b.history.items b.looks
+    rw (← c.self.view_is) (seen_same b.rows.jobs.items c.undo.new.rows.jobs.items b.rows.rows c.undo.new.rows.rows b.opened b.added b.added b.history.items b.looks
     (c.undo.ensures.jobs ∙ c.finish_rows.ensures.undone.jobs) (c.undo.ensures.rows ∙ put.0) refl)
 
 pub returns-in_default-clause-looks : goal.returns-in_default-clause-looks
 returns-in_default-clause-looks c =
     let b = c.self.inside in
-    within b.rows.jobs.items c.undo.new.rows.jobs.items b.rows.importers.items b.rows.rows.items b.looks (count_by is_back b.history.items) (c.undo.ensures.jobs ∙ c.finish_rows.ensures.undone.jobs) c.self.invariant.1 c.self.invariant.5
+    within b.rows.jobs.items c.undo.new.rows.jobs.items b.rows.importers.items b.rows.rows b.looks (count_by is_back b.history.items) (c.undo.ensures.jobs ∙ c.finish_rows.ensures.undone.jobs) c.self.invariant.1 c.self.invariant.5
 
 pub invariant_of-self-in-Err : goal.invariant_of-self-in-Err
 invariant_of-self-in-Err c =
     let b = c.self.inside in
     let J = b.rows.jobs.items in
     let I = b.rows.importers.items in
-    let R = b.rows.rows.items in
-    let N = c.undo-in-Err.new.rows.rows.items in
+    let R = b.rows.rows in
+    let N = c.undo-in-Err.new.rows.rows in
     let put = undone_all b.rows c.finish_rows.new.rows c.new-moves.result c.finish_rows.new.moves c.new-moves.ensures.0 c.finish_rows.ensures.undone in
     let rows : N ≡ R = c.undo-in-Err.ensures.rows ∙ put.0 in
     let parts =
@@ -188,13 +188,13 @@ pub returns-in-Err-clause-err : goal.returns-in-Err-clause-err
 returns-in-Err-clause-err c =
     let b = c.self.inside in
     let put = undone_all b.rows c.finish_rows.new.rows c.new-moves.result c.finish_rows.new.moves c.new-moves.ensures.0 c.finish_rows.ensures.undone in
-    rw (← c.self.view_is) (seen_same b.rows.jobs.items c.undo-in-Err.new.rows.jobs.items b.rows.rows.items c.undo-in-Err.new.rows.rows.items b.opened b.added c.put.new.self b.history.items b.looks
+    rw (← c.self.view_is) (seen_same b.rows.jobs.items c.undo-in-Err.new.rows.jobs.items b.rows.rows c.undo-in-Err.new.rows.rows b.opened b.added c.put.new.self b.history.items b.looks
     (c.undo-in-Err.ensures.jobs ∙ c.finish_rows.ensures.undone.jobs) (c.undo-in-Err.ensures.rows ∙ put.0) c.in-Err.ensures.err)
 
 pub returns-in-Err-clause-looks : goal.returns-in-Err-clause-looks
 returns-in-Err-clause-looks c =
     let b = c.self.inside in
-    within b.rows.jobs.items c.undo-in-Err.new.rows.jobs.items b.rows.importers.items b.rows.rows.items b.looks (count_by is_back b.history.items) (c.undo-in-Err.ensures.jobs ∙ c.finish_rows.ensures.undone.jobs) c.self.invariant.1 c.self.invariant.5
+    within b.rows.jobs.items c.undo-in-Err.new.rows.jobs.items b.rows.importers.items b.rows.rows b.looks (count_by is_back b.history.items) (c.undo-in-Err.ensures.jobs ∙ c.finish_rows.ensures.undone.jobs) c.self.invariant.1 c.self.invariant.5
 
 -- ---- what is promised of it
 
@@ -209,12 +209,12 @@ returns-clause-step c =
     let good = c.is_good.result in
     let J = b.rows.jobs.items in
     let new = c.finish_rows.new.rows in
-    let N = new.rows.items in
+    let N = new.rows in
     let ready = c.finish_rows.new.moves.ready.items in
     let h : Held = held_with b.opened b.added (Some entry) in
     let all = c.push_reserved.new.self.items in
     let opening : Opening = record { jobs = J; cache = b.opened } in
-    let old : State = record { standings = standings_of b.rows.rows.items; added = b.added } in
+    let old : State = record { standings = standings_of b.rows.rows; added = b.added } in
     let now : State = record { standings = standings_of N; added = c.put.new.self } in
     let run : IsRunBy old.standings hand job action = subst (λ (v : Seen). IsRunBy v.state.standings hand job action) (sym c.self.view_is) c.requires.runs in
     let done : FinishesRows h id good b.rows new ready = c.in-Ok.ensures.ok in
@@ -240,8 +240,8 @@ returns-clause-own c =
     let action : Action = c.args.task.action in
     let opening : Opening = record { jobs = b.rows.jobs.items; cache = b.opened } in
     let later : Opening = record { jobs = c.finish_rows.new.rows.jobs.items; cache = b.opened } in
-    let old : State = record { standings = standings_of b.rows.rows.items; added = b.added } in
-    let new : State = record { standings = standings_of c.finish_rows.new.rows.rows.items; added = c.put.new.self } in
+    let old : State = record { standings = standings_of b.rows.rows; added = b.added } in
+    let new : State = record { standings = standings_of c.finish_rows.new.rows.rows; added = c.put.new.self } in
     let before : Seen = record { opening = opening; state = old; history = b.history.items; looks = b.looks } in
     let after : Seen = record { opening = later; state = new; history = c.push_reserved.new.self.items; looks = c.finish_rows.new.looks } in
     let run : IsRunBy old.standings hand job action = subst (λ (v : Seen). IsRunBy v.state.standings hand job action) (sym c.self.view_is) c.requires.runs in
@@ -264,5 +264,5 @@ returns-clause-looks c =
     let done : FinishesRows h id good b.rows new ready = c.in-Ok.ensures.ok in
     let pushed : all ≡ b.history.items ++ Finish hand job ∷ [] =
     c.push_reserved.ensures.items ∙ ap (λ (k : ℕ). b.history.items ++ Finish k c.spend.result ∷ []) c.number.ensures ∙ ap (λ (j : ℕ). b.history.items ++ Finish hand j ∷ []) c.spend.ensures in
-    within J new.jobs.items b.rows.importers.items new.rows.items c.finish_rows.new.looks (count_by is_back all) c.finish_rows.ensures.undone.jobs done.good
+    within J new.jobs.items b.rows.importers.items new.rows c.finish_rows.new.looks (count_by is_back all) c.finish_rows.ensures.undone.jobs done.good
     (finish_paid h id good b.rows new ready done b.looks c.finish_rows.new.looks (import_count J) b.history.items all hand job pushed c.in-Ok.ensures.more c.in-Ok.ensures.paid c.self.invariant.5)

@@ -7,4 +7,4 @@ pub returns-clause-within : goal.returns-clause-within
 returns-clause-within c =
     let b = c.self.inside in
     let J = b.rows.jobs.items in
-    rw (← c.self.view_is) (within J J b.rows.importers.items b.rows.rows.items b.looks (count_by is_back b.history.items) refl c.self.invariant.1 c.self.invariant.5)
+    rw (← c.self.view_is) (within J J b.rows.importers.items b.rows.rows b.looks (count_by is_back b.history.items) refl c.self.invariant.1 c.self.invariant.5)

@@ -1,4 +1,4 @@
-use Rattle.std.proofs.Common.{◌≡◌, ◌∙◌, ◌+◌, ◌*◌, ◌<◌, ◌≤◌, ◌++◌, List, None, true, false, length, replicate, count_by, sym, ap, subst, refl, arith}
+use Rattle.std.proofs.Common.{◌≡◌, ◌∙◌, ◌*◌, ◌<◌, ◌≤◌, ◌++◌, List, None, true, false, length, replicate, count_by, sym, ap, subst, refl, arith}
 use Rattle.std.specs.Prelude.{if◌then◌else◌}
 use Rattle.std.specs.List.{All, sum_by}
 use Rattle.std.proofs.lemmas.List.{length-replicate}
@@ -8,7 +8,8 @@ use Rattle.ws_board.specs.Work.{Job, Opening, State, Seen}
 use Rattle.ws_board.specs.Machine.{IsFirst, IsHistory}
 use Rattle.ws_board.specs.Calls.{IsFresh}
 use Rattle.ws_board.specs.Carrying.{held_with}
-use Rattle.ws_board.specs.Rows.{standings_of, those_of, import_count, is_back, AreCarried, IsPaid}
+use Rattle.ws_board.specs.Rows.{those_of, import_count, is_back, AreCarried, IsPaid}
+use Rattle.ws_board.specs.Table.{standings_of}
 use Rattle.ws_board.specs.Indexes.{jobs_in, is_free_in, is_released, Agrees}
 use Rattle.ws_board.proofs.Histories.{opened_first, opened_history}
 use Rattle.ws_board.proofs.Shown.{shows}
@@ -21,42 +22,42 @@ use Rattle.ws_board.proofs.Board.open.Goals as goal
 pub carry_all-requires-clause-good : goal.carry_all-requires-clause-good
 carry_all-requires-clause-good c =
     let r = c.in_ok-rows.rows in
-    first_good r.jobs.items r.importers.items r.rows.items c.in_ok-rows.ensures.first c.in_ok-rows.ensures.known
+    first_good r.jobs.items r.importers.items r.rows c.in_ok-rows.ensures.first c.in_ok-rows.ensures.known
 
 pub carry_all-requires-clause-room : goal.carry_all-requires-clause-room
 carry_all-requires-clause-room c =
     let r = c.in_ok-rows.rows in
     let few = subst (λ l. sum_by (λ list. length list) r.importers.items ≤ import_count l) (sym c.in_ok-rows.ensures.jobs) c.in_ok-rows.ensures.count in
-    open_room r.jobs.items r.importers.items r.rows.items c.new-moves.result.settled.items 0 c.in_ok-rows.ensures.first c.in_ok-rows.ensures.known.lists few (omega (arith, r.rows.ok.0, r.rows.ok.1, r.rows.small)) c.in_ok-rows.ensures.known.fits
+    open_room r.jobs.items r.importers.items r.rows c.new-moves.result.settled.items 0 c.in_ok-rows.ensures.first c.in_ok-rows.ensures.known.lists few (omega (arith, c.in_ok-rows.ensures.first.count, r.jobs.ok.0, r.jobs.ok.1, r.jobs.small)) c.in_ok-rows.ensures.known.fits
     c.new-moves.ensures.1 refl
 
 pub release-requires : goal.release-requires
 release-requires c =
     let r = c.in_ok-rows.rows in
-    let N = c.carry_all.new.rows.rows.items in
+    let N = c.carry_all.new.rows.rows in
     let ready = c.carry_all.new.moves.ready.items in
-    let from : AreCarried r = first_good r.jobs.items r.importers.items r.rows.items c.in_ok-rows.ensures.first c.in_ok-rows.ensures.known in
+    let from : AreCarried r = first_good r.jobs.items r.importers.items r.rows c.in_ok-rows.ensures.first c.in_ok-rows.ensures.known in
     let h = held_with c.args.cache c.new-added.result None in
-    let listed = opened_listed h (3 * length r.rows.items) r c.carry_all.new.rows c.new-moves.result c.carry_all.new.moves 0 c.carry_all.new.looks c.new-moves.ensures.2 c.in_ok-rows.ensures.first from c.in_ok-carry_all.ensures.on c.in_ok-carry_all.ensures.waits in
-    let inside : All (λ (one : AReady). one.job < length N) ready = ready_inside r.rows.items N ready listed in
-    let count : length c.admit.new.self.free.items ≡ length N =
+    let listed = opened_listed h (3 * length r.rows) r c.carry_all.new.rows c.new-moves.result c.carry_all.new.moves 0 c.carry_all.new.looks c.new-moves.ensures.2 c.in_ok-rows.ensures.first from c.in_ok-carry_all.ensures.on c.in_ok-carry_all.ensures.waits in
+    let inside : All (λ (one : AReady). one.job < length N) ready = ready_inside r.rows N ready listed in
+    let count : length c.admit.new.self.free ≡ length N =
     ap length (c.admit.ensures.same.free ∙ c.in_ok-index.ensures.free) ∙ length-replicate c.len.result false ∙ c.len.ensures ∙ c.args.jobs.ok.0 ∙ ap length (sym (c.in_ok-carry_all.ensures.on.jobs ∙ c.in_ok-rows.ensures.jobs)) ∙ sym c.in_ok-carry_all.ensures.on.good.known.jobs in
-    subst (λ l. All (λ (one : AReady). one.job < length c.admit.new.self.free.items) l) (sym c.ready-2.ensures) (subst (λ n. All (λ (one : AReady). one.job < n) ready) (sym count) inside)
+    subst (λ l. All (λ (one : AReady). one.job < length c.admit.new.self.free) l) (sym c.ready-2.ensures) (subst (λ n. All (λ (one : AReady). one.job < n) ready) (sym count) inside)
 
 pub invariant_of-result : goal.invariant_of-result
 invariant_of-result c =
     let r = c.in_ok-rows.rows in
     let new = c.carry_all.new.rows in
     let J = r.jobs.items in
-    let N = new.rows.items in
+    let N = new.rows in
     let added = c.new-added.result in
     let first = c.in_ok-rows.ensures.first in
     let on = c.in_ok-carry_all.ensures.on in
     let waits = c.in_ok-carry_all.ensures.waits in
     let none = c.new-moves.ensures.2 in
-    let from : AreCarried r = first_good J r.importers.items r.rows.items first c.in_ok-rows.ensures.known in
+    let from : AreCarried r = first_good J r.importers.items r.rows first c.in_ok-rows.ensures.known in
     let h = held_with c.args.cache added None in
-    let spare = 3 * length r.rows.items in
+    let spare = 3 * length r.rows in
     let opening : Opening = record { jobs = J; cache = c.args.cache } in
     let now : State = record { standings = standings_of N; added = added } in
     let carried = open_carried h spare r new c.new-moves.result c.carry_all.new.moves 0 c.carry_all.new.looks none first from on waits in
@@ -71,17 +72,17 @@ invariant_of-result c =
     let count : c.len.result ≡ length J = c.len.ensures ∙ c.args.jobs.ok.0 ∙ ap length (sym c.in_ok-rows.ensures.jobs) in
     let agrees : Agrees N c.release.new.self =
     open_index h spare r new c.new-moves.result c.carry_all.new.moves 0 c.carry_all.new.looks none first from on waits c.in_ok-index.index c.admit.new.self c.release.new.self
-    c.in_ok-index.ensures.ids (c.in_ok-index.ensures.free ∙ ap (λ n. replicate n false) count) c.in_ok-index.ensures.counts
+    c.in_ok-index.ensures.ids (c.in_ok-index.ensures.free ∙ ap (λ n. replicate n false) count) c.in_ok-index.ensures.running
     (λ i. c.in_ok-admit.ensures.ok i ∙ ap (λ l. jobs_in c.in_ok-index.index i ++ those_of i l) c.ready.ensures) c.admit.ensures.same c.release.ensures.ids
     (λ j. c.release.ensures.free j ∙ ap (λ l. if is_released c.admit.new.self l j then true else is_free_in c.admit.new.self j) c.ready-2.ensures)
-    c.release.ensures.len c.release.ensures.from.0 (λ j e. c.release.ensures.from.1 j (ap (λ l. is_released c.admit.new.self l j) c.ready-2.ensures ∙ e)) c.release.ensures.running in (
+    c.release.ensures.len c.release.ensures.running in (
       parts.0,
       parts.1,
       parts.2,
       agrees,
       open_backs h spare r new c.new-moves.result c.carry_all.new.moves 0 c.carry_all.new.looks none first from on waits c.new-3.result.items c.new-3.ensures.items,
       parts.3,
-      omega (arith, agrees.running, c.release.ensures.running, c.admit.ensures.same.running, c.in_ok-index.ensures.counts.1, c.new-3.ensures.len),
+      omega (arith, agrees.running, c.release.ensures.running, c.admit.ensures.same.running, c.in_ok-index.ensures.running, c.new-3.ensures.len),
     )
 
 pub returns-clause-opening : goal.returns-clause-opening
@@ -95,10 +96,10 @@ returns-clause-fresh c =
     let added = c.new-added.result in
     let first = c.in_ok-rows.ensures.first in
     let on = c.in_ok-carry_all.ensures.on in
-    let from : AreCarried r = first_good J r.importers.items r.rows.items first c.in_ok-rows.ensures.known in
+    let from : AreCarried r = first_good J r.importers.items r.rows first c.in_ok-rows.ensures.known in
     let h = held_with c.args.cache added None in
-    let now : State = record { standings = standings_of new.rows.items; added = added } in
-    let carried = open_carried h (3 * length r.rows.items) r new c.new-moves.result c.carry_all.new.moves 0 c.carry_all.new.looks c.new-moves.ensures.2 first from on c.in_ok-carry_all.ensures.waits in
+    let now : State = record { standings = standings_of new.rows; added = added } in
+    let carried = open_carried h (3 * length r.rows) r new c.new-moves.result c.carry_all.new.moves 0 c.carry_all.new.looks c.new-moves.ensures.2 first from on c.in_ok-carry_all.ensures.waits in
     let begins : IsFirst (record { jobs = new.jobs.items; cache = c.args.cache }) now = subst (λ (l : List Job). IsFirst (record { jobs = l; cache = c.args.cache }) now) (sym on.jobs) (opened_first J c.args.cache added now.standings c.new-added.ensures.empty carried) in
     record { first = begins; nothing_runs = opening_rests J h now.standings carried; nothing_happened = c.new-3.ensures.items }
 
@@ -110,10 +111,10 @@ returns-clause-shows c =
     let added = c.new-added.result in
     let first = c.in_ok-rows.ensures.first in
     let on = c.in_ok-carry_all.ensures.on in
-    let from : AreCarried r = first_good J r.importers.items r.rows.items first c.in_ok-rows.ensures.known in
+    let from : AreCarried r = first_good J r.importers.items r.rows first c.in_ok-rows.ensures.known in
     let h = held_with c.args.cache added None in
-    let now : State = record { standings = standings_of new.rows.items; added = added } in
-    let carried = open_carried h (3 * length r.rows.items) r new c.new-moves.result c.carry_all.new.moves 0 c.carry_all.new.looks c.new-moves.ensures.2 first from on c.in_ok-carry_all.ensures.waits in
+    let now : State = record { standings = standings_of new.rows; added = added } in
+    let carried = open_carried h (3 * length r.rows) r new c.new-moves.result c.carry_all.new.moves 0 c.carry_all.new.looks c.new-moves.ensures.2 first from on c.in_ok-carry_all.ensures.waits in
     let begins : IsFirst (record { jobs = new.jobs.items; cache = c.args.cache }) now = subst (λ (l : List Job). IsFirst (record { jobs = l; cache = c.args.cache }) now) (sym on.jobs) (opened_first J c.args.cache added now.standings c.new-added.ensures.empty carried) in
     let seen : Seen = record { opening = record { jobs = new.jobs.items; cache = c.args.cache }; state = now; history = c.new-3.result.items; looks = c.carry_all.new.looks } in
     let fresh : IsFresh seen = record { first = begins; nothing_runs = opening_rests J h now.standings carried; nothing_happened = c.new-3.ensures.items } in
@@ -127,11 +128,11 @@ returns-clause-looks c =
     let on = c.in_ok-carry_all.ensures.on in
     let waits = c.in_ok-carry_all.ensures.waits in
     let none = c.new-moves.ensures.2 in
-    let from : AreCarried r = first_good r.jobs.items r.importers.items r.rows.items first c.in_ok-rows.ensures.known in
+    let from : AreCarried r = first_good r.jobs.items r.importers.items r.rows first c.in_ok-rows.ensures.known in
     let h = held_with c.args.cache c.new-added.result None in
-    let spare = 3 * length r.rows.items in
+    let spare = 3 * length r.rows in
     let few = subst (λ l. sum_by (λ list. length list) r.importers.items ≤ import_count l) (sym c.in_ok-rows.ensures.jobs) c.in_ok-rows.ensures.count in
     let paid = open_paid h spare r new c.new-moves.result c.carry_all.new.moves 0 c.carry_all.new.looks none first from on waits refl refl c.new-moves.ensures.1 few c.in_ok-carry_all.ensures.read in
     let backs : count_by is_back c.new-3.result.items ≡ 0 = ap (count_by is_back) c.new-3.ensures.items in
     let kept = open_parts h spare r new c.new-moves.result c.carry_all.new.moves 0 c.carry_all.new.looks none first from on waits in
-    within r.jobs.items new.jobs.items r.importers.items new.rows.items c.carry_all.new.looks (count_by is_back c.new-3.result.items) on.jobs kept.0 (subst (λ n. IsPaid c.carry_all.new.looks new.rows.items (import_count r.jobs.items) n) (sym backs) paid)
+    within r.jobs.items new.jobs.items r.importers.items new.rows c.carry_all.new.looks (count_by is_back c.new-3.result.items) on.jobs kept.0 (subst (λ n. IsPaid c.carry_all.new.looks new.rows (import_count r.jobs.items) n) (sym backs) paid)

@@ -1,5 +1,5 @@
 use Rattle.ws_board.specs.Work.{Opening, State}
-use Rattle.ws_board.specs.Rows.{standings_of}
+use Rattle.ws_board.specs.Table.{standings_of}
 use Rattle.ws_board.proofs.Alone.{history_alone}
 use Rattle.ws_board.proofs.Taking.{runs_by}
 use Rattle.ws_board.proofs.Board.runs.Goals as goal
@@ -7,12 +7,12 @@ use Rattle.ws_board.proofs.Board.runs.Goals as goal
 pub returns-clause-is : goal.returns-clause-is
 returns-clause-is c =
     let b = c.self.inside in
-    let by = runs_by b.rows.rows.items b.index c.self.invariant.3 c.args.hand.now c.args.task.now.job c.args.task.now.action in
+    let by = runs_by b.rows.rows b.index c.self.invariant.3 c.args.hand.now c.args.task.now.job c.args.task.now.action in
     rw (← c.self.view_is) ((λ t. by.0 (c.runs.ensures.0 t)), (λ r. c.runs.ensures.1 (by.1 r)))
 
 pub returns-clause-alone : goal.returns-clause-alone
 returns-clause-alone c =
     let b = c.self.inside in
     let opening : Opening = record { jobs = b.rows.jobs.items; cache = b.opened } in
-    let now : State = record { standings = standings_of b.rows.rows.items; added = b.added } in
+    let now : State = record { standings = standings_of b.rows.rows; added = b.added } in
     rw (← c.self.view_is) (history_alone opening b.history.items now c.self.invariant.0)

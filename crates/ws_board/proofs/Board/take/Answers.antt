@@ -1,4 +1,4 @@
-use Rattle.std.proofs.Common.{ℕ, List, ◌∙◌, ◌≡◌, ◌+◌, ◌≤◌, ◌<◌, ◌∷◌, ◌++◌, [], Some, true, false, arith, ap, subst, sym, refl, rules, vec_len, vec_capacity, length, count_by}
+use Rattle.std.proofs.Common.{ℕ, List, ◌∙◌, ◌≡◌, ◌+◌, ◌≤◌, ◌<◌, ◌∷◌, ◌++◌, [], Some, arith, ap, subst, sym, refl, rules, vec_len, vec_capacity, length, count_by}
 use Rattle.std.proofs.Math.ListN.{set}
 use Rattle.ws_action.specs.Actions.{Action, action_id}
 use Rattle.ws_board.specs.declared.work.Status.TheVariants.{Running}
@@ -6,7 +6,8 @@ use Rattle.ws_board.specs.declared.work.Event.TheVariants.{Take, Idle}
 use Rattle.ws_board.specs.Work.{Job, Task, Standings, Opening, State, Seen}
 use Rattle.ws_board.specs.Machine.{is_running, IsRunBy, IsIdle, BoardStep, IsHistory, stood}
 use Rattle.ws_board.specs.Calls.{Happens, Gives, SomeRuns}
-use Rattle.ws_board.specs.Rows.{row_at, standings_of, import_count, is_back, IsPaid}
+use Rattle.ws_board.specs.Rows.{import_count, is_back, IsPaid}
+use Rattle.ws_board.specs.Table.{row_at, standings_of}
 use Rattle.ws_board.specs.Indexes.{jobs_in, Changes, Agrees}
 use Rattle.ws_board.proofs.Histories.{history_more, ready_has}
 use Rattle.ws_board.proofs.Marks.{idle_is}
@@ -21,7 +22,7 @@ pub invariant_of-self-in_default : goal.invariant_of-self-in_default
 invariant_of-self-in_default c =
     let b = c.self.inside in
     let J = b.rows.jobs.items in
-    let R = b.rows.rows.items in
+    let R = b.rows.rows in
     let all = c.push.new.self.items in
     let opening : Opening = record { jobs = J; cache = b.opened } in
     let now : State = record { standings = standings_of R; added = b.added } in
@@ -43,7 +44,7 @@ pub returns-in_default-clause-step : goal.returns-in_default-clause-step
 returns-in_default-clause-step c =
     let b = c.self.inside in
     let J = b.rows.jobs.items in
-    let R = b.rows.rows.items in
+    let R = b.rows.rows in
     let all = c.push.new.self.items in
     let opening : Opening = record { jobs = J; cache = b.opened } in
     let now : State = record { standings = standings_of R; added = b.added } in
@@ -57,7 +58,7 @@ pub returns-in_default-clause-looks : goal.returns-in_default-clause-looks
 returns-in_default-clause-looks c =
     let b = c.self.inside in
     let J = b.rows.jobs.items in
-    let R = b.rows.rows.items in
+    let R = b.rows.rows in
     let all = c.push.new.self.items in
     let pushed : all ≡ b.history.items ++ Idle c.number.result ∷ [] = search rules in
     within J J b.rows.importers.items R b.looks (count_by is_back all) refl c.self.invariant.1
@@ -66,7 +67,7 @@ returns-in_default-clause-looks c =
 pub returns-then-any_running-clause-step : goal.returns-then-any_running-clause-step
 returns-then-any_running-clause-step c =
     let b = c.self.inside in
-    let R = b.rows.rows.items in
+    let R = b.rows.rows in
     let some : SomeRuns (standings_of R).statuses = counted_some (standings_of R).statuses (subst (λ n. 0 < n) c.self.invariant.3.running (c.any_running.ensures.0 c.if-any_running.true)) in
     rw (← c.self.view_is) (none_free R b.index c.self.invariant.3 c.in_default.ensures.none, some, refl)
 
@@ -75,38 +76,38 @@ returns-then-any_running-clause-step c =
 pub given-requires-clause-counted : goal.given-requires-clause-counted
 given-requires-clause-counted c =
     let b = c.self.inside in
-    let fits = reads_fit b.looks b.rows.rows.items (import_count b.rows.jobs.items) (count_by is_back b.history.items) c.self.invariant.5
-    (omega (arith, b.rows.rows.ok.0, b.rows.rows.ok.1, b.rows.rows.small)) c.self.invariant.1.known.fits (omega (arith, backs_few b.history.items, b.history.ok.0, b.history.ok.1, b.history.small)) in
+    let fits = reads_fit b.looks b.rows.rows (import_count b.rows.jobs.items) (count_by is_back b.history.items) c.self.invariant.5
+    (omega (arith, c.self.invariant.1.known.jobs, b.rows.jobs.ok.0, b.rows.jobs.ok.1, b.rows.jobs.small)) c.self.invariant.1.known.fits (omega (arith, backs_few b.history.items, b.history.ok.0, b.history.ok.1, b.history.small)) in
     omega (arith, fits)
 
 pub given-requires-clause-jobs : goal.given-requires-clause-jobs
 given-requires-clause-jobs c = c.self.invariant.1.known.jobs
 
 pub given-requires-clause-inside : goal.given-requires-clause-inside
-given-requires-clause-inside c = free_inside c.self.inside.rows.rows.items c.self.inside.index c.self.invariant.3 c.in-Some.k c.in-Some.ensures.some
+given-requires-clause-inside c = free_inside c.self.inside.rows.rows c.self.inside.index c.self.invariant.3 c.in-Some.k c.in-Some.ensures.some
 
 pub given-requires-clause-formed : goal.given-requires-clause-formed
 given-requires-clause-formed c =
-    let j = free_job c.self.inside.rows.rows.items c.self.inside.index c.self.invariant.3 c.in-Some.k c.in-Some.ensures.some in
+    let j = free_job c.self.inside.rows.rows c.self.inside.index c.self.invariant.3 c.in-Some.k c.in-Some.ensures.some in
     (j.0, j.2)
 
 pub run-requires-clause-kept : goal.run-requires-clause-kept
 run-requires-clause-kept c =
     let b = c.self.inside in
-    let R = b.rows.rows.items in
+    let R = b.rows.rows in
     let k = c.in-Some.k in
     take_kept b.rows.jobs.items b.rows.importers.items R (set R k (record (row_at R k) { status = Running 0 })) b.index b.index k 0 c.in-Ok.action c.self.invariant.1 c.self.invariant.3 c.in-Some.ensures.some c.in-Ok.ensures.action refl
 
 pub run-requires-clause-inside : goal.run-requires-clause-inside
-run-requires-clause-inside c = listed_inside c.self.inside.rows.rows.items c.self.inside.index c.self.invariant.3 (action_id c.in-Ok.action)
+run-requires-clause-inside c = listed_inside c.self.inside.rows.rows c.self.inside.index c.self.invariant.3 (action_id c.in-Ok.action)
 
 pub run-requires-clause-room : goal.run-requires-clause-room
 run-requires-clause-room c =
     let b = c.self.inside in
-    one_more_runs b.rows.rows.items b.index c.self.invariant.3 (omega (arith, b.rows.rows.ok.0, b.rows.rows.ok.1, b.rows.rows.small))
+    one_more_runs b.rows.rows b.index c.self.invariant.3 (omega (arith, c.self.invariant.1.known.jobs, b.rows.jobs.ok.0, b.rows.jobs.ok.1, b.rows.jobs.small))
 
 pub run-requires-in-Ok : goal.run-requires-in-Ok
-run-requires-in-Ok c = free_inside c.self.inside.rows.rows.items c.self.inside.index c.self.invariant.3 c.in-Some.k c.in-Some.ensures.some
+run-requires-in-Ok c = free_inside c.self.inside.rows.rows c.self.inside.index c.self.invariant.3 c.in-Some.k c.in-Some.ensures.some
 
 pub invariant_of-self-in-Ok : goal.invariant_of-self-in-Ok
 invariant_of-self-in-Ok c =
@@ -116,10 +117,10 @@ invariant_of-self-in-Ok c =
     let a : Action = c.in-Ok.action in
     let J = b.rows.jobs.items in
     let I = b.rows.importers.items in
-    let R = b.rows.rows.items in
+    let R = b.rows.rows in
     let K = c.run-in-Ok.new.self.jobs.items in
     let L = c.run-in-Ok.new.self.importers.items in
-    let N = c.run-in-Ok.new.self.rows.items in
+    let N = c.run-in-Ok.new.self.rows in
     let index = c.run.new.self in
     let all = c.push_reserved.new.self.items in
     let free = c.in-Some.ensures.some in
@@ -134,7 +135,7 @@ invariant_of-self-in-Ok c =
     let legal : IsHistory opening all new = history_more opening b.history.items all now (Take hand k) new c.self.invariant.0 step pushed in
     let changes : Changes b.index index (action_id a) (jobs_in b.index (action_id a)) (Some (record { hand = hand; job = k; action = a })) =
     subst (λ (h : ℕ). Changes b.index index (action_id a) (jobs_in b.index (action_id a)) (Some (record { hand = h; job = k; action = a }))) c.number-in-Ok.ensures c.run.ensures.changes in
-    let agrees : Agrees N index = take_agrees J I R N b.index index k hand a c.self.invariant.1 c.self.invariant.3 free its written changes c.run.ensures.free c.run.ensures.len c.run.ensures.from c.run.ensures.running c.in-Some.ensures.least in
+    let agrees : Agrees N index = take_agrees J I R N b.index index k hand a c.self.invariant.1 c.self.invariant.3 free its written changes c.run.ensures.free c.run.ensures.len c.run.ensures.running in
     let paid : IsPaid c.given.new.looks N (import_count J) (count_by is_back all) =
     take_paid J I R N b.index index k hand a c.self.invariant.1 c.self.invariant.3 free its written b.looks c.given.new.looks (import_count J) b.history.items all hand pushed c.given.ensures.one c.self.invariant.5 in
     let parts =
@@ -162,9 +163,9 @@ returns-in-Ok-clause-step c =
     let a : Action = c.in-Ok.action in
     let J = b.rows.jobs.items in
     let I = b.rows.importers.items in
-    let R = b.rows.rows.items in
+    let R = b.rows.rows in
     let K = c.run-in-Ok.new.self.jobs.items in
-    let N = c.run-in-Ok.new.self.rows.items in
+    let N = c.run-in-Ok.new.self.rows in
     let index = c.run.new.self in
     let all = c.push_reserved.new.self.items in
     let free = c.in-Some.ensures.some in
@@ -186,7 +187,7 @@ returns-in-Ok-clause-step c =
 pub returns-in-Ok-clause-least : goal.returns-in-Ok-clause-least
 returns-in-Ok-clause-least c =
     let b = c.self.inside in
-    let R = b.rows.rows.items in
+    let R = b.rows.rows in
     let k = c.in-Some.k in
     let job : c.in-Ok.task.job ≡ k = ap (λ (t : Task). t.job) c.in-Ok.ensures.task in
     rw (← c.self.view_is) (λ j action f. (let least : k ≤ j = first_least R b.index c.self.invariant.3 k c.in-Some.ensures.least j action f in omega (arith, job, least)))
@@ -199,8 +200,8 @@ returns-in-Ok-clause-looks c =
     let a : Action = c.in-Ok.action in
     let J = b.rows.jobs.items in
     let I = b.rows.importers.items in
-    let R = b.rows.rows.items in
-    let N = c.run-in-Ok.new.self.rows.items in
+    let R = b.rows.rows in
+    let N = c.run-in-Ok.new.self.rows in
     let index = c.run.new.self in
     let all = c.push_reserved.new.self.items in
     let free = c.in-Some.ensures.some in

@@ -1,4 +1,4 @@
-use Rattle.std.proofs.Common.{◌+◌, ◌*◌, ◌≤◌, leb}
+use Rattle.std.proofs.Common.{◌+◌, ◌*◌, ◌≤◌}
 use Rattle.std.specs.Prelude.{nat_le}
 use Rattle.ws_board.specs.Carrying.{held_by}
 use Rattle.ws_board.specs.Rows.{Waits, CarriesOn}
@@ -7,6 +7,6 @@ use Rattle.ws_board.proofs.carrying.advance_all.Given as goal
 abbrev pub invariant-loop-job : goal.invariant-loop-job
 invariant-loop-job l = record {
   on : CarriesOn (held_by l.holds) (3 * l.job) l.fn.rows l.rows l.fn.moves l.moves l.fn.looks l.looks;
-  waits : Waits l.rows.jobs.items l.rows.rows.items l.moves.settled.items (λ j. nat_le l.job j);
+  waits : Waits l.rows.jobs.items l.rows.rows l.moves.settled.items (λ j. nat_le l.job j);
   read : l.fn.looks + l.job ≤ l.looks;
 }

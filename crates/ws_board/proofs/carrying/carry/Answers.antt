@@ -1,9 +1,9 @@
-use Rattle.std.proofs.Common.{◌≡◌, ◌<◌, ◌≤◌, ◌+◌, ◌∷◌, ◌++◌, [], false, ℕ, List, Some, None, length, refl, sym, ap, ◌∙◌, subst, arith, rules}
+use Rattle.std.proofs.Common.{◌≡◌, ◌+◌, [], length, refl, ap, ◌∙◌, arith}
 use Rattle.std.specs.List.{slice_index_or}
 use Rattle.std.proofs.lemmas.List.{length_push}
 use Rattle.ws_board.specs.declared.moves.Moves.{Moves}
 use Rattle.ws_board.specs.Carrying.{held_by}
-use Rattle.ws_board.specs.Rows.{Waits, CarriesOn, AreCarried, IsUndone, telling, untold}
+use Rattle.ws_board.specs.Rows.{telling}
 use Rattle.ws_board.proofs.Onward.{carries_none, carries_then, carries_popped, popped_waits, popped_undone, popped_untold, undone_none, undone_then}
 use Rattle.ws_board.proofs.carrying.carry.Goals as goal
 
@@ -35,7 +35,7 @@ settled-preserved c =
       on = carries_then h 0 0 c.args.rows.now l c.tell.new.rows c.args.moves.now c.settled.moves c.tell.new.moves c.args.looks.now c.settled.looks c.tell.new.looks c.requires.good p.on
           (carries_popped h (telling (length (slice_index_or l.importers.items job []))) l c.tell.new.rows c.settled.moves popped c.tell.new.moves job c.settled.looks c.tell.new.looks refl c.in-Some.ensures.items refl q.on);
       undone = undone_then c.args.rows.now l c.tell.new.rows c.args.moves.now c.settled.moves c.tell.new.moves p.undone (popped_undone l c.tell.new.rows c.settled.moves popped c.tell.new.moves refl c.tell.ensures.undone);
-      waits = q.waits (popped_waits l.jobs.items l.importers.items l.rows.items c.pop.new.self.items c.settled.moves.settled.items job p.on.good c.in-Some.ensures.items p.waits);
+      waits = q.waits (popped_waits l.jobs.items l.importers.items l.rows c.pop.new.self.items c.settled.moves.settled.items job p.on.good c.in-Some.ensures.items p.waits);
     }
 
 pub settled-smaller : goal.settled-smaller

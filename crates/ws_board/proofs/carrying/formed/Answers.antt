@@ -1,4 +1,4 @@
-use Rattle.std.proofs.Common.{◌≡◌, List, Option, Some, None, IfSome, IfNone, map, sym, subst}
+use Rattle.std.proofs.Common.{◌≡◌, List, Option, IfSome, IfNone, map, sym, subst}
 use Rattle.std.specs.Arc.{arc_value}
 use Rattle.std.specs.List.{All}
 use Rattle.go_export.specs.Summaries.{Summary}
@@ -8,21 +8,21 @@ use Rattle.ws_board.specs.Work.{acted}
 use Rattle.ws_board.specs.Machine.{IsFormed}
 use Rattle.ws_board.specs.Carrying.{held_by}
 use Rattle.ws_board.specs.Ends.{imports_at}
-use Rattle.ws_board.specs.Rows.{standings_of}
+use Rattle.ws_board.specs.Table.{standings_of}
 use Rattle.ws_board.proofs.Gathered.{Are, forms, forms_none, lacks_none}
 use Rattle.ws_board.proofs.carrying.formed.Goals as goal
 
 pub returns-in_default-clause-none : goal.returns-in_default-clause-none
 returns-in_default-clause-none c =
     let h = held_by c.args.holds in
-    let now = standings_of c.args.rows.now.rows.items in
+    let now = standings_of c.args.rows.now.rows in
     let imports = imports_at c.args.rows.now.jobs.items c.args.job in
     lacks_none h now c.args.work.now imports (subst (λ o. IfNone o ((ss : List Summary) → ¬ (Are h now imports ss))) c.in_default.is c.in_ok-summaries.ensures.none)
 
 pub returns-in_ok-new-in-Some-2-clause-some : goal.returns-in_ok-new-in-Some-2-clause-some
 returns-in_ok-new-in-Some-2-clause-some c =
     let h = held_by c.args.holds in
-    let now = standings_of c.args.rows.now.rows.items in
+    let now = standings_of c.args.rows.now.rows in
     let work = c.args.work.now in
     let imports = imports_at c.args.rows.now.jobs.items c.args.job in
     let summaries = map arc_value c.in-Some.summaries.items in
@@ -37,7 +37,7 @@ returns-in_ok-new-in-Some-2-clause-some c =
 pub returns-in-None-clause-none : goal.returns-in-None-clause-none
 returns-in-None-clause-none c =
     let h = held_by c.args.holds in
-    let now = standings_of c.args.rows.now.rows.items in
+    let now = standings_of c.args.rows.now.rows in
     let work = c.args.work.now in
     let imports = imports_at c.args.rows.now.jobs.items c.args.job in
     let summaries = map arc_value c.in-Some.summaries.items in

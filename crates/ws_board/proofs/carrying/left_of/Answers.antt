@@ -1,8 +1,5 @@
-use Rattle.std.proofs.Common.{◌≡◌, ◌<◌, ◌≤◌, ◌-◌, length, Some, None, sym, ◌∙◌, arith, rules}
-use Rattle.std.specs.List.{slice_get}
-use Rattle.ws_board.specs.Machine.{is_open}
+use Rattle.std.proofs.Common.{◌≤◌, ◌-◌, length, sym, ◌∙◌, arith, rules}
 use Rattle.ws_board.specs.Ends.{imports_at}
-use Rattle.ws_board.specs.Rows.{row_at}
 use Rattle.ws_board.proofs.Onward.{get_past}
 use Rattle.ws_board.proofs.Standby.{past_less, last_open}
 use Rattle.ws_board.proofs.carrying.left_of.Goals as goal
@@ -15,13 +12,13 @@ returns-in_default-clause-on c =
 
 pub returns-then-is_open-clause-on : goal.returns-then-is_open-clause-on
 returns-then-is_open-clause-on c =
-    λ some. last_open c.args.rows.now.jobs.items c.args.rows.now.rows.items c.args.job (c.loop-left.left - 1) c.in-Some.k (sym c.import.ensures.is ∙ c.in-Some.is) (search rules)
+    λ some. last_open c.args.rows.now.jobs.items c.args.rows.now.rows c.args.job (c.loop-left.left - 1) c.in-Some.k (sym c.import.ensures.is ∙ c.in-Some.is) (search rules)
 
 pub loop-left-preserved : goal.loop-left-preserved
 loop-left-preserved c =
     let p = c.loop-left.invariant in
     let J = c.args.rows.now.jobs.items in
-    let R = c.args.rows.now.rows.items in
+    let R = c.args.rows.now.rows in
     record {
       fewer = omega (arith, p.fewer);
       past = λ old. past_less J R c.args.job c.loop-left.left c.in-Some.k (omega arith) (sym c.import.ensures.is ∙ c.in-Some.is) (search rules) (p.past old);

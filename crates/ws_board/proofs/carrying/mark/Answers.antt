@@ -1,20 +1,18 @@
-use Rattle.std.proofs.Common.{◌≡◌, ◌<◌, ◌≤◌, ◌+◌, ◌∷◌, ◌++◌, [], ℕ, List, length, Option, IfSome, IfNone, get_or, refl, sym, ap, ◌∙◌, subst, arith}
-use Rattle.std.specs.Prelude.{if◌then◌else◌}
+use Rattle.std.proofs.Common.{◌≡◌, ◌<◌, ◌≤◌, ◌∷◌, ◌++◌, [], length, Option, IfSome, IfNone, get_or, refl, sym, ap, ◌∙◌, subst, arith}
 use Rattle.std.proofs.Math.ListN.{set}
-use Rattle.ws_board.specs.declared.rows.Row.{Row}
+use Rattle.ws_board.specs.declared.table.Row.{Row}
 use Rattle.ws_board.specs.declared.moves.Moves.{Moves}
 use Rattle.ws_board.specs.declared.work.Status.TheVariants.{Done}
-use Rattle.ws_board.specs.Machine.{is_active}
-use Rattle.ws_board.specs.Rows.{row_at, is_active_of, owed, untold, IsUndone, Marks}
-use Rattle.ws_board.proofs.Standing.{due_at}
-use Rattle.ws_board.proofs.Marking.{MarksSome, marks_none, mark_active, mark_inside, mark_some, mark_rest, mark_paid, mark_owes, marked_all, none_left}
+use Rattle.ws_board.specs.Rows.{untold}
+use Rattle.ws_board.specs.Table.{row_at}
+use Rattle.ws_board.proofs.Marking.{marks_none, mark_inside, mark_some, mark_rest, mark_paid, mark_owes, marked_all, none_left}
 use Rattle.ws_board.proofs.Onward.{undone_none, undone_then, popped_undone}
 use Rattle.ws_board.proofs.carrying.mark.Goals as goal
 
 pub loop-job-init : goal.loop-job-init
 loop-job-init c = record {
   undone = undone_none c.args.rows.now c.args.rows.now c.args.moves.now c.args.moves.now refl refl refl refl;
-  some = marks_none c.args.id.now c.args.good c.args.rows.now.rows.items c.args.moves.now.settled.items;
+  some = marks_none c.args.id.now c.args.good c.args.rows.now.rows c.args.moves.now.settled.items;
   rest = c.requires.jobs;
   ready = refl;
   paid = omega arith;
@@ -24,8 +22,8 @@ loop-job-init c = record {
 pub done_row-requires : goal.done_row-requires
 done_row-requires c =
     let p = c.loop-job.invariant in
-    let mid = c.loop-job.rows.rows.items in
-    let owes = mark_owes c.args.id.now c.args.good c.args.rows.now.rows.items mid c.loop-job.moves.settled.items c.args.jobs.now c.loop-job.job-index (omega arith) p.some p.rest in
+    let mid = c.loop-job.rows.rows in
+    let owes = mark_owes c.args.id.now c.args.good c.args.rows.now.rows mid c.loop-job.moves.settled.items c.args.jobs.now c.loop-job.job-index (omega arith) p.some p.rest in
     record {
       counted = omega (arith, owes, p.paid, c.requires.room);
       jobs = p.undone.count ∙ c.requires.known.jobs ∙ sym (ap length p.undone.jobs);
@@ -34,14 +32,14 @@ done_row-requires c =
 pub write-requires : goal.write-requires
 write-requires c =
     let p = c.loop-job.invariant in
-    mark_inside c.args.id.now c.args.good c.args.rows.now.rows.items c.loop-job.rows.rows.items c.loop-job.moves.settled.items c.args.jobs.now c.loop-job.job-index (omega arith) p.some p.rest
+    mark_inside c.args.id.now c.args.good c.args.rows.now.rows c.loop-job.rows.rows c.loop-job.moves.settled.items c.args.jobs.now c.loop-job.job-index (omega arith) p.some p.rest
 
 pub loop-job-preserved : goal.loop-job-preserved
 loop-job-preserved c =
     let p = c.loop-job.invariant in
-    let O = c.args.rows.now.rows.items in
-    let mid = c.loop-job.rows.rows.items in
-    let N = c.write.new.rows.rows.items in
+    let O = c.args.rows.now.rows in
+    let mid = c.loop-job.rows.rows in
+    let N = c.write.new.rows.rows in
     let n = c.loop-job.job-index in
     let xs = c.loop-job.moves.settled.items in
     let ys = c.write.new.self.settled.items in
@@ -68,16 +66,16 @@ loop-job-preserved c =
 pub returns-clause-marks : goal.returns-clause-marks
 returns-clause-marks c =
     let p = c.loop-job.invariant in
-    marked_all c.args.id.now c.args.good c.args.rows.now.rows.items c.loop-job.rows.rows.items c.loop-job.moves.settled.items p.some
-    (none_left c.args.id.now c.loop-job.rows.rows.items c.args.jobs.now c.loop-job.job-index (omega arith) p.rest)
+    marked_all c.args.id.now c.args.good c.args.rows.now.rows c.loop-job.rows.rows c.loop-job.moves.settled.items p.some
+    (none_left c.args.id.now c.loop-job.rows.rows c.args.jobs.now c.loop-job.job-index (omega arith) p.rest)
 
 pub loop-job-preserved-in_default : goal.loop-job-preserved-in_default
 loop-job-preserved-in_default c =
     let p = c.loop-job.invariant in
-    let mid = c.loop-job.rows.rows.items in
+    let mid = c.loop-job.rows.rows in
     let job = get_or c.args.jobs.now c.loop-job.job-index 0 in
     let past : length mid ≤ job = subst (λ (o : Option Row). IfNone o (length mid ≤ job)) c.in_default.is c.in_ok-row.ensures.none in
-    absurd (omega (arith, past, mark_inside c.args.id.now c.args.good c.args.rows.now.rows.items mid c.loop-job.moves.settled.items c.args.jobs.now c.loop-job.job-index (omega arith) p.some p.rest))
+    absurd (omega (arith, past, mark_inside c.args.id.now c.args.good c.args.rows.now.rows mid c.loop-job.moves.settled.items c.args.jobs.now c.loop-job.job-index (omega arith) p.some p.rest))
 
 pub returns-in_err-write-clause-undone : goal.returns-in_err-write-clause-undone
 returns-in_err-write-clause-undone c =

@@ -1,15 +1,15 @@
-use Rattle.std.proofs.Common.{◌≡◌, ◌<◌, ◌≤◌, ◌-◌, ℕ, true, false, length, Option, Some, None, IfSome, IfNone, refl, sym, ap, ◌∙◌, subst, arith, rules}
+use Rattle.std.proofs.Common.{◌≡◌, ◌<◌, ◌≤◌, true, false, length, Option, Some, None, IfSome, IfNone, refl, sym, ap, ◌∙◌, subst, arith, rules}
 use Rattle.std.specs.Prelude.{option_copied}
-use Rattle.std.specs.List.{slice_get, slice_index_or}
+use Rattle.std.specs.List.{slice_get}
 use Rattle.ws_action.specs.Actions.{Action, action_id}
 use Rattle.ws_board.specs.declared.work.Status.{Status}
 use Rattle.ws_board.specs.declared.work.Status.TheVariants.{Waiting, Blocked}
-use Rattle.ws_board.specs.declared.rows.Row.{Row}
-use Rattle.ws_board.specs.Work.{Work}
-use Rattle.ws_board.specs.Machine.{is_waiting, is_open, MayForm, IsFormed, IsPlaced}
+use Rattle.ws_board.specs.declared.table.Row.{Row}
+use Rattle.ws_board.specs.Machine.{is_waiting, MayForm, IsFormed, IsPlaced}
 use Rattle.ws_board.specs.Carrying.{held_by}
 use Rattle.ws_board.specs.Ends.{imports_at, work_at}
-use Rattle.ws_board.specs.Rows.{row_at, standings_of, IsOpenPast}
+use Rattle.ws_board.specs.Rows.{IsOpenPast}
+use Rattle.ws_board.specs.Table.{row_at, standings_of}
 use Rattle.ws_board.proofs.Standby.{becomes_of, stands_waits, stands_stopped, stands_acts, all_past, placed_cases}
 use Rattle.ws_board.proofs.carrying.stands.Goals as goal
 
@@ -17,7 +17,7 @@ pub returns-then-left-gt0-clause-becomes : goal.returns-then-left-gt0-clause-bec
 returns-then-left-gt0-clause-becomes c =
     let h = held_by c.args.holds in
     let J = c.args.rows.now.jobs.items in
-    let R = c.args.rows.now.rows.items in
+    let R = c.args.rows.now.rows in
     let job = c.args.job in
     let was : Row = c.in-Some.found.row.now in
     let left = c.left_of-left.result in
@@ -37,7 +37,7 @@ pub returns-in-Some-2-clause-becomes : goal.returns-in-Some-2-clause-becomes
 returns-in-Some-2-clause-becomes c =
     let h = held_by c.args.holds in
     let J = c.args.rows.now.jobs.items in
-    let R = c.args.rows.now.rows.items in
+    let R = c.args.rows.now.rows in
     let job = c.args.job in
     let was : Row = c.in-Some.found.row.now in
     let same : was ≡ row_at R job = c.in-Some.ensures.row.0 in
@@ -59,7 +59,7 @@ pub returns-in-None-clause-becomes : goal.returns-in-None-clause-becomes
 returns-in-None-clause-becomes c =
     let h = held_by c.args.holds in
     let J = c.args.rows.now.jobs.items in
-    let R = c.args.rows.now.rows.items in
+    let R = c.args.rows.now.rows in
     let job = c.args.job in
     let was : Row = c.in-Some.found.row.now in
     let same : was ≡ row_at R job = c.in-Some.ensures.row.0 in

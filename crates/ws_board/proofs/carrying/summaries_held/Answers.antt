@@ -1,10 +1,9 @@
-use Rattle.std.proofs.Common.{◌≡◌, ◌<◌, ◌≤◌, ℕ, length, get_or, map, Some, None, refl, sym, ap, ◌∙◌, arith}
+use Rattle.std.proofs.Common.{◌≤◌, length, map, sym, ◌∙◌, arith}
 use Rattle.std.specs.Arc.{arc_value}
-use Rattle.std.specs.List.{slice_get}
 use Rattle.std.proofs.lemmas.Option.{get_or_from_slice_get}
 use Rattle.ws_board.specs.Carrying.{held_by}
 use Rattle.ws_board.specs.Ends.{imports_at}
-use Rattle.ws_board.specs.Rows.{standings_of}
+use Rattle.ws_board.specs.Table.{standings_of}
 use Rattle.ws_board.proofs.Gathered.{gathered_all, gathered_none, gathered_more, written_more}
 use Rattle.ws_board.proofs.Onward.{get_past}
 use Rattle.ws_board.proofs.carrying.summaries_held.Goals as goal
@@ -19,7 +18,7 @@ pub returns-in_default-summary_held-clause-none : goal.returns-in_default-summar
 returns-in_default-summary_held-clause-none c =
     let ks = imports_at c.args.rows.now.jobs.items c.args.job in
     let i = c.loop-number.number in
-    gathered_none (held_by c.args.holds) (standings_of c.args.rows.now.rows.items) ks i c.in-Some.k (omega (arith, c.requires.all)) (sym (get_or_from_slice_get ks i c.in-Some.k 0 (sym c.import.ensures.is ∙ c.in-Some.is))) c.in_default-summary_held.ensures.none
+    gathered_none (held_by c.args.holds) (standings_of c.args.rows.now.rows) ks i c.in-Some.k (omega (arith, c.requires.all)) (sym (get_or_from_slice_get ks i c.in-Some.k 0 (sym c.import.ensures.is ∙ c.in-Some.is))) c.in_default-summary_held.ensures.none
 
 pub loop-number-preserved : goal.loop-number-preserved
 loop-number-preserved c =
@@ -31,7 +30,7 @@ loop-number-preserved c =
     let one = c.in-Some-summary_held.summary.now in
     let copy = c.in_ok-try_clone.field-0 in
     record {
-      are = gathered_more (held_by c.args.holds) (standings_of c.args.rows.now.rows.items) ks i c.in-Some.k old new one copy (omega (arith, c.requires.all)) (sym (get_or_from_slice_get ks i c.in-Some.k 0 (sym c.import.ensures.is ∙ c.in-Some.is)))
+      are = gathered_more (held_by c.args.holds) (standings_of c.args.rows.now.rows) ks i c.in-Some.k old new one copy (omega (arith, c.requires.all)) (sym (get_or_from_slice_get ks i c.in-Some.k 0 (sym c.import.ensures.is ∙ c.in-Some.is)))
           c.in_ok-try_clone.ensures c.in_ok-push.ensures.items p.are c.in-Some-summary_held.ensures.some;
       written = written_more old new one copy c.in_ok-try_clone.ensures c.in_ok-push.ensures.items p.written c.in-Some-summary_held.ensures.written;
       paid = omega (arith, p.paid, c.import.ensures.one, c.summary_held.ensures.one);
@@ -41,4 +40,4 @@ loop-number-preserved c =
 pub returns-clause-some : goal.returns-clause-some
 returns-clause-some c =
     let ks = imports_at c.args.rows.now.jobs.items c.args.job in
-    gathered_all (held_by c.args.holds) (standings_of c.args.rows.now.rows.items) ks c.loop-number.number (map arc_value c.loop-number.found.items) (omega (arith, c.requires.all)) c.loop-number.invariant.are
+    gathered_all (held_by c.args.holds) (standings_of c.args.rows.now.rows) ks c.loop-number.number (map arc_value c.loop-number.found.items) (omega (arith, c.requires.all)) c.loop-number.invariant.are

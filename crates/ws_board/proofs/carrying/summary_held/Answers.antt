@@ -1,12 +1,12 @@
-use Rattle.std.proofs.Common.{◌≡◌, ◌∙◌, List, Option, Some, None, ap, sym, subst}
+use Rattle.std.proofs.Common.{◌≡◌, ◌∙◌, Some, ap, sym}
 use Rattle.go_code.specs.Packages.{Object}
 use Rattle.go_export.specs.Summaries.{Summary}
 use Rattle.ws_action.specs.Actions.{Action, action_id}
-use Rattle.ws_cache.specs.Compiles.{Compiled, Compiles, Good, Faulty, compiled_of}
-use Rattle.ws_board.specs.declared.rows.Row.{Row}
+use Rattle.ws_cache.specs.Compiles.{Compiled, Good, Faulty, compiled_of}
+use Rattle.ws_board.specs.declared.table.Row.{Row}
 use Rattle.ws_board.specs.Machine.{action_at}
 use Rattle.ws_board.specs.Carrying.{held_by}
-use Rattle.ws_board.specs.Rows.{row_at, standings_of}
+use Rattle.ws_board.specs.Table.{standings_of}
 use Rattle.ws_board.proofs.Gathered.{faulty_none}
 use Rattle.ws_board.proofs.Standing.{action_row}
 use Rattle.ws_board.proofs.Standby.{past_has}
@@ -16,12 +16,12 @@ not_good : (r : Compiled) (s : Summary) (o : Object) (f : _) → r ≡ Faulty f 
 not_good r s o f e g = let c : Faulty f ≡ Good s o = sym e ∙ g in cc
 
 pub returns-in_default-clause-none : goal.returns-in_default-clause-none
-returns-in_default-clause-none c = past_has (held_by c.args.holds) c.args.rows.now.rows.items c.args.k c.in_default.ensures.none
+returns-in_default-clause-none c = past_has (held_by c.args.holds) c.args.rows.now.rows c.args.k c.in_default.ensures.none
 
 pub returns-in-Faulty-clause-none : goal.returns-in-Faulty-clause-none
 returns-in-Faulty-clause-none c =
     let h = held_by c.args.holds in
-    let R = c.args.rows.now.rows.items in
+    let R = c.args.rows.now.rows in
     let a : Action = c.in_ok-action.action.now in
     let entry : Action = c.in_ok-entry.entry.now in
     let own : c.in-Some.found.row.now.action ≡ Some a = sym c.in_ok-action.ensures.value in

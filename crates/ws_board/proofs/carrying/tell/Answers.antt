@@ -1,8 +1,8 @@
-use Rattle.std.proofs.Common.{◌≡◌, ◌<◌, ◌≤◌, ◌+◌, ◌*◌, ◌-◌, ℕ, List, [], Some, None, eqb, drop, length, get_or, refl, sym, ap, ◌∙◌, subst, arith, inl, inr}
+use Rattle.std.proofs.Common.{◌≡◌, ◌<◌, ◌≤◌, ◌+◌, ◌*◌, [], Some, eqb, drop, length, get_or, refl, sym, ap, ◌∙◌, arith}
 use Rattle.std.specs.List.{slice_get, slice_index_or, list_any}
 use Rattle.std.proofs.lemmas.Option.{slice_get_within, get_or_from_slice_get}
 use Rattle.ws_board.specs.Carrying.{held_by}
-use Rattle.ws_board.specs.Rows.{Waits, CarriesOn, AreCarried, telling, owed, untold}
+use Rattle.ws_board.specs.Rows.{telling}
 use Rattle.ws_board.proofs.Onward.{carries_none, undone_none, undone_then, told_one, told_end, told_waits, told_none, get_past}
 use Rattle.ws_board.proofs.carrying.tell.Goals as goal
 
@@ -29,7 +29,7 @@ importers-preserved c =
       on = told_one h n c.args.rows.now c.importers.rows c.advance.new.rows c.args.moves.now c.importers.moves c.advance.new.moves c.args.looks.now c.importers.looks c.importer.new.looks c.advance.new.looks c.requires.good p.on c.importer.ensures.one q.on;
       undone = undone_then c.args.rows.now c.importers.rows c.advance.new.rows c.args.moves.now c.importers.moves c.advance.new.moves p.undone c.advance.ensures.undone;
       within = omega (arith, lt);
-      waits = λ w. q.waits (λ j. list_any (λ i. eqb i j) (drop (n + 1) ks)) (told_waits c.importers.rows.jobs.items c.importers.rows.rows.items c.importers.moves.settled.items ks n k lt at (p.waits w));
+      waits = λ w. q.waits (λ j. list_any (λ i. eqb i j) (drop (n + 1) ks)) (told_waits c.importers.rows.jobs.items c.importers.rows.rows c.importers.moves.settled.items ks n k lt at (p.waits w));
     }
 
 pub importers-smaller : goal.importers-smaller
@@ -54,4 +54,4 @@ returns-clause-waits c =
     let n = c.importers.number in
     let ks = slice_index_or c.args.rows.now.importers.items c.args.job [] in
     let past : length ks ≤ n = get_past ks n (ap (λ l. slice_get (slice_index_or l c.args.job []) n) (sym p.on.importers) ∙ sym c.importer.ensures.is ∙ c.in_default.is) in
-    λ w. told_none c.importers.rows.jobs.items c.importers.rows.rows.items c.importers.moves.settled.items ks n past (p.waits w)
+    λ w. told_none c.importers.rows.jobs.items c.importers.rows.rows c.importers.moves.settled.items ks n past (p.waits w)

@@ -1,4 +1,4 @@
-use Rattle.std.proofs.Common.{◌+◌, ◌-◌, ◌*◌, ◌≤◌, [], false, eqb, length, drop}
+use Rattle.std.proofs.Common.{◌-◌, ◌*◌, ◌≤◌, [], eqb, length, drop}
 use Rattle.std.specs.List.{list_any, slice_index_or}
 use Rattle.ws_board.specs.Carrying.{held_by}
 use Rattle.ws_board.specs.Rows.{Waits, CarriesOn, IsUndone}
@@ -10,8 +10,8 @@ invariant-importers l = record {
   on : CarriesOn (held_by l.holds) (4 * l.number) l.fn.rows l.rows l.fn.moves l.moves l.fn.looks l.looks;
   undone : IsUndone l.fn.rows l.rows l.fn.moves l.moves;
   within : l.number ≤ length (slice_index_or l.fn.rows.importers.items l.job []);
-  waits : Waits l.fn.rows.jobs.items l.fn.rows.rows.items l.fn.moves.settled.items (λ j. list_any (λ k. eqb k j) (slice_index_or l.fn.rows.importers.items l.job []))
-      → Waits l.rows.jobs.items l.rows.rows.items l.moves.settled.items (λ j. list_any (λ k. eqb k j) (drop l.number (slice_index_or l.fn.rows.importers.items l.job [])));
+  waits : Waits l.fn.rows.jobs.items l.fn.rows.rows l.fn.moves.settled.items (λ j. list_any (λ k. eqb k j) (slice_index_or l.fn.rows.importers.items l.job []))
+      → Waits l.rows.jobs.items l.rows.rows l.moves.settled.items (λ j. list_any (λ k. eqb k j) (drop l.number (slice_index_or l.fn.rows.importers.items l.job [])));
 }
 
 abbrev pub decreases-importers : goal.decreases-importers

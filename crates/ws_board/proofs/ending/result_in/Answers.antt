@@ -5,7 +5,8 @@ use Rattle.ws_board.specs.Work.{Seen}
 use Rattle.ws_board.specs.Machine.{status_at, action_at, held}
 use Rattle.ws_board.specs.Carrying.{held_with}
 use Rattle.ws_board.specs.Calls.{result_of}
-use Rattle.ws_board.specs.Rows.{standings_of, seen_of}
+use Rattle.ws_board.specs.Rows.{seen_of}
+use Rattle.ws_board.specs.Table.{standings_of}
 use Rattle.ws_board.proofs.Histories.{held_still}
 use Rattle.ws_board.proofs.ending.result_in.Goals as goal
 

@@ -1,4 +1,4 @@
-use Rattle.std.proofs.Common.{◌≡◌, ◌++◌, ◌∷◌, [], Some, None, refl, sym, ap, ◌∙◌}
+use Rattle.std.proofs.Common.{◌++◌, ◌∷◌, [], Some, None, sym, ap, ◌∙◌}
 use Rattle.ws_board.specs.declared.index.Id.{Id}
 use Rattle.ws_board.specs.Indexes.{jobs_of, run_of}
 use Rattle.ws_board.proofs.Ids.{reads_so, reads_still}

@@ -1,7 +1,7 @@
-use Rattle.std.proofs.Common.{◌≡◌, ◌++◌, ◌∷◌, [], ℕ, List, Some, refl, sym, ap, ◌∙◌, length}
+use Rattle.std.proofs.Common.{◌≡◌, ◌++◌, ◌∷◌, [], Some, sym, ap, ◌∙◌}
 use Rattle.std.specs.Prelude.{is_some}
 use Rattle.ws_board.specs.declared.index.Id.{Id}
-use Rattle.ws_board.specs.Indexes.{id_in, jobs_of, run_of}
+use Rattle.ws_board.specs.Indexes.{jobs_of, run_of}
 use Rattle.ws_board.proofs.Ids.{jobs_less, reads_still}
 use Rattle.ws_board.proofs.Indexing.{popped}
 use Rattle.ws_board.proofs.index.leave.Goals as goal

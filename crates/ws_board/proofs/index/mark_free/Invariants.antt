@@ -5,6 +5,6 @@ use Rattle.ws_board.proofs.index.mark_free.Given as goal
 
 abbrev pub invariant-loop-job : goal.invariant-loop-job
 invariant-loop-job l = record {
-  count : length l.free.items ≡ length l.fn.free.items;
-  each : (k : ℕ) → get_or l.free.items k false ≡ (if list_any (λ j. eqb j k) (take l.job-index l.jobs) then l.may else get_or l.fn.free.items k false);
+  count : length l.free ≡ length l.fn.free;
+  each : (k : ℕ) → get_or l.free k false ≡ (if list_any (λ j. eqb j k) (take l.job-index l.jobs) then l.may else get_or l.fn.free k false);
 }

@@ -1,4 +1,4 @@
-use Rattle.std.proofs.Common.{◌≤◌, ◌<◌, length, take, get_or, subst, sym, ap, ◌∙◌, arith}
+use Rattle.std.proofs.Common.{◌≤◌, ◌<◌, length, take, get_or, subst, sym, arith}
 use Rattle.std.proofs.lemmas.List.{take_more, take_all}
 use Rattle.ws_board.specs.Rows.{Adds}
 use Rattle.ws_board.proofs.Importing.{adds_none, adds_more}

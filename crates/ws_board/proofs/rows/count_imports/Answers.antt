@@ -1,4 +1,4 @@
-use Rattle.std.proofs.Common.{◌≡◌, ◌<◌, take, ap, arith}
+use Rattle.std.proofs.Common.{◌≡◌, take, ap, arith}
 use Rattle.std.proofs.lemmas.List.{take_all}
 use Rattle.ws_board.specs.Rows.{import_count}
 use Rattle.ws_board.proofs.rows.count_imports.Goals as goal

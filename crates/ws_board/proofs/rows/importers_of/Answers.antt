@@ -1,5 +1,4 @@
-use Rattle.std.proofs.Common.{◌≤◌, ◌<◌, ℕ, ◌≡◌, length, subst, sym, ap, ◌∙◌, arith}
-use Rattle.ws_board.specs.Ends.{imports_at}
+use Rattle.std.proofs.Common.{◌<◌, ◌≡◌, length, subst, arith}
 use Rattle.ws_board.specs.Rows.{Adds, AreImporters}
 use Rattle.ws_board.proofs.Importing.{importers_none, importers_more}
 use Rattle.ws_board.proofs.rows.importers_of.Goals as goal

@@ -1,10 +1,5 @@
-use Rattle.std.proofs.Common.{◌≡◌, ◌<◌, ◌≤◌, ℕ, List, [], length, refl, sym, ap, ◌∙◌, subst, arith}
-use Rattle.std.specs.List.{slice_index_or}
-use Rattle.ws_board.specs.declared.rows.Row.{Row}
-use Rattle.ws_board.specs.declared.work.Status.TheVariants.{Waiting}
-use Rattle.std.specs.Prelude.{None, false}
-use Rattle.ws_board.specs.Ends.{imports_at}
-use Rattle.ws_board.specs.Rows.{AreFirst, first_row}
+use Rattle.std.proofs.Common.{◌≡◌, length, ap, subst, arith}
+use Rattle.ws_board.specs.Rows.{AreFirst}
 use Rattle.ws_board.proofs.Importing.{first_none, first_more, first_is}
 use Rattle.ws_board.proofs.rows.waiting_rows.Goals as goal
 

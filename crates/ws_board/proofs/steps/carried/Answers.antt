@@ -1,6 +1,6 @@
-use Rattle.std.proofs.Common.{◌≡◌, ◌+◌, ◌≤◌, ◌<◌, ◌∙◌, [], refl, ap, arith}
+use Rattle.std.proofs.Common.{◌≡◌, ◌∙◌, ap, arith}
 use Rattle.ws_board.specs.Carrying.{held_by}
-use Rattle.ws_board.specs.Rows.{untold, owed, FinishesRows}
+use Rattle.ws_board.specs.Rows.{untold}
 use Rattle.ws_board.proofs.Finishing.{marked_carried, marked_waiting, finishes_rows}
 use Rattle.ws_board.proofs.Onward.{undone_then}
 use Rattle.ws_board.proofs.steps.carried.Goals as goal

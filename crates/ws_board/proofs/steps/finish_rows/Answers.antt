@@ -1,4 +1,4 @@
-use Rattle.std.proofs.Common.{◌≡◌, ◌∙◌, ◌++◌, ap, refl}
+use Rattle.std.proofs.Common.{◌∙◌, ◌++◌, ap}
 use Rattle.ws_board.specs.Rows.{times, those_of}
 use Rattle.ws_board.specs.Indexes.{jobs_in}
 use Rattle.ws_board.proofs.Indexing.{same_none}

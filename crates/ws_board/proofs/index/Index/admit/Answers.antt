@@ -1,4 +1,4 @@
-use Rattle.std.proofs.Common.{◌≡◌, ◌<◌, ℕ, List, [], length, take, sym, ap, ◌∙◌, arith}
+use Rattle.std.proofs.Common.{◌<◌, [], length, take, sym, ◌∙◌, arith}
 use Rattle.std.proofs.lemmas.List.{append_cancel_right}
 use Rattle.ws_board.specs.declared.index.Ready.{Ready as AReady}
 use Rattle.ws_board.specs.Rows.{those_of}

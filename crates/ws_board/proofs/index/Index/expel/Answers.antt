@@ -1,4 +1,4 @@
-use Rattle.std.proofs.Common.{◌≡◌, ◌<◌, ◌≤◌, ◌+◌, ◌-◌, ◌++◌, ℕ, List, [], length, take, drop, get_or, sym, ap, ◌∙◌, arith}
+use Rattle.std.proofs.Common.{◌≡◌, ◌<◌, ◌+◌, ◌-◌, ◌++◌, ℕ, List, [], length, take, drop, ap, ◌∙◌, arith}
 use Rattle.ws_board.specs.declared.index.Ready.{Ready as AReady}
 use Rattle.ws_board.specs.Rows.{those_of}
 use Rattle.ws_board.specs.Indexes.{id_in, jobs_of, jobs_in}
@@ -37,7 +37,6 @@ loop-count-preserved c =
       same = record {
         runs = λ id. c.leave.ensures.runs id ∙ c.loop-count.invariant.same.runs id;
         free = c.loop-count.invariant.same.free;
-        from = c.loop-count.invariant.same.from;
         running = c.loop-count.invariant.same.running;
       };
     }

@@ -4,10 +4,10 @@ use Rattle.ws_board.proofs.moves.Moves.undo.Given as goal
 
 abbrev pub invariant-log : goal.invariant-log
 invariant-log l = record {
-  rows : undone l.log.items l.rows.rows.items ≡ undone l.fn.self.log.items l.fn.rows.rows.items;
+  rows : undone l.log.items l.rows.rows ≡ undone l.fn.self.log.items l.fn.rows.rows;
   jobs : l.rows.jobs.items ≡ l.fn.rows.jobs.items;
   importers : l.rows.importers.items ≡ l.fn.rows.importers.items;
-  inside : AreWritten (length l.rows.rows.items) l.log.items;
+  inside : AreWritten (length l.rows.rows) l.log.items;
 }
 
 abbrev pub decreases-log : goal.decreases-log

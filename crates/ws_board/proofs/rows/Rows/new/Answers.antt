@@ -1,4 +1,4 @@
-use Rattle.std.proofs.Common.{◌≡◌, ◌≤◌, ◌<◌, ℕ, List, length, take, sym, subst, arith}
+use Rattle.std.proofs.Common.{◌≤◌, ◌<◌, length, sym, subst, arith}
 use Rattle.std.specs.Prelude.{◌^◌}
 use Rattle.std.specs.List.{sum_by}
 use Rattle.std.proofs.lemmas.List.{take_all}
@@ -11,7 +11,7 @@ returns-clause-first c =
     let J = c.args.jobs.items in
     let I = c.in_ok-importers.importers.items in
     let R = c.in_ok-rows.rows.items in
-    subst (λ i. AreFirst J i (length J) R) c.deref-4.ensures.value (subst (λ j. AreFirst j c.deref-4.result.now (length j) R) c.deref-3.ensures.value c.in_ok-rows.ensures)
+    subst (AreFirst J I (length J)) (sym c.new.ensures) (subst (λ i. AreFirst J i (length J) R) c.deref-4.ensures.value (subst (λ j. AreFirst j c.deref-4.result.now (length j) R) c.deref-3.ensures.value c.in_ok-rows.ensures))
 
 pub returns-clause-known : goal.returns-clause-known
 returns-clause-known c =
@@ -21,7 +21,7 @@ returns-clause-known c =
     let first : AreFirst J I (length J) R = subst (λ i. AreFirst J i (length J) R) c.deref-4.ensures.value (subst (λ j. AreFirst j c.deref-4.result.now (length j) R) c.deref-3.ensures.value c.in_ok-rows.ensures) in
     let are : AreImporters J (length J) I = subst (λ j. AreImporters j (length j) I) c.deref-2.ensures.value c.in_ok-importers.ensures in
     let fits : import_count J < 2 ^ 64 = subst (λ j. import_count j < 2 ^ 64) c.deref.ensures.value c.in_ok-count_imports.ensures.fits in
-    first_known J I R first are fits
+    subst (AreKnownBy J I) (sym c.new.ensures) (first_known J I R first are fits)
 
 pub returns-clause-count : goal.returns-clause-count
 returns-clause-count c =

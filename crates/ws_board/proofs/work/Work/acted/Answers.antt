@@ -1,4 +1,4 @@
-use Rattle.std.proofs.Common.{rules, ◌≡◌, List, map, sym, subst}
+use Rattle.std.proofs.Common.{◌≡◌, List, map, sym, subst}
 use Rattle.std.specs.Arc.{arc_value}
 use Rattle.go_ast.specs.Parse.{Parsed}
 use Rattle.ws_action.specs.Actions.{MakeAction}
