@@ -1,7 +1,7 @@
 use Rattle.std.proofs.Common.{◌≡◌, ◌++◌}
 use Rattle.std.specs.Vec.Iter.{into_iter_items}
 use Rattle.ws_session.specs.Standing.{labels_of, replicas_of}
-use Rattle.ws_session.proofs.replicas.parted.Given as goal
+use Rattle.ws_session.proofs.taking.parted.Given as goal
 
 -- those so far, and those of what is left
 abbrev pub invariant-loop-one : goal.invariant-loop-one
