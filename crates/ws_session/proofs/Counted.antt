@@ -1,5 +1,5 @@
 -- The counts tell what each replica took, after each command too.
-use Rattle.std.proofs.Common.{◌≡◌, ◌<◌, ◌≤◌, ◌+◌, ℕ, List, [], ◌∷◌, ◌++◌, map, length, Option, None, Some, true, false, Bool, refl, sym, ap, ◌∙◌, subst, inl, inr, arith, append-nil}
+use Rattle.std.proofs.Common.{◌≡◌, ◌+◌, ℕ, List, [], ◌∷◌, ◌++◌, map, length, Option, None, Some, true, false, Bool, refl, sym, ap, ◌∙◌, subst, inl, inr, arith, append-nil}
 use Rattle.std.specs.Prelude.{◌≢◌, unwrap_or, is_some}
 use Rattle.std.specs.List.{Contains, flat_map}
 use Rattle.std.proofs.lemmas.Bool.{cases_eq, cases_lt}
@@ -10,11 +10,11 @@ use Rattle.ws_version_vector.specs.Told.{AreKept, took_at}
 use Rattle.ws_version_vector.proofs.Told.{grown as with_batch}
 use Rattle.ws_version_vector.proofs.Kept.{same_kept, raised_kept, merged_kept, shared_kept, none_kept, AnyTook}
 use Rattle.ws_command.specs.declared.refusal.Refusal.{Refusal}
-use Rattle.ws_command.specs.Commands.{Command, Nothing, Bad, Create, Write, Remove, Apply, Merge, Settle, Run, Ids, Show}
+use Rattle.ws_command.specs.Commands.{Nothing, Bad, Create, Write, Remove, Apply, Merge, Settle, Run, Ids, Show}
 use Rattle.ws_session.specs.declared.replicas.Named.{Named}
 use Rattle.ws_session.specs.World.{World, Replica, opening, taking, edit_of, removal_of, content_in, settled, writes_of, actions_held, AfterBy, After, refusals}
 use Rattle.ws_command.specs.Refusals.{first_of}
-use Rattle.ws_session.specs.Standing.{index_of, AllStand, AreCounted, AreCompiled, writes_in, actions_in, IsWriteCounted, IsMergeCounted}
+use Rattle.ws_session.specs.Standing.{index_of, AllStand, AreCounted, writes_in, actions_in, IsWriteCounted, IsMergeCounted}
 use Rattle.ws_session.proofs.Standings.{same_length}
 use Rattle.ws_session.proofs.Taken.{TakenBy, taken_at, ReadsBy, reads_at, from_all, into_all, beyond, all_alike, beyond_alike, pushed}
 

@@ -1,15 +1,15 @@
 -- The counts tell what each replica compiled, after a build too.
-use Rattle.std.proofs.Common.{◌≡◌, ◌<◌, ◌≤◌, ℕ, zero, suc, List, [], ◌∷◌, ◌++◌, map, length, get_or, Option, None, Some, true, false, Bool, ◌||◌, refl, sym, ap, ◌∙◌, subst, inl, inr, arith, append-nil}
+use Rattle.std.proofs.Common.{◌≡◌, ◌<◌, ℕ, zero, suc, List, [], ◌∷◌, ◌++◌, map, length, Option, None, Some, true, false, Bool, ◌||◌, refl, sym, ap, ◌∙◌, subst, inl, inr, arith, append-nil}
 use Rattle.std.specs.Prelude.{◌≢◌, ◌⊎◌, ◌==◌, if◌then◌else◌}
-use Rattle.std.specs.List.{All, AllZip, Contains, flat_map, list_any, slice_get}
+use Rattle.std.specs.List.{All, AllZip, Contains, list_any, slice_get}
 use Rattle.std.specs.Str.{bytes_eq}
 use Rattle.std.proofs.Math.ListN.{set}
-use Rattle.std.proofs.lemmas.Bool.{cases_eq, cases_lt, eqb-true}
+use Rattle.std.proofs.lemmas.Bool.{cases_eq, eqb-true}
 use Rattle.std.proofs.lemmas.List.{get_or-set_same, get_or-set_other, length-map}
 use Rattle.std.proofs.lemmas.List.Elements.{All-head, All-tail, Contains-append_left, Contains-append_right, Contains-append_cases}
 use Rattle.ws_action.specs.Actions.{Action}
 use Rattle.ws_version.specs.Writes.{Write as AWrite}
-use Rattle.ws_version_vector.specs.Counts.{counts_at, AreShared, AreRaisedAndShared, is_among}
+use Rattle.ws_version_vector.specs.Counts.{AreRaisedAndShared, is_among}
 use Rattle.ws_version_vector.specs.Told.{AreKept, took_at}
 use Rattle.ws_version_vector.proofs.Told.{grown as with_batch, among_first, among_later}
 use Rattle.ws_version_vector.proofs.Kept.{raised_kept, shared_kept, AnyTook, same_kept}
@@ -19,7 +19,7 @@ use Rattle.ws_replica.specs.Holdings.{Took}
 use Rattle.ws_replica.specs.Reports.{TargetBuild, all_actions}
 use Rattle.ws_replica.specs.declared.building.Target.{Target}
 use Rattle.ws_session.specs.declared.replicas.Named.{Named}
-use Rattle.ws_session.specs.World.{World, Replica, or_new, grown, held_by, sharing, after_builds, refusals, AfterBy, After}
+use Rattle.ws_session.specs.World.{World, Replica, grown, held_by, sharing, after_builds, refusals, AfterBy, After}
 use Rattle.ws_command.specs.declared.refusal.Refusal.{Refusal}
 use Rattle.ws_command.specs.Commands.{Build}
 use Rattle.ws_command.specs.Refusals.{first_of}

@@ -1,5 +1,5 @@
 -- What some replicas hold together that have all that any has.
-use Rattle.std.proofs.Common.{◌≡◌, ◌<◌, ◌+◌, ℕ, zero, suc, List, [], ◌∷◌, ◌++◌, map, take, length, get_or, replicate, Option, None, Some, refl, sym, ap, ◌∙◌, subst, inl, inr, arith, append-nil}
+use Rattle.std.proofs.Common.{◌≡◌, ◌<◌, ◌+◌, ℕ, zero, suc, List, [], ◌∷◌, ◌++◌, map, take, length, get_or, replicate, Option, None, refl, sym, ap, ◌∙◌, subst, inl, inr, arith}
 use Rattle.std.specs.List.{All, Contains, flat_map}
 use Rattle.std.proofs.lemmas.List.{take_more, length-map}
 use Rattle.std.proofs.lemmas.List.Elements.{All-from_get_or, Contains-get_or, Contains-append_left, Contains-append_right, Contains-append_cases}
@@ -135,10 +135,6 @@ taken_compiled took (t ∷ tops) = ap (λ l. (numbered.took_at took t).actions +
 
 pub taken_by : (took : List Took) (tops : List ℕ) (r : holdings.Replica) → ReplicaStandsFor r (all_taken (map (numbered.took_at took) tops)).writes (all_taken (map (numbered.took_at took) tops)).actions → ReplicaStandsFor r (written_by took tops) (compiled_by took tops)
 taken_by took tops r h = subst (λ W. ReplicaStandsFor r W (compiled_by took tops)) (taken_written took tops) (subst (λ E. ReplicaStandsFor r (all_taken (map (numbered.took_at took) tops)).writes E) (taken_compiled took tops) h)
-
-pub none_by : (took : List Took) (tops : List ℕ) (r : holdings.Replica) → AllStandFor [] (map (numbered.took_at took) tops) → ReplicaStandsFor r [] [] → ReplicaStandsFor r (written_by took tops) (compiled_by took tops)
-none_by took [] r h s = s
-none_by took (t ∷ tops) r h s = absurd h
 
 -- ---- one more of them
 map_push : {X Y : Type 0} (f : X → Y) (xs : List X) (x : X) → map f (xs ++ x ∷ []) ≡ map f xs ++ f x ∷ []

@@ -1,12 +1,9 @@
 -- What a merge makes of the replicas of a session, and what of those of the world.
-use Rattle.std.proofs.Common.{◌≡◌, ℕ, List, [], ◌∷◌, ◌++◌, Option, None, Some, true, refl, sym, ap, ◌∙◌, subst, inl, inr}
+use Rattle.std.proofs.Common.{◌≡◌, ℕ, List, ◌++◌, Option, None, Some, true, refl, sym, ap, ◌∙◌, subst, inl, inr}
 use Rattle.std.specs.Prelude.{◌&&◌}
 use Rattle.std.proofs.Math.ListN.{set}
-use Rattle.std.specs.List.{Contains}
 use Rattle.std.proofs.lemmas.List.Elements.{Contains-append_left, Contains-append_cases}
 use Rattle.ws_map.specs.Kept.{SameMembers}
-use Rattle.ws_version.specs.Writes.{Write as AWrite}
-use Rattle.ws_action.specs.Actions.{Action}
 use Rattle.ws_action.specs.Clash.{AllSized}
 use Rattle.ws_version_vector.specs.declared.vector.News.{News}
 use Rattle.ws_version_vector.specs.Told.{took_at, Brings}
@@ -14,9 +11,9 @@ use Rattle.ws_replica.specs.Holdings.{ReplicaStandsFor}
 use Rattle.ws_replica.proofs.Membership.{same_members}
 use Rattle.ws_command.specs.Commands.{Merge}
 use Rattle.ws_session.specs.declared.replicas.Named.{Named}
-use Rattle.ws_session.specs.World.{World, Replica, or_new, knows, writes_of, actions_held, taking, grown, with_replicas}
+use Rattle.ws_session.specs.World.{World, or_new, knows, writes_of, actions_held, taking, grown, with_replicas}
 use Rattle.ws_session.specs.Standing.{index_of, Stands, AllStand, Settles, ChangedAt, MergedFrom, writes_in, actions_in}
-use Rattle.ws_session.proofs.Standings.{Found, found, set_same}
+use Rattle.ws_session.proofs.Standings.{found, set_same}
 use Rattle.ws_session.proofs.Settling.{knows_some, sized_both, merge_row}
 use Rattle.ws_session.proofs.Building.{same_read}
 use Rattle.ws_session.proofs.Taken.{took_writes, took_actions}

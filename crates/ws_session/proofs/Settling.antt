@@ -14,7 +14,7 @@ use Rattle.ws_command.specs.declared.refusal.Refusal.{Refusal}
 use Rattle.ws_command.specs.declared.refusal.Refusal.TheVariants.{BadCommand, Unknown, Exists, BadPath, CounterFull, BadText}
 use Rattle.ws_command.specs.Commands.{Command, Create, Write, Merge}
 use Rattle.ws_command.specs.Refusals.{first_of}
-use Rattle.ws_session.specs.World.{World, Replica, replica_at, or_new, knows, writes_of, actions_held, taking, grown, with_replicas, edit_of, refusals, is_text, is_path_word}
+use Rattle.ws_session.specs.World.{World, Replica, replica_at, or_new, knows, writes_of, taking, grown, with_replicas, edit_of, refusals, is_text, is_path_word}
 use Rattle.ws_session.specs.Standing.{index_of, Stands, AllStand, Settles, ChangedAt, Edited}
 use Rattle.ws_session.proofs.Standings.{found, not_found, same_length, stands_push}
 

@@ -1,5 +1,5 @@
 -- What commands make of what each replica of a world took, index by index.
-use Rattle.std.proofs.Common.{◌≡◌, ◌<◌, ◌≤◌, ℕ, zero, suc, List, [], ◌∷◌, ◌++◌, map, length, Option, None, Some, true, false, Bool, refl, sym, ap, ◌∙◌, cond, subst, inl, inr, arith, append-nil}
+use Rattle.std.proofs.Common.{◌≡◌, ◌<◌, ◌≤◌, ℕ, zero, suc, List, [], ◌∷◌, ◌++◌, map, length, Option, None, Some, true, false, Bool, refl, sym, ap, ◌∙◌, cond, subst, inl, inr, arith}
 use Rattle.std.specs.Prelude.{◌≢◌}
 use Rattle.std.specs.Option.{option_map}
 use Rattle.std.specs.List.{Contains, flat_map, slice_get}
@@ -9,7 +9,7 @@ use Rattle.ws_version.specs.Writes.{Write as AWrite}
 use Rattle.ws_action.specs.Actions.{Action}
 use Rattle.ws_version_vector.specs.Told.{took_at}
 use Rattle.ws_session.specs.declared.replicas.Named.{Named}
-use Rattle.ws_session.specs.World.{World, Replica, replica_at, or_new, writes_of, actions_held, taking, grown}
+use Rattle.ws_session.specs.World.{World, Replica, or_new, writes_of, actions_held, taking, grown}
 use Rattle.ws_session.specs.Standing.{index_of, AllStand, writes_in, actions_in}
 use Rattle.ws_session.proofs.Standings.{not_found}
 use Rattle.ws_session.proofs.Building.{same_read}

@@ -1,9 +1,9 @@
-use Rattle.std.proofs.Common.{◌≡◌, ◌<◌, ◌∷◌, [], ◌++◌, ℕ, List, map, take, drop, length, get_or, sym, ap, ◌∙◌, subst, arith}
+use Rattle.std.proofs.Common.{◌≡◌, ◌<◌, ℕ, List, map, drop, length, get_or, sym, ap, ◌∙◌, subst, arith}
 use Rattle.std.proofs.lemmas.List.{take_all, take_at}
 use Rattle.ws_replica.specs.Builds.{took_at}
 use Rattle.ws_replica.specs.Holdings.{Replica, ReplicaStandsFor, Took, AllStandFor, all_taken, both}
 use Rattle.ws_session.specs.declared.replicas.Named.{Named}
-use Rattle.ws_session.proofs.Joining.{joined_more, stands_at, stands_last, taken_by, none_by, settled_length}
+use Rattle.ws_session.proofs.Joining.{joined_more, stands_at, stands_last, taken_by, settled_length}
 use Rattle.ws_session.proofs.taking.joined_of.Goals as goal
 
 pub loop-top-preserved : goal.loop-top-preserved

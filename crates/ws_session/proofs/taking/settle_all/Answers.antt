@@ -1,4 +1,4 @@
-use Rattle.std.proofs.Common.{◌≡◌, ℕ, List, Vec, Global, length, sym, ap, ◌∙◌, arith}
+use Rattle.std.proofs.Common.{◌≡◌, List, Vec, Global, length, ap, ◌∙◌, arith}
 use Rattle.ws_replica.specs.Holdings.{Replica}
 use Rattle.ws_session.specs.declared.replicas.Named.{Named}
 use Rattle.ws_session.specs.Standing.{replicas_of, labels_of}

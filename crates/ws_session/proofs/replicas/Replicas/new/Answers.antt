@@ -1,4 +1,4 @@
-use Rattle.std.proofs.Common.{List, ℕ, [], refl, sym, subst}
+use Rattle.std.proofs.Common.{List, [], refl, sym, subst}
 use Rattle.go_text.specs.Editions.{edition_number}
 use Rattle.ws_session.specs.declared.replicas.Named.{Named}
 use Rattle.ws_session.specs.Standing.{AllStand, AreCounted}
