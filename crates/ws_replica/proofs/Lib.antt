@@ -8,6 +8,7 @@ pub mod HeldIds
 pub mod HeldImages
 pub mod JoinedLists
 pub mod LastPackage
+pub mod Membership
 pub mod Numbered
 pub mod OneBuild
 pub mod OpenedBoards

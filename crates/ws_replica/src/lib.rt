@@ -27,6 +27,7 @@ ghost use Rattle.ws_replica.specs.declared.BuildError.TheVariants.{Memory};
 ghost use Rattle.ws_replica.specs.Reports.{TargetBuild, IsTargetBuild, IsReady, Good, actions_of};
 ghost use Rattle.ws_replica.specs.Programs.{IsHeldProgram, IsImage};
 ghost use Rattle.ws_replica.specs.Builds.{refusal_of};
+ghost use Rattle.ws_version_vector.specs.Told.{Brings};
 
 pub use building::{Target, build};
 use go_text::source::Source;
@@ -42,6 +43,7 @@ use ws_graph::PlanError;
 pub use ws_pool::{Gate, Plain, Point, Step};
 use ws_register::{EditError, Registers};
 use ws_version::{Held, Join, Write};
+use ws_version_vector::News;
 
 mod building;
 pub mod join;
@@ -49,6 +51,7 @@ mod linking;
 mod opened;
 mod openings;
 mod reached;
+mod sharing;
 mod snapshot;
 mod standings;
 mod telling;
@@ -222,6 +225,26 @@ impl Replica {
         self.cache.merge(results)?;
         Ok(())
     }
+
+    /// Takes what another replica holds, of its writes and of its results what is news: nothing is
+    /// looked at where one has all that the other has. An `Err`, for want of memory, changes
+    /// nothing.
+    pub fn merge_news(
+        &mut self,
+        other: &Replica,
+        writes: News,
+        results: News,
+    ) -> Result<(), AllocError>
+        ensures err { OnErr result (self.new ≡ self.old) }
+        ensures stands { OnOk result ((V W : List AWrite) (E F : List AnAction) → Brings writes V W → Brings results E F
+            → ReplicaStandsFor self.old V E → ReplicaStandsFor other.now W F → ReplicaStandsFor self.new (V ++ W) (E ++ F)) }
+    {
+        // Registers go into a copy, so that an `Err` of the caches changes nothing.
+        let registers = sharing::registers_of(&self.registers, &other.registers, writes)?;
+        sharing::merge_cache(&mut self.cache, &other.cache, results)?;
+        self.registers = registers;
+        Ok(())
+    }
 }
 
 impl Join for Replica {
@@ -269,6 +292,11 @@ pub fn law_some_build()
 pub fn law_equal_replicas()
     ensures { (a b : AReplica) (V W : List AWrite) (E F : List AnAction) → SameMembers V W → SameMembers E F
         → ReplicaStandsFor a V E → ReplicaStandsFor b W F → a ≡ b }
+{}
+
+/// What a replica stands for is a matter of membership alone.
+pub fn law_same_members()
+    ensures { (a : AReplica) (V W : List AWrite) (E F : List AnAction) → SameMembers V W → SameMembers E F → ReplicaStandsFor a V E → ReplicaStandsFor a W F }
 {}
 
 /// Replicas that took the same writes and the same results have equal images, where no two hashed

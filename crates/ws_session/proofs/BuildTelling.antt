@@ -20,12 +20,12 @@ use Rattle.ws_command.specs.Commands.{Build}
 use Rattle.ws_command.specs.Refusals.{first_of, refused}
 use Rattle.ws_command.specs.Printing.{report_text}
 use Rattle.ws_session.specs.World.{World, knows, AreBuilds, held_by, after_builds, target_report, builds_text, refusals, AfterBy, After, PrintsBy, Prints}
-use Rattle.ws_session.specs.Standing.{index_of, AllStand, AreApart, names_in, IsTarget, targets_row, replicas_of, Built, report_line, Tells}
+use Rattle.ws_session.specs.Standing.{index_of, AllStand, AreApart, names_in, IsTarget, targets_row, replicas_of, Built, report_line, Tells, AreCompiled, TellsCounted}
 use Rattle.ws_session.proofs.Building.{same_held, same_builds, no_builds, held_sized, same_tests, all_share, clear_builds}
 use Rattle.ws_session.proofs.Settled.{took_of, all_stand_for, all_actions as taken_actions, all_sized}
 use Rattle.ws_session.proofs.Settling.{sized_both}
 use Rattle.ws_session.proofs.Standings.{known_index}
-use Rattle.ws_session.proofs.Telling.{settled_tells}
+use Rattle.ws_session.proofs.Telling.{settled_tells, after_by}
 
 -- ---- what is printed
 
@@ -66,35 +66,40 @@ module _ (asked : List (List ℕ × List ℕ)) (text : Option (List ℕ)) (world
   row : first_of (refusals (Build asked) text world) ≡ targets_row ns asked
   row = ap (λ b. cond (not b) (Some Unknown) (cond (not (list_all (λ t. is_utf8 t.1) asked)) (Some NoPackage) None)) (all_known world ns h asked)
 
-  pub build_refused : (refusal : Refusal) (told : List ℕ) → targets_row ns asked ≡ Some refusal → told ≡ refused refusal → Tells (Build asked) text world told ns
-  build_refused refusal told e t = settled_tells (Build asked) text world (Some refusal) told ns (λ _ q. q) t
-      (record { refuses = row ∙ e; next = world; after = refl; edition = refl; stand = h })
+  pub build_refused : (refusal : Refusal) (told : List ℕ) (compiled : List (List ℕ)) → targets_row ns asked ≡ Some refusal → told ≡ refused refusal → AreCompiled compiled world → TellsCounted (Build asked) text world told ns compiled
+  build_refused refusal told compiled e t kept =
+      let tells = settled_tells (Build asked) text world (Some refusal) told ns (λ _ q. q) t (record { refuses = row ∙ e; next = world; after = refl; edition = refl; stand = h }) in
+      record {
+        tells = tells;
+        counted = subst (AreCompiled compiled) (sym (after_by (Build asked) text world tells.next (Some refusal) (row ∙ e) tells.after)) kept;
+      }
 
   module _ (targets : List (ℕ × List ℕ)) (allowed : targets_row ns asked ≡ None) (are : AllZip (IsTarget ns) asked targets) where
-    pub build_lacks : (edition : ℕ) (told : List ℕ) → edition ≡ world.edition → told ≡ refused NoPackage
-        → ((took : List Took) → AllStandFor (replicas_of ns) took → LacksPackage took targets) → Tells (Build asked) text world told ns
+    pub build_lacks : (edition : ℕ) (told : List ℕ) (compiled : List (List ℕ)) → edition ≡ world.edition → told ≡ refused NoPackage
+        → ((took : List Took) → AllStandFor (replicas_of ns) took → LacksPackage took targets) → AreCompiled compiled world → TellsCounted (Build asked) text world told ns compiled
     unfolding After Prints
-    build_lacks edition told same t lacks =
+    build_lacks edition told compiled same t lacks kept =
         let none : AreBuilds world asked None =
         no_builds world ns h asked targets are (lacks (took_of world.replicas) (all_stand_for ns world.replicas h)) in
-        record {
+        let tells : Tells (Build asked) text world told ns = record {
           next = world;
           after = subst (λ z. AfterBy z (Build asked) text world world) (sym (row ∙ allowed)) (None, none, refl);
           edition = refl;
           clear = λ _. (subst (λ z. PrintsBy z (Build asked) world told) (sym (row ∙ allowed)) (None, none, t), h);
-        }
+        } in
+        record { tells = tells; counted = kept }
 
-    pub build_told : AreApart (names_in world) → (edition : ℕ) (reports : List Report) (told : List ℕ) (ms : List Named) → edition ≡ world.edition
-        → told ≡ flat_map report_line (zip asked reports) → Built edition targets reports ns ms → Tells (Build asked) text world told ms
+    pub build_told : AreApart (names_in world) → (edition : ℕ) (reports : List Report) (told : List ℕ) (ms : List Named) (compiled : List (List ℕ)) → edition ≡ world.edition
+        → told ≡ flat_map report_line (zip asked reports) → Built edition targets reports ns ms → ((all : List TargetBuild) → AreCompiled compiled (after_builds world asked (Some all))) → TellsCounted (Build asked) text world told ms compiled
     unfolding After Prints
-    build_told apart edition reports told ms same t built =
+    build_told apart edition reports told ms compiled same t built kept =
         let took : List Took = took_of world.replicas in
         let sized = subst AllSized (sym (taken_actions world.replicas)) (all_sized ns world.replicas h) in
         let b = subst (λ n. AreBuilt n took targets reports (replicas_of ms)) same (built.builds took (all_stand_for ns world.replicas h) sized) in
         let builds : AreBuilds world asked (Some b.all) = same_builds world ns h asked targets b.all are b.are in
         let held = same_held world ns h asked targets are in
         let next : World = after_builds world asked (Some b.all) in
-        record {
+        let tells : Tells (Build asked) text world told ms = record {
           next = next;
           after = subst (λ z. AfterBy z (Build asked) text world next) (sym (row ∙ allowed)) (Some b.all, builds, refl);
           edition = refl;
@@ -111,4 +116,5 @@ module _ (asked : List (List ℕ × List ℕ)) (text : Option (List ℕ)) (world
                     (same_tests world ns h apart asked targets are)
                     (λ k o m e f. subst (λ E. numbered.StandsAfter targets (E ++ all_actions world.edition b.all) k o m) held (right.stand k o m e f)),
               );
-        }
+        } in
+        record { tells = tells; counted = kept b.all }

@@ -50,7 +50,7 @@ read_at name (n ∷ ns) (r ∷ rs) h = read_by name r rs (bytes_eq n.name.items 
 pub same_read : (name : List ℕ) (k : ℕ) (ns : List Named) (rs : List Replica) → AllStand ns rs → index_of name ns ≡ Some k → slice_get rs k ≡ replica_at name rs
 same_read name k ns rs h e = subst (ReadAt name rs) e (read_at name ns rs h)
 
-took_read : (rs : List Replica) (k : ℕ) → took_at (took_of rs) k ≡ took_by (or_new (slice_get rs k))
+pub took_read : (rs : List Replica) (k : ℕ) → took_at (took_of rs) k ≡ took_by (or_new (slice_get rs k))
 took_read [] k = refl
 took_read (r ∷ rs) zero = refl
 took_read (r ∷ rs) (suc k) = took_read rs k

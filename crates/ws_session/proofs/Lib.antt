@@ -2,14 +2,17 @@ pub mod Asked
 pub mod BuildTelling
 pub mod Building
 pub mod Bytes
+pub mod Counted
+pub mod CountedBuild
 pub mod Filed
 pub mod IdRows
 pub mod IdsTelling
+pub mod Joining
 pub mod Lines
+pub mod Merging
 pub mod Names
 pub mod OneText
 pub mod Programs
-pub mod Tested
 pub mod RunTelling
 pub mod Runs
 pub mod Settled
@@ -17,6 +20,8 @@ pub mod Settling
 pub mod Showing
 pub mod SomeText
 pub mod Standings
+pub mod Taken
 pub mod Telling
+pub mod Tested
 pub mod Utf8
 pub mod Writing

@@ -1,11 +1,9 @@
 -- Replicas of a session of which each takes what all hold.
 use Rattle.std.proofs.Common.{◌≡◌, ℕ, suc, List, [], ◌∷◌, ◌++◌, map, Option, None, refl, sym, ap, ◌∙◌, subst, length, Vec, Global}
 use Rattle.std.specs.List.{flat_map}
-use Rattle.std.proofs.lemmas.List.{length-map}
 use Rattle.ws_version.specs.Writes.{Write as AWrite}
 use Rattle.ws_action.specs.Actions.{Action}
 use Rattle.ws_action.specs.Clash.{AllSized}
-use Rattle.ws_replica.specs.Joins as joins
 use Rattle.ws_replica.specs.Holdings.{Took, AllStandFor, all_taken}
 use Rattle.ws_session.specs.declared.replicas.Named.{Named}
 use Rattle.ws_command.specs.Commands.{Settle}
@@ -13,11 +11,6 @@ use Rattle.ws_session.specs.World.{World, Replica, with_replicas, settled}
 use Rattle.ws_session.specs.Standing.{Stands, AllStand, Settles, labels_of, replicas_of}
 use Rattle.ws_session.proofs.Settling.{sized_both}
 use Rattle.ws_session.proofs.Tested.{none_sized}
-
--- a settled list is as long as it was
-pub settled_length : {J : Type 0} (f : J → J → J) (all : List J) → length (joins.settled f all) ≡ length all
-settled_length f [] = refl
-settled_length f (first ∷ rest) = length-map (first ∷ rest) (λ _. joins.joined_from f first rest)
 
 -- what replicas of the world took
 abbrev pub took_by : Replica → Took
@@ -97,12 +90,12 @@ same_named (n ∷ ns) (m ∷ ms) e f =
 
 -- each has its name and number, and stands for what all took
 pub settles : (text : Option (List ℕ)) (world : World) (ns ms : List Named) → labels_of ms ≡ labels_of ns
-    → ((took : List Took) → AllStandFor (replicas_of ns) took → AllStandFor (replicas_of ms) (map (λ _. all_taken took) took)) → AllStand ns world.replicas → Settles Settle text world None ms
+    → AllStandFor (replicas_of ms) (map (λ _. all_taken (took_of world.replicas)) (took_of world.replicas)) → AllStand ns world.replicas → Settles Settle text world None ms
 settles text world ns ms e stands h =
     let rs = world.replicas in
     let all = all_taken (took_of rs) in
     let sized = subst AllSized (sym (all_actions rs)) (all_sized ns rs h) in
-    let stand = all_stand all ns ms rs e h (stands (took_of rs) (all_stand_for ns rs h)) sized in
+    let stand = all_stand all ns ms rs e h stands sized in
     record {
       refuses = refl;
       next = with_replicas world (settled rs);

@@ -14,8 +14,8 @@ use Rattle.ws_command.specs.declared.refusal.Refusal.{Refusal}
 use Rattle.ws_command.specs.declared.refusal.Refusal.TheVariants.{BadCommand, Unknown, Exists, BadPath, CounterFull, BadText}
 use Rattle.ws_command.specs.Commands.{Command, Create, Write, Merge}
 use Rattle.ws_command.specs.Refusals.{first_of}
-use Rattle.ws_session.specs.World.{World, Replica, replica_at, or_new, knows, writes_of, actions_held, taking, grown, with_replicas, edit_of, refusals, is_text, is_path_word}
-use Rattle.ws_session.specs.Standing.{index_of, Stands, AllStand, Settles, ChangedAt, Edited, MergedFrom}
+use Rattle.ws_session.specs.World.{World, Replica, replica_at, or_new, knows, writes_of, taking, grown, with_replicas, edit_of, refusals, is_text, is_path_word}
+use Rattle.ws_session.specs.Standing.{index_of, Stands, AllStand, Settles, ChangedAt, Edited}
 use Rattle.ws_session.proofs.Standings.{found, not_found, same_length, stands_push}
 
 -- a refused command changes nothing
@@ -124,7 +124,7 @@ module _ (name path : List ℕ) (lines : ℕ) (text : Option (List ℕ)) (world 
 pub sized_both : (E F : List Action) → AllSized E → AllSized F → AllSized (E ++ F)
 sized_both E F h k a c = elim (Contains-append_cases E F a c) [ inl l ↦ h a l | inr r ↦ k a r ]
 
-merge_row : (a b : Bool) → a ≡ b → first_of ((not a, Unknown) ∷ []) ≡ cond (not b) (Some Unknown) None
+pub merge_row : (a b : Bool) → a ≡ b → first_of ((not a, Unknown) ∷ []) ≡ cond (not b) (Some Unknown) None
 merge_row a b e = ap (λ z. cond (not z) (Some Unknown) None) e
 
 module _ (name other : List ℕ) (text : Option (List ℕ)) (world : World) (ns : List Named) (h : AllStand ns world.replicas) where
@@ -135,29 +135,3 @@ module _ (name other : List ℕ) (text : Option (List ℕ)) (world : World) (ns 
     pub merge_other_unknown : index_of other ns ≡ None → Settles (Merge name other) text world (Some Unknown) ns
     merge_other_unknown f = refused_settles (Merge name other) text world Unknown ns
         (merge_row _ false (ap (λ z. z && knows other world) (knows_some name k world ns h e) ∙ knows_none other world ns h f)) h
-
-    pub merged : (j : ℕ) (ms : List Named) → index_of other ns ≡ Some j → ChangedAt (MergedFrom ns j) ns k ms → Settles (Merge name other) text world None ms
-    merged j ms d change =
-        let f = found name k ns world.replicas h e in
-        let g = found other j ns world.replicas h d in
-        let r = f.replica in
-        let s = f.stands f.one f.is in
-        let t = g.stands g.one g.is in
-        let took = change.so f.one f.is in
-        let writes : g.replica.writes ≡ writes_of other world = sym (ap (λ o. (or_new o).writes) g.at) in
-        let actions : g.replica.actions ≡ actions_held other world = sym (ap (λ o. (or_new o).actions) g.at) in
-        let stand : Stands change.changed (grown r (writes_of other world) (actions_held other world)) = record {
-          name = took.name ∙ s.name;
-          number = took.number ∙ s.number;
-          holds = subst (λ E. ReplicaStandsFor change.changed.replica (r.writes ++ writes_of other world) (r.actions ++ E)) actions
-              (subst (λ W. ReplicaStandsFor change.changed.replica (r.writes ++ W) (r.actions ++ g.replica.actions)) writes
-              (took.holds g.one g.is r.writes g.replica.writes r.actions g.replica.actions s.holds t.holds));
-          sized = subst (λ E. AllSized (r.actions ++ E)) actions (sized_both r.actions g.replica.actions s.sized t.sized);
-        } in
-        record {
-          refuses = merge_row _ true (ap (λ z. z && knows other world) (knows_some name k world ns h e) ∙ knows_some other j world ns h d);
-          next = with_replicas world (taking name (writes_of other world) (actions_held other world) world.replicas);
-          after = refl;
-          edition = refl;
-          stand = subst (λ z. AllStand z (taking name (writes_of other world) (actions_held other world) world.replicas)) (sym change.is) (f.grows change.changed (writes_of other world) (actions_held other world) stand);
-        }

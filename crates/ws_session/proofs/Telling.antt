@@ -13,8 +13,8 @@ use Rattle.go_text.specs.Editions.{edition_number}
 use Rattle.ws_session.specs.declared.replicas.Replicas.{Replicas}
 use Rattle.ws_command.specs.Commands.{Command, Nothing, Bad, Create, Write, Remove, Apply, Merge, Settle}
 use Rattle.ws_command.specs.Refusals.{first_of}
-use Rattle.ws_session.specs.World.{World, seeking, AfterBy, After, PrintsBy, Prints, hashed, texts_of_replica}
-use Rattle.ws_session.specs.Standing.{StandFor, AllStand, AreApart, names_in, Settles, Tells, told_of}
+use Rattle.ws_session.specs.World.{World, seeking, refusals, AfterBy, After, PrintsBy, Prints, hashed, texts_of_replica}
+use Rattle.ws_session.specs.Standing.{StandFor, AreCounted, AllStand, AreApart, names_in, Settles, Tells, told_of}
 use Rattle.ws_session.proofs.Names.{apart_after}
 
 -- what a command that prints no more than its refusal tells
@@ -27,6 +27,11 @@ settled_tells command text world refusal told ns prints e s = record {
   edition = s.edition;
   clear = λ _. (subst (λ r. PrintsBy r command world told) (sym s.refuses) (prints told e), s.stand);
 }
+
+-- the world after a command, by why it is refused
+pub after_by : (command : Command) (text : Option (List ℕ)) (world next : World) (refusal : Option Refusal) → first_of (refusals command text world) ≡ refusal → After command text world next → AfterBy refusal command text world next
+unfolding After
+after_by command text world next refusal e a = subst (λ r. AfterBy r command text world next) e a
 
 -- what is hashed for actions is hashed for these and more
 pub hashed_more : (actions more : List Action) (s : List ℕ) → Contains (hashed_actions actions) s → Contains (hashed_actions (actions ++ more)) s
@@ -91,13 +96,13 @@ pub bad_settles : (text : Option (List ℕ)) (world : World) (ns : List Named) �
 bad_settles text world ns h = record { refuses = refl; next = world; after = refl; edition = refl; stand = h }
 
 -- what a step owes, of a command that is what was asked
-pub stepped : (s : Replicas) (asked command : Command) (text : Option (List ℕ)) (world : World) (told : List ℕ) → asked ≡ command → edition_number s.edition ≡ world.edition → AreApart (names_in world) → Tells command text world told s.named.items
-    → (next : World) × After asked text world next × (NoClash (hashed next) → Prints asked text world told × StandFor s next)
-stepped s asked command text world told e same apart t = (
+pub stepped : (s : Replicas) (asked command : Command) (text : Option (List ℕ)) (world : World) (told : List ℕ) → asked ≡ command → edition_number s.edition ≡ world.edition → AreApart (names_in world)
+    → (t : Tells command text world told s.named.items) → AreCounted s.wrote s.compiled t.next → (next : World) × After asked text world next × (NoClash (hashed next) → Prints asked text world told × StandFor s next)
+stepped s asked command text world told e same apart t counted = (
   t.next,
   subst (λ k. After k text world t.next) (sym e) t.after,
   λ clear.
       let p = t.clear clear in
-      let stands : StandFor s t.next = record { edition = same ∙ sym t.edition; replicas = p.1; apart = apart_after command text world t.next t.after apart } in
+      let stands : StandFor s t.next = record { edition = same ∙ sym t.edition; replicas = p.1; apart = apart_after command text world t.next t.after apart; kept = counted } in
       (subst (λ k. Prints k text world told) (sym e) p.0, stands),
 )

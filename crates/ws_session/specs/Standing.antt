@@ -9,6 +9,10 @@ use Rattle.go_text.specs.Editions.{edition_number}
 use Rattle.ws_session.specs.declared.replicas.Named.{Named}
 use Rattle.ws_session.specs.declared.replicas.Replicas.{Replicas}
 use Rattle.ws_version.specs.Writes.{Write}
+use Rattle.ws_version_vector.specs.declared.vector.News.{News}
+use Rattle.ws_version_vector.specs.Counts.{counts_at, IsRaised, IsMost}
+use Rattle.ws_version_vector.specs.Counts as counted
+use Rattle.ws_version_vector.specs.Told.{AreKept, Brings}
 use Rattle.ws_register.specs.Sources.{top}
 use Rattle.ws_register.specs.Edits.{greatest_at, is_missing, removed}
 use Rattle.ws_action.specs.Actions.{Action}
@@ -60,10 +64,26 @@ AreApart (name ∷ names) = (¬ (Contains names name)) × AreApart names
 abbrev pub names_in : World → List (List ℕ)
 names_in world = map (λ r. r.name) world.replicas
 
+-- what each replica took, as a list
+abbrev pub writes_in : List Replica → List (List Write)
+writes_in rs = map (λ r. r.writes) rs
+
+abbrev pub actions_in : List Replica → List (List Action)
+actions_in rs = map (λ r. r.actions) rs
+
+-- The counts tell what each replica took of what was first taken at each. What was, no program keeps.
+abbrev pub AreCompiled : List (List ℕ) → World → Type 0
+AreCompiled compiled world = (lists : ℕ → List (List Action)) × AreKept lists compiled (actions_in world.replicas)
+
+pub record AreCounted (wrote compiled : List (List ℕ)) (world : World) : Type 0 where
+  pub writes : (lists : ℕ → List (List Write)) × AreKept lists wrote (writes_in world.replicas)
+  pub actions : AreCompiled compiled world
+
 pub record StandFor (s : Replicas) (world : World) : Type 0 where
   pub edition : edition_number s.edition ≡ world.edition
   pub replicas : AllStand s.named.items world.replicas
   pub apart : AreApart (names_in world)
+  pub kept : AreCounted s.wrote s.compiled world
 
 -- A command that prints no more than its refusal: the refusal is the definition's, and the replicas stand for the world after it.
 pub record Settles (command : Command) (text : Option (List ℕ)) (world : World) (refusal : Option Refusal) (named : List Named) : Type 0 where
@@ -84,6 +104,24 @@ pub record Tells (command : Command) (text : Option (List ℕ)) (world : World) 
   pub after : After command text world next
   pub edition : next.edition ≡ world.edition
   pub clear : NoClash (hashed next) → Prints command text world told × AllStand named next.replicas
+
+-- the same, where its actions are counted in the world after it
+pub record TellsCounted (command : Command) (text : Option (List ℕ)) (world : World) (told : List ℕ) (named : List Named) (compiled : List (List ℕ)) : Type 0 where
+  pub tells : Tells command text world told named
+  pub counted : AreCompiled compiled tells.next
+
+-- a write of the replica at an index was counted there, if there was one
+abbrev pub IsWriteCounted : Option Refusal → Option ℕ → List (List ℕ) → List (List ℕ) → Type 0
+IsWriteCounted (Some refusal) at old new = new ≡ old
+IsWriteCounted None None old new = new ≡ old
+IsWriteCounted None (Some k) old new = (counts : List ℕ) × IsRaised k (counts_at k old) counts × counted.ChangedAt k old new counts
+
+-- that the replica at an index took what that at another has was counted, if it did
+abbrev pub IsMergeCounted : Option Refusal → Option ℕ → Option ℕ → List (List ℕ) → List (List ℕ) → Type 0
+IsMergeCounted (Some refusal) mine theirs old new = new ≡ old
+IsMergeCounted None None theirs old new = new ≡ old
+IsMergeCounted None (Some k) None old new = new ≡ old
+IsMergeCounted None (Some k) (Some j) old new = (counts : List ℕ) × IsMost (counts_at k old) (counts_at j old) counts × counted.ChangedAt k old new counts
 
 -- one replica is changed so, and no other
 pub record ChangedAt (Change : Named → Named → Type 0) (old : List Named) (index : ℕ) (new : List Named) : Type 0 where
@@ -135,11 +173,11 @@ labels_of ns = map (λ n. (n.name, n.number)) ns
 abbrev pub replicas_of : List Named → List holdings.Replica
 replicas_of ns = map (λ n. n.replica) ns
 
--- it took what the replica at that index holds
-pub record MergedFrom (named : List Named) (theirs : ℕ) (old new : Named) : Type 0 where
+-- it took what the replica at that index holds, of which this is news
+pub record MergedFrom (writes results : News) (named : List Named) (theirs : ℕ) (old new : Named) : Type 0 where
   pub name : new.name.items ≡ old.name.items
   pub number : new.number ≡ old.number
-  pub holds : (other : Named) → other ≡ slice_index_or named theirs other → (V W : List Write) (E F : List Action)
+  pub holds : (other : Named) → other ≡ slice_index_or named theirs other → (V W : List Write) (E F : List Action) → Brings writes V W → Brings results E F
       → ReplicaStandsFor old.replica V E → ReplicaStandsFor other.replica W F → ReplicaStandsFor new.replica (V ++ W) (E ++ F)
 
 -- the words of what is asked to be built

@@ -1,7 +1,9 @@
 //! A session: the world that its commands make, and the replicas that stand for it.
 #![tactic(auto)]
 
+mod counting;
 pub mod law;
 pub mod replicas;
+mod taking;
 
 pub use ws_replica::{Gate, Plain};

@@ -1,5 +1,5 @@
 //! The replicas of a session: what each command does to them.
-ghost use Rattle.std.specs.Prelude.{◌≡◌, ◌≢◌, ◌<◌, ℕ, List, length, slice_index_or, vec_len, map, zip, true, false, IfOk, OnOk, OnErr, IfSome, MatchOption, Option, Some, None, Err};
+ghost use Rattle.std.specs.Prelude.{◌≡◌, ◌<◌, ℕ, List, length, slice_index_or, vec_len, map, zip, true, false, IfOk, OnOk, IfSome, MatchOption, Option, Some, None, Err};
 ghost use Rattle.std.specs.List.{All, flat_map};
 ghost use Rattle.std.specs.Option.{option_map};
 ghost use Rattle.ws_path.specs.Paths.{file_name};
@@ -12,12 +12,16 @@ ghost use Rattle.ws_replica.specs.Holdings.{ReplicaStandsFor};
 ghost use Rattle.ws_replica.specs.Builds.{target_of};
 ghost use Rattle.ws_report.specs.Reports.{id_row};
 ghost use Rattle.ws_path.specs.Paths.{is_path};
-ghost use Rattle.ws_session.specs.Standing.{StandFor, index_of, AllStand, Settles, Tells, told_of, ChangedAt, Edited, Removal, Applied, MergedFrom, asked_of, AreTargets, AreBuiltBy, AreApart, names_in, words_of, report_line, HasNoFilesAt, RanAt, AreIdsAt, replicas_of, labels_of, IsContent};
+ghost use Rattle.ws_session.specs.Standing.{StandFor, index_of, AllStand, Settles, Tells, told_of, ChangedAt, Edited, Removal, Applied, asked_of, AreTargets, AreBuiltBy, AreApart, names_in, words_of, report_line, HasNoFilesAt, RanAt, AreIdsAt, IsContent, AreCompiled, TellsCounted};
 ghost use Rattle.ws_session.specs.World.{World, opening, is_text, is_path_word, hashed, After, Prints};
 ghost use Rattle.ws_action.specs.Clash.{NoClash};
 ghost use Rattle.ws_command.specs.Seen.{seen};
-ghost use Rattle.ws_command.specs.Commands.{Create, Write, Remove, Apply, Merge, Settle, Build, Run, Ids, Show};
+ghost use Rattle.ws_command.specs.Commands.{Create, Write, Remove, Apply, Build, Run, Ids, Show};
 
+use crate::counting::{
+    apply_counted, count_build, merge_counted, remove_counted, settle_counted, write_counted,
+};
+use crate::taking::{parted, rejoined};
 use go_text::edition::Edition;
 use go_text::source::Source;
 use go_text::text::{Text, TextError};
@@ -31,10 +35,10 @@ use ws_command::printing::{ids_lines, report_lines, run_lines, show_lines};
 use ws_command::refusal::{Refusal, refused};
 use ws_path::{FilePath, file_name, is_path};
 use ws_register::EditError;
-use ws_replica::join::settle;
 use ws_replica::{BuildError, Gate, Replica, Target, build, ids, image};
 use ws_report::{IdLine, Report};
-use ws_version::{Held, Join, Version};
+use ws_version::{Held, Version};
+use ws_version_vector::Vectors;
 
 /// How many replicas a session may have.
 const MOST_REPLICAS: usize = 64;
@@ -42,21 +46,24 @@ const MOST_REPLICAS: usize = 64;
 /// A replica of a session, with its name and the number of its edits.
 #[derive(Drop)]
 pub struct Named {
-    name: Vec<u8>,
-    number: u32,
-    replica: Replica,
+    pub(crate) name: Vec<u8>,
+    pub(crate) number: u32,
+    pub(crate) replica: Replica,
 }
 
-/// The replicas of a session in order of creation, and the edition in which they build.
+/// The replicas of a session in order of creation, the edition in which they build, and how much
+/// each took of what was first written, and of what was first compiled, at each.
 #[derive(Drop)]
 pub struct Replicas {
     alloc: Global,
     edition: Edition,
     named: Vec<Named>,
+    wrote: Vectors,
+    compiled: Vectors,
 }
 
 /// Where the replica of that name stands.
-fn index_of(named: &[Named], name: &[u8]) -> Option<usize>
+pub(crate) fn index_of(named: &[Named], name: &[u8]) -> Option<usize>
     ensures value { result ≡ index_of name.now named.now }
     ensures within { IfSome result (λ index. index < length named.now) }
 {
@@ -158,26 +165,8 @@ fn edit_at(
     }
 }
 
-/// The replica at an index takes what the replica at another holds.
-fn merge_at(
-    alloc: Global,
-    named: &mut Vec<Named>,
-    mine: usize,
-    theirs: usize,
-) -> Result<(), AllocError>
-    requires mine { mine < vec_len named.old }
-    requires theirs { theirs < vec_len named.old }
-    requires others { mine ≢ theirs }
-    ensures { OnOk result (ChangedAt (MergedFrom named.old.items theirs) named.old.items mine named.new.items) }
-{
-    let mut one = mem::replace(&mut named[mine].replica, Replica::new(alloc));
-    let merged = one.merge(&named[theirs].replica);
-    named[mine].replica = one;
-    merged
-}
-
 /// A write of a text to a path by the replica of that name.
-fn write(
+pub(crate) fn write(
     alloc: Global,
     named: &mut Vec<Named>,
     name: &[u8],
@@ -200,16 +189,6 @@ fn write(
     };
     edit_at(alloc, named, index, path, source)?;
     Ok(None)
-}
-
-/// The replica at an index takes what it holds.
-fn merge_itself(named: &mut Vec<Named>, index: usize) -> Result<(), AllocError>
-    requires { index < vec_len named.old }
-    ensures { OnOk result (ChangedAt (MergedFrom named.old.items index) named.old.items index named.new.items) }
-{
-    let other = named[index].replica.copy()?;
-    let one = &mut named[index];
-    one.replica.merge(&other)
 }
 
 /// The replica at an index removes the file at a path; or why it doesn't.
@@ -236,7 +215,7 @@ fn remove_at(
 }
 
 /// A removal of the file at a path by the replica of that name.
-fn remove(
+pub(crate) fn remove(
     alloc: Global,
     named: &mut Vec<Named>,
     name: &[u8],
@@ -287,7 +266,7 @@ fn content_of(
 }
 
 /// The replica of that name takes a write that another may have made.
-fn apply(
+pub(crate) fn apply(
     alloc: Global,
     named: &mut Vec<Named>,
     name: &[u8],
@@ -322,90 +301,6 @@ fn show(alloc: Global, named: &Vec<Named>, name: &[u8]) -> Result<Vec<u8>, Alloc
     };
     let writes = named[index].replica.writes()?;
     show_lines(alloc, name, writes.as_slice())
-}
-
-/// The names and numbers of replicas, and the replicas, each in its order.
-fn parted(
-    alloc: Global,
-    named: Vec<Named>,
-) -> Result<(Vec<(Vec<u8>, u32)>, Vec<Replica>), AllocError>
-    ensures labels { IfOk result (λ parts. parts.0.items ≡ labels_of named.items) }
-    ensures replicas { IfOk result (λ parts. parts.1.items ≡ replicas_of named.items) }
-{
-    let mut labels = Vec::new(alloc);
-    let mut replicas = Vec::new(alloc);
-    for one in named {
-        let Named {
-            name,
-            number,
-            replica,
-        } = one;
-        labels.push((name, number))?;
-        replicas.push(replica)?;
-    }
-    Ok((labels, replicas))
-}
-
-/// Replicas with their names and numbers again.
-fn rejoined(
-    alloc: Global,
-    labels: Vec<(Vec<u8>, u32)>,
-    replicas: Vec<Replica>,
-) -> Result<Vec<Named>, AllocError>
-    requires { vec_len labels ≡ vec_len replicas }
-    ensures labels { IfOk result (λ named. labels_of named.items ≡ labels.items) }
-    ensures replicas { IfOk result (λ named. replicas_of named.items ≡ replicas.items) }
-{
-    let mut named = Vec::new(alloc);
-    let mut labels = labels.into_iter();
-    for replica in replicas {
-        let Some((name, number)) = labels.next() else {
-            unreachable!();
-        };
-        named.push(Named {
-            name,
-            number,
-            replica,
-        })?;
-    }
-    Ok(named)
-}
-
-/// Every replica takes what all hold.
-fn settle_all<R: Threads + Sync>(
-    rt: &R,
-    alloc: Global,
-    named: &mut Vec<Named>,
-) -> Result<(), AllocError>
-    ensures { OnOk result ((text : Option (List ℕ)) (world : World) → AllStand named.old.items world.replicas → Settles Settle text world None named.new.items) }
-{
-    let (labels, mut replicas) = parted(alloc, mem::replace(named, Vec::new(alloc)))?;
-    settle(rt, alloc, replicas.as_mut_slice())?;
-    *named = rejoined(alloc, labels, replicas)?;
-    Ok(())
-}
-
-/// The replica of one name takes what that of the other holds.
-fn merge(
-    alloc: Global,
-    named: &mut Vec<Named>,
-    name: &[u8],
-    other: &[u8],
-) -> Result<Option<Refusal>, AllocError>
-    ensures { IfOk result (λ refusal. (text : Option (List ℕ)) (world : World) → AllStand named.old.items world.replicas → Settles (Merge name.now other.now) text world refusal named.new.items) }
-{
-    let Some(mine) = index_of(named.as_slice(), name) else {
-        return Ok(Some(Refusal::Unknown));
-    };
-    let Some(theirs) = index_of(named.as_slice(), other) else {
-        return Ok(Some(Refusal::Unknown));
-    };
-    if mine == theirs {
-        merge_itself(named, mine)?;
-    } else {
-        merge_at(alloc, named, mine, theirs)?;
-    }
-    Ok(None)
 }
 
 /// What is asked to be built, by the numbers of the replicas; or why it isn't.
@@ -493,10 +388,12 @@ fn build_targets<R: Threads + Wait + Sync, G: Gate>(
     workers: u64,
     gate: &G,
     named: &mut Vec<Named>,
+    compiled: &mut Vectors,
     asked: &[(&[u8], &[u8])],
 ) -> Result<Vec<u8>, AllocError>
     requires { 0 < workers }
-    ensures { IfOk result (λ told. (text : Option (List ℕ)) (world : World) → edition_number edition ≡ world.edition → AllStand named.old.items world.replicas → AreApart (names_in world) → Tells (Build (map asked_of asked.now)) text world told.items named.new.items) }
+    ensures { IfOk result (λ told. (text : Option (List ℕ)) (world : World) → edition_number edition ≡ world.edition → AllStand named.old.items world.replicas → AreApart (names_in world)
+        → AreCompiled compiled.old world → TellsCounted (Build (map asked_of asked.now)) text world told.items named.new.items compiled.new) }
 {
     let targets = match targets_of(alloc, named.as_slice(), asked)? {
         Ok(targets) => targets,
@@ -505,12 +402,15 @@ fn build_targets<R: Threads + Wait + Sync, G: Gate>(
     let reports = build_all(rt, alloc, edition, workers, gate, named, targets.as_slice())?;
     match reports {
         None => refused(alloc, Refusal::NoPackage),
-        Some(reports) => all_lines(
-            alloc,
-            named.as_slice(),
-            targets.as_slice(),
-            reports.as_slice(),
-        ),
+        Some(reports) => {
+            count_build(alloc, compiled, targets.as_slice())?;
+            all_lines(
+                alloc,
+                named.as_slice(),
+                targets.as_slice(),
+                reports.as_slice(),
+            )
+        }
     }
 }
 
@@ -626,6 +526,8 @@ impl Replicas {
             alloc,
             edition,
             named: Vec::new(alloc),
+            wrote: Vectors::new(alloc),
+            compiled: Vectors::new(alloc),
         }
     }
 
@@ -657,11 +559,18 @@ impl Replicas {
                 told(alloc, refusal)
             }
             Asked::Write(name, path, _) => {
-                let refusal = write(alloc, &mut self.named, name, path, text)?;
+                let refusal = write_counted(
+                    alloc,
+                    &mut self.named,
+                    &mut self.wrote,
+                    name,
+                    path,
+                    text,
+                )?;
                 told(alloc, refusal)
             }
             Asked::Remove(name, path) => {
-                let refusal = remove(alloc, &mut self.named, name, path)?;
+                let refusal = remove_counted(alloc, &mut self.named, &mut self.wrote, name, path)?;
                 told(alloc, refusal)
             }
             Asked::Apply {
@@ -675,16 +584,38 @@ impl Replicas {
                     counter: *counter,
                     number: *number,
                 };
-                let refusal = apply(alloc, &mut self.named, name, path, version, *lines, text)?;
+                let refusal = apply_counted(
+                    alloc,
+                    &mut self.named,
+                    &mut self.wrote,
+                    name,
+                    path,
+                    version,
+                    *lines,
+                    text,
+                )?;
                 told(alloc, refusal)
             }
             Asked::Settle => {
-                settle_all(rt, alloc, &mut self.named)?;
+                settle_counted(
+                    rt,
+                    alloc,
+                    &mut self.named,
+                    &mut self.wrote,
+                    &mut self.compiled,
+                )?;
                 told(alloc, None)
             }
             Asked::Show(name) => show(alloc, &self.named, name),
             Asked::Merge(name, other) => {
-                let refusal = merge(alloc, &mut self.named, name, other)?;
+                let refusal = merge_counted(
+                    alloc,
+                    &mut self.named,
+                    &mut self.wrote,
+                    &mut self.compiled,
+                    name,
+                    other,
+                )?;
                 told(alloc, refusal)
             }
             Asked::Build(targets) => {
@@ -695,6 +626,7 @@ impl Replicas {
                     workers,
                     gate,
                     &mut self.named,
+                    &mut self.compiled,
                     targets.as_slice(),
                 )
             }

@@ -8,18 +8,20 @@ use Rattle.ws_replica.specs.declared.building.Target.{Target}
 use Rattle.ws_report.specs.declared.Report.{Report}
 use Rattle.ws_command.specs.Commands.{Build}
 use Rattle.ws_session.specs.declared.replicas.Named.{Named}
-use Rattle.ws_session.specs.Standing.{asked_of, AreTargets, AreBuiltBy, Built, words_of, report_line, Tells}
+use Rattle.ws_session.specs.Standing.{asked_of, AreTargets, AreBuiltBy, Built, words_of, report_line, TellsCounted}
 use Rattle.ws_session.proofs.Building.{targets_within, words_are}
 use Rattle.ws_session.proofs.BuildTelling.{build_refused, build_lacks, build_told}
+use Rattle.ws_session.proofs.CountedBuild.{build_counted, numbers_of}
 use Rattle.ws_session.proofs.Settled.{labels_length}
+use Rattle.ws_version_vector.specs.Counts.{AreRaisedAndShared}
 use Rattle.ws_session.proofs.Standings.{if_ok_map}
 use Rattle.ws_session.proofs.replicas.build_targets.Goals as goal
 
 pub returns-in-Err : goal.returns-in-Err
-returns-in-Err g c = if_ok_map c.refused.result (λ told t text world same h apart.
+returns-in-Err g c = if_ok_map c.refused.result (λ told t text world same h apart kept.
     let row = subst (λ (ns : List Named). AreTargets ns (map asked_of c.args.asked.now) (Err c.in-Err.refusal)) c.as_slice.ensures.value
     (subst (AreTargets c.as_slice.result.now (map asked_of c.args.asked.now)) c.in-Err.is c.in_ok-targets.ensures) in
-    build_refused (map asked_of c.args.asked.now) text world c.args.named.now.items h c.in-Err.refusal told.items row t) c.refused.ensures
+    build_refused (map asked_of c.args.asked.now) text world c.args.named.now.items h c.in-Err.refusal told.items c.args.compiled.now row t kept) c.refused.ensures
 
 pub build_all-requires-clause-within : goal.build_all-requires-clause-within
 build_all-requires-clause-within g c κs within =
@@ -31,14 +33,14 @@ build_all-requires-clause-within g c κs within =
     (targets_within ns (map asked_of c.args.asked.now) c.in-Ok.targets.items are.1))
 
 pub returns-in-None : goal.returns-in-None
-returns-in-None g c = if_ok_map c.refused-in-None.result (λ told t text world same h apart.
+returns-in-None g c = if_ok_map c.refused-in-None.result (λ told t text world same h apart kept.
     let asked : List (List ℕ × List ℕ) = map asked_of c.args.asked.now in
     let ns : List Named = c.args.named.now.items in
     let are = subst (λ (ms : List Named). AreTargets ms asked (Ok c.in-Ok.targets)) c.as_slice.ensures.value (subst (AreTargets c.as_slice.result.now asked) c.in-Ok.is c.in_ok-targets.ensures) in
     let built = subst (λ (ts : List Target). AreBuiltBy (edition_number c.args.edition) (map target_of ts) ns None c.build_all.new.named.items) c.as_slice-2.ensures.value
     (subst (λ r. AreBuiltBy (edition_number c.args.edition) (map target_of c.as_slice-2.result.now) ns r c.build_all.new.named.items) c.in-None.is c.in_ok-reports.ensures) in
-    subst (λ ms. Tells (Build asked) text world told.items ms) (sym built.0)
-    (build_lacks asked text world ns h (map target_of c.in-Ok.targets.items) are.0 are.1 (edition_number c.args.edition) told.items same t built.1)) c.refused-in-None.ensures
+    subst (λ ms. TellsCounted (Build asked) text world told.items ms c.args.compiled.now) (sym built.0)
+    (build_lacks asked text world ns h (map target_of c.in-Ok.targets.items) are.0 are.1 (edition_number c.args.edition) told.items c.args.compiled.now same t built.1 kept)) c.refused-in-None.ensures
 
 pub all_lines-requires : goal.all_lines-requires
 all_lines-requires g c =
@@ -46,13 +48,13 @@ all_lines-requires g c =
     let asked : List (List ℕ × List ℕ) = map asked_of c.args.asked.now in
     let are = subst (λ (ms : List Named). AreTargets ms asked (Ok c.in-Ok.targets)) c.as_slice.ensures.value (subst (AreTargets c.as_slice.result.now asked) c.in-Ok.is c.in_ok-targets.ensures) in
     let built = subst (λ r. AreBuiltBy (edition_number c.args.edition) (map target_of c.as_slice-2.result.now) ns r c.build_all.new.named.items) c.in-Some.is c.in_ok-reports.ensures in
-    let kept : length c.as_slice-in-Some.result.now ≡ length ns = ap (λ (ms : List Named). length ms) c.as_slice-in-Some.ensures.value ∙ labels_length ns c.build_all.new.named.items built.labels in
-    subst (λ (ts : List Target). All (λ t. t.replica < length c.as_slice-in-Some.result.now) ts) (sym c.as_slice-in-Some-2.ensures.value)
-    (All-weaker (λ (t : Target). t.replica < length ns) (λ t. t.replica < length c.as_slice-in-Some.result.now) (λ t lt. omega (arith, lt, kept)) c.in-Ok.targets.items
+    let kept : length c.as_slice-in-Some-2.result.now ≡ length ns = ap (λ (ms : List Named). length ms) c.as_slice-in-Some-2.ensures.value ∙ labels_length ns c.build_all.new.named.items built.labels in
+    subst (λ (ts : List Target). All (λ t. t.replica < length c.as_slice-in-Some-2.result.now) ts) (sym c.as_slice-in-Some-3.ensures.value)
+    (All-weaker (λ (t : Target). t.replica < length ns) (λ t. t.replica < length c.as_slice-in-Some-2.result.now) (λ t lt. omega (arith, lt, kept)) c.in-Ok.targets.items
     (targets_within ns asked c.in-Ok.targets.items are.1))
 
 pub returns : goal.returns
-returns g c = if_ok_map c.all_lines.result (λ told t text world same h apart.
+returns g c = if_ok_map c.all_lines.result (λ told t text world same h apart kept.
     let asked : List (List ℕ × List ℕ) = map asked_of c.args.asked.now in
     let ns : List Named = c.args.named.now.items in
     let ms : List Named = c.build_all.new.named.items in
@@ -61,9 +63,11 @@ returns g c = if_ok_map c.all_lines.result (λ told t text world same h apart.
     let are = subst (λ (ms : List Named). AreTargets ms asked (Ok c.in-Ok.targets)) c.as_slice.ensures.value (subst (AreTargets c.as_slice.result.now asked) c.in-Ok.is c.in_ok-targets.ensures) in
     let built = subst (λ (ts : List Target). Built (edition_number c.args.edition) (map target_of ts) reports ns ms) c.as_slice-2.ensures.value
     (subst (λ r. AreBuiltBy (edition_number c.args.edition) (map target_of c.as_slice-2.result.now) ns r ms) c.in-Some.is c.in_ok-reports.ensures) in
+    let counts = subst (λ (ts : List Target). AreRaisedAndShared (numbers_of ts) c.args.compiled.now c.count_build.new.compiled) c.as_slice-in-Some.ensures.value c.in_ok-count_build-in-Some.ensures in
     let printed : told.items ≡ flat_map report_line (zip asked reports) =
-    t ∙ ap (λ zs. flat_map report_line (zip (map (words_of zs) (map target_of c.as_slice-in-Some-2.result.now)) c.as_slice-in-Some-3.result.now)) c.as_slice-in-Some.ensures.value
-    ∙ ap (λ (ts : List Target). flat_map report_line (zip (map (words_of ms) (map target_of ts)) c.as_slice-in-Some-3.result.now)) c.as_slice-in-Some-2.ensures.value
-    ∙ ap (λ rs. flat_map report_line (zip (map (words_of ms) targets) rs)) c.as_slice-in-Some-3.ensures.value
+    t ∙ ap (λ zs. flat_map report_line (zip (map (words_of zs) (map target_of c.as_slice-in-Some-3.result.now)) c.as_slice-in-Some-4.result.now)) c.as_slice-in-Some-2.ensures.value
+    ∙ ap (λ (ts : List Target). flat_map report_line (zip (map (words_of ms) (map target_of ts)) c.as_slice-in-Some-4.result.now)) c.as_slice-in-Some-3.ensures.value
+    ∙ ap (λ rs. flat_map report_line (zip (map (words_of ms) targets) rs)) c.as_slice-in-Some-4.ensures.value
     ∙ ap (λ zs. flat_map report_line (zip zs reports)) (words_are ns ms built.labels asked targets are.1) in
-    build_told asked text world ns h targets are.0 are.1 apart (edition_number c.args.edition) reports told.items ms same printed built) c.all_lines.ensures
+    build_told asked text world ns h targets are.0 are.1 apart (edition_number c.args.edition) reports told.items ms c.count_build.new.compiled same printed built
+    (λ all. build_counted asked c.in-Ok.targets.items world ns h apart are.1 all c.args.compiled.now c.count_build.new.compiled counts kept)) c.all_lines.ensures

@@ -1,0 +1,251 @@
+-- The counts tell what each replica took, after each command too.
+use Rattle.std.proofs.Common.{◌≡◌, ◌+◌, ℕ, List, [], ◌∷◌, ◌++◌, map, length, Option, None, Some, true, false, Bool, refl, sym, ap, ◌∙◌, subst, inl, inr, arith, append-nil}
+use Rattle.std.specs.Prelude.{◌≢◌, unwrap_or, is_some}
+use Rattle.std.specs.List.{Contains, flat_map}
+use Rattle.std.proofs.lemmas.Bool.{cases_eq, cases_lt}
+use Rattle.ws_version.specs.Writes.{Write as AWrite}
+use Rattle.ws_action.specs.Actions.{Action}
+use Rattle.ws_version_vector.specs.Counts.{AreShared, AreFirst, is_among}
+use Rattle.ws_version_vector.specs.Told.{AreKept, took_at}
+use Rattle.ws_version_vector.proofs.Told.{grown as with_batch}
+use Rattle.ws_version_vector.proofs.Kept.{same_kept, raised_kept, merged_kept, shared_kept, none_kept, AnyTook}
+use Rattle.ws_command.specs.declared.refusal.Refusal.{Refusal}
+use Rattle.ws_command.specs.Commands.{Nothing, Bad, Create, Write, Remove, Apply, Merge, Settle, Run, Ids, Show}
+use Rattle.ws_session.specs.declared.replicas.Named.{Named}
+use Rattle.ws_session.specs.World.{World, Replica, opening, taking, edit_of, removal_of, content_in, settled, writes_of, actions_held, AfterBy, After, refusals}
+use Rattle.ws_command.specs.Refusals.{first_of}
+use Rattle.ws_session.specs.Standing.{index_of, AllStand, AreCounted, writes_in, actions_in, IsWriteCounted, IsMergeCounted}
+use Rattle.ws_session.proofs.Standings.{same_length}
+use Rattle.ws_session.proofs.Taken.{TakenBy, taken_at, ReadsBy, reads_at, from_all, into_all, beyond, all_alike, beyond_alike, pushed}
+
+pub opening_counted : (edition : ℕ) → AreCounted [] [] (opening edition)
+opening_counted edition = record { writes = (λ _. [], none_kept); actions = (λ _. [], none_kept) }
+
+-- nothing was taken
+pub same_counted : (wrote compiled : List (List ℕ)) (world next : World) → next.replicas ≡ world.replicas → AreCounted wrote compiled world → AreCounted wrote compiled next
+same_counted wrote compiled world next e h = record {
+  writes = subst (λ rs. (lists : ℕ → List (List AWrite)) × AreKept lists wrote (writes_in rs)) (sym e) h.writes;
+  actions = subst (λ rs. (lists : ℕ → List (List Action)) × AreKept lists compiled (actions_in rs)) (sym e) h.actions;
+}
+
+-- ---- a write
+
+abbrev pub WriteTaken : Option Refusal → Option ℕ → AWrite → World → World → Type 0
+WriteTaken None o w world next = TakenBy o (w ∷ []) [] world.replicas next.replicas
+WriteTaken (Some refusal) o w world next = next.replicas ≡ world.replicas
+
+nothing_more : {A : Type 0} (k : ℕ) (old new : List (List A)) → took_at k new ≡ took_at k old ++ [] → ((j : ℕ) → j ≢ k → took_at j new ≡ took_at j old) → (j : ℕ) → took_at j new ≡ took_at j old
+nothing_more k old new here others j = elim (cases_eq j k) [
+  | inl e ↦ subst (λ z. took_at z new ≡ took_at z old) (sym e) (here ∙ append-nil (took_at k old))
+  | inr ne ↦ others j ne
+]
+
+pub write_counted : (refusal : Option Refusal) (o : Option ℕ) (w : AWrite) (world next : World) (wrote new compiled : List (List ℕ)) → WriteTaken refusal o w world next → IsWriteCounted refusal o wrote new
+    → AreCounted wrote compiled world → AreCounted new compiled next
+write_counted (Some refusal) o w world next wrote new compiled t e h = subst (λ z. AreCounted z compiled next) (sym e) (same_counted wrote compiled world next t h)
+write_counted None None w world next wrote new compiled t e h = subst (λ z. AreCounted z compiled next) (sym e) (same_counted wrote compiled world next t h)
+write_counted None (Some k) w world next wrote new compiled t e h =
+    let writes = h.writes in
+    let actions = h.actions in
+    record {
+      writes = (with_batch writes.0 k (w ∷ []), raised_kept writes.0 k (w ∷ []) wrote new e.0 (writes_in world.replicas) (writes_in next.replicas) writes.1 e.1 e.2 t.writes t.other_writes);
+      actions = (actions.0, same_kept actions.0 compiled (actions_in world.replicas) (actions_in next.replicas) (nothing_more k (actions_in world.replicas) (actions_in next.replicas) t.actions t.other_actions) actions.1);
+    }
+
+-- the write that a command is
+module _ (text : Option (List ℕ)) (world next : World) (ns : List Named) (h : AllStand ns world.replicas) where
+  by_taking : (name : List ℕ) (w : AWrite) → next.replicas ≡ taking name (w ∷ []) [] world.replicas → TakenBy (index_of name ns) (w ∷ []) [] world.replicas next.replicas
+  by_taking name w e = subst (λ z. TakenBy (index_of name ns) (w ∷ []) [] world.replicas z) (sym e) (taken_at name (w ∷ []) [] ns world.replicas h)
+
+  pub after_write : (name path : List ℕ) (lines : ℕ) (refusal : Option Refusal) → AfterBy refusal (Write name path lines) text world next → WriteTaken refusal (index_of name ns) (edit_of name path (unwrap_or text []) world) world next
+  after_write name path lines None e = by_taking name (edit_of name path (unwrap_or text []) world) (ap (λ z. z.replicas) e)
+  after_write name path lines (Some refusal) e = ap (λ z. z.replicas) e
+
+  pub after_remove : (name path : List ℕ) (refusal : Option Refusal) → AfterBy refusal (Remove name path) text world next → WriteTaken refusal (index_of name ns) (removal_of name path world) world next
+  after_remove name path None e = by_taking name (removal_of name path world) (ap (λ z. z.replicas) e)
+  after_remove name path (Some refusal) e = ap (λ z. z.replicas) e
+
+  pub after_apply : (name path : List ℕ) (counter number : ℕ) (lines : Option ℕ) (refusal : Option Refusal) → AfterBy refusal (Apply name path counter number lines) text world next
+      → WriteTaken refusal (index_of name ns) (path, record { counter = counter; number = number; text = content_in lines text }) world next
+  after_apply name path counter number lines None e = by_taking name (path, record { counter = counter; number = number; text = content_in lines text }) (ap (λ z. z.replicas) e)
+  after_apply name path counter number lines (Some refusal) e = ap (λ z. z.replicas) e
+
+-- ---- a merge
+
+merged_both : (o : Option ℕ) (k : ℕ) (W : List AWrite) (E : List Action) (other : List ℕ) (world next : World) (wrote new compiled built : List (List ℕ)) → TakenBy (Some k) (writes_of other world) (actions_held other world) world.replicas next.replicas
+    → ReadsBy other world o → IsMergeCounted None (Some k) o wrote new → IsMergeCounted None (Some k) o compiled built → AreCounted wrote compiled world → AreCounted new built next
+merged_both None k W E other world next wrote new compiled built t reads e f h =
+    let writes = h.writes in
+    let actions = h.actions in
+    let nothing_written : took_at k (writes_in next.replicas) ≡ took_at k (writes_in world.replicas) ++ [] = t.writes ∙ ap (λ V. took_at k (writes_in world.replicas) ++ V) reads.0 in
+    let nothing_built : took_at k (actions_in next.replicas) ≡ took_at k (actions_in world.replicas) ++ [] = t.actions ∙ ap (λ V. took_at k (actions_in world.replicas) ++ V) reads.1 in
+    record {
+      writes = (
+        writes.0,
+        subst (λ z. AreKept writes.0 z (writes_in next.replicas)) (sym e)
+            (same_kept writes.0 wrote (writes_in world.replicas) (writes_in next.replicas) (nothing_more k (writes_in world.replicas) (writes_in next.replicas) nothing_written t.other_writes) writes.1),
+      );
+      actions = (
+        actions.0,
+        subst (λ z. AreKept actions.0 z (actions_in next.replicas)) (sym f)
+            (same_kept actions.0 compiled (actions_in world.replicas) (actions_in next.replicas) (nothing_more k (actions_in world.replicas) (actions_in next.replicas) nothing_built t.other_actions) actions.1),
+      );
+    }
+merged_both (Some j) k W E other world next wrote new compiled built t reads e f h =
+    let writes = h.writes in
+    let actions = h.actions in
+    record {
+      writes = (writes.0, merged_kept writes.0 k j wrote new e.0 (writes_in world.replicas) (writes_in next.replicas) writes.1 e.1 e.2 (t.writes ∙ ap (λ V. took_at k (writes_in world.replicas) ++ V) reads.0) t.other_writes);
+      actions = (actions.0, merged_kept actions.0 k j compiled built f.0 (actions_in world.replicas) (actions_in next.replicas) actions.1 f.1 f.2 (t.actions ∙ ap (λ V. took_at k (actions_in world.replicas) ++ V) reads.1) t.other_actions);
+    }
+
+merge_taken : (o p : Option ℕ) (other : List ℕ) (world next : World) (wrote new compiled built : List (List ℕ)) → TakenBy o (writes_of other world) (actions_held other world) world.replicas next.replicas
+    → ReadsBy other world p → IsMergeCounted None o p wrote new → IsMergeCounted None o p compiled built → AreCounted wrote compiled world → AreCounted new built next
+merge_taken None p other world next wrote new compiled built t reads e f h =
+    subst (λ z. AreCounted z built next) (sym e) (subst (λ z. AreCounted wrote z next) (sym f) (same_counted wrote compiled world next t h))
+merge_taken (Some k) p other world next wrote new compiled built t reads e f h = merged_both p k [] [] other world next wrote new compiled built t reads e f h
+
+pub merge_counted : (refusal : Option Refusal) (name other : List ℕ) (text : Option (List ℕ)) (world next : World) (ns : List Named) (wrote new compiled built : List (List ℕ)) → AllStand ns world.replicas
+    → AfterBy refusal (Merge name other) text world next → IsMergeCounted refusal (index_of name ns) (index_of other ns) wrote new → IsMergeCounted refusal (index_of name ns) (index_of other ns) compiled built
+    → AreCounted wrote compiled world → AreCounted new built next
+merge_counted (Some refusal) name other text world next ns wrote new compiled built s a e f h =
+    subst (λ z. AreCounted z built next) (sym e) (subst (λ z. AreCounted wrote z next) (sym f) (same_counted wrote compiled world next (ap (λ z. z.replicas) a) h))
+merge_counted None name other text world next ns wrote new compiled built s a e f h =
+    let taken : TakenBy (index_of name ns) (writes_of other world) (actions_held other world) world.replicas next.replicas =
+    subst (λ z. TakenBy (index_of name ns) (writes_of other world) (actions_held other world) world.replicas z) (sym (ap (λ z. z.replicas) a)) (taken_at name (writes_of other world) (actions_held other world) ns world.replicas s) in
+    merge_taken (index_of name ns) (index_of other ns) other world next wrote new compiled built taken (reads_at other world ns s) e f h
+
+-- ---- a settle
+
+false_true : (b : Bool) → b ≡ false → b ≡ true → ⊥
+false_true true e f = cc
+false_true false e f = cc
+
+module _ {A : Type 0} (f : Replica → List A) (rs : List Replica) (n : ℕ) (many : n ≡ length rs) (ks : List ℕ) (first : AreFirst n ks) where
+  any_of : (W : List A) → W ≡ flat_map f rs → (a : A) → Contains W a → AnyTook ks (map f rs) a
+  any_of W e a c =
+      let one = from_all f rs a (subst (λ (z : List A). Contains z a) e c) in
+      let lt = one.1 in
+      (one.0, (first one.0).0 (omega (arith, lt, many)), one.2)
+
+  of_any : (W : List A) → W ≡ flat_map f rs → (a : A) → AnyTook ks (map f rs) a → Contains W a
+  of_any W e a t = subst (λ (z : List A). Contains z a) (sym e) (into_all f rs t.0 a t.2)
+
+  module _ (g : Replica → Replica) (alike : (r : Replica) → f (g r) ≡ flat_map f rs) (lists : ℕ → List (List A)) (all new : List (List ℕ)) (h : AreKept lists all (map f rs)) (s : AreShared ks all new) where
+    here : (k : ℕ) → is_among k ks ≡ true → took_at k (map f (map g rs)) ≡ flat_map f rs
+    here k among = let lt = (first k).1 among in all_alike f g (flat_map f rs) alike rs k (omega (arith, lt, many))
+
+    there : (k : ℕ) → is_among k ks ≡ false → took_at k (map f (map g rs)) ≡ took_at k (map f rs)
+    there k out = elim (cases_lt k n) [
+      | inl lt ↦ absurd (false_true (is_among k ks) out ((first k).0 lt))
+      | inr ge ↦ beyond_alike f g rs k (omega (arith, ge, many)) ∙ sym (beyond f rs k (omega (arith, ge, many)))
+    ]
+
+    pub all_share_kept : AreKept lists new (map f (map g rs))
+    all_share_kept = shared_kept lists ks all new (map f rs) (map f (map g rs)) h s
+        (λ k among. any_of (took_at k (map f (map g rs))) (here k among)) (λ k among. of_any (took_at k (map f (map g rs))) (here k among)) there
+
+settled_kept : {A : Type 0} (f : Replica → List A) (g : Replica → Replica) (rs : List Replica) (n : ℕ) → n ≡ length rs → ((r : Replica) → f (g r) ≡ flat_map f rs)
+    → (all new : List (List ℕ)) → (ks : List ℕ) × AreFirst n ks × AreShared ks all new → (lists : ℕ → List (List A)) × AreKept lists all (map f rs) → (lists : ℕ → List (List A)) × AreKept lists new (map f (map g rs))
+settled_kept f g rs n many alike all new s h = (h.0, all_share_kept f rs n many s.0 s.1 g alike h.0 all new h.1 s.2)
+
+pub settle_counted : (text : Option (List ℕ)) (world next : World) (ns : List Named) (n : ℕ) (wrote new compiled built : List (List ℕ)) → AllStand ns world.replicas → n ≡ length ns → AfterBy None Settle text world next
+    → (ks : List ℕ) × AreFirst n ks × AreShared ks wrote new → (ks : List ℕ) × AreFirst n ks × AreShared ks compiled built → AreCounted wrote compiled world → AreCounted new built next
+settle_counted text world next ns n wrote new compiled built s many a e f h =
+    let rs = world.replicas in
+    let all : Replica → Replica = λ r. record { name = r.name; number = r.number; writes = flat_map (λ s. s.writes) rs; actions = flat_map (λ s. s.actions) rs } in
+    let length_is : n ≡ length rs = many ∙ same_length ns rs s in
+    same_counted new built (record world { replicas = settled rs }) next (ap (λ z. z.replicas) a)
+    (record {
+      writes = settled_kept (λ r. r.writes) all rs n length_is (λ r. refl) wrote new e h.writes;
+      actions = settled_kept (λ r. r.actions) all rs n length_is (λ r. refl) compiled built f h.actions;
+    })
+
+-- ---- a new replica, and what changes nothing
+
+pub create_counted : (refusal : Option Refusal) (name : List ℕ) (text : Option (List ℕ)) (world next : World) (wrote compiled : List (List ℕ)) → AfterBy refusal (Create name) text world next → AreCounted wrote compiled world → AreCounted wrote compiled next
+create_counted (Some refusal) name text world next wrote compiled a h = same_counted wrote compiled world next (ap (λ z. z.replicas) a) h
+create_counted None name text world next wrote compiled a h =
+    let rs = world.replicas in
+    let r : Replica = record { name = name; number = length rs + 1; writes = []; actions = [] } in
+    let writes = h.writes in
+    let actions = h.actions in
+    same_counted wrote compiled (record world { replicas = rs ++ r ∷ [] }) next (ap (λ z. z.replicas) a)
+    (record {
+      writes = (writes.0, same_kept writes.0 wrote (writes_in rs) (writes_in (rs ++ r ∷ [])) (pushed (λ q. q.writes) rs r refl) writes.1);
+      actions = (actions.0, same_kept actions.0 compiled (actions_in rs) (actions_in (rs ++ r ∷ [])) (pushed (λ q. q.actions) rs r refl) actions.1);
+    })
+
+nothing_by : (refusal : Option Refusal) (text : Option (List ℕ)) (world next : World) → AfterBy refusal Nothing text world next → next.replicas ≡ world.replicas
+nothing_by None text world next a = ap (λ z. z.replicas) a
+nothing_by (Some refusal) text world next a = ap (λ z. z.replicas) a
+
+bad_by : (refusal : Option Refusal) (text : Option (List ℕ)) (world next : World) → AfterBy refusal Bad text world next → next.replicas ≡ world.replicas
+bad_by None text world next a = ap (λ z. z.replicas) a
+bad_by (Some refusal) text world next a = ap (λ z. z.replicas) a
+
+show_by : (refusal : Option Refusal) (name : List ℕ) (text : Option (List ℕ)) (world next : World) → AfterBy refusal (Show name) text world next → next.replicas ≡ world.replicas
+show_by None name text world next a = ap (λ z. z.replicas) a
+show_by (Some refusal) name text world next a = ap (λ z. z.replicas) a
+
+run_by : (refusal : Option Refusal) (name directory : List ℕ) (ticks : ℕ) (text : Option (List ℕ)) (world next : World) → AfterBy refusal (Run name directory ticks) text world next → next.replicas ≡ world.replicas
+run_by None name directory ticks text world next a = ap (λ z. z.replicas) a.2
+run_by (Some refusal) name directory ticks text world next a = ap (λ z. z.replicas) a
+
+ids_by : (refusal : Option Refusal) (name directory : List ℕ) (text : Option (List ℕ)) (world next : World) → AfterBy refusal (Ids name directory) text world next → next.replicas ≡ world.replicas
+ids_by None name directory text world next a = ap (λ z. z.replicas) a.2
+ids_by (Some refusal) name directory text world next a = ap (λ z. z.replicas) a
+
+pub after_nothing : (text : Option (List ℕ)) (world next : World) → After Nothing text world next → next.replicas ≡ world.replicas
+unfolding After
+after_nothing text world next a = nothing_by (first_of (refusals Nothing text world)) text world next a
+
+pub after_bad : (text : Option (List ℕ)) (world next : World) → After Bad text world next → next.replicas ≡ world.replicas
+unfolding After
+after_bad text world next a = bad_by (first_of (refusals Bad text world)) text world next a
+
+pub after_show : (name : List ℕ) (text : Option (List ℕ)) (world next : World) → After (Show name) text world next → next.replicas ≡ world.replicas
+unfolding After
+after_show name text world next a = show_by (first_of (refusals (Show name) text world)) name text world next a
+
+pub after_run : (name directory : List ℕ) (ticks : ℕ) (text : Option (List ℕ)) (world next : World) → After (Run name directory ticks) text world next → next.replicas ≡ world.replicas
+unfolding After
+after_run name directory ticks text world next a = run_by (first_of (refusals (Run name directory ticks) text world)) name directory ticks text world next a
+
+pub after_ids : (name directory : List ℕ) (text : Option (List ℕ)) (world next : World) → After (Ids name directory) text world next → next.replicas ≡ world.replicas
+unfolding After
+after_ids name directory text world next a = ids_by (first_of (refusals (Ids name directory) text world)) name directory text world next a
+
+-- ---- what is counted, by cases
+
+pub write_refused : (refusal : Option Refusal) (o : Option ℕ) (old : List (List ℕ)) → is_some refusal ≡ true → IsWriteCounted refusal o old old
+write_refused (Some refusal) o old e = refl
+write_refused None o old e = cc
+
+pub write_nowhere : (refusal : Option Refusal) (o : Option ℕ) (old : List (List ℕ)) → o ≡ None → IsWriteCounted refusal o old old
+write_nowhere (Some refusal) o old e = refl
+write_nowhere None None old e = refl
+write_nowhere None (Some k) old e = cc
+
+pub write_there : (refusal : Option Refusal) (o : Option ℕ) (k : ℕ) (old new : List (List ℕ)) → is_some refusal ≡ false → o ≡ Some k → IsWriteCounted None (Some k) old new → IsWriteCounted refusal o old new
+write_there (Some refusal) o k old new e is h = cc
+write_there None o k old new e is h = subst (λ p. IsWriteCounted None p old new) (sym is) h
+
+pub merge_refused : (refusal : Option Refusal) (o p : Option ℕ) (old : List (List ℕ)) → is_some refusal ≡ true → IsMergeCounted refusal o p old old
+merge_refused (Some refusal) o p old e = refl
+merge_refused None o p old e = cc
+
+pub merge_nowhere : (refusal : Option Refusal) (o p : Option ℕ) (old : List (List ℕ)) → o ≡ None → IsMergeCounted refusal o p old old
+merge_nowhere (Some refusal) o p old e = refl
+merge_nowhere None None p old e = refl
+merge_nowhere None (Some k) p old e = cc
+
+pub merge_of_none : (refusal : Option Refusal) (o p : Option ℕ) (old : List (List ℕ)) → p ≡ None → IsMergeCounted refusal o p old old
+merge_of_none (Some refusal) o p old e = refl
+merge_of_none None None p old e = refl
+merge_of_none None (Some k) None old e = refl
+merge_of_none None (Some k) (Some j) old e = cc
+
+pub merge_there : (refusal : Option Refusal) (o p : Option ℕ) (k j : ℕ) (old new : List (List ℕ)) → is_some refusal ≡ false → o ≡ Some k → p ≡ Some j → IsMergeCounted None (Some k) (Some j) old new → IsMergeCounted refusal o p old new
+merge_there (Some refusal) o p k j old new e is at h = cc
+merge_there None o p k j old new e is at h = subst (λ q. IsMergeCounted None q p old new) (sym is) (subst (λ q. IsMergeCounted None (Some k) q old new) (sym at) h)

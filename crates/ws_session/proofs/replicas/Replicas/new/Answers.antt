@@ -1,0 +1,20 @@
+use Rattle.std.proofs.Common.{List, [], refl, sym, subst}
+use Rattle.go_text.specs.Editions.{edition_number}
+use Rattle.ws_session.specs.declared.replicas.Named.{Named}
+use Rattle.ws_session.specs.Standing.{AllStand, AreCounted}
+use Rattle.ws_session.specs.World.{opening}
+use Rattle.ws_session.proofs.Counted.{opening_counted}
+use Rattle.ws_session.proofs.replicas.Replicas.new.Goals as goal
+
+pub returns : goal.returns
+returns c =
+    let world = opening (edition_number c.args.edition) in
+    record {
+      stands = record {
+        edition = refl;
+        replicas = subst (λ (ns : List Named). AllStand ns []) (sym c.new.ensures.items) tt;
+        apart = tt;
+        kept = subst (λ wrote. AreCounted wrote c.new-3.result world) (sym c.new-2.ensures)
+            (subst (λ compiled. AreCounted [] compiled world) (sym c.new-3.ensures) (opening_counted (edition_number c.args.edition)));
+      };
+    }

@@ -1,0 +1,166 @@
+//! How much the replicas of a session took of one another: what each command counts.
+
+ghost use Rattle.std.specs.Prelude.{ℕ, List, map, vec_len, Option, None, IfOk, OnOk};
+ghost use Rattle.std.specs.Option.{option_map};
+ghost use Rattle.ws_version_vector.specs.Counts.{AreFirst, AreShared, AreRaisedAndShared};
+ghost use Rattle.ws_command.specs.Commands.{Write, Remove, Apply, Merge, Settle};
+ghost use Rattle.ws_session.specs.Standing.{index_of, AllStand, AreCounted, Settles, IsWriteCounted, IsMergeCounted};
+ghost use Rattle.ws_session.specs.World.{World};
+
+use crate::replicas::{Named, apply, index_of, remove, write};
+use crate::taking::{merge, settle_all};
+use std::alloc::{AllocError, Global};
+use std::thread::Threads;
+use ws_command::refusal::Refusal;
+use ws_replica::Target;
+use ws_version::Version;
+use ws_version_vector::Vectors;
+
+/// A write of a text to a path by the replica of that name, which is counted.
+pub(crate) fn write_counted(
+    alloc: Global,
+    named: &mut Vec<Named>,
+    wrote: &mut Vectors,
+    name: &[u8],
+    word: &[u8],
+    text: Option<Vec<u8>>,
+) -> Result<Option<Refusal>, AllocError>
+    ensures settles { IfOk result (λ refusal. (lines : ℕ) (world : World) → AllStand named.old.items world.replicas → Settles (Write name.now word.now lines) (option_map (λ v. v.items) text) world refusal named.new.items) }
+    ensures counted { IfOk result (λ refusal. IsWriteCounted refusal (index_of name.now named.old.items) wrote.old wrote.new) }
+{
+    let at = index_of(named.as_slice(), name);
+    let refusal = write(alloc, named, name, word, text)?;
+    count_write(wrote, at, &refusal)?;
+    Ok(refusal)
+}
+
+/// A removal of the file at a path by the replica of that name, which is counted.
+pub(crate) fn remove_counted(
+    alloc: Global,
+    named: &mut Vec<Named>,
+    wrote: &mut Vectors,
+    name: &[u8],
+    word: &[u8],
+) -> Result<Option<Refusal>, AllocError>
+    ensures settles { IfOk result (λ refusal. (text : Option (List ℕ)) (world : World) → AllStand named.old.items world.replicas → Settles (Remove name.now word.now) text world refusal named.new.items) }
+    ensures counted { IfOk result (λ refusal. IsWriteCounted refusal (index_of name.now named.old.items) wrote.old wrote.new) }
+{
+    let at = index_of(named.as_slice(), name);
+    let refusal = remove(alloc, named, name, word)?;
+    count_write(wrote, at, &refusal)?;
+    Ok(refusal)
+}
+
+/// The replica of that name takes a write that another may have made, and it is counted there.
+pub(crate) fn apply_counted(
+    alloc: Global,
+    named: &mut Vec<Named>,
+    wrote: &mut Vectors,
+    name: &[u8],
+    word: &[u8],
+    version: Version,
+    lines: Option<u64>,
+    text: Option<Vec<u8>>,
+) -> Result<Option<Refusal>, AllocError>
+    ensures settles { IfOk result (λ refusal. (world : World) → AllStand named.old.items world.replicas → Settles (Apply name.now word.now version.counter version.number lines) (option_map (λ v. v.items) text) world refusal named.new.items) }
+    ensures counted { IfOk result (λ refusal. IsWriteCounted refusal (index_of name.now named.old.items) wrote.old wrote.new) }
+{
+    let at = index_of(named.as_slice(), name);
+    let refusal = apply(alloc, named, name, word, version, lines, text)?;
+    count_write(wrote, at, &refusal)?;
+    Ok(refusal)
+}
+
+/// The replica of one name takes what that of the other holds, which is counted.
+pub(crate) fn merge_counted(
+    alloc: Global,
+    named: &mut Vec<Named>,
+    wrote: &mut Vectors,
+    compiled: &mut Vectors,
+    name: &[u8],
+    other: &[u8],
+) -> Result<Option<Refusal>, AllocError>
+    ensures settles { IfOk result (λ refusal. (text : Option (List ℕ)) (world : World) → AllStand named.old.items world.replicas → AreCounted wrote.old compiled.old world → Settles (Merge name.now other.now) text world refusal named.new.items) }
+    ensures wrote { IfOk result (λ refusal. IsMergeCounted refusal (index_of name.now named.old.items) (index_of other.now named.old.items) wrote.old wrote.new) }
+    ensures compiled { IfOk result (λ refusal. IsMergeCounted refusal (index_of name.now named.old.items) (index_of other.now named.old.items) compiled.old compiled.new) }
+{
+    let mine = index_of(named.as_slice(), name);
+    let theirs = index_of(named.as_slice(), other);
+    let refusal = merge(alloc, named, wrote, compiled, name, other)?;
+    count_merge(wrote, mine, theirs, &refusal)?;
+    count_merge(compiled, mine, theirs, &refusal)?;
+    Ok(refusal)
+}
+
+/// Every replica takes what all hold, which is counted.
+pub(crate) fn settle_counted<R: Threads + Sync>(
+    rt: &R,
+    alloc: Global,
+    named: &mut Vec<Named>,
+    wrote: &mut Vectors,
+    compiled: &mut Vectors,
+) -> Result<(), AllocError>
+    ensures settles { OnOk result ((text : Option (List ℕ)) (world : World) → AllStand named.old.items world.replicas → AreCounted wrote.old compiled.old world → Settles Settle text world None named.new.items) }
+    ensures wrote { OnOk result ((ks : List ℕ) × AreFirst (vec_len named.old) ks × AreShared ks wrote.old wrote.new) }
+    ensures compiled { OnOk result ((ks : List ℕ) × AreFirst (vec_len named.old) ks × AreShared ks compiled.old compiled.new) }
+{
+    let count = named.len();
+    settle_all(rt, alloc, named, wrote, compiled)?;
+    wrote.settle(count)?;
+    compiled.settle(count)?;
+    Ok(())
+}
+
+/// Counts a write of the replica at an index, if it took one.
+fn count_write(
+    wrote: &mut Vectors,
+    at: Option<usize>,
+    refusal: &Option<Refusal>,
+) -> Result<(), AllocError>
+    ensures { OnOk result (IsWriteCounted refusal.now at wrote.old wrote.new) }
+{
+    if refusal.is_some() {
+        return Ok(());
+    }
+    match at {
+        None => Ok(()),
+        Some(at) => wrote.raise(at),
+    }
+}
+
+/// Counts what the replica at one index took of that at the other, if it took anything.
+fn count_merge(
+    vectors: &mut Vectors,
+    mine: Option<usize>,
+    theirs: Option<usize>,
+    refusal: &Option<Refusal>,
+) -> Result<(), AllocError>
+    ensures { OnOk result (IsMergeCounted refusal.now mine theirs vectors.old vectors.new) }
+{
+    if refusal.is_some() {
+        return Ok(());
+    }
+    let Some(mine) = mine else {
+        return Ok(());
+    };
+    let Some(theirs) = theirs else {
+        return Ok(());
+    };
+    vectors.merge(mine, theirs)
+}
+
+/// Counts what a build of targets compiled at the first replica, and what all of them took of one
+/// another.
+pub(crate) fn count_build(
+    alloc: Global,
+    compiled: &mut Vectors,
+    targets: &[Target<'_>],
+) -> Result<(), AllocError>
+    ensures { OnOk result (AreRaisedAndShared (map (λ t. t.replica) targets.now) compiled.old compiled.new) }
+{
+    let mut numbers = Vec::new(alloc);
+    for target in targets {
+        numbers.push(target.replica)?;
+    }
+    compiled.raise_and_share(&numbers)
+}

@@ -1,0 +1,182 @@
+//! What the replicas of a session take of one another: merges, and settles of all.
+ghost use Rattle.std.specs.Prelude.{◌≡◌, ◌≢◌, ◌<◌, ℕ, List, vec_len, replicate, IfOk, OnOk, Option, None};
+ghost use Rattle.std.specs.List.{All, flat_map};
+ghost use Rattle.ws_replica.specs.Holdings.{ReplicaStandsFor, Took as ATook, AllStandFor};
+ghost use Rattle.ws_replica.specs.Builds.{took_at};
+ghost use Rattle.ws_command.specs.Commands.{Merge, Settle};
+ghost use Rattle.ws_session.specs.Standing.{AllStand, AreCounted, Settles, ChangedAt, MergedFrom, replicas_of, labels_of};
+ghost use Rattle.ws_session.specs.World.{World};
+
+use crate::replicas::{Named, index_of};
+use std::alloc::{AllocError, Global};
+use std::mem;
+use std::thread::Threads;
+use ws_command::refusal::Refusal;
+use ws_replica::Replica;
+use ws_replica::join::settle;
+use ws_version::Join;
+use ws_version_vector::{News, Vectors};
+
+/// The replica at an index takes what is news of what the replica at another holds.
+fn merge_at(
+    alloc: Global,
+    named: &mut Vec<Named>,
+    mine: usize,
+    theirs: usize,
+    writes: News,
+    results: News,
+) -> Result<(), AllocError>
+    requires mine { mine < vec_len named.old }
+    requires theirs { theirs < vec_len named.old }
+    requires others { mine ≢ theirs }
+    ensures { OnOk result (ChangedAt (MergedFrom writes results named.old.items theirs) named.old.items mine named.new.items) }
+{
+    let mut one = mem::replace(&mut named[mine].replica, Replica::new(alloc));
+    let merged = one.merge_news(&named[theirs].replica, writes, results);
+    named[mine].replica = one;
+    merged
+}
+
+/// The replica of one name takes what that of the other holds.
+pub(crate) fn merge(
+    alloc: Global,
+    named: &mut Vec<Named>,
+    wrote: &Vectors,
+    compiled: &Vectors,
+    name: &[u8],
+    other: &[u8],
+) -> Result<Option<Refusal>, AllocError>
+    ensures { IfOk result (λ refusal. (text : Option (List ℕ)) (world : World) → AllStand named.old.items world.replicas → AreCounted wrote.now compiled.now world → Settles (Merge name.now other.now) text world refusal named.new.items) }
+{
+    let Some(mine) = index_of(named.as_slice(), name) else {
+        return Ok(Some(Refusal::Unknown));
+    };
+    let Some(theirs) = index_of(named.as_slice(), other) else {
+        return Ok(Some(Refusal::Unknown));
+    };
+    if mine == theirs {
+        return Ok(None);
+    }
+    let writes = wrote.news_of(mine, theirs);
+    let results = compiled.news_of(mine, theirs);
+    merge_at(alloc, named, mine, theirs, writes, results)?;
+    Ok(None)
+}
+
+/// The names and numbers of replicas, and the replicas, each in its order.
+pub(crate) fn parted(
+    alloc: Global,
+    named: Vec<Named>,
+) -> Result<(Vec<(Vec<u8>, u32)>, Vec<Replica>), AllocError>
+    ensures labels { IfOk result (λ parts. parts.0.items ≡ labels_of named.items) }
+    ensures replicas { IfOk result (λ parts. parts.1.items ≡ replicas_of named.items) }
+{
+    let mut labels = Vec::new(alloc);
+    let mut replicas = Vec::new(alloc);
+    for one in named {
+        let Named {
+            name,
+            number,
+            replica,
+        } = one;
+        labels.push((name, number))?;
+        replicas.push(replica)?;
+    }
+    Ok((labels, replicas))
+}
+
+/// Replicas with their names and numbers again.
+pub(crate) fn rejoined(
+    alloc: Global,
+    labels: Vec<(Vec<u8>, u32)>,
+    replicas: Vec<Replica>,
+) -> Result<Vec<Named>, AllocError>
+    requires { vec_len labels ≡ vec_len replicas }
+    ensures labels { IfOk result (λ named. labels_of named.items ≡ labels.items) }
+    ensures replicas { IfOk result (λ named. replicas_of named.items ≡ replicas.items) }
+{
+    let mut named = Vec::new(alloc);
+    let mut labels = labels.into_iter();
+    for replica in replicas {
+        let Some((name, number)) = labels.next() else {
+            unreachable!();
+        };
+        named.push(Named {
+            name,
+            number,
+            replica,
+        })?;
+    }
+    Ok(named)
+}
+
+/// What the replicas at some indices hold together.
+fn joined_of<R: Threads + Sync>(
+    rt: &R,
+    alloc: Global,
+    named: &Vec<Named>,
+    tops: &[usize],
+) -> Result<Replica, AllocError>
+    requires { All (λ t. t < vec_len named.now) tops.now }
+    ensures { IfOk result (λ joined. (took : List ATook) → AllStandFor (replicas_of named.now.items) took → ReplicaStandsFor joined (flat_map (λ t. (took_at took t).writes) tops.now) (flat_map (λ t. (took_at took t).actions) tops.now)) }
+{
+    let mut members = Vec::new(alloc);
+    for top in tops {
+        let member = named[*top].replica.copy()?;
+        members.push(member)?;
+    }
+    settle(rt, alloc, members.as_mut_slice())?;
+    match members.pop() {
+        Some(joined) => Ok(joined),
+        None => Ok(Replica::new(alloc)),
+    }
+}
+
+/// As many copies of a replica as asked for, which share what it holds.
+fn copies_of(alloc: Global, replica: &Replica, count: usize) -> Result<Vec<Replica>, AllocError>
+    ensures { IfOk result (λ copies. copies.items ≡ replicate count replica.now) }
+{
+    let mut copies = Vec::with_capacity(alloc, count)?;
+    for _ in 0..count {
+        let copy = replica.copy()?;
+        copies.push(copy)?;
+    }
+    Ok(copies)
+}
+
+/// What all replicas hold together: only those are walked of which none has all that another has.
+fn together<R: Threads + Sync>(
+    rt: &R,
+    alloc: Global,
+    named: &Vec<Named>,
+    wrote: &Vectors,
+    compiled: &Vectors,
+) -> Result<Replica, AllocError>
+    ensures { IfOk result (λ joined. (world : World) → AllStand named.now.items world.replicas → AreCounted wrote.now compiled.now world
+        → ReplicaStandsFor joined (flat_map (λ r. r.writes) world.replicas) (flat_map (λ r. r.actions) world.replicas)) }
+{
+    let count = named.len();
+    let writers = wrote.tops(count)?;
+    let builders = compiled.tops(count)?;
+    let mut joined = joined_of(rt, alloc, named, &writers)?;
+    let results = joined_of(rt, alloc, named, &builders)?;
+    joined.merge_news(&results, News::Nothing, News::Everything)?;
+    Ok(joined)
+}
+
+/// Every replica takes what all hold: each shares what they have together.
+pub(crate) fn settle_all<R: Threads + Sync>(
+    rt: &R,
+    alloc: Global,
+    named: &mut Vec<Named>,
+    wrote: &Vectors,
+    compiled: &Vectors,
+) -> Result<(), AllocError>
+    ensures { OnOk result ((text : Option (List ℕ)) (world : World) → AllStand named.old.items world.replicas → AreCounted wrote.now compiled.now world → Settles Settle text world None named.new.items) }
+{
+    let joined = together(rt, alloc, named, wrote, compiled)?;
+    let (labels, replicas) = parted(alloc, mem::replace(named, Vec::new(alloc)))?;
+    let copies = copies_of(alloc, &joined, replicas.len())?;
+    *named = rejoined(alloc, labels, copies)?;
+    Ok(())
+}

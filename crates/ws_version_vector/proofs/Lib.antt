@@ -1,0 +1,4 @@
+pub mod Kept
+pub mod Reading
+pub mod Told
+pub mod Tops
