@@ -3,4 +3,7 @@
 mod fixture;
 mod gates;
 mod hands;
+mod refusals;
+mod reports;
+mod schedules;
 mod workers;

@@ -162,11 +162,11 @@ impl Gate for Moody {
     }
 }
 
-/// A point of a job, and what its worker is told there.
+/// A point of a job, or of any where none is named, and what its worker is told there.
 #[derive(Clone, Copy)]
 struct Turn {
     point: Point,
-    job: usize,
+    job: Option<usize>,
     step: Step,
 }
 
@@ -179,10 +179,14 @@ pub struct Turns {
     pub late: AtomicU64,
 }
 
-/// A job's number, the first letter of a point, and a mark where the worker is sent back.
+/// A job's number, or a star for any job, the first letter of a point, and a mark where the worker
+/// is sent back.
 fn turn_of(word: &str) -> Option<Turn> {
     let mut letters = word.chars();
-    let job = letters.next()?.to_digit(10)? as usize;
+    let job = match letters.next()? {
+        '*' => None,
+        digit => Some(digit.to_digit(10)? as usize),
+    };
     let point = match letters.next()? {
         'T' => Point::Taken,
         'C' => Point::Compiled,
@@ -216,7 +220,8 @@ impl Turns {
         let next = self.next.load(Ordering::SeqCst);
         for (place, turn) in self.list.iter().enumerate() {
             let place = place as u64;
-            if place >= next && turn.point == point && turn.job == job {
+            let is_its = turn.job.is_none_or(|its| its == job);
+            if place >= next && turn.point == point && is_its {
                 return Some((place, turn.step));
             }
         }

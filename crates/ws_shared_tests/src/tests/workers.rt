@@ -176,12 +176,19 @@ fn once_each(rt: HostRuntime) -> Result<(), Fail> {
 }
 
 /// In which order two workers pass which points: how often a job is given back, and then the job's
-/// number, the point's letter, and a mark where the worker is sent back. Jobs of two programs, of
-/// two packages of which the first imports the second, and of one program twice.
-const ORDERS: &str =
+/// number, or a star for any, the point's letter, and a mark where the worker is sent back.
+pub(super) const ORDERS: &str =
     "0 0T 0C 0F 1T 1C 1F\n0 0T 1T 0C 1C 0F 1F\n0 0T 1T 1C 1F 0C 0F\n0 0T 1T 0C 1C 1F 0F\n1 0T< 1T 1C 1F\n1 0T 1T 1C 1F 0C<";
 
-/// Whether two workers who pass points in the row's order end as one would, and are in time.
+/// Of two packages the first imports the second, which is passed before it.
+pub(super) const IMPORTED_FIRST: &str = "0 1T 1C 1F 0T 0C 0F";
+
+/// Of two jobs with one action, the one that is compiled first is given back.
+pub(super) const FIRST_COMPILED: &str = "1 *C<";
+
+/// Whether two workers who pass points in the row's order come to what one comes to, with so many
+/// jobs compiled, give jobs back as often as the row has it, and are in time. That their history is
+/// legal is in its type.
 fn ends_as_one<R: Threads + Wait + Sync>(
     rt: &R,
     alloc: Global,
@@ -190,12 +197,12 @@ fn ends_as_one<R: Threads + Wait + Sync>(
     new: usize,
 ) -> Result<bool, Fail> {
     let (given_back, words) = order.split_once(' ').unwrap_or(("", ""));
+    let alone = comes_to(rt, alloc, jobs, 1, &Plain)?;
     let gate = Turns::new(alloc, 2, words)?;
     let came = comes_to(rt, alloc, jobs, 2, &gate)?;
-    let ends = came.ends.as_str();
-    let is_right = (ends == "gg++" || ends == "gg.+") && came.compiled == new;
+    let is_right = came.ends == alone.ends && came.compiled == new && alone.compiled == new;
     let in_turn = gate.watch.in_order() && gate.late.load(Ordering::SeqCst) == 0;
-    Ok(is_right && in_turn && came.backs == given_back.parse::<usize>()?)
+    Ok(is_right && in_turn && came.backs == given_back.parse::<usize>()? && alone.backs == 0)
 }
 
 #[test]
@@ -204,9 +211,9 @@ fn two_in_turn(rt: HostRuntime) -> Result<(), Fail> {
         assert!(rt; ends_as_one(&rt, rt.alloc(), APART, order, 2)?);
     }
     let importing = "package p: 1\npackage q:";
-    assert!(rt; ends_as_one(&rt, rt.alloc(), importing, "0 1T 1C 1F 0T 0C 0F", 2)?);
+    assert!(rt; ends_as_one(&rt, rt.alloc(), importing, IMPORTED_FIRST, 2)?);
     let twice = "package main; func main() {}:\npackage main; func main() {}:";
-    assert!(rt; ends_as_one(&rt, rt.alloc(), twice, "1 0C<", 1)?);
+    assert!(rt; ends_as_one(&rt, rt.alloc(), twice, FIRST_COMPILED, 1)?);
     Ok(())
 }
 
