@@ -1,5 +1,5 @@
 -- Writes that ascend, and the map that they are.
-use Rattle.std.specs.Prelude.{◌≡◌, ℕ, List, Option, Some, None, MatchOption, refl}
+use Rattle.std.specs.Prelude.{◌≡◌, ℕ, List}
 use Rattle.std.specs.FinMap.{FinMap, entries, entries_sorted, entries-insert, get, get-entries, get-from_entries, insert, find, put, same_map}
 use Rattle.std.proofs.Common.{sym, ap, subst, ◌∙◌}
 use Rattle.ws_map.specs.Kept.{joined}
@@ -7,6 +7,7 @@ use Rattle.ws_map.proofs.Gathered.{entries-from_entries}
 use Rattle.ws_version.specs.Writes.{Held, Write, path_cmp, greater_held}
 use Rattle.ws_version.proofs.Writes.{path_cmp_total, path_cmp-IsAntisymmetric}
 use Rattle.ws_pages.specs.Pages.{Ascends, contents, joined_writes}
+use Rattle.ws_pages.proofs.Walks.{turned}
 
 pub entries-contents : (W : List Write) → Ascends W → entries (contents W) ≡ W
 entries-contents W h = entries-from_entries path_cmp_total path_cmp-IsAntisymmetric W h
@@ -32,10 +33,19 @@ contents-put W all path held h e = ap contents (put-entries W all path held h e)
 pub put-ascends : (W all : List Write) (path : List ℕ) (held : Held) → Ascends W → all ≡ put path_cmp path held W → Ascends all
 put-ascends W all path held h e = subst Ascends (sym (put-entries W all path held h e)) (entries_sorted (insert (contents W) path held))
 
-pub when_some : {A : Type 0} (P : Type 0) (Q : A → Type 0) (o : Option A) (x : A) → o ≡ Some x → MatchOption o P Q → Q x
-when_some P Q None x e h = cc
-when_some P Q (Some y) x e h = let same : y ≡ x = cc in subst Q same h
+-- of the maps of two lists: where the second brings no news, where it has all of the first, and else
+module _ (V W : List Write) (m n : FinMap path_cmp Held) (first : contents V ≡ m) (second : contents W ≡ n) where
+  pub known-joined : joined_writes V W ≡ V → m ≡ joined greater_held m n
+  known-joined known =
+      sym first ∙ contents-joined V W V (sym known)
+      ∙ ap (λ k. joined greater_held k (contents W)) first ∙ ap (joined greater_held m) second
 
-pub when_none : {A : Type 0} (P : Type 0) (Q : A → Type 0) (o : Option A) → ((x : A) → o ≡ Some x → ⊥) → MatchOption o P Q → P
-when_none P Q None none h = h
-when_none P Q (Some y) none h = absurd (none y refl)
+  pub knows-joined : joined_writes W V ≡ W → n ≡ joined greater_held m n
+  knows-joined knows =
+      sym second ∙ contents-joined V W W (sym knows ∙ turned W V)
+      ∙ ap (λ k. joined greater_held k (contents W)) first ∙ ap (joined greater_held m) second
+
+  pub both-joined : (all : List Write) → all ≡ joined_writes V W → contents all ≡ joined greater_held m n
+  both-joined all is =
+      contents-joined V W all is
+      ∙ ap (λ k. joined greater_held k (contents W)) first ∙ ap (joined greater_held m) second

@@ -1,6 +1,5 @@
 -- Two walks over writes that ascend: what passing, taking and skipping does to what they hold together.
 use Rattle.std.specs.Prelude.{◌≡◌, ◌<◌, ℕ, Bool, true, false, cond, List, [], ◌∷◌, ◌++◌, ◌⊎◌, length, refl, Option, Some, None, Result, Ok, Err, OnOk, MatchOption, option_copied}
-use Rattle.std.specs.Arc.{arc_value}
 use Rattle.std.specs.declared.sync.Arc.{Arc}
 use Rattle.std.specs.declared.cmp.Ordering.{Ordering}
 use Rattle.std.specs.declared.cmp.Ordering.TheVariants.{Less, Equal, Greater}
@@ -11,8 +10,6 @@ use Rattle.std.proofs.Common.{sym, ap, subst, ◌∙◌, inl, inr, eqb, Bor, ari
 use Rattle.ws_version.specs.Writes.{Held, Write, path_cmp, held_cmp, greater_held}
 use Rattle.ws_version.specs.Laws.{held_cmp_total, held_cmp-IsAntisymmetric}
 use Rattle.ws_version.proofs.Writes.{path_cmp_total, path_cmp-IsAntisymmetric}
-use Rattle.ws_pages.specs.declared.page.Page.{Page}
-use Rattle.ws_pages.specs.Listed.{writes_of, all_writes}
 use Rattle.ws_pages.specs.Pages.{values, Ascends, AllBelow, joined_writes}
 use Rattle.ws_pages.proofs.Joined.{joined-front, joined-both, joined-known, joined-nothing, joined-to_nothing, joined-turned}
 use Rattle.ws_pages.proofs.Order.{Precedes, all-append, all-weaker, sorted-rest, sorted-second, sorted-front, sorted-precedes, precedes-first, precedes-sorted}
@@ -135,12 +132,10 @@ walk-more mine theirs left others front next rest tail w held walked is_others i
 pub empty_values : {Z : Type 0} (ws : List (Arc Write Z)) (b : Bool) → b ≡ eqb (length ws) 0 → b ≡ true → values ws ≡ []
 empty_values ws b e f = ap values (nil_from_length ws (eqb-true (length ws) 0 (sym e ∙ f)))
 
-module _ {Z : Type 0} where
-  -- a walk that has begun no page, by its first page
-  pub first_page : (S : List Write) (ws : List (Arc Write Z)) (P Q : List (Arc Page Z)) (page : Arc Page Z) → values ws ≡ [] → P ≡ page ∷ Q → values ws ++ all_writes P ≡ S → S ≡ writes_of (arc_value page) ++ (values ws ++ all_writes Q)
-  first_page S ws P Q page none cut view =
-      sym view ∙ ap (λ l. l ++ all_writes P) none ∙ ap all_writes cut
-      ∙ ap (λ l. writes_of (arc_value page) ++ (l ++ all_writes Q)) (sym none)
+-- a walk that has begun no page, by its first page
+pub first_page : {Z : Type 0} (S : List Write) (ws : List (Arc Write Z)) (pages page left : List Write) → values ws ≡ [] → pages ≡ page ++ left → values ws ++ pages ≡ S → S ≡ page ++ (values ws ++ left)
+first_page S ws pages page left none cut view =
+    sym view ∙ ap (λ l. l ++ pages) none ∙ cut ∙ ap (λ l. page ++ (l ++ left)) (sym none)
 
 pub first_is : (o : Option (Bor Write)) (next : List Write) (x : Write) → MatchOption o (next ≡ []) (λ w. (rest : List Write) × (next ≡ w.now ∷ rest)) → option_copied o ≡ Some x → (rest : List Write) × (next ≡ x ∷ rest)
 first_is None next x h e = cc

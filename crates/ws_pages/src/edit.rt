@@ -4,7 +4,7 @@ ghost use Rattle.std.specs.Prelude.{◌≡◌, ◌<◌, ◌≤◌, ◌+◌, leng
 ghost use Rattle.std.specs.FinMap.{put};
 ghost use Rattle.ws_version.specs.Writes.{path_cmp};
 ghost use Rattle.ws_pages.specs.Pages.{values, Ascends};
-ghost use Rattle.ws_pages.specs.Listed.{all_writes, with_page};
+ghost use Rattle.ws_pages.specs.Listed.{writes_of, all_writes, all_with};
 
 use crate::page::{FULL, Page, share};
 use crate::search::{around, page_at, writes_at};
@@ -56,7 +56,7 @@ fn replace(
     requires some { 0 < length writes.now }
     requires few { length writes.now ≤ 128 }
     requires alone { length pages.old.items ≤ at → length writes.now ≤ 64 }
-    ensures ok { OnOk result (all_writes pages.new.items ≡ with_page pages.old.items at (values writes.now)) }
+    ensures ok { OnOk result (all_writes pages.new.items ≡ all_with writes_of pages.old.items at (values writes.now)) }
     ensures err { OnErr result (pages.new.items ≡ pages.old.items) }
 {
     if pages.len() <= at {
@@ -80,7 +80,7 @@ fn split(
     requires within { at < length pages.old.items }
     requires many { 64 < length writes.now }
     requires few { length writes.now ≤ 128 }
-    ensures ok { OnOk result (all_writes pages.new.items ≡ with_page pages.old.items at (values writes.now)) }
+    ensures ok { OnOk result (all_writes pages.new.items ≡ all_with writes_of pages.old.items at (values writes.now)) }
     ensures err { OnErr result (pages.new.items ≡ pages.old.items) }
 {
     let (low, high) = writes.split_at(writes.len() / 2);

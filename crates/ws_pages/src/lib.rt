@@ -3,8 +3,11 @@
 
 mod draft;
 mod edit;
+mod grow;
+mod leaves;
 mod merge;
 mod news;
+mod node;
 mod page;
 mod rest;
 mod search;
@@ -15,10 +18,11 @@ ghost use Rattle.std.specs.FinMap as map;
 ghost use Rattle.std.specs.FinMap.{put};
 ghost use Rattle.ws_map.specs.Kept.{joined, taken, is_news};
 ghost use Rattle.ws_version.specs.Writes.{Write as AWrite, path_cmp, held_cmp, greater_held};
-ghost use Rattle.ws_pages.specs.Listed.{all_writes};
+ghost use Rattle.ws_pages.specs.Nodes.{all_nodes};
 ghost use Rattle.ws_pages.specs.Pages.{contents, AllBelow, Ascends};
 
-use crate::page::Page;
+use crate::news::are_known;
+use crate::node::Node;
 pub use rest::Rest;
 use std::alloc::{AllocError, Global};
 use std::marker::Model;
@@ -30,7 +34,7 @@ use ws_version::{Held, Write};
 #[derive(Drop)]
 pub struct Pages {
     alloc: Global,
-    shared: Option<Arc<Vec<Arc<Page>>>>,
+    shared: Option<Arc<Vec<Arc<Node>>>>,
 }
 
 impl Model for Pages {
@@ -38,7 +42,7 @@ impl Model for Pages {
     ghost use Rattle.std.specs.Coded.{coded_ℕ, coded_list};
     ghost use Rattle.ws_version.specs.Writes.{Held as AHeld, held_code, path_cmp};
     ghost use Rattle.ws_pages.specs.Pages.{contents, Ascends};
-    ghost use Rattle.ws_pages.specs.Listed.{listed_writes};
+    ghost use Rattle.ws_pages.specs.Nodes.{listed_writes};
 
     ghost Value = { finite.FinMap path_cmp AHeld };
 
@@ -60,14 +64,26 @@ impl Pages {
         }
     }
 
-    // The pages, in order.
-    fn list(&self) -> &[Arc<Page>]
-        ensures held { contents (all_writes result.now) ≡ self.now }
-        ensures ascends { Ascends (all_writes result.now) }
+    // What is on these nodes. An `Err` only where memory ran out.
+    fn of(alloc: Global, nodes: Vec<Arc<Node>>) -> Result<Pages, AllocError>
+        requires { Ascends (all_nodes nodes.items) }
+        ensures { IfOk result (λ pages. pages ≡ contents (all_nodes nodes.items)) }
+    {
+        let shared = Arc::new(alloc, nodes)?;
+        Ok(Pages {
+            alloc,
+            shared: Some(shared),
+        })
+    }
+
+    // The nodes, in order.
+    fn list(&self) -> &[Arc<Node>]
+        ensures held { contents (all_nodes result.now) ≡ self.now }
+        ensures ascends { Ascends (all_nodes result.now) }
     {
         match &self.shared {
             None => &[],
-            Some(pages) => pages,
+            Some(nodes) => nodes,
         }
     }
 
@@ -105,7 +121,7 @@ impl Pages {
         ensures err { OnErr result (self.new ≡ self.old) }
     {
         match &mut self.shared {
-            Some(pages) => put_shared(self.alloc, pages, write),
+            Some(nodes) => put_shared(self.alloc, nodes, write),
             None => {
                 self.shared = Some(first_shared(self.alloc, write)?);
                 Ok(())
@@ -120,7 +136,7 @@ impl Pages {
     {
         let shared = match &self.shared {
             None => None,
-            Some(pages) => Some(Arc::try_clone(pages)?),
+            Some(nodes) => Some(Arc::try_clone(nodes)?),
         };
         Ok(Pages {
             alloc: self.alloc,
@@ -133,10 +149,16 @@ impl Pages {
         ensures ok { OnOk result (self.new ≡ joined greater_held self.old other.now) }
         ensures err { OnErr result (self.new ≡ self.old) }
     {
-        let news = merge::joined(self.alloc, self.list(), other.list())?;
-        if let Some(pages) = news {
-            self.shared = Some(Arc::new(self.alloc, pages)?);
+        if are_known(other.list(), self.list()) {
+            return Ok(());
         }
+        // What has all of ours is taken over as it is.
+        if are_known(self.list(), other.list()) {
+            *self = other.copy()?;
+            return Ok(());
+        }
+        let nodes = merge::joined(self.alloc, self.list(), other.list())?;
+        *self = Pages::of(self.alloc, nodes)?;
         Ok(())
     }
 
@@ -152,31 +174,31 @@ impl Pages {
         ensures { (front : List AWrite) × (map.entries self.now ≡ front ++ result) × AllBelow front path.now }
     {
         let list = self.list();
-        let at = search::page_at(list, path);
-        let (_, pages) = list.split_at(at);
-        Rest::of(pages)
+        let at = search::node_at(list, path);
+        let (_, nodes) = list.split_at(at);
+        Rest::from(nodes, path)
     }
 }
 
-// A list of one page, which holds a write.
-fn first_shared(alloc: Global, write: Write) -> Result<Arc<Vec<Arc<Page>>>, AllocError>
-    ensures { IfOk result (λ pages. all_writes (arc_value pages).items ≡ put path_cmp write.0 write.1 []) }
+// A list of one node, which holds a write.
+fn first_shared(alloc: Global, write: Write) -> Result<Arc<Vec<Arc<Node>>>, AllocError>
+    ensures { IfOk result (λ nodes. all_nodes (arc_value nodes).items ≡ put path_cmp write.0 write.1 []) }
 {
-    let mut pages = Arc::new(alloc, Vec::new(alloc))?;
-    put_shared(alloc, &mut pages, write)?;
-    Ok(pages)
+    let mut nodes = Arc::new(alloc, Vec::new(alloc))?;
+    put_shared(alloc, &mut nodes, write)?;
+    Ok(nodes)
 }
 
 // Puts a write on a list of one's own: where others share it, on a copy of the list, which shares
-// the pages. An `Err` changes nothing.
+// the nodes. An `Err` changes nothing.
 fn put_shared(
     alloc: Global,
-    pages: &mut Arc<Vec<Arc<Page>>>,
+    nodes: &mut Arc<Vec<Arc<Node>>>,
     write: Write,
 ) -> Result<(), AllocError>
-    requires { Ascends (all_writes (arc_value pages.old).items) }
-    ensures ok { OnOk result (all_writes (arc_value pages.new).items ≡ put path_cmp write.0 write.1 (all_writes (arc_value pages.old).items)) }
-    ensures err { OnErr result (all_writes (arc_value pages.new).items ≡ all_writes (arc_value pages.old).items) }
+    requires { Ascends (all_nodes (arc_value nodes.old).items) }
+    ensures ok { OnOk result (all_nodes (arc_value nodes.new).items ≡ put path_cmp write.0 write.1 (all_nodes (arc_value nodes.old).items)) }
+    ensures err { OnErr result (all_nodes (arc_value nodes.new).items ≡ all_nodes (arc_value nodes.old).items) }
 {
-    edit::put(alloc, Arc::make_mut(pages)?, write)
+    grow::put(alloc, Arc::make_mut(nodes)?, write)
 }

@@ -1,13 +1,14 @@
-//! Two lists of pages, joined.
+//! Two lists of nodes, joined.
 
 ghost use Rattle.std.specs.Prelude.{◌≡◌, ◌<◌, ◌+◌, ℕ, List, [], ◌∷◌, ◌++◌, ◌⊎◌, length, true, false, IfOk, OnOk};
 ghost use Rattle.ws_version.specs.Writes.{Write as AWrite, Held as AHeld, greater_held};
 ghost use Rattle.ws_pages.specs.Pages.{Ascends, AllBelow, BeginAlike, joined_writes};
-ghost use Rattle.ws_pages.specs.Listed.{all_writes, AreTogether};
+ghost use Rattle.ws_pages.specs.Listed.{all_writes};
+ghost use Rattle.ws_pages.specs.Nodes.{all_nodes};
 
 use crate::draft::Draft;
-use crate::news::are_known;
-use crate::page::{Page, share};
+use crate::node::{FULL, Node};
+use crate::page::Page;
 use crate::rest::Rest;
 use std::alloc::{AllocError, Global};
 use std::cmp::Ordering;
@@ -15,51 +16,35 @@ use std::sync::Arc;
 use ws_map::Ranked;
 use ws_version::Write;
 
-/// The pages of what two lists hold together, and none where the second brings no news to the
-/// first. An `Err` only where memory ran out.
+/// The nodes of what two lists hold together. An `Err` only where memory ran out.
 pub fn joined(
     alloc: Global,
-    mine: &[Arc<Page>],
-    theirs: &[Arc<Page>],
-) -> Result<Option<Vec<Arc<Page>>>, AllocError>
-    requires mine { Ascends (all_writes mine.now) }
-    requires theirs { Ascends (all_writes theirs.now) }
-    ensures { IfOk result (AreTogether (all_writes mine.now) (all_writes theirs.now)) }
-{
-    if are_known(theirs, mine) {
-        return Ok(None);
-    }
-    // What has all of ours is taken over as it is.
-    if are_known(mine, theirs) {
-        let pages = shared(alloc, theirs)?;
-        return Ok(Some(pages));
-    }
-    let pages = merged(alloc, mine, theirs)?;
-    Ok(Some(pages))
-}
-
-/// Other owners of the same pages. An `Err` only where memory ran out.
-pub fn shared(alloc: Global, pages: &[Arc<Page>]) -> Result<Vec<Arc<Page>>, AllocError>
-    ensures { IfOk result (λ shared. all_writes shared.items ≡ all_writes pages.now) }
-{
-    let mut shared = Vec::with_capacity(alloc, pages.len())?;
-    share(&mut shared, pages)?;
-    Ok(shared)
-}
-
-fn merged(
-    alloc: Global,
-    mine: &[Arc<Page>],
-    theirs: &[Arc<Page>],
-) -> Result<Vec<Arc<Page>>, AllocError>
-    requires mine { Ascends (all_writes mine.now) }
-    requires theirs { Ascends (all_writes theirs.now) }
-    ensures { IfOk result (λ pages. all_writes pages.items ≡ joined_writes (all_writes mine.now) (all_writes theirs.now)) }
+    mine: &[Arc<Node>],
+    theirs: &[Arc<Node>],
+) -> Result<Vec<Arc<Node>>, AllocError>
+    requires mine { Ascends (all_nodes mine.now) }
+    requires theirs { Ascends (all_nodes theirs.now) }
+    ensures { IfOk result (λ nodes. all_nodes nodes.items ≡ joined_writes (all_nodes mine.now) (all_nodes theirs.now)) }
 {
     let mut draft = Draft::new(alloc);
     merge_rests(&mut Rest::of(mine), &mut Rest::of(theirs), &mut draft)?;
     let pages = draft.into_pages()?;
-    Ok(pages)
+    let nodes = nodes_of(alloc, &pages)?;
+    Ok(nodes)
+}
+
+// Nodes of these pages, in their order, each half full. An `Err` only where memory ran out.
+fn nodes_of(alloc: Global, pages: &[Arc<Page>]) -> Result<Vec<Arc<Node>>, AllocError>
+    ensures { IfOk result (λ nodes. all_nodes nodes.items ≡ all_writes pages.now) }
+{
+    let mut nodes = Vec::new(alloc);
+    let mut rest = pages;
+    'cut: while !rest.is_empty() {
+        let (front, back) = rest.split_at(rest.len().min(FULL / 2));
+        nodes.push(Node::of(alloc, front)?)?;
+        rest = back;
+    }
+    Ok(nodes)
 }
 
 // Adds what two walks have together.

@@ -4,8 +4,10 @@ ghost use Rattle.std.specs.Prelude.{◌≡◌, Some, true, false, option_copied}
 ghost use Rattle.std.specs.Ordering.{is_lt};
 ghost use Rattle.ws_version.specs.Writes.{Held as AHeld, held_cmp};
 ghost use Rattle.ws_pages.specs.Pages.{Ascends, joined_writes};
-ghost use Rattle.ws_pages.specs.Listed.{writes_of, all_writes};
+ghost use Rattle.ws_pages.specs.Listed.{writes_of};
+ghost use Rattle.ws_pages.specs.Nodes.{all_nodes};
 
+use crate::node::Node;
 use crate::page::Page;
 use crate::rest::Rest;
 use std::sync::Arc;
@@ -51,16 +53,24 @@ pub fn is_known(page: &Page, other: &Page) -> bool
     bring_no_news(&mut Rest::of_page(page), &mut Rest::of_page(other))
 }
 
-/// Whether some pages bring no news to others.
-pub fn are_known(pages: &[Arc<Page>], others: &[Arc<Page>]) -> bool
-    requires pages { Ascends (all_writes pages.now) }
-    requires others { Ascends (all_writes others.now) }
-    ensures { result ≡ true → joined_writes (all_writes others.now) (all_writes pages.now) ≡ all_writes others.now }
+/// Whether some nodes bring no news to others.
+pub fn are_known(nodes: &[Arc<Node>], others: &[Arc<Node>]) -> bool
+    requires nodes { Ascends (all_nodes nodes.now) }
+    requires others { Ascends (all_nodes others.now) }
+    ensures { result ≡ true → joined_writes (all_nodes others.now) (all_nodes nodes.now) ≡ all_nodes others.now }
 {
-    if greatest_of(others) < greatest_of(pages) {
+    if greatest_in(others) < greatest_in(nodes) {
         return false;
     }
-    bring_no_news(&mut Rest::of(pages), &mut Rest::of(others))
+    bring_no_news(&mut Rest::of(nodes), &mut Rest::of(others))
+}
+
+fn greatest_in(nodes: &[Arc<Node>]) -> u64 {
+    let mut greatest = 0;
+    for node in nodes {
+        greatest = greatest_of(node.pages()).max(greatest);
+    }
+    greatest
 }
 
 fn greatest_of(pages: &[Arc<Page>]) -> u64 {

@@ -5,10 +5,14 @@ ghost use Rattle.std.specs.Arc.{arc_value};
 ghost use Rattle.std.specs.Ordering.{is_lt};
 ghost use Rattle.ws_version.specs.Writes.{Write as AWrite, path_cmp};
 ghost use Rattle.ws_pages.specs.Pages.{values, Ascends, AllBelow, joined_writes};
-ghost use Rattle.ws_pages.specs.Listed.{writes_of, all_writes};
+ghost use Rattle.ws_pages.specs.Listed.{writes_of};
+ghost use Rattle.ws_pages.specs.Nodes.{all_nodes};
 
+use crate::leaves::Leaves;
 use crate::news::is_known;
+use crate::node::Node;
 use crate::page::Page;
+use crate::search::page_at;
 use std::marker::Model;
 use std::sync::Arc;
 use ws_version::Write;
@@ -18,26 +22,44 @@ use ws_version::Write;
 pub struct Rest<'a> {
     // of a page that the walk has begun
     writes: &'a [Arc<Write>],
-    pages: &'a [Arc<Page>],
+    pages: Leaves<'a>,
 }
 
 impl<'a> Model for Rest<'a> {
     ghost use Rattle.std.specs.Prelude.{List, ◌++◌};
     ghost use Rattle.ws_version.specs.Writes as version;
     ghost use Rattle.ws_pages.specs.Pages.{values};
-    ghost use Rattle.ws_pages.specs.Listed.{all_writes};
 
     ghost Value = { List version.Write };
 
-    ghost view = { λ a. values a.writes.now ++ all_writes a.pages.now };
+    ghost view = { λ a. values a.writes.now ++ a.pages };
 }
 
 impl<'a> Rest<'a> {
-    /// All writes of some pages.
-    pub fn of(pages: &'a [Arc<Page>]) -> Rest<'a>
-        ensures { result ≡ all_writes pages.now }
+    /// All writes of some nodes.
+    pub fn of(nodes: &'a [Arc<Node>]) -> Rest<'a>
+        ensures { result ≡ all_nodes nodes.now }
     {
-        Rest { writes: &[], pages }
+        Rest {
+            writes: &[],
+            pages: Leaves::of(&[], nodes),
+        }
+    }
+
+    /// All writes of some nodes, without some whose paths are below that one.
+    pub fn from(nodes: &'a [Arc<Node>], path: &str) -> Rest<'a>
+        requires { Ascends (all_nodes nodes.now) }
+        ensures { (front : List AWrite) × (all_nodes nodes.now ≡ front ++ result) × AllBelow front path.now }
+    {
+        let Some((node, others)) = nodes.split_first() else {
+            return Rest::of(nodes);
+        };
+        let pages = node.pages();
+        let (_, pages) = pages.split_at(page_at(pages, path));
+        Rest {
+            writes: &[],
+            pages: Leaves::of(pages, others),
+        }
     }
 
     /// All writes of one page.
@@ -46,7 +68,7 @@ impl<'a> Rest<'a> {
     {
         Rest {
             writes: page.writes(),
-            pages: &[],
+            pages: Leaves::of(&[], &[]),
         }
     }
 

@@ -1,14 +1,16 @@
 //! Where a path stands.
 
-ghost use Rattle.std.specs.Prelude.{◌≡◌, ◌≤◌, ◌+◌, List, ◌∷◌, ◌++◌, length, take, drop, slice_get, Some, IfOk, IfErr, option_copied};
+ghost use Rattle.std.specs.Prelude.{◌≡◌, ◌<◌, ◌≤◌, ◌+◌, ◌∷◌, ◌++◌, length, take, drop, slice_get, Some, IfOk, IfErr, option_copied};
 ghost use Rattle.std.specs.Arc.{arc_value};
 ghost use Rattle.std.specs.FinMap.{find, put};
 ghost use Rattle.std.specs.List.Sorted.{IsSearchInRange};
 ghost use Rattle.ws_version.specs.Writes.{Held as AHeld, path_cmp};
 ghost use Rattle.ws_pages.specs.Pages.{values, Ascends, AllBelow, AllAbove};
-ghost use Rattle.ws_pages.specs.Listed.{writes_of, all_writes, with_page};
+ghost use Rattle.ws_pages.specs.Listed.{writes_of, all_writes, all_with};
+ghost use Rattle.ws_pages.specs.Nodes.{writes_below, all_nodes};
 ghost use Rattle.ws_pages.specs.Search.{first_path};
 
+use crate::node::Node;
 use crate::page::Page;
 use std::cmp::Ordering;
 use std::sync::Arc;
@@ -73,7 +75,7 @@ pub fn page_at(pages: &[Arc<Page>], path: &str) -> usize
 
 /// The writes of a page, and none where there is no page.
 pub fn writes_at(pages: &[Arc<Page>], at: usize) -> &[Arc<Write>]
-    ensures page { all_writes pages.now ≡ with_page pages.now at (values result.now) }
+    ensures page { all_writes pages.now ≡ all_with writes_of pages.now at (values result.now) }
     ensures few { length result.now ≤ 64 }
     ensures none { length pages.now ≤ at → length result.now ≡ 0 }
 {
@@ -85,10 +87,50 @@ pub fn writes_at(pages: &[Arc<Page>], at: usize) -> &[Arc<Write>]
 }
 
 /// What some pages hold at a path.
-pub fn held_in<'a>(pages: &'a [Arc<Page>], path: &str) -> Option<&'a Held>
+pub fn held_on<'a>(pages: &'a [Arc<Page>], path: &str) -> Option<&'a Held>
     requires { Ascends (all_writes pages.now) }
     ensures { option_copied result ≡ find path_cmp path.now (all_writes pages.now) }
 {
     let at = page_at(pages, path);
     held_at(writes_at(pages, at), path)
+}
+
+/// The number of the node that a path belongs to: its first path is the last that isn't above it,
+/// or it is the first node.
+pub fn node_at(nodes: &[Arc<Node>], path: &str) -> usize
+    requires { Ascends (all_nodes nodes.now) }
+    ensures within { result ≤ length nodes.now }
+    ensures below { AllBelow (all_nodes (take result nodes.now)) path.now }
+    ensures above { AllAbove (all_nodes (drop (result + 1) nodes.now)) path.now }
+{
+    let found = nodes.binary_search_by(
+        |node: &Arc<Node>| -> Ordering
+            ensures { result ≡ path_cmp (first_path (writes_below (arc_value node.now))) path.entry.now }
+        { node.first().path().cmp(path) },
+    );
+    match found {
+        Ok(at) => at,
+        Err(next) => next.saturating_sub(1),
+    }
+}
+
+/// The pages of a node, and none where there is no node.
+pub fn pages_at(nodes: &[Arc<Node>], at: usize) -> &[Arc<Page>]
+    ensures node { all_nodes nodes.now ≡ all_with writes_below nodes.now at (all_writes result.now) }
+    ensures some { 0 < length result.now → at < length nodes.now }
+{
+    if at < nodes.len() {
+        nodes[at].pages()
+    } else {
+        &[]
+    }
+}
+
+/// What some nodes hold at a path.
+pub fn held_in<'a>(nodes: &'a [Arc<Node>], path: &str) -> Option<&'a Held>
+    requires { Ascends (all_nodes nodes.now) }
+    ensures { option_copied result ≡ find path_cmp path.now (all_nodes nodes.now) }
+{
+    let at = node_at(nodes, path);
+    held_on(pages_at(nodes, at), path)
 }

@@ -1,20 +1,17 @@
-use Rattle.std.proofs.Common.{sym, ap, subst, ◌∙◌, Result, Ok, Err, OnOk, OnErr}
+use Rattle.std.proofs.Common.{sym, ap, subst, ◌∙◌}
 use Rattle.std.specs.Arc.{arc_value}
 use Rattle.std.specs.FinMap as map
-use Rattle.ws_pages.specs.Listed.{all_writes, listed_writes}
+use Rattle.ws_pages.specs.Nodes.{all_nodes, listed_writes}
 use Rattle.ws_pages.specs.Pages.{contents, Ascends}
 use Rattle.ws_pages.proofs.Contents.{contents-put, put-ascends}
+use Rattle.ws_pages.proofs.Shared.{either}
 use Rattle.ws_pages.proofs.Walks.{ok_then}
 use Rattle.ws_pages.proofs.Pages.put.Goals as goal
 
-either : {A E P Q R : Type 0} (r : Result A E) → (P → R) → (Q → R) → OnOk r P → OnErr r Q → R
-either (Ok a) f g p q = f p
-either (Err x) f g p q = g q
-
 pub invariant_of-self : goal.invariant_of-self
 invariant_of-self c =
-    let old = all_writes (arc_value c.in-Some.pages).items in
-    let new = all_writes (arc_value c.put_shared.new.pages).items in
+    let old = all_nodes (arc_value c.in-Some.nodes).items in
+    let new = all_nodes (arc_value c.put_shared.new.nodes).items in
     let ascends : Ascends old = subst (λ s. Ascends (listed_writes s)) c.in-Some.is c.self.invariant in
     either c.put_shared.result
     (λ is. put-ascends old new c.args.write.0 c.args.write.1 ascends is)
@@ -23,8 +20,8 @@ invariant_of-self c =
 
 pub returns-in-Some-clause-ok : goal.returns-in-Some-clause-ok
 returns-in-Some-clause-ok c =
-    let old = all_writes (arc_value c.in-Some.pages).items in
-    let new = all_writes (arc_value c.put_shared.new.pages).items in
+    let old = all_nodes (arc_value c.in-Some.nodes).items in
+    let new = all_nodes (arc_value c.put_shared.new.nodes).items in
     let ascends : Ascends old = subst (λ s. Ascends (listed_writes s)) c.in-Some.is c.self.invariant in
     ok_then c.put_shared.result (λ is.
     contents-put old new c.args.write.0 c.args.write.1 ascends is

@@ -1,7 +1,7 @@
 use Rattle.std.proofs.Common.{◌≡◌, sym, ap, subst, ◌∙◌, ◌+◌, ◌++◌, take, drop, Result, Ok, Err, OnOk}
-use Rattle.ws_pages.specs.Listed.{all_writes}
+use Rattle.ws_pages.specs.Listed.{writes_of, all_writes}
 use Rattle.ws_pages.specs.Pages.{values, Ascends, AllBelow, AllAbove}
-use Rattle.ws_pages.proofs.Edited.{put-on_page, middle-ascends}
+use Rattle.ws_pages.proofs.Edited.{put-on_part, middle-ascends}
 use Rattle.ws_pages.proofs.edit.put.Goals as goal
 
 ok_then : {A E P Q : Type 0} (r : Result A E) → (P → Q) → OnOk r P → OnOk r Q
@@ -23,7 +23,7 @@ returns-clause-ok c =
     let new = values c.deref-3.result.now in
     let path = c.args.write.0 in
     ok_then c.replace.result (λ whole.
-    put-on_page pages at old new (all_writes c.replace.new.pages.items) path c.args.write.1
+    put-on_part writes_of pages at old new (all_writes c.replace.new.pages.items) path c.args.write.1
     (subst (λ l. all_writes l ≡ all_writes (take at l) ++ (old ++ all_writes (drop (at + 1) l))) c.deref-2.ensures.value c.writes_at.ensures.page)
     (subst (λ l. AllBelow (all_writes (take at l)) path) c.deref.ensures.value (subst (AllBelow (all_writes (take at c.deref.result.now))) c.path.ensures c.page_at-at.ensures.below))
     (subst (λ l. AllAbove (all_writes (drop (at + 1) l)) path) c.deref.ensures.value (subst (AllAbove (all_writes (drop (at + 1) c.deref.result.now))) c.path.ensures c.page_at-at.ensures.above))

@@ -1,13 +1,14 @@
 use Rattle.std.proofs.Common.{◌<◌, length, arith}
 use Rattle.std.proofs.lemmas.Grind.{common_steps}
+use Rattle.ws_pages.specs.Listed.{writes_of}
 use Rattle.ws_pages.specs.Pages.{values}
-use Rattle.ws_pages.proofs.Edited.{page_replaced}
+use Rattle.ws_pages.proofs.Edited.{part_replaced}
 use Rattle.ws_pages.proofs.edit.replace.Goals as goal
 
 pub returns-clause-ok : goal.returns-clause-ok
 returns-clause-ok c =
     let within : c.args.at < length c.args.pages.now.items = omega arith in
-    page_replaced c.args.pages.now.items c.args.at c.in_ok-pages.field-0 (values c.args.writes.now) within c.in_ok-pages.ensures
+    part_replaced writes_of c.args.pages.now.items c.args.at c.in_ok-pages.field-0 (values c.args.writes.now) within c.in_ok-pages.ensures
 
 pub returns-then-len-at-clause-ok : goal.returns-then-len-at-clause-ok
 returns-then-len-at-clause-ok c = grind (arith, common_steps)

@@ -2,20 +2,20 @@ use Rattle.std.proofs.Common.{sym, ap, ◌∙◌, ◌+◌, take, drop}
 use Rattle.std.specs.FinMap.{find}
 use Rattle.ws_version.specs.Writes.{path_cmp}
 use Rattle.ws_pages.specs.Listed.{all_writes}
-use Rattle.ws_pages.specs.Pages.{values}
+use Rattle.ws_pages.specs.Nodes.{all_nodes}
 use Rattle.ws_pages.proofs.Edited.{find-middle, middle-ascends}
 use Rattle.ws_pages.proofs.search.held_in.Goals as goal
 
-pub held_at-requires : goal.held_at-requires
-held_at-requires c =
-    let pages = c.args.pages.now in
-    let at = c.page_at-at.result in
-    middle-ascends (all_writes pages) (all_writes (take at pages)) (values c.writes_at.result.now) (all_writes (drop (at + 1) pages)) c.writes_at.ensures.page c.requires
+pub held_on-requires : goal.held_on-requires
+held_on-requires c =
+    let nodes = c.args.nodes.now in
+    let at = c.node_at-at.result in
+    middle-ascends (all_nodes nodes) (all_nodes (take at nodes)) (all_writes c.pages_at.result.now) (all_nodes (drop (at + 1) nodes)) c.pages_at.ensures.node c.requires
 
 pub returns : goal.returns
 returns c =
-    let pages = c.args.pages.now in
-    let at = c.page_at-at.result in
-    c.held_at.ensures
-    ∙ sym (find-middle (all_writes (take at pages)) (values c.writes_at.result.now) (all_writes (drop (at + 1) pages)) c.args.path.now c.page_at-at.ensures.below c.page_at-at.ensures.above)
-    ∙ ap (find path_cmp c.args.path.now) (sym c.writes_at.ensures.page)
+    let nodes = c.args.nodes.now in
+    let at = c.node_at-at.result in
+    c.held_on.ensures
+    ∙ sym (find-middle (all_nodes (take at nodes)) (all_writes c.pages_at.result.now) (all_nodes (drop (at + 1) nodes)) c.args.path.now c.node_at-at.ensures.below c.node_at-at.ensures.above)
+    ∙ ap (find path_cmp c.args.path.now) (sym c.pages_at.ensures.node)

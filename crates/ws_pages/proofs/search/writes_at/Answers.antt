@@ -1,10 +1,10 @@
 use Rattle.std.proofs.Common.{ap, ◌∙◌}
 use Rattle.ws_pages.specs.Pages.{values}
 use Rattle.ws_pages.specs.Listed.{writes_of}
-use Rattle.ws_pages.proofs.Edited.{page_there}
+use Rattle.ws_pages.proofs.Edited.{part_there}
 use Rattle.ws_pages.proofs.search.writes_at.Goals as goal
 
 pub returns-then-at-pages-clause-page : goal.returns-then-at-pages-clause-page
 returns-then-at-pages-clause-page c =
-    page_there c.args.pages.now c.args.at c.index-pages-at.result (values c.writes.result.now) c.if-at-pages.true c.index-pages-at.is
+    part_there writes_of c.args.pages.now c.args.at c.index-pages-at.result (values c.writes.result.now) c.if-at-pages.true c.index-pages-at.is
     (ap values c.writes.ensures.same ∙ ap writes_of c.deref.ensures)

@@ -1,46 +1,45 @@
-use Rattle.std.proofs.Common.{arith, ◌≡◌, ◌++◌, drop, sym, subst}
+use Rattle.std.proofs.Common.{arith, ◌≡◌, ◌++◌, sym, subst}
 use Rattle.std.specs.Arc.{arc_value}
 use Rattle.std.proofs.lemmas.Grind.{common_steps}
-use Rattle.ws_pages.specs.Listed.{writes_of, all_writes}
+use Rattle.ws_pages.specs.Listed.{writes_of}
 use Rattle.ws_pages.specs.Pages.{values, Ascends, joined_writes}
-use Rattle.ws_pages.proofs.Searching.{parted}
 use Rattle.ws_pages.proofs.Walks.{front-ascends, still-ascends, first_page, empty_values, skip-known}
 use Rattle.ws_pages.proofs.rest.Rest.skip_known.Goals as goal
 
 pub is_known-requires-clause-page : goal.is_known-requires-clause-page
 is_known-requires-clause-page c =
     let page = writes_of (arc_value c.in-Some.page.now) in
-    let left = values c.self.inside.writes.now ++ all_writes c.in-Some.pages.now in
+    let left = values c.self.inside.writes.now ++ c.in-Some.pages in
     let cut : c.args.self.now ≡ page ++ left =
-    first_page c.args.self.now c.self.inside.writes.now c.self.inside.pages.now c.in-Some.pages.now c.in-Some.page.now
-    (empty_values c.self.inside.writes.now c.is_empty.result c.is_empty.ensures c.if-not-is_empty.false) c.in-Some.ensures.cases.0 c.self.view_is in
+    first_page c.args.self.now c.self.inside.writes.now c.self.inside.pages page c.in-Some.pages
+    (empty_values c.self.inside.writes.now c.is_empty.result c.is_empty.ensures c.if-not-is_empty.false) c.in-Some.ensures c.self.view_is in
     subst (λ p. Ascends (writes_of p)) (sym c.deref.ensures) (front-ascends c.args.self.now page left cut c.requires.ascends)
 
 pub is_known-requires-clause-other : goal.is_known-requires-clause-other
 is_known-requires-clause-other c =
-    let pages = c.others.inside.pages.now in
     let other = writes_of (arc_value c.in-Some-first.other.now) in
-    let rest = values c.others.inside.writes.now ++ all_writes (drop 1 pages) in
+    let behind = c.in-Some-first.ensures.0 in
+    let rest = values c.others.inside.writes.now ++ behind in
     let cut : c.args.others.now ≡ other ++ rest =
-    first_page c.args.others.now c.others.inside.writes.now pages (drop 1 pages) c.in-Some-first.other.now
+    first_page c.args.others.now c.others.inside.writes.now c.others.inside.pages other behind
     (empty_values c.others.inside.writes.now c.is_empty-else-not-is_empty.result c.is_empty-else-not-is_empty.ensures c.if-not-is_empty-2.false)
-    (parted pages 0 c.in-Some-first.other.now (sym c.in-Some-first.ensures.value)) c.others.view_is in
+    c.in-Some-first.ensures.1 c.others.view_is in
     subst (λ p. Ascends (writes_of p)) (sym c.deref-2.ensures) (front-ascends c.args.others.now other rest cut c.requires.others)
 
 pub returns-clause-joined : goal.returns-clause-joined
 returns-clause-joined c =
     let page = writes_of (arc_value c.in-Some.page.now) in
-    let left = values c.self.inside.writes.now ++ all_writes c.in-Some.pages.now in
+    let left = values c.self.inside.writes.now ++ c.in-Some.pages in
     let cut : c.args.self.now ≡ page ++ left =
-    first_page c.args.self.now c.self.inside.writes.now c.self.inside.pages.now c.in-Some.pages.now c.in-Some.page.now
-    (empty_values c.self.inside.writes.now c.is_empty.result c.is_empty.ensures c.if-not-is_empty.false) c.in-Some.ensures.cases.0 c.self.view_is in
-    let pages = c.others.inside.pages.now in
+    first_page c.args.self.now c.self.inside.writes.now c.self.inside.pages page c.in-Some.pages
+    (empty_values c.self.inside.writes.now c.is_empty.result c.is_empty.ensures c.if-not-is_empty.false) c.in-Some.ensures c.self.view_is in
     let other = writes_of (arc_value c.in-Some-first.other.now) in
-    let rest = values c.others.inside.writes.now ++ all_writes (drop 1 pages) in
+    let behind = c.in-Some-first.ensures.0 in
+    let rest = values c.others.inside.writes.now ++ behind in
     let others_cut : c.args.others.now ≡ other ++ rest =
-    first_page c.args.others.now c.others.inside.writes.now pages (drop 1 pages) c.in-Some-first.other.now
+    first_page c.args.others.now c.others.inside.writes.now c.others.inside.pages other behind
     (empty_values c.others.inside.writes.now c.is_empty-else-not-is_empty.result c.is_empty-else-not-is_empty.ensures c.if-not-is_empty-2.false)
-    (parted pages 0 c.in-Some-first.other.now (sym c.in-Some-first.ensures.value)) c.others.view_is in
+    c.in-Some-first.ensures.1 c.others.view_is in
     let known : joined_writes other page ≡ other =
     subst (λ p. joined_writes (writes_of p) page ≡ writes_of p) c.deref-2.ensures
     (subst (λ p. joined_writes (writes_of c.deref-2.result.now) (writes_of p) ≡ writes_of c.deref-2.result.now) c.deref.ensures
@@ -50,10 +49,10 @@ returns-clause-joined c =
 pub returns-clause-ascends : goal.returns-clause-ascends
 returns-clause-ascends c =
     let page = writes_of (arc_value c.in-Some.page.now) in
-    let left = values c.self.inside.writes.now ++ all_writes c.in-Some.pages.now in
+    let left = values c.self.inside.writes.now ++ c.in-Some.pages in
     let cut : c.args.self.now ≡ page ++ left =
-    first_page c.args.self.now c.self.inside.writes.now c.self.inside.pages.now c.in-Some.pages.now c.in-Some.page.now
-    (empty_values c.self.inside.writes.now c.is_empty.result c.is_empty.ensures c.if-not-is_empty.false) c.in-Some.ensures.cases.0 c.self.view_is in
+    first_page c.args.self.now c.self.inside.writes.now c.self.inside.pages page c.in-Some.pages
+    (empty_values c.self.inside.writes.now c.is_empty.result c.is_empty.ensures c.if-not-is_empty.false) c.in-Some.ensures c.self.view_is in
     still-ascends c.args.self.now page left cut c.requires.ascends
 
 pub returns-then-not-is_empty-clause-joined : goal.returns-then-not-is_empty-clause-joined
