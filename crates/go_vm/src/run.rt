@@ -106,7 +106,7 @@ fn finish<'a>(
 {
     let mut pace = Pace::new(alloc);
     loop {
-        run_flat(alloc, &mut frames, &mut world.ticks, &mut pace, image)?;
+        run_flat(alloc, &mut frames, world, &mut pace, image)?;
         match advance(alloc, &mut frames, world, image)? {
             Flow::GoesOn => {}
             Flow::Leaves(exit) => return Ok(exit),
