@@ -204,9 +204,6 @@ module _ (h : Held) (J : List Job) (I : List (List ℕ)) (O N : List Row) (job :
   new_other : (id : List ℕ) (k : ℕ) → (k ≡ job → ⊥) → is_new O N id k ≡ false
   new_other id k ne = ap (λ (r : Row). is_waiting (row_at O k).status && (is_ready r.status && has_action_id id r.action)) (other k ne) ∙ not_new O id k
 
-  if_of : Bool → ℕ
-  if_of b = if b then 1 else 0
-
   new_is : (id : List ℕ) (k : ℕ) → times k (those_of id (ready_of job row.status row.action)) ≡ (if is_new O N id k then 1 else 0)
   new_is id k = elim (cases_eq k job) [
     | inl e ↦ new_times job k id row.status row.action

@@ -15,7 +15,7 @@ use Rattle.ws_board.specs.declared.index.Ready.{Ready as AReady}
 use Rattle.ws_board.specs.Machine.{is_waiting, is_ready, is_active, is_running, has_action_id}
 use Rattle.ws_board.specs.Rows.{times, those_of, is_active_of, is_new}
 use Rattle.ws_board.specs.Table.{row_at, standings_of}
-use Rattle.ws_board.specs.Indexes.{is_unrun, AgreesBy}
+use Rattle.ws_board.specs.Indexes.{is_unrun, IsRunAt, AgreesBy}
 use Rattle.ws_board.proofs.Carry.{waiting_or, waiting_is}
 use Rattle.ws_board.proofs.Listing.{contains_any, times_some, times_any}
 use Rattle.ws_board.proofs.Marking.{active_inside}
@@ -62,15 +62,15 @@ active_cases (Running hand) h = inr refl
 active_cases Blocked h = absurd (cc)
 active_cases (Done good) h = absurd (cc)
 
-ready_active : (s : Status) → is_ready s ≡ true → is_active s ≡ true
-ready_active s h = ap is_active (ready_is s h)
-
 pub id_is : (id : List ℕ) (a : Option Action) → has_action_id id a ≡ true → (action : Action) × (a ≡ Some action) × (action_id action ≡ id)
 id_is id None h = absurd (cc)
 id_is id (Some action) h = (action, refl, (bytes_eq-Decides (action_id action) id).0 h)
 
 pub has_its : (id : List ℕ) (a : Option Action) (action : Action) → a ≡ Some action → action_id action ≡ id → has_action_id id a ≡ true
 has_its id a action is same = ap (has_action_id id) is ∙ (bytes_eq-Decides (action_id action) id).1 same
+
+pub has_same : (id : List ℕ) (a : Option Action) (action : Action) → a ≡ Some action → has_action_id id a ≡ true → action_id action ≡ id
+has_same id a action is h = (bytes_eq-Decides (action_id action) id).0 (ap (has_action_id id) (sym is) ∙ h)
 
 pub unrun_has : (run : List ℕ → Option Run) (a : Option Action) → is_unrun run a ≡ true → (action : Action) × (a ≡ Some action) × (is_none (run (action_id action)) ≡ true)
 unrun_has run None h = absurd (cc)
@@ -150,9 +150,9 @@ pub released_agrees : (O N : List Row) (jobs more : List ℕ → List ℕ) (run 
     → AgreesBy N more ran freed count running
 released_agrees O N jobs more run ran free freed count running ready agrees same others rests listed runs joined ran_is freed_is = record {
   jobs = λ id k. joined id k ∙ counts id k (waiting_or (row_at O k).status);
-  runs = λ id hand job action. (
-    λ e. forth job hand action id ((agrees.runs id hand job action).0 (sym (ran_is id) ∙ e)),
-    λ e. ran_is id ∙ (agrees.runs id hand job action).1 (back job hand action id e),
+  runs = λ id hand job. (
+    λ e. forth job hand id ((agrees.runs id hand job).0 (sym (ran_is id) ∙ e)),
+    λ e. ran_is id ∙ (agrees.runs id hand job).1 (back job hand id e),
   );
   count = agrees.count ∙ sym same;
   free = λ k. freed_is k ∙ free_is k (waiting_or (row_at O k).status);
@@ -187,15 +187,15 @@ released_agrees O N jobs more run ran free freed count running ready agrees same
         let b : ◌≡◌ {A = ℕ} (if is_active_of N id k then 1 else 0) (if is_active_of O id k then 1 else 0) = ap (λ s. if is_active s && has_action_id id (row_at N k).action then 1 else 0) p.0 ∙ ap (λ (x : Option Action). if is_active (row_at O k).status && has_action_id id x then 1 else 0) p.1 in
         omega (arith, agrees.jobs id k, listed k id, a, b)
 
-    forth : (job hand : ℕ) (action : Action) (id : List ℕ) → ((row_at O job).status ≡ Running hand) × ((row_at O job).action ≡ Some action) × (action_id action ≡ id) → ((row_at N job).status ≡ Running hand) × ((row_at N job).action ≡ Some action) × (action_id action ≡ id)
-    forth job hand action id (s, a, i) = let p = others job (ap is_waiting s) in (p.0 ∙ s, p.1 ∙ a, i)
+    forth : (job hand : ℕ) (id : List ℕ) → IsRunAt O id hand job → IsRunAt N id hand job
+    forth job hand id (s, has) = let p = others job (ap is_waiting s) in (p.0 ∙ s, ap (has_action_id id) p.1 ∙ has)
 
-    back : (job hand : ℕ) (action : Action) (id : List ℕ) → ((row_at N job).status ≡ Running hand) × ((row_at N job).action ≡ Some action) × (action_id action ≡ id) → ((row_at O job).status ≡ Running hand) × ((row_at O job).action ≡ Some action) × (action_id action ≡ id)
-    back job hand action id (s, a, i) = by_waiting (waiting_or (row_at O job).status)
+    back : (job hand : ℕ) (id : List ℕ) → IsRunAt N id hand job → IsRunAt O id hand job
+    back job hand id (s, has) = by_waiting (waiting_or (row_at O job).status)
       where
-        by_waiting : (is_waiting (row_at O job).status ≡ true) ⊎ (is_waiting (row_at O job).status ≡ false) → ((row_at O job).status ≡ Running hand) × ((row_at O job).action ≡ Some action) × (action_id action ≡ id)
+        by_waiting : (is_waiting (row_at O job).status ≡ true) ⊎ (is_waiting (row_at O job).status ≡ false) → IsRunAt O id hand job
         by_waiting (inl w) = let c : true ≡ false = sym (ap is_running s) ∙ rests job w in absurd (cc)
-        by_waiting (inr w) = let p = others job w in (sym p.0 ∙ s, sym p.1 ∙ a, i)
+        by_waiting (inr w) = let p = others job w in (sym p.0 ∙ s, ap (has_action_id id) (sym p.1) ∙ has)
 
     unrun_same : (a : Option Action) → is_unrun ran a ≡ is_unrun run a
     unrun_same None = refl
@@ -259,9 +259,9 @@ module _ (R : List Row) (jobs : List ℕ → List ℕ) (run : List ℕ → Optio
       omega (arith, active_inside id R job a, agrees.count)
 
   -- who runs an id is one job
-  pub one_run : (id : List ℕ) (hand other j k : ℕ) (a b : Action) → (row_at R j).status ≡ Running hand → (row_at R j).action ≡ Some a → action_id a ≡ id → (row_at R k).status ≡ Running other → (row_at R k).action ≡ Some b → action_id b ≡ id → j ≡ k
-  one_run id hand other j k a b rj aj ij rk ak ik =
-      let e : Some (record { hand = hand; job = j; action = a }) ≡ Some (record { hand = other; job = k; action = b }) = sym ((agrees.runs id hand j a).1 (rj, aj, ij)) ∙ (agrees.runs id other k b).1 (rk, ak, ik) in
+  pub one_run : (id : List ℕ) (hand other j k : ℕ) → IsRunAt R id hand j → IsRunAt R id other k → j ≡ k
+  one_run id hand other j k first second =
+      let e : Some (record { hand = hand; job = j }) ≡ Some (record { hand = other; job = k }) = sym ((agrees.runs id hand j).1 first) ∙ (agrees.runs id other k).1 second in
       ap (λ o. job_or o) e
     where
       job_or : Option Run → ℕ
@@ -287,15 +287,15 @@ module _ (R : List Row) (jobs : List ℕ → List ℕ) (run : List ℕ → Optio
       )
 
   -- nobody runs it
-  pub unrun_none : (id : List ℕ) → run id ≡ None → (k hand : ℕ) (a : Action) → (row_at R k).status ≡ Running hand → (row_at R k).action ≡ Some a → action_id a ≡ id → ⊥
-  unrun_none id none k hand a s t i = let c : ◌≡◌ {A = Option Run} None (Some (record { hand = hand; job = k; action = a })) = sym none ∙ (agrees.runs id hand k a).1 (s, t, i) in absurd (cc)
+  pub unrun_none : (id : List ℕ) → run id ≡ None → (k hand : ℕ) → IsRunAt R id hand k → ⊥
+  unrun_none id none k hand runs = let c : ◌≡◌ {A = Option Run} None (Some (record { hand = hand; job = k })) = sym none ∙ (agrees.runs id hand k).1 runs in absurd (cc)
 
 -- what says the same agrees as well
 pub same_agrees : (R : List Row) (jobs more : List ℕ → List ℕ) (run ran : List ℕ → Option Run) (free freed : ℕ → Bool) (count many running now : ℕ) → AgreesBy R jobs run free count running
     → ((id : List ℕ) → more id ≡ jobs id) → ((id : List ℕ) → ran id ≡ run id) → ((k : ℕ) → freed k ≡ free k) → many ≡ count → now ≡ running → AgreesBy R more ran freed many now
 same_agrees R jobs more run ran free freed count many running now agrees more_is ran_is freed_is many_is now_is = record {
   jobs = λ id k. ap (times k) (more_is id) ∙ agrees.jobs id k;
-  runs = λ id hand job action. (λ e. (agrees.runs id hand job action).0 (sym (ran_is id) ∙ e), λ p. ran_is id ∙ (agrees.runs id hand job action).1 p);
+  runs = λ id hand job. (λ e. (agrees.runs id hand job).0 (sym (ran_is id) ∙ e), λ p. ran_is id ∙ (agrees.runs id hand job).1 p);
   count = many_is ∙ agrees.count;
   free = λ k. freed_is k ∙ agrees.free k ∙ ap (λ b. is_ready (row_at R k).status && b) (sym (unrun_same (row_at R k).action));
   running = now_is ∙ agrees.running;

@@ -1,7 +1,6 @@
 -- What a board keeps once something happened, and where want of memory undid it.
-use Rattle.std.proofs.Common.{◌≡◌, ℕ, zero, suc, ◌+◌, ◌*◌, ◌^◌, ◌<◌, ◌≤◌, true, false, cond, List, [], ◌∷◌, ◌++◌, length, count_by, Bool, Some, refl, sym, ap, ◌∙◌, subst, arith}
+use Rattle.std.proofs.Common.{◌≡◌, ℕ, zero, suc, ◌+◌, ◌^◌, ◌<◌, ◌≤◌, true, false, cond, List, [], ◌∷◌, ◌++◌, length, count_by, Bool, Some, refl, sym, ap, ◌∙◌, subst, arith}
 use Rattle.std.specs.Prelude.{IsTrue, ◌↔◌}
-use Rattle.std.specs.List.{sum_by}
 use Rattle.std.proofs.lemmas.List.{append_cancel_right}
 use Rattle.std.proofs.lemmas.List.Elements.{All-nil}
 use Rattle.std.proofs.lemmas.List.Sums.{count_by-le-length}
@@ -14,7 +13,7 @@ use Rattle.ws_board.specs.declared.moves.Change.{Change}
 use Rattle.ws_board.specs.declared.moves.Moves.{Moves}
 use Rattle.ws_board.specs.Work.{Job, Entries, Standings, Seen}
 use Rattle.ws_board.specs.Machine.{is_running, status_at, is_back_of, IsRunBy, IsHistory}
-use Rattle.ws_board.specs.Rows.{owed, untold, is_back, import_count, undone, AreWritten, IsUndone, AreCarriedBy, Waits, KnowsBacks, IsPaid, IsBounded}
+use Rattle.ws_board.specs.Rows.{owed, is_back, import_count, undone, AreWritten, IsUndone, AreCarriedBy, Waits, KnowsBacks, IsPaid, IsBounded}
 use Rattle.ws_board.specs.Table.{row_at, standings_of}
 use Rattle.ws_board.proofs.Runs.{counted_none}
 use Rattle.ws_board.proofs.Standing.{status_row, action_row}
@@ -43,11 +42,6 @@ pub still_paid : (looks next : ℕ) (R N : List Row) (imports : ℕ) (history al
 still_paid looks next R N imports history all e count more less is not paid =
     let same = still_count history all e is not in
     (omega (arith, count, more, paid.0), omega (arith, count, less, same, paid.1))
-
--- what the opening read
-pub opened_paid : (looks : ℕ) (R N : List Row) (I : List (List ℕ)) (settled : List ℕ) (jobs imports : ℕ) → length R ≡ jobs → length N ≡ jobs → owed R ≡ 3 * jobs + 4 * imports + 4 * sum_by (λ list. length list) I
-    → sum_by (λ list. length list) I ≤ imports → looks + owed N + untold I settled ≤ owed R + 3 * length R → length R ≤ looks → IsPaid looks N imports 0
-opened_paid looks R N I settled jobs imports before after first few paid least = (omega (arith, before, after, least), omega (arith, before, after, first, few, paid))
 
 pub backs_few : (history : List Event) → count_by is_back history ≤ length history
 backs_few history = count_by-le-length is_back history

@@ -1,18 +1,17 @@
--- Carrying on: the code's passes over the jobs.
-use Rattle.std.proofs.Common.{◌≡◌, ℕ, ◌+◌, ◌<◌, ◌≤◌, Bool, true, false, cond, List, [], ◌∷◌, length, get_or, count_by, replicate, Option, Some, None, refl, sym, ap, ◌∙◌, subst, inl, inr, ◌⊎◌, arith, get_or-set_other, get_or-set_same}
+-- Carrying on, job by job, until nothing changes.
+use Rattle.std.proofs.Common.{◌≡◌, ℕ, ◌<◌, ◌≤◌, true, false, cond, List, length, get_or, count_by, Option, Some, None, refl, sym, ap, ◌∙◌, subst, inl, inr, ◌⊎◌, arith, get_or-set_other, get_or-set_same}
 use Rattle.std.proofs.Math.ListN.{set, length-set}
 use Rattle.std.specs.List.{slice_get}
-use Rattle.std.specs.Bool.{OnTrue, OnFalse}
 use Rattle.std.specs.Option.{unwrap_or}
 use Rattle.std.proofs.lemmas.List.Sums.{sum_by-set}
-use Rattle.std.proofs.lemmas.Bool.{cases_eq, cases_lt}
+use Rattle.std.proofs.lemmas.Bool.{cases_eq}
 use Rattle.std.proofs.lemmas.Option.{slice_get_past, unwrap_or-slice_get}
 use Rattle.ws_action.specs.Actions.{Action, action_id}
 use Rattle.ws_board.specs.declared.work.Status.{Status}
 use Rattle.ws_board.specs.declared.work.Status.TheVariants.{Waiting, Ready, Running, Blocked, Done}
 use Rattle.ws_board.specs.Work.{Job, Standings}
-use Rattle.ws_board.specs.Machine.{Held, is_open, is_waiting, status_at, action_at, Verdict, Wait, Stop, Act, Follows, IsPlaced, Stands, Carried, unopened}
-use Rattle.ws_board.specs.Carrying.{IsUnder, RestsAt, AllRest}
+use Rattle.ws_board.specs.Machine.{Held, is_open, is_waiting, status_at, action_at, Verdict, Wait, Stop, Act, Follows, IsPlaced, Stands, Carried}
+use Rattle.ws_board.specs.Carrying.{IsUnder}
 use Rattle.ws_board.proofs.Later.{Later, stands_stays}
 
 -- the two agree wherever the first is settled
@@ -94,6 +93,10 @@ module _ (jobs : List Job) (h : Held) (old new : Standings) (j : ℕ) (s : Statu
     ];
   }
 
+-- if this job waits, its imports say so
+abbrev pub RestsAt : List Job → Held → Standings → ℕ → Type 0
+RestsAt jobs h now j = status_at now.statuses j ≡ Waiting → Stands h now (slice_get jobs j) Waiting None
+
 end_waiting : (jobs : List Job) (h : Held) (new : Standings) (k : ℕ) → RestsAt jobs h new k → (status_at new.statuses k ≡ Waiting → action_at new.actions k ≡ None)
     → (status_at new.statuses k ≡ Waiting) ⊎ Stands h new (slice_get jobs k) (status_at new.statuses k) (action_at new.actions k)
     → Stands h new (slice_get jobs k) (status_at new.statuses k) (action_at new.actions k)
@@ -101,16 +104,12 @@ end_waiting jobs h new k rests bare (inl w) =
     subst (λ t. Stands h new (slice_get jobs k) t (action_at new.actions k)) (sym w) (subst (λ t. Stands h new (slice_get jobs k) Waiting t) (sym (bare w)) (rests w))
 end_waiting jobs h new k rests bare (inr s) = s
 
-pub end_carried : (jobs : List Job) (h : Held) (first new : Standings) → IsUnder jobs h first new → AllRest jobs h new → Carried jobs h first new
+pub end_carried : (jobs : List Job) (h : Held) (first new : Standings) → IsUnder jobs h first new → ((j : ℕ) → RestsAt jobs h new j) → Carried jobs h first new
 end_carried jobs h first new under rest = record {
   same_length = under.same_length;
   others = under.others;
   waiting = λ k n. end_waiting jobs h new k (rest k) (under.bare k) (under.waiting k n);
 }
-
--- past the end no job waits
-pub rests_past : (jobs : List Job) (h : Held) (now : Standings) (k : ℕ) → length now.statuses ≤ k → RestsAt jobs h now k
-rests_past jobs h now k le w = let c : Blocked ≡ Waiting = sym (past_end now.statuses k le) ∙ w in absurd (cc)
 
 -- what waits has no action
 pub waits_bare : (h : Held) (now : Standings) (o : Option Job) (s : Status) (x : Option Action) → Stands h now o s x → s ≡ Waiting → x ≡ None
@@ -126,23 +125,6 @@ waits_bare h now (Some job) s x st w = by_verdict st.0 st.2
     by_verdict Stop f = f.1
     by_verdict (Act a) f = placed a (h (action_id a)) f.0
 
-pub rests_by : (h : Held) (now : Standings) (o : Option Job) (s : Status) (x : Option Action) → Stands h now o s x → is_waiting s ≡ true → Stands h now o Waiting None
-rests_by h now o s x st w =
-    let is : s ≡ Waiting = waiting_is s w in
-    subst (λ t. Stands h now o t None) is (subst (λ t. Stands h now o s t) (waits_bare h now o s x st is) st)
-
--- each place was looked at, and nothing changed
-pub all_rest : (jobs : List Job) (h : Held) (old now : Standings) (n : ℕ) (b : Bool) → (b ≡ false → now ≡ old) → (b ≡ false → (k : ℕ) → k < n → RestsAt jobs h old k) → length now.statuses ≤ n → OnFalse b (AllRest jobs h now)
-all_rest jobs h old now n true same rest past = tt
-all_rest jobs h old now n false same rest past = λ k. elim (cases_lt k n) [
-  | inl lt ↦ subst (λ (z : Standings). RestsAt jobs h z k) (sym (same refl)) (rest refl k lt)
-  | inr le ↦ rests_past jobs h now k (omega (arith, past, le))
-]
-
-pub when_false : (P : Type 0) (b : Bool) → OnFalse b P → b ≡ false → P
-when_false P true p e = absurd (cc)
-when_false P false p e = p
-
 -- ---- fewer wait
 
 pub fewer : (xs : List Status) (j : ℕ) (now : Status) → j < length xs → status_at xs j ≡ Waiting → is_waiting now ≡ false → count_by is_waiting (set xs j now) < count_by is_waiting xs
@@ -151,12 +133,6 @@ fewer xs j now inside w not =
     let a : ◌≡◌ {A = ℕ} (cond (is_waiting (get_or xs j Blocked)) 1 0) 1 = ap (λ s. cond (is_waiting s) 1 0) w in
     let b : ◌≡◌ {A = ℕ} (cond (is_waiting now) 1 0) 0 = ap (λ b. cond b 1 0) not in
     omega (arith, e, a, b)
-
-pub falls : (b : Bool) (old new : Standings) → OnTrue b (count_by is_waiting new.statuses < count_by is_waiting old.statuses) → OnFalse b (new ≡ old) → (m : Bool) → m ≡ true
-    → count_by is_waiting new.statuses + cond b 1 0 < count_by is_waiting old.statuses + cond m 1 0
-falls true old new t f m h = let e : ◌≡◌ {A = ℕ} (cond m 1 0) 1 = ap (λ b. cond b 1 0) h in omega (arith, e, t)
-falls false old new t f m h =
-    let e : ◌≡◌ {A = ℕ} (cond m 1 0) 1 = ap (λ b. cond b 1 0) h in let n : count_by is_waiting new.statuses ≡ count_by is_waiting old.statuses = ap (λ (z : Standings). count_by is_waiting z.statuses) f in omega (arith, e, n)
 
 -- ---- carried on
 
@@ -171,11 +147,3 @@ pub carried_agrees : (jobs : List Job) (h : Held) (old new : Standings) → Carr
 carried_agrees jobs h old new c k shut = (c.others k (shut_waits_not (status_at old.statuses k) shut)).0
 
 -- ---- at first
-
-pub statuses_replicated : (jobs : List Job) → replicate (length jobs) Waiting ≡ (unopened jobs).statuses
-statuses_replicated [] = refl
-statuses_replicated (x ∷ xs) = ap (λ (l : List Status). Waiting ∷ l) (statuses_replicated xs)
-
-pub actions_replicated : (jobs : List Job) → replicate (length jobs) None ≡ (unopened jobs).actions
-actions_replicated [] = refl
-actions_replicated (x ∷ xs) = ap (λ (l : List (Option Action)). None ∷ l) (actions_replicated xs)

@@ -108,8 +108,8 @@ module _ (J : List Job) (h : Held) (I : List (List ℕ)) (O N : List Row) (first
       start : AgreesBy O jobs run free count now
       start = record {
         jobs = λ id k. ap (times k) (none id) ∙ sym (ap (λ b. if b && has_action_id id (row_at O k).action then 1 else 0) (first_status k).0);
-        runs = λ id hand job action. (
-          λ e. (let c : ◌≡◌ {A = Option Run} None (Some (record { hand = hand; job = job; action = action })) = sym (unrun id) ∙ e in absurd (cc)),
+        runs = λ id hand job. (
+          λ e. (let c : ◌≡◌ {A = Option Run} None (Some (record { hand = hand; job = job })) = sym (unrun id) ∙ e in absurd (cc)),
           λ p. (let c : true ≡ false = sym (ap is_running p.0) ∙ (first_status job).1 in absurd (cc)),
         );
         count = len ∙ sym first.count;

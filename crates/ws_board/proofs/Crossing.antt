@@ -47,7 +47,7 @@ flags_send : IsSend flags.the_row
 flags_send = search (crosses, sendable) depth 20
 
 run_send : IsSend run.the_row
-run_send = search (identified_send, crosses, sendable) depth 20
+run_send = search (crosses, sendable) depth 20
 
 id_send : IsSend id.the_row
 id_send = search (run_send, crosses, sendable) depth 20

@@ -79,15 +79,6 @@ module _ (h : Held) (now : Standings) where
       let entries : g.entry ≡ entry = (let e : Some g.entry ≡ Some entry = sym g.is_held ∙ ap (λ z. h (action_id z)) actions ∙ is in cc) in
       not s g.object (one_outcome entry r (Good s g.object) compiles (subst (λ e. Compiles e (Good s g.object)) entries g.compiled))
 
-  -- where nothing is held there is no summary
-  pub unheld_none : (k : ℕ) (a : Action) → action_at now.actions k ≡ Some a → h (action_id a) ≡ None → (s : Summary) → ¬ (HasSummary h now k s)
-  unheld_none k a its none s g =
-      let actions : g.action ≡ a = (let e : Some g.action ≡ Some a = sym g.its ∙ its in cc) in
-      let c : Some g.entry ≡ None = sym g.is_held ∙ ap (λ z. h (action_id z)) actions ∙ none in cc
-
-  pub unformed_none : (k : ℕ) → action_at now.actions k ≡ None → (s : Summary) → ¬ (HasSummary h now k s)
-  unformed_none k none s g = let c : Some g.action ≡ None = sym g.its ∙ none in cc
-
   -- ---- what is formed of them
 
   pub forms : (work : Work) (ks : List ℕ) (ss : List Summary) (a : Action) → Are ks ss → All IsWritten ss → a ≡ acted work ss → MakeAction work.files ss → IsSized a → IsFormed h now work ks a

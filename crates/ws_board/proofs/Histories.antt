@@ -1,5 +1,5 @@
 -- A legal history, and one event more.
-use Rattle.std.proofs.Common.{◌≡◌, ℕ, Bool, List, [], ◌∷◌, ◌++◌, length, Option, Some, None, refl, sym, ap, ◌∙◌, subst}
+use Rattle.std.proofs.Common.{◌≡◌, ℕ, Bool, List, [], ◌∷◌, ◌++◌, Option, Some, None, refl, sym, ap, ◌∙◌, subst}
 use Rattle.std.specs.Prelude.{true, false, if◌then◌else◌}
 use Rattle.std.specs.FinMap.{get, empty}
 use Rattle.std.specs.Option.{option_or}
@@ -9,13 +9,13 @@ use Rattle.std.proofs.lemmas.Slice.Eq.{bytes_eq-Decides}
 use Rattle.ws_map.specs.Kept.{taken}
 use Rattle.ws_action.specs.Actions.{Action, action_id}
 use Rattle.ws_cache.specs.Joined.{lesser}
-use Rattle.ws_board.specs.declared.work.Status.TheVariants.{Waiting, Ready, Blocked}
+use Rattle.ws_board.specs.declared.work.Status.TheVariants.{Ready, Blocked}
 use Rattle.ws_board.specs.declared.work.Event.{Event}
 use Rattle.ws_board.specs.Work.{Job, Entries, Standings, Opening, State}
-use Rattle.ws_board.specs.Machine.{is_waiting, status_at, action_at, held, IsGoodness, Carried, IsMarked, IsRunBy, Finishes, BoardStep, Replays, IsFirst, IsHistory, unopened}
-use Rattle.ws_board.specs.Carrying.{held_with, AreOf}
-use Rattle.ws_board.proofs.Grown.{taken_here, taken_other, grows}
-use Rattle.ws_board.proofs.Sounds.{IsSound, KeepsIn, history_keeps, running_unheld, half_marked}
+use Rattle.ws_board.specs.Machine.{status_at, action_at, held, IsGoodness, Carried, IsMarked, IsRunBy, Finishes, BoardStep, Replays, IsFirst, IsHistory, unopened}
+use Rattle.ws_board.specs.Carrying.{held_with}
+use Rattle.ws_board.proofs.Grown.{taken_here, taken_other}
+use Rattle.ws_board.proofs.Sounds.{IsSound, KeepsIn, history_keeps, running_unheld}
 
 replays_more : (opening : Opening) (events : List Event) (first old : State) (event : Event) (new : State) → Replays opening first events old → BoardStep opening old event new → Replays opening first (events ++ event ∷ []) new
 replays_more opening [] first old event new r step = (new, subst (λ s. BoardStep opening s event new) r step, refl)
@@ -36,9 +36,6 @@ ready_has opening events now h job ready =
     has (Some job) x sound = (sound.0, sound.1)
 
 -- ---- what is held while an entry is about to be added, and then
-
-or_some : (a : Option Action) (c : Action) → a ≡ Some c → (b : Option Action) → option_or a b ≡ Some c
-or_some a c e b = ap (λ o. option_or o b) e
 
 or_assoc : (a b c : Option Action) → c ≡ None → option_or a (option_or b c) ≡ option_or a b
 or_assoc None None c e = e
@@ -75,17 +72,6 @@ held_grown opening old entry none =
 -- without one it is what is held
 pub held_still : (cache added : Entries) → held_with cache added None ≡ (λ id. option_or (get cache id) (get added id))
 held_still cache added = λ i id. or_assoc (get cache id) (get added id) None refl i
-
--- what is marked and waits has no action
-pub marked_bare : (opening : Opening) (old : State) (hand job : ℕ) (action entry : Action) (good : Bool) (marked : Standings) → KeepsIn opening old → IsRunBy old.standings hand job action → action_id entry ≡ action_id action → IsGoodness entry good
-    → IsMarked (action_id action) good old.standings marked → (k : ℕ) → status_at marked.statuses k ≡ Waiting → action_at marked.actions k ≡ None
-marked_bare opening old hand job action entry good marked keeps run fits goodness marks k waits =
-    let new : State = record { standings = old.standings; added = taken lesser old.added (action_id action) entry } in
-    let grown = grows opening old new (action_id action) entry refl (running_unheld opening old hand job action keeps run) in
-    (half_marked opening.jobs (held opening old) (held opening new) (action_id action) entry good grown goodness old.standings marked marks keeps).bare k (ap is_waiting waits)
-
-pub marked_of : (jobs : List Job) (id : List ℕ) (good : Bool) (old marked : Standings) → AreOf jobs old → IsMarked id good old marked → AreOf jobs marked
-marked_of jobs id good old marked all marks = record { statuses = marks.same_length ∙ all.statuses; actions = ap length marks.actions ∙ all.actions }
 
 -- what a finish does is a step
 pub finish_step : (opening : Opening) (old : State) (hand job : ℕ) (action entry : Action) (good : Bool) (marked new : Standings) → KeepsIn opening old → IsRunBy old.standings hand job action → action_id entry ≡ action_id action → IsGoodness entry good

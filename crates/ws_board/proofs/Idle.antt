@@ -1,17 +1,35 @@
--- After an idle nothing is ready and nothing runs; then, by ranks, nothing waits.
-use Rattle.std.proofs.Common.{◌≡◌, ℕ, ◌<◌, Bool, true, false, ◌||◌, List, [], ◌∷◌, Option, Some, None, refl, sym, ap, ◌∙◌, subst}
+-- Where nothing may be given and nothing runs, nothing is ready. After an idle it stays so; then, by ranks, nothing waits.
+use Rattle.std.proofs.Common.{◌≡◌, ℕ, ◌<◌, Bool, true, false, ◌||◌, ◌&&◌, List, [], ◌∷◌, Option, Some, None, refl, sym, ap, ◌∙◌, subst}
 use Rattle.std.specs.List.{slice_get, list_any, Contains}
-use Rattle.ws_action.specs.Actions.{Action}
+use Rattle.ws_action.specs.Actions.{Action, action_id}
 use Rattle.ws_action.proofs.Members.{later, at_head}
 use Rattle.ws_board.specs.declared.work.Status.{Status}
 use Rattle.ws_board.specs.declared.work.Status.TheVariants.{Waiting, Ready, Running, Blocked, Done}
 use Rattle.ws_board.specs.declared.work.Event.{Event}
 use Rattle.ws_board.specs.declared.work.Event.TheVariants.{Take, Finish, Back, Idle}
 use Rattle.ws_board.specs.Work.{Work, Job, Standings, Opening, State}
-use Rattle.ws_board.specs.Machine.{Held, is_open, is_waiting, is_active, status_at, action_at, IsVerdict, Wait, IsIdle, Replays, is_idle}
+use Rattle.ws_board.specs.Machine.{Held, is_open, is_waiting, is_active, is_running, is_run_of, status_at, action_at, has_id, IsVerdict, Wait, NoneFree, IsIdle, Replays, is_idle}
 use Rattle.ws_board.specs.Ends.{work_in, imports_in, IsRanked}
 use Rattle.ws_board.proofs.OneEnd.{ranked}
 use Rattle.ws_board.proofs.Sounds.{IsSound, Keeps}
+
+active_cases : (s : Status) → (s ≡ Ready → ⊥) → is_running s ≡ false → is_active s ≡ false
+active_cases Waiting a b = refl
+active_cases Ready a b = absurd (a refl)
+active_cases (Running hand) a b = absurd (cc)
+active_cases Blocked a b = refl
+active_cases (Done good) a b = refl
+
+run_is_running : (now : Standings) (id : List ℕ) (k : ℕ) → is_running (status_at now.statuses k) ≡ false → is_run_of now id k ≡ false
+run_is_running now id k h = ap (λ b. b && has_id now.actions id k) h
+
+pub idle_is : (now : Standings) → ((job : ℕ) → status_at now.statuses job ≡ Ready → (action : Action) × (action_at now.actions job ≡ Some action)) → NoneFree now → ((k : ℕ) → is_running (status_at now.statuses k) ≡ false) → IsIdle now.statuses
+idle_is now has none still job = active_cases (status_at now.statuses job) (λ ready. (
+    let a = has job ready in
+    let r = none job a.0 ready a.1 in
+    let c : true ≡ false = sym r.1 ∙ run_is_running now (action_id a.0) r.0 (still r.0) in cc)) (still job)
+
+-- ---- after an idle
 
 idle_not : (statuses : List Status) → IsIdle statuses → (j : ℕ) (s : Status) → status_at statuses j ≡ s → is_active s ≡ true → ⊥
 idle_not statuses idle j s e a = let c : false ≡ true = sym (idle j) ∙ ap is_active e ∙ a in cc

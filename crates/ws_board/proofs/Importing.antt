@@ -196,9 +196,6 @@ module _ (J : List Job) (I : List (List ℕ)) (R : List Row) (first : AreFirst J
     bare = λ k w. ap (λ (r : Row). r.action) (first.each k (waits_inside k (ap is_waiting w)));
   }
 
-  pub first_waits : (k : ℕ) → k < length J → (row_at R k).status ≡ Waiting
-  first_waits k lt = ap (λ (r : Row). r.status) (first.each k lt)
-
 -- what the first rows owe
 owes : (J : List Job) (I : List (List ℕ)) (R : List Row) → length R ≡ length J → length I ≡ length J → ((k : ℕ) → k < length J → due (row_at R k) ≡ 3 + 4 * length (imports_at J k) + 4 * length (slice_index_or I k []))
     → owed R ≡ 3 * length J + 4 * import_count J + 4 * sum_by (λ list. length list) I

@@ -22,7 +22,6 @@ pub mod Indexing
 pub mod Later
 pub mod Listing
 pub mod Marking
-pub mod Marks
 pub mod Meeting
 pub mod Noting
 pub mod OneEnd
@@ -30,7 +29,6 @@ pub mod Onward
 pub mod Own
 pub mod Refused
 pub mod Runs
-pub mod SameActions
 pub mod Shown
 pub mod Sounds
 pub mod Standby

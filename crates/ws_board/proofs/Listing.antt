@@ -17,19 +17,8 @@ any_push p (y ∷ ys) x = ap (λ b. p y || b) (any_push p ys x) ∙ or_assoc (p 
     or_assoc true b c = refl
     or_assoc false b c = refl
 
-pub any_append : (p : ℕ → Bool) (xs ys : List ℕ) → list_any p (xs ++ ys) ≡ (list_any p xs || list_any p ys)
-any_append p [] ys = refl
-any_append p (x ∷ xs) ys = ap (λ b. p x || b) (any_append p xs ys) ∙ or_assoc (p x) (list_any p xs) (list_any p ys)
-  where
-    or_assoc : (a b c : Bool) → (a || (b || c)) ≡ ((a || b) || c)
-    or_assoc true b c = refl
-    or_assoc false b c = refl
-
 pub eqb_same : (n : ℕ) → (eqb n n) ≡ true
 eqb_same n = grind (arith, nat_tests)
-
-pub eqb_is : (a b : ℕ) → (eqb a b) ≡ true → a ≡ b
-eqb_is a b e = grind (arith, nat_tests)
 
 pub eqb_not : (a b : ℕ) → (a ≡ b → ⊥) → (eqb a b) ≡ false
 eqb_not a b ne = grind (arith, nat_tests)
@@ -46,13 +35,6 @@ contains_any (y ∷ ys) x (suc k, lt, e) = ap (λ b. (eqb y x) || b) (contains_a
 or_parts : (a b : Bool) → (a || b) ≡ true → (a ≡ true) ⊎ (b ≡ true)
 or_parts true b h = inl refl
 or_parts false b h = inr h
-
-pub any_contains : (xs : List ℕ) (x : ℕ) → list_any (λ k. eqb k x) xs ≡ true → Contains xs x
-any_contains [] x h = absurd (cc)
-any_contains (y ∷ ys) x h = elim (or_parts (eqb y x) (list_any (λ k. eqb k x) ys) h) [
-  | inl e ↦ (0, omega arith, eqb_is y x e)
-  | inr r ↦ (let c = any_contains ys x r in (suc c.0, omega (arith, c.1), c.2))
-]
 
 pub times_none : (xs : List ℕ) (x : ℕ) → times x xs ≡ 0 → list_any (λ k. eqb k x) xs ≡ false
 times_none [] x h = refl

@@ -14,14 +14,14 @@ use Rattle.ws_board.specs.declared.index.Run.{Run}
 use Rattle.ws_board.specs.Machine.{is_ready, is_active, is_running, has_action_id}
 use Rattle.ws_board.specs.Rows.{times, is_active_of, Marks}
 use Rattle.ws_board.specs.Table.{row_at, standings_of}
-use Rattle.ws_board.specs.Indexes.{is_unrun, AgreesBy}
+use Rattle.ws_board.specs.Indexes.{is_unrun, IsRunAt, AgreesBy}
 use Rattle.ws_board.proofs.Runs.{at_most}
 use Rattle.ws_board.proofs.Ids.{of_id, at_id, off_id, same_id_or}
 use Rattle.ws_board.proofs.Standing.{status_row, length_statuses, row_same, row_other, runs_set}
-use Rattle.ws_board.proofs.Agreeing.{both_of, both_and, none_of, ready_is, running_is, has_its, id_is, listed_active, one_run, unrun_none}
+use Rattle.ws_board.proofs.Agreeing.{both_of, both_and, none_of, ready_is, running_is, has_its, has_same, id_is, listed_active, one_run, unrun_none}
 
-run_parts : (hand other j k : ℕ) (a b : Action) → ◌≡◌ {A = Option Run} (Some (record { hand = hand; job = j; action = a })) (Some (record { hand = other; job = k; action = b })) → (hand ≡ other) × (j ≡ k) × (a ≡ b)
-run_parts hand other j k a b e = (ap (λ (o : Option Run). elim o [ None ↦ hand | Some r ↦ r.hand ]) e, ap (λ (o : Option Run). elim o [ None ↦ j | Some r ↦ r.job ]) e, ap (λ (o : Option Run). elim o [ None ↦ a | Some r ↦ r.action ]) e)
+run_parts : (hand other j k : ℕ) → ◌≡◌ {A = Option Run} (Some (record { hand = hand; job = j })) (Some (record { hand = other; job = k })) → (hand ≡ other) × (j ≡ k)
+run_parts hand other j k e = (ap (λ (o : Option Run). elim o [ None ↦ hand | Some r ↦ r.hand ]) e, ap (λ (o : Option Run). elim o [ None ↦ j | Some r ↦ r.job ]) e)
 
 module _ (R N : List Row) (jobs : List ℕ → List ℕ) (run : List ℕ → Option Run) (free : ℕ → Bool) (count running : ℕ) (agrees : AgreesBy R jobs run free count running)
     (k : ℕ) (row : Row) (written : N ≡ set R k row) (inside : k < length R) (action : Action) (its : (row_at R k).action ≡ Some action) (keeps : row.action ≡ (row_at R k).action)
@@ -52,9 +52,6 @@ module _ (R N : List Row) (jobs : List ℕ → List ℕ) (run : List ℕ → Opt
 
   active_still : (i : List ℕ) (j : ℕ) → is_active_of N i j ≡ is_active_of R i j
   active_still i j = ap (λ b. b && has_action_id i (row_at N j).action) (actives_same j) ∙ ap (λ (a : Option Action). is_active (row_at R j).status && has_action_id i a) (actions_same j)
-
-  listed_here : list_any (λ j. eqb j k) (jobs id) ≡ true
-  listed_here = listed_active R jobs run free count running agrees id k ∙ both_and (is_active (row_at R k).status) (has_action_id id (row_at R k).action) was (has_its id (row_at R k).action action its refl)
 
   count_same : count ≡ length N
   count_same = agrees.count ∙ sym (ap length written ∙ length-set R k row)
@@ -87,13 +84,13 @@ module _ (R N : List Row) (jobs : List ℕ → List ℕ) (run : List ℕ → Opt
 
   pub taken_agrees : (hand : ℕ) (new : List ℕ → List ℕ) (ran : List ℕ → Option Run) (freed : ℕ → Bool) (length_of now : ℕ) → (row_at R k).status ≡ Ready → row.status ≡ Running hand → run id ≡ None
       → ((i : List ℕ) → new i ≡ (if bytes_eq id i then jobs id else jobs i))
-      → ((i : List ℕ) → ran i ≡ (if bytes_eq id i then Some (record { hand = hand; job = k; action = action }) else run i))
+      → ((i : List ℕ) → ran i ≡ (if bytes_eq id i then Some (record { hand = hand; job = k }) else run i))
       → ((j : ℕ) → freed j ≡ (if list_any (λ i. eqb i j) (jobs id) then false else free j))
       → length_of ≡ count → now ≡ running + 1
       → AgreesBy N new ran freed length_of now
   taken_agrees hand new ran freed length_of now ready runs none new_is ran_is freed_is len more = record {
     jobs = jobs_still new new_is;
-    runs = λ i h j a. (forth i h j a (same_id_or id i), back i h j a (same_id_or id i));
+    runs = λ i h j. (forth i h j (same_id_or id i), back i h j (same_id_or id i));
     count = len ∙ count_same;
     free = λ j. freed_is j ∙ free_is j (is_active_of R id j) refl;
     running = (
@@ -110,34 +107,34 @@ module _ (R N : List Row) (jobs : List ℕ → List ℕ) (run : List ℕ → Opt
       still_runs : (j h : ℕ) → (row_at R j).status ≡ Running h → (row_at N j).status ≡ Running h
       still_runs j h s = ap (λ (r : Row). r.status) (other j (λ e. let c : true ≡ false = sym (ap is_running s) ∙ ap (λ i. is_running (row_at R i).status) e ∙ ap is_running ready in cc)) ∙ s
 
-      forth : (i : List ℕ) (h j : ℕ) (a : Action) → (id ≡ i) ⊎ (id ≡ i → ⊥) → ran i ≡ Some (record { hand = h; job = j; action = a }) → ((row_at N j).status ≡ Running h) × ((row_at N j).action ≡ Some a) × (action_id a ≡ i)
-      forth i h j a (inl e) r =
-          let p = run_parts hand h k j action a (sym (ran_is i ∙ at_id id i (Some (record { hand = hand; job = k; action = action })) (run i) e) ∙ r) in
-          (ap (λ x. (row_at N x).status) (sym p.1) ∙ now_runs ∙ ap Running p.0, ap (λ x. (row_at N x).action) (sym p.1) ∙ here_action ∙ ap Some p.2, ap action_id (sym p.2) ∙ e)
-      forth i h j a (inr ne) r =
-          let q = (agrees.runs i h j a).0 (sym (ran_is i ∙ off_id id i (Some (record { hand = hand; job = k; action = action })) (run i) ne) ∙ r) in
-          (still_runs j h q.0, actions_same j ∙ q.1, q.2)
+      forth : (i : List ℕ) (h j : ℕ) → (id ≡ i) ⊎ (id ≡ i → ⊥) → ran i ≡ Some (record { hand = h; job = j }) → IsRunAt N i h j
+      forth i h j (inl e) r =
+          let p = run_parts hand h k j (sym (ran_is i ∙ at_id id i (Some (record { hand = hand; job = k })) (run i) e) ∙ r) in
+          (ap (λ x. (row_at N x).status) (sym p.1) ∙ now_runs ∙ ap Running p.0, ap (λ x. has_action_id i (row_at N x).action) (sym p.1) ∙ has_its i (row_at N k).action action here_action e)
+      forth i h j (inr ne) r =
+          let q = (agrees.runs i h j).0 (sym (ran_is i ∙ off_id id i (Some (record { hand = hand; job = k })) (run i) ne) ∙ r) in
+          (still_runs j h q.0, ap (has_action_id i) (actions_same j) ∙ q.1)
 
-      back : (i : List ℕ) (h j : ℕ) (a : Action) → (id ≡ i) ⊎ (id ≡ i → ⊥) → ((row_at N j).status ≡ Running h) × ((row_at N j).action ≡ Some a) × (action_id a ≡ i) → ran i ≡ Some (record { hand = h; job = j; action = a })
-      back i h j a (inl e) q = ran_is i ∙ at_id id i (Some (record { hand = hand; job = k; action = action })) (run i) e ∙ by_job (cases_eq j k)
+      back : (i : List ℕ) (h j : ℕ) → (id ≡ i) ⊎ (id ≡ i → ⊥) → IsRunAt N i h j → ran i ≡ Some (record { hand = h; job = j })
+      back i h j (inl e) q = ran_is i ∙ at_id id i (Some (record { hand = hand; job = k })) (run i) e ∙ by_job (cases_eq j k)
         where
-          by_job : (j ≡ k) ⊎ (j ≡ k → ⊥) → ◌≡◌ {A = Option Run} (Some (record { hand = hand; job = k; action = action })) (Some (record { hand = h; job = j; action = a }))
+          by_job : (j ≡ k) ⊎ (j ≡ k → ⊥) → ◌≡◌ {A = Option Run} (Some (record { hand = hand; job = k })) (Some (record { hand = h; job = j }))
           by_job (inl same) =
               let s : Running hand ≡ Running h = sym now_runs ∙ ap (λ x. (row_at N x).status) (sym same) ∙ q.0 in
-              let t : Some action ≡ Some a = sym here_action ∙ ap (λ x. (row_at N x).action) (sym same) ∙ q.1 in
               let hands : hand ≡ h = cc in
-              let acts : action ≡ a = cc in
-              λ x. Some (record { hand = hands x; job = sym same x; action = acts x })
-          by_job (inr ne) = absurd (unrun_none R jobs run free count running agrees id none j h a (ap (λ (r : Row). r.status) (sym (other j ne)) ∙ q.0) (sym (actions_same j) ∙ q.1) (q.2 ∙ sym e))
-      back i h j a (inr ne) q =
-          ran_is i ∙ off_id id i (Some (record { hand = hand; job = k; action = action })) (run i) ne
-          ∙ (agrees.runs i h j a).1 (ap (λ (r : Row). r.status) (sym (other j (apart (cases_eq j k)))) ∙ q.0, sym (actions_same j) ∙ q.1, q.2)
+              λ x. Some (record { hand = hands x; job = sym same x })
+          by_job (inr ne) =
+              absurd (unrun_none R jobs run free count running agrees id none j h
+              (ap (λ (r : Row). r.status) (sym (other j ne)) ∙ q.0, ap (has_action_id id) (sym (actions_same j)) ∙ ap (λ x. has_action_id x (row_at N j).action) e ∙ q.1))
+      back i h j (inr ne) q =
+          ran_is i ∙ off_id id i (Some (record { hand = hand; job = k })) (run i) ne
+          ∙ (agrees.runs i h j).1 (ap (λ (r : Row). r.status) (sym (other j apart)) ∙ q.0, ap (has_action_id i) (sym (actions_same j)) ∙ q.1)
         where
-          apart : (j ≡ k) ⊎ (j ≡ k → ⊥) → j ≡ k → ⊥
-          apart d same = ne (let t : Some action ≡ Some a = sym here_action ∙ ap (λ x. (row_at N x).action) (sym same) ∙ q.1 in let acts : action ≡ a = cc in ap action_id acts ∙ q.2)
+          apart : j ≡ k → ⊥
+          apart same = ne (has_same i (row_at N j).action action (ap (λ x. (row_at N x).action) same ∙ here_action) q.1)
 
-      run_here : ran id ≡ Some (record { hand = hand; job = k; action = action })
-      run_here = ran_is id ∙ at_id id id (Some (record { hand = hand; job = k; action = action })) (run id) refl
+      run_here : ran id ≡ Some (record { hand = hand; job = k })
+      run_here = ran_is id ∙ at_id id id (Some (record { hand = hand; job = k })) (run id) refl
 
       shut : (a : Option Action) → has_action_id id a ≡ true → is_unrun ran a ≡ false
       shut None h = refl
@@ -152,7 +149,7 @@ module _ (R N : List Row) (jobs : List ℕ → List ℕ) (run : List ℕ → Opt
           ap (λ b. if b then false else free j) (listed_active R jobs run free count running agrees id j ∙ e)
           ∙ sym (and_false (is_ready (row_at N j).status) (is_unrun ran (row_at N j).action) (shut (row_at N j).action (ap (has_action_id id) (actions_same j) ∙ (both_of (is_active (row_at R j).status) (has_action_id id (row_at R j).action) e).1)))
       free_is j false e =
-          ap (λ b. if b then false else free j) (listed_active R jobs run free count running agrees id j ∙ e) ∙ unlisted ran (Some (record { hand = hand; job = k; action = action })) ran_is j e
+          ap (λ b. if b then false else free j) (listed_active R jobs run free count running agrees id j ∙ e) ∙ unlisted ran (Some (record { hand = hand; job = k })) ran_is j e
 
   -- ---- a job is given back
 
@@ -164,7 +161,7 @@ module _ (R N : List Row) (jobs : List ℕ → List ℕ) (run : List ℕ → Opt
       → AgreesBy N new ran freed length_of now
   given_agrees hand new ran freed length_of now runs ready new_is ran_is freed_is len fewer = record {
     jobs = jobs_still new new_is;
-    runs = λ i h j a. (forth i h j a (same_id_or id i), back i h j a (same_id_or id i));
+    runs = λ i h j. (forth i h j (same_id_or id i), back i h j (same_id_or id i));
     count = len ∙ count_same;
     free = λ j. freed_is j ∙ free_is j (is_active_of R id j) refl;
     running = (
@@ -181,19 +178,21 @@ module _ (R N : List Row) (jobs : List ℕ → List ℕ) (run : List ℕ → Opt
       apart_of : (j h : ℕ) → (row_at N j).status ≡ Running h → j ≡ k → ⊥
       apart_of j h s e = let c : true ≡ false = sym (ap is_running s) ∙ ap (λ i. is_running (row_at N i).status) e ∙ ap is_running now_ready in cc
 
-      forth : (i : List ℕ) (h j : ℕ) (a : Action) → (id ≡ i) ⊎ (id ≡ i → ⊥) → ran i ≡ Some (record { hand = h; job = j; action = a }) → ((row_at N j).status ≡ Running h) × ((row_at N j).action ≡ Some a) × (action_id a ≡ i)
-      forth i h j a (inl e) r = let c : ◌≡◌ {A = Option Run} None (Some (record { hand = h; job = j; action = a })) = sym (ran_is i ∙ at_id id i None (run i) e) ∙ r in absurd (cc)
-      forth i h j a (inr ne) r =
-          let q = (agrees.runs i h j a).0 (sym (ran_is i ∙ off_id id i None (run i) ne) ∙ r) in
-          let apart : j ≡ k → ⊥ = λ same. ne (let t : Some action ≡ Some a = sym its ∙ ap (λ x. (row_at R x).action) (sym same) ∙ q.1 in let acts : action ≡ a = cc in ap action_id acts ∙ q.2) in
-          (ap (λ (r : Row). r.status) (other j apart) ∙ q.0, actions_same j ∙ q.1, q.2)
+      forth : (i : List ℕ) (h j : ℕ) → (id ≡ i) ⊎ (id ≡ i → ⊥) → ran i ≡ Some (record { hand = h; job = j }) → IsRunAt N i h j
+      forth i h j (inl e) r = let c : ◌≡◌ {A = Option Run} None (Some (record { hand = h; job = j })) = sym (ran_is i ∙ at_id id i None (run i) e) ∙ r in absurd (cc)
+      forth i h j (inr ne) r =
+          let q = (agrees.runs i h j).0 (sym (ran_is i ∙ off_id id i None (run i) ne) ∙ r) in
+          let apart : j ≡ k → ⊥ = λ same. ne (has_same i (row_at R j).action action (ap (λ x. (row_at R x).action) same ∙ its) q.1) in
+          (ap (λ (r : Row). r.status) (other j apart) ∙ q.0, ap (has_action_id i) (actions_same j) ∙ q.1)
 
-      back : (i : List ℕ) (h j : ℕ) (a : Action) → (id ≡ i) ⊎ (id ≡ i → ⊥) → ((row_at N j).status ≡ Running h) × ((row_at N j).action ≡ Some a) × (action_id a ≡ i) → ran i ≡ Some (record { hand = h; job = j; action = a })
-      back i h j a (inl e) q =
+      back : (i : List ℕ) (h j : ℕ) → (id ≡ i) ⊎ (id ≡ i → ⊥) → IsRunAt N i h j → ran i ≡ Some (record { hand = h; job = j })
+      back i h j (inl e) q =
           let ne = apart_of j h q.0 in
-          absurd (ne (one_run R jobs run free count running agrees id h hand j k a action (ap (λ (r : Row). r.status) (sym (other j ne)) ∙ q.0) (sym (actions_same j) ∙ q.1) (q.2 ∙ sym e) runs its refl))
-      back i h j a (inr ne) q =
-          ran_is i ∙ off_id id i None (run i) ne ∙ (agrees.runs i h j a).1 (ap (λ (r : Row). r.status) (sym (other j (apart_of j h q.0))) ∙ q.0, sym (actions_same j) ∙ q.1, q.2)
+          absurd (ne (one_run R jobs run free count running agrees id h hand j k
+          (ap (λ (r : Row). r.status) (sym (other j ne)) ∙ q.0, ap (has_action_id id) (sym (actions_same j)) ∙ ap (λ x. has_action_id x (row_at N j).action) e ∙ q.1)
+          (runs, has_its id (row_at R k).action action its refl)))
+      back i h j (inr ne) q =
+          ran_is i ∙ off_id id i None (run i) ne ∙ (agrees.runs i h j).1 (ap (λ (r : Row). r.status) (sym (other j (apart_of j h q.0))) ∙ q.0, ap (has_action_id i) (sym (actions_same j)) ∙ q.1)
 
       opened : (a : Option Action) → has_action_id id a ≡ true → is_unrun ran a ≡ true
       opened None h = absurd (cc)
@@ -217,8 +216,7 @@ module _ (R N : List Row) (jobs : List ℕ → List ℕ) (run : List ℕ → Opt
           by_running ne false e = not_running (row_at R j).status active e
           by_running ne true e =
               let r = running_is (row_at R j).status e in
-              let a = id_is id (row_at R j).action has in
-              absurd (ne (one_run R jobs run free count running agrees id r.0 hand j k a.0 action r.1 a.1 a.2 runs its refl))
+              absurd (ne (one_run R jobs run free count running agrees id r.0 hand j k (r.1, has) (runs, has_its id (row_at R k).action action its refl)))
 
       free_is : (j : ℕ) (b : Bool) → is_active_of R id j ≡ b → (if list_any (λ i. eqb i j) (jobs id) then true else free j) ≡ (is_ready (row_at N j).status && is_unrun ran (row_at N j).action)
       free_is j true e =
@@ -278,8 +276,8 @@ module _ (R N : List Row) (jobs : List ℕ → List ℕ) (run : List ℕ → Opt
   active_here : is_active_of R id k ≡ true
   active_here = both_and (is_active (row_at R k).status) (has_action_id id (row_at R k).action) (ap is_active runs) (has_its id (row_at R k).action action its same)
 
-  run_is : run id ≡ Some (record { hand = hand; job = k; action = action })
-  run_is = (agrees.runs id hand k action).1 (runs, its, same)
+  run_is : run id ≡ Some (record { hand = hand; job = k })
+  run_is = (agrees.runs id hand k).1 (runs, has_its id (row_at R k).action action its same)
 
   abbrev stood : Row
   stood = record (row_at R k) { status = Done good }
@@ -308,14 +306,13 @@ module _ (R N : List Row) (jobs : List ℕ → List ℕ) (run : List ℕ → Opt
             let ran : is_running (row_at R j).status ≡ true = ap (λ (r : Row). is_running r.status) (sym (row_other R k j stood ne)) ∙ r in
             ap (λ (r : Row). is_running r.status) (still j (none_of (is_active_of R id j) (λ e. (
             let h = running_is (row_at R j).status ran in
-            let a = id_is id (row_at R j).action (both_of (is_active (row_at R j).status) (has_action_id id (row_at R j).action) e).1 in
-            ne (one_run R jobs run free count running agrees id h.0 hand j k a.0 action h.1 a.1 a.2 runs its same))))) ∙ ran)
+            ne (one_run R jobs run free count running agrees id h.0 hand j k (h.1, (both_of (is_active (row_at R j).status) (has_action_id id (row_at R j).action) e).1) (runs, has_its id (row_at R k).action action its same)))))) ∙ ran)
       ]
 
   pub done_agrees : (now : ℕ) → now + 1 ≡ running → AgreesBy N (λ i. if bytes_eq id i then [] else jobs i) (λ i. if bytes_eq id i then None else run i) free count now
   done_agrees now less = record {
     jobs = λ i j. jobs_are i j (same_id_or id i);
-    runs = λ i h j a. (forth i h j a (same_id_or id i), back i h j a (same_id_or id i));
+    runs = λ i h j. (forth i h j (same_id_or id i), back i h j (same_id_or id i));
     count = agrees.count ∙ sym marks.count;
     free = λ j. free_is j (is_active_of R id j) refl;
     running = omega (arith, fewer, less, agrees.running);
@@ -325,15 +322,17 @@ module _ (R N : List Row) (jobs : List ℕ → List ℕ) (run : List ℕ → Opt
       jobs_are i j (inl e) = ap (times j) (at_id id i [] (jobs i) e) ∙ ap (λ b. if b then 1 else 0) (sym (ap (λ x. is_active_of N x j) (sym e) ∙ done_none j))
       jobs_are i j (inr ne) = ap (times j) (off_id id i [] (jobs i) ne) ∙ agrees.jobs i j ∙ ap (λ b. if b then 1 else 0) (sym (active_apart i j ne))
 
-      forth : (i : List ℕ) (h j : ℕ) (a : Action) → (id ≡ i) ⊎ (id ≡ i → ⊥) → (if bytes_eq id i then None else run i) ≡ Some (record { hand = h; job = j; action = a }) → ((row_at N j).status ≡ Running h) × ((row_at N j).action ≡ Some a) × (action_id a ≡ i)
-      forth i h j a (inl e) r = let c : ◌≡◌ {A = Option Run} None (Some (record { hand = h; job = j; action = a })) = sym (at_id id i None (run i) e) ∙ r in absurd (cc)
-      forth i h j a (inr ne) r =
-          let q = (agrees.runs i h j a).0 (sym (off_id id i None (run i) ne) ∙ r) in
-          (ap (λ (r : Row). r.status) (apart_still i j ne (has_its i (row_at R j).action a q.1 q.2)) ∙ q.0, actions j ∙ q.1, q.2)
+      forth : (i : List ℕ) (h j : ℕ) → (id ≡ i) ⊎ (id ≡ i → ⊥) → (if bytes_eq id i then None else run i) ≡ Some (record { hand = h; job = j }) → IsRunAt N i h j
+      forth i h j (inl e) r = let c : ◌≡◌ {A = Option Run} None (Some (record { hand = h; job = j })) = sym (at_id id i None (run i) e) ∙ r in absurd (cc)
+      forth i h j (inr ne) r =
+          let q = (agrees.runs i h j).0 (sym (off_id id i None (run i) ne) ∙ r) in
+          (ap (λ (r : Row). r.status) (apart_still i j ne q.1) ∙ q.0, ap (has_action_id i) (actions j) ∙ q.1)
 
-      back : (i : List ℕ) (h j : ℕ) (a : Action) → (id ≡ i) ⊎ (id ≡ i → ⊥) → ((row_at N j).status ≡ Running h) × ((row_at N j).action ≡ Some a) × (action_id a ≡ i) → (if bytes_eq id i then None else run i) ≡ Some (record { hand = h; job = j; action = a })
-      back i h j a (inl e) q = let c : true ≡ false = sym (both_and (is_active (row_at N j).status) (has_action_id id (row_at N j).action) (ap is_active q.0) (has_its id (row_at N j).action a q.1 (q.2 ∙ sym e))) ∙ done_none j in absurd (cc)
-      back i h j a (inr ne) q = off_id id i None (run i) ne ∙ (agrees.runs i h j a).1 (ap (λ (r : Row). r.status) (sym (ran_before j (ap is_running q.0))) ∙ q.0, sym (actions j) ∙ q.1, q.2)
+      back : (i : List ℕ) (h j : ℕ) → (id ≡ i) ⊎ (id ≡ i → ⊥) → IsRunAt N i h j → (if bytes_eq id i then None else run i) ≡ Some (record { hand = h; job = j })
+      back i h j (inl e) q =
+          let has : has_action_id id (row_at N j).action ≡ true = ap (λ x. has_action_id x (row_at N j).action) e ∙ q.1 in
+          let c : true ≡ false = sym (both_and (is_active (row_at N j).status) (has_action_id id (row_at N j).action) (ap is_active q.0) has) ∙ done_none j in absurd (cc)
+      back i h j (inr ne) q = off_id id i None (run i) ne ∙ (agrees.runs i h j).1 (ap (λ (r : Row). r.status) (sym (ran_before j (ap is_running q.0))) ∙ q.0, ap (has_action_id i) (sym (actions j)) ∙ q.1)
 
       shut : (a : Option Action) → has_action_id id a ≡ true → is_unrun run a ≡ false
       shut None h = refl

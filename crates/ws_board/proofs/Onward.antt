@@ -34,9 +34,6 @@ under_others J h I O N good under k w =
     let same = u.others k (ap is_waiting (status_row O k) ∙ w) in
     (sym (status_row N k) ∙ same.0 ∙ status_row O k, sym (action_row N k) ∙ same.1 ∙ action_row O k)
 
-if_new : (wa ra : Bool) → Bool → ℕ
-if_new wa ra b = if wa && (ra && b) then 1 else 0
-
 -- what is new after two steps
 new_then : (O M N : List Row) (id : List ℕ) (k : ℕ) → (is_waiting (row_at O k).status ≡ false → (row_at M k).status ≡ (row_at O k).status)
     → (is_waiting (row_at M k).status ≡ false → ((row_at N k).status ≡ (row_at M k).status) × ((row_at N k).action ≡ (row_at M k).action))

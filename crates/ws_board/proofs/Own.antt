@@ -13,7 +13,7 @@ use Rattle.ws_board.specs.declared.work.Event.TheVariants.{Take, Back, Idle}
 use Rattle.ws_board.specs.Work.{Entries, Opening, State, Seen}
 use Rattle.ws_board.specs.Machine.{status_at, action_at, held}
 use Rattle.ws_board.specs.Calls.{IsFresh, Happens}
-use Rattle.ws_board.specs.Ends.{End, came_of, came, AreEnds, IsRanked, AreClear, ComesToEnds, AddsOwn}
+use Rattle.ws_board.specs.Ends.{End, came_of, came, AreEnds, IsRanked, AreClear, ComesToEnds, AddsOwn, Comes}
 use Rattle.ws_board.proofs.Meeting.{comes, came_has, formed_of}
 use Rattle.ws_board.proofs.Sounds.{KeepsIn}
 use Rattle.ws_board.proofs.Tells.{clear_with, clear_alone, tells_by}
@@ -44,7 +44,7 @@ own_ends seen own to E rank ends stands down are clear =
     let alone : AreClear E (came ends) = clear_alone E (came ends) clear in
     to own.entries own.stands E rank ends stands down are (clear_with E own.entries (came ends) (own.among E rank ends stands down are alone) own.sized alone)
 
--- ---- a job is finished with its own action
+-- ---- jobs' own actions
 
 module _ (op : Opening) (old : State) (keeps : KeepsIn op old) (job : ℕ) (a : Action) (its : action_at old.standings.actions job ≡ Some a) (entries : List Action) (put : CacheStandsFor old.added entries) (sized : AllSized entries) where
   its_sized : IsSized a
@@ -55,14 +55,22 @@ module _ (op : Opening) (old : State) (keeps : KeepsIn op old) (job : ℕ) (a : 
       let tells = tells_by op old E entries (came ends) stands put (clear_with E entries (came ends) among sized clear) in
       came_has ends job a (ap came_of (comes op.jobs (held op old) old.standings ends rank down are keeps tells job a its).end)
 
-pub own_finish : (old new : Seen) (job : ℕ) (a : Action) → KeepsIn old.opening old.state → action_at old.state.standings.actions job ≡ Some a → new.opening ≡ old.opening → new.state.added ≡ taken lesser old.state.added (action_id a) a → AddsOwn old → AddsOwn new
-own_finish old new job a keeps its opened added own = record {
+-- the action of a job comes, where only such were added
+pub own_comes : (seen : Seen) (job : ℕ) (a : Action) → KeepsIn seen.opening seen.state → action_at seen.state.standings.actions job ≡ Some a → AddsOwn seen → Comes seen.opening a
+own_comes seen job a keeps its own = record {
+  sized = its_sized seen.opening seen.state keeps job a its own.entries own.stands own.sized;
+  among = λ E rank ends stands down are clear.
+      came_own seen.opening seen.state keeps job a its own.entries own.stands own.sized E rank ends stands down are clear (own.among E rank ends stands down are clear);
+}
+
+pub own_finish : (old new : Seen) (a : Action) → new.opening ≡ old.opening → new.state.added ≡ taken lesser old.state.added (action_id a) a → Comes old.opening a → AddsOwn old → AddsOwn new
+own_finish old new a opened added comes own = record {
   entries = own.entries ++ a ∷ [];
   stands = taken_stands old.state.added new.state.added own.entries a added own.stands;
-  sized = λ x c. elim (Contains-push_cases own.entries a x c) [ inl l ↦ own.sized x l | inr e ↦ subst IsSized e (its_sized old.opening old.state keeps job a its own.entries own.stands own.sized) ];
+  sized = λ x c. elim (Contains-push_cases own.entries a x c) [ inl l ↦ own.sized x l | inr e ↦ subst IsSized e comes.sized ];
   among = subst (λ (o : Opening). (E : List Action) (rank : ℕ → ℕ) (ends : List End) → CacheStandsFor o.cache E → IsRanked rank o.jobs → AreEnds o.jobs ends → AreClear E (came ends) → Includes (came ends) (own.entries ++ a ∷ [])) (sym opened)
       (λ E rank ends stands down are clear x c. elim (Contains-push_cases own.entries a x c) [
         | inl l ↦ own.among E rank ends stands down are clear x l
-        | inr e ↦ subst (Contains (came ends)) e (came_own old.opening old.state keeps job a its own.entries own.stands own.sized E rank ends stands down are clear (own.among E rank ends stands down are clear))
+        | inr e ↦ subst (Contains (came ends)) e (comes.among E rank ends stands down are clear)
       ]);
 }

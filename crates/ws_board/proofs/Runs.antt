@@ -1,14 +1,13 @@
 -- How many jobs run.
-use Rattle.std.proofs.Common.{◌≡◌, ℕ, zero, suc, ◌+◌, ◌<◌, ◌≤◌, Bool, true, false, ◌&&◌, cond, List, [], ◌∷◌, length, get_or, count_by, map, Option, Some, None, refl, sym, ap, ◌∙◌, inl, inr, arith}
+use Rattle.std.proofs.Common.{◌≡◌, ℕ, zero, suc, ◌+◌, ◌<◌, ◌≤◌, Bool, true, false, ◌&&◌, cond, List, [], ◌∷◌, length, count_by, map, Option, Some, None, refl, sym, ap, ◌∙◌, inl, inr, arith}
 use Rattle.std.specs.Prelude.{if◌then◌else◌}
 use Rattle.std.specs.List.{slice_get}
-use Rattle.std.proofs.Math.ListN.{set}
-use Rattle.std.proofs.lemmas.List.Sums.{sum_by-cons, sum_by-set}
+use Rattle.std.proofs.lemmas.List.Sums.{sum_by-cons}
 use Rattle.std.proofs.lemmas.Bool.{cases_lt}
 use Rattle.std.proofs.lemmas.Slice.Eq.{bytes_eq-Decides}
 use Rattle.ws_action.specs.Actions.{Action, action_id}
 use Rattle.ws_board.specs.declared.work.Status.{Status}
-use Rattle.ws_board.specs.declared.work.Status.TheVariants.{Waiting, Running, Blocked, Done}
+use Rattle.ws_board.specs.declared.work.Status.TheVariants.{Waiting, Running, Done}
 use Rattle.ws_board.specs.Work.{Job, Standings}
 use Rattle.ws_board.specs.Machine.{Held, is_open, is_running, is_active, status_at, action_at, has_id, has_action_id, Verdict, Wait, Stop, Act, Follows, IsPlaced, Stands, Carried, mark, IsMarked, IsRunBy, unopened}
 use Rattle.ws_board.proofs.Carry.{past_end, waiting_or, carried_agrees}
@@ -84,19 +83,7 @@ finished_done jobs h id good old mid new m c hand k a run same =
     let done : status_at mid.statuses k ≡ Done good = marked_done id good old mid m hand k a run same in
     carried_agrees jobs h mid new c k (ap is_open done) ∙ done
 
-pub finish_runs : (jobs : List Job) (h : Held) (id : List ℕ) (good : Bool) (old mid new : Standings) → IsMarked id good old mid → Carried jobs h mid new → (hand k : ℕ) (a : Action) → IsRunBy old hand k a → action_id a ≡ id
-    → count_by is_running new.statuses + 1 ≤ count_by is_running old.statuses
-finish_runs jobs h id good old mid new m c hand k a run same =
-    less is_running old.statuses new.statuses k (c.same_length.0 ∙ m.same_length) (λ i e. mark_ran id good old mid m i (carried_ran jobs h mid new c i e)) (inside_of old.statuses k (Running hand) run.runs refl) (ap is_running run.runs)
-    (ap is_running (finished_done jobs h id good old mid new m c hand k a run same))
-
 -- ---- one job is written
-
-pub set_runs : (xs : List Status) (k : ℕ) (was now : Status) → status_at xs k ≡ was → k < length xs → count_by is_running (set xs k now) + cond (is_running was) 1 0 ≡ count_by is_running xs + cond (is_running now) 1 0
-set_runs xs k was now e inside =
-    let s = sum_by-set (λ s. cond (is_running s) 1 0) xs k now Blocked inside in
-    let a : ◌≡◌ {A = ℕ} (cond (is_running (get_or xs k Blocked)) 1 0) (cond (is_running was) 1 0) = ap (λ s. cond (is_running s) 1 0) e in
-    omega (arith, s, a)
 
 -- ---- at first
 

@@ -1,26 +1,20 @@
 -- What a job's imports make of it, by the rows that are read.
-use Rattle.std.proofs.Common.{◌≡◌, ℕ, suc, ◌+◌, ◌*◌, ◌-◌, ◌<◌, ◌≤◌, true, false, ◌||◌, cond, List, [], ◌∷◌, length, get_or, Option, Some, None, refl, sym, ap, ◌∙◌, subst, arith, inl, inr}
+use Rattle.std.proofs.Common.{◌≡◌, ℕ, suc, ◌-◌, ◌<◌, ◌≤◌, true, false, ◌||◌, List, [], ◌∷◌, length, get_or, Option, Some, None, refl, sym, ap, ◌∙◌, subst, arith, inl, inr}
 use Rattle.std.specs.List.{slice_get, slice_index_or}
 use Rattle.std.proofs.lemmas.Bool.{cases_lt}
 use Rattle.std.proofs.lemmas.Option.{get_or_from_slice_get}
-use Rattle.go_code.specs.Packages.{Object}
 use Rattle.go_export.specs.Summaries.{Summary}
 use Rattle.ws_action.specs.Actions.{Action, action_id}
-use Rattle.ws_cache.specs.Compiles.{Compiles, Good}
 use Rattle.ws_board.specs.declared.work.Status.{Status}
 use Rattle.ws_board.specs.declared.work.Status.TheVariants.{Waiting, Blocked, Done}
 use Rattle.ws_board.specs.declared.table.Row.{Row}
 use Rattle.ws_board.specs.Work.{Work, Job, Standings}
 use Rattle.ws_board.specs.Machine.{Held, Stands, Stop, Act, IsVerdict, IsFormed, MayForm, IsPlaced, is_open, is_waiting, any_open, HasSummary}
 use Rattle.ws_board.specs.Ends.{imports_in, imports_at, work_in, work_at}
-use Rattle.ws_board.specs.Rows.{due, due_of, telling, IsOpenPast, Becomes}
+use Rattle.ws_board.specs.Rows.{IsOpenPast, Becomes}
 use Rattle.ws_board.specs.Table.{row_at, standings_of}
-use Rattle.ws_board.proofs.Carry.{waiting_is}
-use Rattle.ws_board.proofs.Standing.{status_row, action_row, row_past}
+use Rattle.ws_board.proofs.Standing.{status_row, row_past}
 use Rattle.ws_board.proofs.Onward.{waits_stands, import_open}
-
-pub due_waiting : (r : Row) → is_waiting r.status ≡ true → due r ≡ 2 + 2 * r.left + 2 * r.imports + telling r.importers
-due_waiting r w = ap (λ s. due_of s r.left r.imports r.importers) (waiting_is r.status w)
 
 -- ---- where none of the imports is open
 
@@ -32,10 +26,6 @@ pub all_past : (J : List Job) (R : List Row) (job left : ℕ) → left ≡ 0 →
 all_past J R job left none past = none_open (imports_at J job) R (λ i lt. past i (omega (arith, none)) lt)
 
 -- ---- how it stands then
-
-pub stands_bare : (h : Held) (now : Standings) (o : Option Job) → work_in o ≡ None → Stands h now o Blocked None
-stands_bare h now None is = (refl, refl)
-stands_bare h now (Some job) is = (Stop, subst (λ o. IsVerdict h now o job.imports Stop) (sym is) refl, (refl, refl))
 
 pub stands_stopped : (h : Held) (now : Standings) (o : Option Job) (work : Work) → work_in o ≡ Some work → any_open now (imports_in o) ≡ false → ((a : Action) → ¬ (MayForm h now work (imports_in o) a)) → Stands h now o Blocked None
 stands_stopped h now None work is shut none = absurd (cc)
@@ -53,16 +43,6 @@ stands_waits h J R job left work is some within on = waits_stands h (standings_o
 pub placed_cases : (o : Option Action) (s : Status) → IsPlaced o s → (is_waiting s ≡ true → ⊥)
 placed_cases None s p w = let c : true ≡ false = sym w ∙ ap is_waiting p in cc
 placed_cases (Some e) s p w = let c : true ≡ false = sym w ∙ ap is_waiting p.2 in cc
-
-pub placed_due : (o : Option Action) (s : Status) (left imports importers : ℕ) → IsPlaced o s → due_of s left imports importers + cond (is_open s) 0 (telling importers) ≤ 2 + telling importers
-placed_due None s left imports importers p =
-    let a : due_of s left imports importers ≡ 2 + telling importers = ap (λ t. due_of t left imports importers) p in
-    let b : ◌≡◌ {A = ℕ} (cond (is_open s) 0 (telling importers)) 0 = ap (λ t. cond (is_open t) 0 (telling importers)) p in
-    omega (arith, a, b)
-placed_due (Some e) s left imports importers p =
-    let a : due_of s left imports importers ≡ 0 = ap (λ t. due_of t left imports importers) p.2 in
-    let b : ◌≡◌ {A = ℕ} (cond (is_open s) 0 (telling importers)) (telling importers) = ap (λ t. cond (is_open t) 0 (telling importers)) p.2 in
-    omega (arith, a, b)
 
 -- ---- how many of the imports may be open
 
@@ -94,27 +74,7 @@ module _ (h : Held) (J : List Job) (R : List Row) (job : ℕ) (was row : Row) (s
     on = on;
   }
 
-  pub paid_of : (looks next : ℕ) → next + due_of s l was.imports was.importers + cond (is_open s) 0 (telling was.importers) ≤ looks + (2 + 2 * was.left + 2 * was.imports + telling was.importers) + 3
-      → next + due row + cond (is_open row.status) 0 (telling row.importers) ≤ looks + due (row_at R job) + 3
-  paid_of looks next le =
-      let d : due (row_at R job) ≡ 2 + 2 * was.left + 2 * was.imports + telling was.importers = ap due (sym same) ∙ due_waiting was waits in
-      let e : due row ≡ due_of s l was.imports was.importers = ap due is in
-      let t : ◌≡◌ {A = ℕ} (cond (is_open row.status) 0 (telling row.importers)) (cond (is_open s) 0 (telling was.importers)) = ap (λ (r : Row). cond (is_open r.status) 0 (telling r.importers)) is in
-      omega (arith, le, d, e, t)
-
 -- ---- what is held for an import
-
-pub has_of : (h : Held) (R : List Row) (k : ℕ) (row : Row) (a entry : Action) (s : Summary) (o : Object) → row ≡ row_at R k → row.status ≡ Done true → row.action ≡ Some a → h (action_id a) ≡ Some entry → Compiles entry (Good s o)
-    → HasSummary h (standings_of R) k s
-has_of h R k row a entry s o same done its held compiled = record {
-  done = status_row R k ∙ ap (λ (r : Row). r.status) (sym same) ∙ done;
-  action = a;
-  its = action_row R k ∙ ap (λ (r : Row). r.action) (sym same) ∙ its;
-  entry = entry;
-  is_held = held;
-  object = o;
-  compiled = compiled;
-}
 
 pub undone_has : (h : Held) (R : List Row) (k : ℕ) → ((row_at R k).status ≡ Done true → ⊥) → (s : Summary) → ¬ (HasSummary h (standings_of R) k s)
 undone_has h R k not s g = not (sym (status_row R k) ∙ g.done)

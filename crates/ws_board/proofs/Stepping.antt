@@ -27,7 +27,7 @@ use Rattle.ws_board.proofs.Carry.{start_under}
 use Rattle.ws_board.proofs.Runs.{stands_rests}
 use Rattle.ws_board.proofs.Standing.{status_row, action_row, statuses_set, actions_set, standings_parts}
 use Rattle.ws_board.proofs.Onward.{ends_carried}
-use Rattle.ws_board.proofs.Agreeing.{both_of, both_and, none_of, ready_is, running_is, id_is, has_its, unrun_none}
+use Rattle.ws_board.proofs.Agreeing.{both_of, both_and, none_of, ready_is, running_is, id_is, unrun_none}
 
 -- ---- which may be given
 
@@ -36,8 +36,7 @@ module _ (R : List Row) (jobs : List ℕ → List ℕ) (run : List ℕ → Optio
   unrun_apart id none k = none_of (is_run_of (standings_of R) id k) (λ e. (
       let p = both_of (is_running (status_at (standings_of R).statuses k)) (has_id (standings_of R).actions id k) e in
       let r = running_is (row_at R k).status (ap is_running (sym (status_row R k)) ∙ p.0) in
-      let a = id_is id (row_at R k).action (ap (has_action_id id) (sym (action_row R k)) ∙ p.1) in
-      unrun_none R jobs run free count running agrees id none k r.0 a.0 r.1 a.1 a.2))
+      unrun_none R jobs run free count running agrees id none k r.0 (r.1, ap (has_action_id id) (sym (action_row R k)) ∙ p.1)))
 
   pub free_is_free : (k : ℕ) (action : Action) → (row_at R k).status ≡ Ready → (row_at R k).action ≡ Some action → run (action_id action) ≡ None → IsFree (standings_of R) k action
   free_is_free k action ready its none = record { ready = status_row R k ∙ ready; its = action_row R k ∙ its; apart = unrun_apart (action_id action) none }
@@ -48,10 +47,10 @@ module _ (R : List Row) (jobs : List ℕ → List ℕ) (run : List ℕ → Optio
       by_run : (o : Option Run) → run id ≡ o → is_none o ≡ false → (k : ℕ) × (is_run_of (standings_of R) id k ≡ true)
       by_run None e h = absurd (cc)
       by_run (Some r) e h =
-          let q = (agrees.runs id r.hand r.job r.action).0 e in (
+          let q = (agrees.runs id r.hand r.job).0 e in (
             r.job,
             both_and (is_running (status_at (standings_of R).statuses r.job)) (has_id (standings_of R).actions id r.job)
-                (ap is_running (status_row R r.job ∙ q.0)) (ap (has_action_id id) (action_row R r.job) ∙ has_its id (row_at R r.job).action r.action q.1 q.2),
+                (ap is_running (status_row R r.job ∙ q.0)) (ap (has_action_id id) (action_row R r.job) ∙ q.1),
           )
 
   pub none_is_free : ((k : ℕ) → free k ≡ false) → NoneFree (standings_of R)

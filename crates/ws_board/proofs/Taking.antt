@@ -11,13 +11,13 @@ use Rattle.ws_board.specs.declared.work.Event.TheVariants.{Take, Back}
 use Rattle.ws_board.specs.declared.table.Row.{Row}
 use Rattle.ws_board.specs.declared.index.Index.{Index}
 use Rattle.ws_board.specs.Work.{Job}
-use Rattle.ws_board.specs.Machine.{is_open, is_active, has_action_id, is_running, IsFree, IsRunBy, NoneFree, stood}
+use Rattle.ws_board.specs.Machine.{is_open, is_active, has_action_id, is_running, IsFree, IsRunBy, IsRunWith, NoneFree, stood}
 use Rattle.ws_board.specs.Rows.{is_active_of, is_back, AreCarriedBy, Waits, KnowsBacks, IsPaid}
 use Rattle.ws_board.specs.Table.{row_at, standings_of}
 use Rattle.ws_board.specs.Indexes.{id_in, jobs_in, run_in, is_free_in, Changes, Agrees}
 use Rattle.ws_board.proofs.Standing.{length_statuses, open_inside, row_same}
 use Rattle.ws_board.proofs.Listing.{eqb_same, eqb_not}
-use Rattle.ws_board.proofs.Agreeing.{both_and, has_its, listed_some, jobs_inside, free_unrun, free_so}
+use Rattle.ws_board.proofs.Agreeing.{both_and, has_its, id_is, listed_some, jobs_inside, free_unrun, free_so}
 use Rattle.ws_board.proofs.Noting.{taken_agrees, given_agrees}
 use Rattle.ws_board.proofs.Stepping.{free_is_free, none_is_free, least_free, stood_row}
 use Rattle.ws_board.proofs.Activating.{kept_of, act_good, act_waits, act_backs, back_backs, taken_paid, back_paid}
@@ -51,10 +51,10 @@ module _ (R : List Row) (x : Index) (agrees : Agrees R x) where
   first_least = least_free R (jobs_in x) (run_in x) (is_free_in x) (length x.free) x.running agrees
 
   -- who runs an id, by the index and by the rows
-  pub runs_by : (hand job : ℕ) (action : Action) → (run_in x (action_id action) ≡ Some (record { hand = hand; job = job; action = action })) ↔ IsRunBy (standings_of R) hand job action
-  runs_by hand job action = (
-    λ e. (let p = (agrees.runs (action_id action) hand job action).0 e in row_run R hand job action p.0 p.1),
-    λ run. (let p = run_row R hand job action run in (agrees.runs (action_id action) hand job action).1 (p.0, p.1, refl)),
+  pub runs_by : (hand job : ℕ) (id : List ℕ) → (run_in x id ≡ Some (record { hand = hand; job = job })) ↔ IsRunWith (standings_of R) hand job id
+  runs_by hand job id = (
+    λ e. (let p = (agrees.runs id hand job).0 e in let a = id_is id (row_at R job).action p.1 in record { action = a.0; run = row_run R hand job a.0 p.0 a.1; its = a.2 }),
+    λ w. (let p = run_row R hand job w.action w.run in (agrees.runs id hand job).1 (p.0, has_its id (row_at R job).action w.action p.1 w.its)),
   )
 
 -- ---- a job is taken
@@ -101,7 +101,7 @@ module _ (J : List Job) (I : List (List ℕ)) (R N : List Row) (x y : Index) (k 
   take_paid looks next imports history all by is one paid =
       taken_paid J I R N k runs good written inside was refl refl refl refl looks next imports (count_by is_back history) (count_by is_back all) hand so.0 refl one (still_count history all (Take by k) is refl) paid
 
-  pub take_agrees : Changes x y (action_id action) (jobs_in x (action_id action)) (Some (record { hand = hand; job = k; action = action }))
+  pub take_agrees : Changes x y (action_id action) (jobs_in x (action_id action)) (Some (record { hand = hand; job = k }))
       → ((j : ℕ) → is_free_in y j ≡ (if list_any (λ i. eqb i j) (jobs_in x (action_id action)) then false else is_free_in x j))
       → length y.free ≡ length x.free → y.running ≡ x.running + 1 → Agrees N y
   take_agrees changes marked len more =

@@ -2,7 +2,7 @@
 use Rattle.std.proofs.Common.{◌≡◌, ◌<◌, ℕ, List, [], ◌∷◌, ◌++◌, length, Some, refl, sym, ap, ◌∙◌, set-set}
 use Rattle.std.proofs.lemmas.List.{set-get_or}
 use Rattle.std.proofs.lemmas.List.Elements.{All-pop}
-use Rattle.std.proofs.Math.ListN.{set, length-set}
+use Rattle.std.proofs.Math.ListN.{set}
 use Rattle.ws_board.specs.declared.table.Row.{Row}
 use Rattle.ws_board.specs.declared.moves.Change.{Change}
 use Rattle.ws_board.specs.Rows.{undone, AreWritten}
@@ -11,10 +11,6 @@ use Rattle.ws_board.specs.Table.{blank, row_at}
 pub undone_more : (log : List Change) (change : Change) (rows : List Row) → undone (log ++ change ∷ []) rows ≡ undone log (set rows change.job change.was)
 undone_more [] change rows = refl
 undone_more (first ∷ log) change rows = ap (λ r. set r first.job first.was) (undone_more log change rows)
-
-pub undone_length : (log : List Change) (rows : List Row) → length (undone log rows) ≡ length rows
-undone_length [] rows = refl
-undone_length (first ∷ log) rows = length-set (undone log rows) first.job first.was ∙ undone_length log rows
 
 -- what was written is put back
 pub put_back : (rows : List Row) (k : ℕ) (new : Row) → k < length rows → set (set rows k new) k (row_at rows k) ≡ rows

@@ -6,7 +6,7 @@ use Rattle.std.specs.FinMap.{get}
 use Rattle.ws_map.specs.Kept.{joined}
 use Rattle.go_import.specs.Names.{importable_by}
 use Rattle.go_export.specs.Summaries.{Summary}
-use Rattle.ws_action.specs.Actions.{Action, MakeAction, action_id}
+use Rattle.ws_action.specs.Actions.{Action, MakeAction, IsSized, action_id}
 use Rattle.ws_action.specs.Clash.{NoClash, AllSized, Includes, hashed_actions}
 use Rattle.ws_cache.specs.Compiles.{Compiled, Compiles, Good, IsResult}
 use Rattle.ws_cache.specs.Count.{compiled_count}
@@ -14,7 +14,9 @@ use Rattle.ws_cache.specs.Held.{CacheStandsFor}
 use Rattle.ws_cache.specs.Joined.{lesser}
 use Rattle.ws_board.specs.declared.work.Status.{Status}
 use Rattle.ws_board.specs.declared.work.Status.TheVariants.{Waiting, Ready, Running, Blocked as Stays, Done}
-use Rattle.ws_board.specs.Work.{Work, Job, Standings, Seen, acted}
+use Rattle.ws_board.specs.declared.work.Taken.{Taken}
+use Rattle.ws_board.specs.declared.work.Taken.TheVariants as taken
+use Rattle.ws_board.specs.Work.{Work, Job, Opening, Standings, Seen, acted}
 use Rattle.ws_board.specs.Machine.{is_good_result, status_at, action_at, is_finish}
 use Rattle.ws_board.specs.Calls.{result_at}
 
@@ -115,6 +117,18 @@ pub record AddsOwn (seen : Seen) : Type 0 where
   pub sized : AllSized entries
   pub among : (E : List Action) (rank : ℕ → ℕ) (ends : List End) → CacheStandsFor seen.opening.cache E
       → IsRanked rank seen.opening.jobs → AreEnds seen.opening.jobs ends → AreClear E (came ends) → Includes (came ends) entries
+
+-- Wherever no other texts clash, the action is one that comes; and the numbers in its text fit.
+pub record Comes (opening : Opening) (action : Action) : Type 0 where
+  pub sized : IsSized action
+  pub among : (E : List Action) (rank : ℕ → ℕ) (ends : List End) → CacheStandsFor opening.cache E
+      → IsRanked rank opening.jobs → AreEnds opening.jobs ends → AreClear E (came ends) → Contains (came ends) action
+
+-- a task that was given is of such an action, where only such were added
+abbrev pub GivesOwn : Seen → Taken → Type 0
+GivesOwn old (taken.Job task) = AddsOwn old → Comes old.opening task.action
+GivesOwn old taken.Idle = Unit {0}
+GivesOwn old taken.Later = Unit {0}
 
 -- ---- boards that are opened and never run
 

@@ -1,5 +1,5 @@
 -- What the index of a board says of its rows.
-use Rattle.std.specs.Prelude.{◌≡◌, ℕ, ◌==◌, ◌&&◌, ◌↔◌, if◌then◌else◌, Bool, false, List, [], ◌∷◌, ◌++◌, length, is_none, Option, None, Some}
+use Rattle.std.specs.Prelude.{◌≡◌, ℕ, ◌==◌, ◌&&◌, ◌↔◌, if◌then◌else◌, Bool, true, false, List, [], ◌∷◌, ◌++◌, length, is_none, Option, None, Some}
 use Rattle.std.specs.List.{list_any, slice_index_or, count_by}
 use Rattle.std.specs.Str.{bytes_eq}
 use Rattle.std.specs.Map.{lookup}
@@ -12,7 +12,7 @@ use Rattle.ws_board.specs.declared.index.Id.{Id}
 use Rattle.ws_board.specs.declared.index.Run.{Run}
 use Rattle.ws_board.specs.declared.index.Ready.{Ready as AReady}
 use Rattle.ws_board.specs.declared.index.Index.{Index}
-use Rattle.ws_board.specs.Machine.{is_ready, is_running}
+use Rattle.ws_board.specs.Machine.{is_ready, is_running, has_action_id}
 use Rattle.ws_board.specs.Rows.{times, is_active_of}
 use Rattle.ws_board.specs.Table.{row_at, standings_of}
 
@@ -28,9 +28,9 @@ abbrev pub run_of : Option Id → Option Run
 run_of None = None
 run_of (Some id) = id.run
 
--- the hand runs the job with that action
-abbrev pub run_with : ℕ → ℕ → Action → Run
-run_with hand job action = record { hand = hand; job = job; action = action }
+-- the hand runs the job
+abbrev pub run_with : ℕ → ℕ → Run
+run_with hand job = record { hand = hand; job = job }
 
 -- the jobs that are kept of an id
 abbrev pub jobs_by : List (List ℕ × Id) → List ℕ → List ℕ
@@ -62,6 +62,10 @@ SetsRun old new id run = Changes old new id (jobs_in old id) run
 abbrev pub JoinsIn : (List ℕ → List ℕ) → (List ℕ → List ℕ) → List ℕ → ℕ → Type 0
 JoinsIn old new id job = (other : List ℕ) → new other ≡ (if bytes_eq id other then (old id ++ job ∷ []) else old other)
 
+-- the job alone stands with the id, and of no other id anything changed
+abbrev pub BeginsIn : (List ℕ → List ℕ) → (List ℕ → List ℕ) → List ℕ → ℕ → Type 0
+BeginsIn old new id job = (other : List ℕ) → new other ≡ (if bytes_eq id other then job ∷ [] else old other)
+
 -- the jobs of the id may be given now, or may not
 abbrev pub MarksFree : Index → Index → List ℕ → Bool → Type 0
 MarksFree old new id may = (k : ℕ) → is_free_in new k ≡ (if list_any (λ j. j == k) (jobs_in old id) then may else is_free_in old k)
@@ -84,13 +88,13 @@ is_unrun run None = false
 is_unrun run (Some action) = is_none (run (action_id action))
 
 -- the hand runs the job, whose action has the id
-abbrev pub IsRunAt : List Row → List ℕ → ℕ → ℕ → Action → Type 0
-IsRunAt rows id hand job action = ((row_at rows job).status ≡ Running hand) × ((row_at rows job).action ≡ Some action) × (action_id action ≡ id)
+abbrev pub IsRunAt : List Row → List ℕ → ℕ → ℕ → Type 0
+IsRunAt rows id hand job = ((row_at rows job).status ≡ Running hand) × (has_action_id id (row_at rows job).action ≡ true)
 
 -- It is said once which jobs have an id and are ready or run, which of them runs, which jobs may be given, and how many run.
 pub record AgreesBy (rows : List Row) (listed : List ℕ → List ℕ) (run : List ℕ → Option Run) (may : ℕ → Bool) (flags ran : ℕ) : Type 0 where
   pub jobs : (id : List ℕ) (k : ℕ) → times k (listed id) ≡ (if is_active_of rows id k then 1 else 0)
-  pub runs : (id : List ℕ) (hand job : ℕ) (action : Action) → (run id ≡ Some (run_with hand job action)) ↔ IsRunAt rows id hand job action
+  pub runs : (id : List ℕ) (hand job : ℕ) → (run id ≡ Some (run_with hand job)) ↔ IsRunAt rows id hand job
   pub count : flags ≡ length rows
   pub free : (k : ℕ) → may k ≡ (is_ready (row_at rows k).status && is_unrun run (row_at rows k).action)
   pub running : ran ≡ count_by is_running (standings_of rows).statuses

@@ -177,6 +177,12 @@ pub record IsRunBy (now : Standings) (hand job : ℕ) (action : Action) : Type 0
   pub runs : status_at now.statuses job ≡ Running hand
   pub its : action_at now.actions job ≡ Some action
 
+-- the hand runs the job, whose action has the id
+pub record IsRunWith (now : Standings) (hand job : ℕ) (id : List ℕ) : Type 0 where
+  pub action : Action
+  pub run : IsRunBy now hand job action
+  pub its : action_id action ≡ id
+
 -- that job now stands so
 abbrev pub stood : Standings → ℕ → Status → Standings
 stood old job status = record { statuses = slice_set old.statuses job status; actions = old.actions }

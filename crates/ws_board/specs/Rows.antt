@@ -164,6 +164,10 @@ Waits jobs rows settled pending = (j : ℕ) → is_waiting (row_at rows j).statu
 abbrev pub AreWaiting : Rows → Moves → (ℕ → Bool) → Type 0
 AreWaiting rows moves pending = Waits rows.jobs.items rows.rows moves.settled.items pending
 
+-- where that job was about to be carried on as well, it isn't any more
+abbrev pub NoMoreWaits : ℕ → Rows → Moves → Rows → Moves → Type 0
+NoMoreWaits job old before new after = (pending : ℕ → Bool) → AreWaiting old before (λ j. (j == job) || pending j) → AreWaiting new after pending
+
 -- behind its first so many imports none is open
 abbrev pub IsOpenPast : List Job → List Row → ℕ → ℕ → Type 0
 IsOpenPast jobs rows job left =

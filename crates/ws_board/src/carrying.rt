@@ -8,7 +8,7 @@
 //!
 //! Each read is paid for: a row owes what it may still cost (`due`), and a job that is done or
 //! blocked what it costs to tell its importers (`telling`).
-ghost use Rattle.std.specs.Prelude.{◌≡◌, ◌<◌, ◌≤◌, ◌+◌, ◌*◌, ◌-◌, ◌^◌, ◌++◌, ◌||◌, ◌==◌, if◌then◌else◌, ℕ, Bool, List, [], length, map, true, false, None, Some, IfOk, OnOk, IfSome, IfNone, option_copied};
+ghost use Rattle.std.specs.Prelude.{◌≡◌, ◌<◌, ◌≤◌, ◌+◌, ◌*◌, ◌-◌, ◌^◌, ◌++◌, ◌==◌, if◌then◌else◌, ℕ, List, [], length, map, true, false, None, Some, IfOk, OnOk, IfSome, IfNone, option_copied};
 ghost use Rattle.std.specs.Arc.{arc_value};
 ghost use Rattle.std.specs.List.{All};
 ghost use Rattle.go_export.specs.Summaries.{Summary as ASummary};
@@ -18,7 +18,7 @@ ghost use Rattle.ws_board.specs.declared.work.Status.TheVariants as status;
 ghost use Rattle.ws_board.specs.Machine.{is_open, is_waiting, HasSummary, IsPlaced, IsGoodness};
 ghost use Rattle.ws_board.specs.Carrying.{held_by};
 ghost use Rattle.ws_board.specs.Ends.{imports_at};
-ghost use Rattle.ws_board.specs.Rows.{times, is_active_of, due, charged_for, charged, telling_at, imports_it, import_at, ready_of, settled_with, AreKnown, Waits, AreWaiting, AllPast, AreWithin, AreCarried, IsOpenPast, HaveSummaries, MayFormAt, IsFormedAt, Becomes, CarriesOn, Marks, IsUndone};
+ghost use Rattle.ws_board.specs.Rows.{times, is_active_of, due, charged_for, charged, telling_at, imports_it, import_at, ready_of, settled_with, AreKnown, Waits, AreWaiting, NoMoreWaits, AllPast, AreWithin, AreCarried, IsOpenPast, HaveSummaries, MayFormAt, IsFormedAt, Becomes, CarriesOn, Marks, IsUndone};
 ghost use Rattle.ws_board.specs.Table.{row_at, standings_of};
 
 use crate::index::Ready;
@@ -292,7 +292,7 @@ fn advance(
     requires room { charged looks.old rows.old moves.old + 3 < 2 ^ 128 }
     ensures undone { IsUndone rows.old rows.new moves.old moves.new }
     ensures on { OnOk result (CarriesOn (held_by holds.entry) 3 rows.old rows.new moves.old moves.new looks.old looks.new) }
-    ensures waits { OnOk result ((pending : ℕ → Bool) → AreWaiting rows.old moves.old (λ j. (j == job) || pending j) → AreWaiting rows.new moves.new pending) }
+    ensures waits { OnOk result (NoMoreWaits job rows.old moves.old rows.new moves.new) }
     ensures read { OnOk result (looks.old < looks.new) }
 {
     let Some(row) = stands(alloc, holds, rows, looks, job)? else {

@@ -7,10 +7,10 @@ ghost use Rattle.std.specs.List.{All, list_any, slice_index_or};
 ghost use Rattle.std.specs.Str.{bytes_eq};
 ghost use Rattle.ws_action.specs.Actions.{action_id};
 ghost use Rattle.ws_board.specs.Rows.{times, those_of};
-ghost use Rattle.ws_board.specs.Indexes.{id_in, run_with, jobs_by, run_by, jobs_in, run_in, is_free_in, is_released, Changes, SetsRun, JoinsIn, MarksFree, IsSameBut};
+ghost use Rattle.ws_board.specs.Indexes.{id_in, run_with, jobs_by, run_by, jobs_in, run_in, is_free_in, is_released, Changes, SetsRun, JoinsIn, BeginsIn, MarksFree, IsSameBut};
 
 use crate::flags::Flags;
-use crate::work::{Hand, Identified, Task};
+use crate::work::{Hand, Task};
 use std::alloc::{AllocError, Global};
 use std::collections::BTreeMap;
 
@@ -19,7 +19,6 @@ use std::collections::BTreeMap;
 pub(super) struct Run {
     hand: u64,
     job: usize,
-    action: Identified,
 }
 
 /// The jobs of an id that are ready or run, and which of them runs.
@@ -113,7 +112,7 @@ fn begin(
     job: usize,
 ) -> Result<(), AllocError>
     requires { id_in ids.old.entries id ≡ None }
-    ensures ok { OnOk result ((other : List ℕ) → jobs_by ids.new.entries other ≡ (if bytes_eq id other then job ∷ [] else jobs_by ids.old.entries other)) }
+    ensures ok { OnOk result (BeginsIn (jobs_by ids.old.entries) (jobs_by ids.new.entries) id job) }
     ensures err { OnErr result ((other : List ℕ) → jobs_by ids.new.entries other ≡ jobs_by ids.old.entries other) }
     ensures runs { (other : List ℕ) → run_by ids.new.entries other ≡ run_by ids.old.entries other }
 {
@@ -166,34 +165,31 @@ impl Index {
         jobs_of(&self.ids, id)
     }
 
-    /// Whether the hand runs the task.
+    /// Whether the hand runs the task's job, by an action with the id of the task's.
     pub(super) fn runs(&self, hand: &Hand, task: &Task) -> bool
-        ensures { IsTrue result ↔ (run_in self.now (action_id task.now.action) ≡ Some (run_with hand.now task.now.job task.now.action)) }
+        ensures { IsTrue result ↔ (run_in self.now (action_id task.now.action) ≡ Some (run_with hand.now task.now.job)) }
     {
         let Some(its) = of_id(&self.ids, &task.id()) else {
             return false;
         };
         match &its.run {
-            Some(run) => {
-                run.hand == hand.number() && run.job == task.job() && task.is_of(&run.action)
-            }
+            Some(run) => run.hand == hand.number() && run.job == task.job(),
             None => false,
         }
     }
 
-    /// The hand runs the job, which is among those of its id.
-    pub(super) fn run(&mut self, hand: u64, job: usize, action: Identified)
-        requires kept { id_in self.old.ids.entries (action_id action) ≢ None }
-        requires inside { All (λ j. j < length self.old.free) (jobs_in self.old (action_id action)) }
+    /// The hand runs the job, which is among those of the id.
+    pub(super) fn run(&mut self, hand: u64, job: usize, id: &[u8; 32])
+        requires kept { id_in self.old.ids.entries id.now ≢ None }
+        requires inside { All (λ j. j < length self.old.free) (jobs_in self.old id.now) }
         requires room { self.old.running + 1 < 2 ^ 64 }
-        ensures changes { SetsRun self.old self.new (action_id action) (Some (run_with hand job action)) }
-        ensures free { MarksFree self.old self.new (action_id action) false }
+        ensures changes { SetsRun self.old self.new id.now (Some (run_with hand job)) }
+        ensures free { MarksFree self.old self.new id.now false }
         ensures len { length self.new.free ≡ length self.old.free }
         ensures running { self.new.running ≡ self.old.running + 1 }
     {
-        let id = action.id();
-        mark_free(&mut self.free, jobs_of(&self.ids, &id), false);
-        set_run(&mut self.ids, &id, Some(Run { hand, job, action }));
+        mark_free(&mut self.free, jobs_of(&self.ids, id), false);
+        set_run(&mut self.ids, id, Some(Run { hand, job }));
         self.running += 1;
     }
 

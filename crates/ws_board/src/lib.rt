@@ -10,9 +10,9 @@ ghost use Rattle.ws_cache.specs.Held.{CacheStandsFor};
 ghost use Rattle.ws_cache.specs.Joined.{lesser};
 ghost use Rattle.ws_board.specs.Work.{Job as AJob};
 ghost use Rattle.ws_board.specs.declared.work.Event.TheVariants as event;
-ghost use Rattle.ws_board.specs.Machine.{is_open, is_idle, IsRunBy, IsHistory};
+ghost use Rattle.ws_board.specs.Machine.{is_open, is_idle, IsRunWith, IsHistory};
 ghost use Rattle.ws_board.specs.Calls.{IsFresh, Happens, TakeStep, IsLeast};
-ghost use Rattle.ws_board.specs.Ends.{AreFinished, AddsOwn, ComesToEnds, ShowsEnds, IsRanked, AreEnds, End};
+ghost use Rattle.ws_board.specs.Ends.{AreFinished, AddsOwn, Comes, GivesOwn, ComesToEnds, ShowsEnds, IsRanked, AreEnds, End};
 ghost use Rattle.ws_board.specs.Histories.{RunsAlone};
 ghost use Rattle.ws_board.specs.Rows.{seen_of, IsWithin};
 
@@ -123,6 +123,7 @@ impl Board {
     pub fn take(&mut self, hand: &Hand) -> Result<Taken, AllocError>
         ensures step { IfOk result (λ taken. TakeStep hand.now taken self.old self.new) }
         ensures least { IfOk result (λ taken. IsLeast self.old.state.standings taken) }
+        ensures own { IfOk result (λ taken. GivesOwn self.old taken) }
         ensures looks { IsWithin self.new }
         ensures err { OnErr result (self.new ≡ self.old) }
     {
@@ -137,8 +138,8 @@ impl Board {
         self.history.reserve(self.rows.len() + 2)?;
         let before = self.looks;
         match given(&self.rows, &mut self.looks, k) {
-            Ok((task, action)) => {
-                self.index.run(hand.number(), k, action);
+            Ok(task) => {
+                self.index.run(hand.number(), k, &task.id());
                 self.rows.run(k, hand.number());
                 self.history.push_reserved(Event::Take(hand.number(), k));
                 Ok(Taken::Job(task))
@@ -150,9 +151,10 @@ impl Board {
         }
     }
 
-    /// Whether the hand runs the task.
+    /// Whether the hand runs the task's job, by an action with the id of the task's. No text is looked
+    /// at.
     pub fn runs(&self, hand: &Hand, task: &Task) -> bool
-        ensures is { IsTrue result ↔ IsRunBy self.now.state.standings hand.now task.now.job task.now.action }
+        ensures is { IsTrue result ↔ IsRunWith self.now.state.standings hand.now task.now.job (action_id task.now.action) }
         ensures alone { RunsAlone self.now.state.standings }
     {
         self.index.runs(hand, task)
@@ -162,11 +164,11 @@ impl Board {
     /// and waiting jobs are carried on. An `Err`, for want of memory, gives both back and changes
     /// nothing.
     pub fn finish(&mut self, hand: &Hand, task: Task, entry: Entry) -> Result<(), (Task, Entry)>
-        requires runs { IsRunBy self.old.state.standings hand.now task.job task.action }
+        requires runs { IsRunWith self.old.state.standings hand.now task.job (action_id task.action) }
         requires fits { action_id entry ≡ action_id task.action }
         ensures step { OnOk result (Happens self.old (event.Finish hand.now task.job) self.new) }
         ensures added { OnOk result (self.new.state.added ≡ taken lesser self.old.state.added (action_id entry) entry) }
-        ensures own { OnOk result (entry ≡ task.action → AddsOwn self.old → AddsOwn self.new) }
+        ensures own { OnOk result (Comes self.old.opening entry → AddsOwn self.old → AddsOwn self.new) }
         ensures looks { IsWithin self.new }
         ensures back { IfErr result (λ back. (back.0 ≡ task) × (back.1 ≡ entry)) }
         ensures err { OnErr result (self.new ≡ self.old) }
@@ -208,7 +210,7 @@ impl Board {
 
     /// The task is given back: its job is ready again.
     pub fn back(&mut self, hand: &Hand, task: Task)
-        requires { IsRunBy self.old.state.standings hand.now task.job task.action }
+        requires { IsRunWith self.old.state.standings hand.now task.job (action_id task.action) }
         ensures step { Happens self.old (event.Back hand.now task.job) self.new }
         ensures looks { IsWithin self.new }
     {

@@ -250,7 +250,7 @@ impl Rows {
         self.rows.open()
     }
 
-    /// Writes the row of a job, and hands out what stood there.
+    /// Writes the row of a job. What stood there goes to whoever puts it back, and is read by nobody.
     pub(super) fn put(&mut self, k: usize, row: Row) -> Row
         requires { k < length self.old.rows }
         ensures rows { self.new.rows ≡ slice_set self.old.rows k row }

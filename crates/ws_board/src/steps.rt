@@ -10,22 +10,17 @@ use crate::carrying::{Holds, carry, mark};
 use crate::index::Index;
 use crate::moves::Moves;
 use crate::rows::Rows;
-use crate::work::{Identified, Task};
+use crate::work::Task;
 use std::alloc::{AllocError, Global};
 
-/// The task of a job whose action is formed, and its action again. An `Err` only where memory ran
-/// out.
-pub(super) fn given(
-    rows: &Rows,
-    looks: &mut u128,
-    job: usize,
-) -> Result<(Task, Identified), AllocError>
+/// The task of a job whose action is formed. An `Err` only where memory ran out.
+pub(super) fn given(rows: &Rows, looks: &mut u128, job: usize) -> Result<Task, AllocError>
     requires counted { looks.old + 1 < 2 ^ 128 }
     requires jobs { length rows.now.rows ≡ length rows.now.jobs.items }
     requires inside { job < length rows.now.rows }
     requires formed { (action : AnAction) × ((row_at rows.now.rows job).action ≡ Some action) }
-    ensures task { IfOk result (λ given. given.0 ≡ record { job = job; action = given.1; was_back = (row_at rows.now.rows job).was_back }) }
-    ensures action { IfOk result (λ given. (row_at rows.now.rows job).action ≡ Some given.1) }
+    ensures task { IfOk result (λ task. task ≡ record { job = job; action = task.action; was_back = (row_at rows.now.rows job).was_back }) }
+    ensures action { IfOk result (λ task. (row_at rows.now.rows job).action ≡ Some task.action) }
     ensures one { looks.new ≡ looks.old + 1 }
 {
     let Some(found) = rows.job(looks, job) else {
@@ -34,9 +29,7 @@ pub(super) fn given(
     let Some(action) = &found.row.action else {
         unreachable!();
     };
-    let noted = action.share()?;
-    let task = Task::new(job, action.share()?, found.row.was_back);
-    Ok((task, noted))
+    Ok(Task::new(job, action.share()?, found.row.was_back))
 }
 
 // The jobs with the id are done, and waiting jobs are carried on. An `Err` only where memory ran out.

@@ -27,7 +27,7 @@ pub(super) struct Row {
 #[derive(Drop)]
 pub(super) struct Table {
     rows: Vec<Row>,
-    open: usize,
+    opens: usize,
 }
 
 impl Model for Table {
@@ -44,7 +44,7 @@ impl Model for Table {
 
     ghost view = { λ a. a.rows.items };
 
-    ghost invariant = { λ a. a.open ≡ count_by is_open (standings_of a.rows.items).statuses };
+    ghost invariant = { λ a. a.opens ≡ count_by is_open (standings_of a.rows.items).statuses };
 }
 
 // What becomes of a count of open jobs, where one that was open or wasn't now is or isn't.
@@ -61,8 +61,8 @@ impl Table {
     pub(super) fn new(rows: Vec<Row>) -> Table
         ensures { result ≡ rows.items }
     {
-        let open = rows.iter().filter(|row| row.status.is_open()).count();
-        Table { rows, open }
+        let opens = rows.iter().filter(|row| row.status.is_open()).count();
+        Table { rows, opens }
     }
 
     /// How many rows there are.
@@ -76,7 +76,7 @@ impl Table {
     pub(super) fn open(&self) -> usize
         ensures { result ≡ count_by is_open (standings_of self.now).statuses }
     {
-        self.open
+        self.opens
     }
 
     /// The row of a job, if there is one with that number.
@@ -91,7 +91,7 @@ impl Table {
         requires { k < length self.now }
         ensures { result ≡ count_by is_open (slice_set (standings_of self.now).statuses k status) }
     {
-        recounted(self.open, self.rows[k].status.is_open(), status.is_open())
+        recounted(self.opens, self.rows[k].status.is_open(), status.is_open())
     }
 
     /// Writes the row of a job, and hands out what stood there.
@@ -100,7 +100,7 @@ impl Table {
         ensures rows { self.new ≡ slice_set self.old k row }
         ensures was { result ≡ row_at self.old k }
     {
-        self.open = self.open_with(k, row.status);
+        self.opens = self.open_with(k, row.status);
         mem::replace(&mut self.rows[k], row)
     }
 
@@ -110,7 +110,7 @@ impl Table {
         ensures { self.new ≡ slice_set self.old k (given_to hand (row_at self.old k)) }
     {
         let status = Status::Running(hand);
-        self.open = self.open_with(k, status);
+        self.opens = self.open_with(k, status);
         self.rows[k].status = status;
     }
 
@@ -119,7 +119,7 @@ impl Table {
         requires { k < length self.old }
         ensures { self.new ≡ slice_set self.old k (given_back (row_at self.old k)) }
     {
-        self.open = self.open_with(k, Status::Ready);
+        self.opens = self.open_with(k, Status::Ready);
         let row = &mut self.rows[k];
         row.status = Status::Ready;
         row.was_back = true;

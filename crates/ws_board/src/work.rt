@@ -9,7 +9,6 @@ ghost use Rattle.ws_board.specs.Machine.{is_waiting, is_ready, is_running, is_ac
 use go_export::summary::Summary;
 use go_text::edition::Edition;
 use std::alloc::{AllocError, Global};
-use std::cmp::Ordering;
 use std::marker::Model;
 use std::sync::Arc;
 use ws_action::{Action, Files};
@@ -121,16 +120,6 @@ impl Hand {
         ensures { result ≡ self.now }
     {
         self.number
-    }
-}
-
-fn same_action(action: &Action, other: &Action) -> bool
-    ensures { IsTrue result ↔ (action.now ≡ other.now) }
-{
-    match action.cmp_action(other) {
-        Ordering::Equal => true,
-        Ordering::Less => false,
-        Ordering::Greater => false,
     }
 }
 
@@ -337,12 +326,6 @@ impl Task {
         ensures { result ≡ action_id self.now.action }
     {
         self.action.id()
-    }
-
-    pub(super) fn is_of(&self, action: &Identified) -> bool
-        ensures { IsTrue result ↔ (action.now ≡ self.now.action) }
-    {
-        same_action(&action.action, &self.action.action)
     }
 
     pub(super) fn spend(self) -> usize

@@ -2,7 +2,7 @@
 ghost use Rattle.std.specs.Prelude.{◌≡◌, ◌<◌, ◌≤◌, All, List, [], length, None, IfOk, IfSome, max, min, vec_len};
 ghost use Rattle.std.specs.Bool.{OnTrue};
 ghost use Rattle.ws_action.specs.Actions.{Action as AnAction};
-ghost use Rattle.ws_shared.specs.Ends.{AreFinished, ComesToEnds};
+ghost use Rattle.ws_shared.specs.Ends.{AreFinished, Comes, ComesToEnds};
 
 use crate::{Gate, Point, Step};
 use std::alloc::{AllocError, Global};
@@ -29,6 +29,7 @@ fn run<L: Desk, G: Gate, R: Wait>(
     gate: &G,
     task: Task,
 ) -> bool
+    requires { Comes L.opening task.action }
     ensures { OnTrue result (hand.new.runs ≡ None) }
 {
     let job = task.job();

@@ -10,10 +10,10 @@ use Rattle.ws_board.specs.declared.work.Taken.TheVariants as told
 use Rattle.ws_board.specs.Work.{Work, Job, Opening, Standings, State, Seen}
 use Rattle.ws_board.specs.Machine.{Held, Verdict, Wait, Stop, Act, is_waiting, status_at, action_at, held, unopened, IsVerdict, Follows, Stands, Carried}
 use Rattle.ws_board.specs.Calls.{IsFresh, Happens, TakeStep}
-use Rattle.ws_board.specs.Ends.{work_in, work_at, AddsOwn}
+use Rattle.ws_board.specs.Ends.{work_in, work_at, AddsOwn, Comes, GivesOwn}
 use Rattle.ws_board.proofs.Own.{own_first, own_take, own_back, own_idle}
 use Rattle.ws_shared.specs.Counts.{Counts, none_made, counted, counts_of}
-use Rattle.ws_shared.specs.Hands.{HandSeen, IsActionOf, AreActionsOf, with_taken, job_of, ToldOrLater, IsKept}
+use Rattle.ws_shared.specs.Hands.{HandSeen, IsActionOf, AreActionsOf, IsOwn, with_taken, job_of, ToldOrLater, IsKept}
 
 -- ---- counts
 
@@ -118,10 +118,20 @@ kept_finish opening books old new hand job h own kept =
     let formed = carried_formed old.opening.jobs (held old.opening new.state) f.marked new.state.standings f.carried marked in
     kept_event opening books old new (Finish hand job) h (moved old.opening opening new.state.standings.actions kept.opened formed) (own kept.own) kept
 
+-- ---- actions that come
+
+pub taken_own : (opening : Opening) (books : Counts) (old : Seen) (t : Taken) → GivesOwn old t → IsKept opening books old → IsOwn opening t
+taken_own opening books old (told.Job task) gives kept = subst (λ (o : Opening). Comes o task.action) kept.opened (gives kept.own)
+taken_own opening books old told.Idle gives kept = tt
+taken_own opening books old told.Later gives kept = tt
+
+pub finished_own : (opening : Opening) (old : Seen) (entry action : Action) → old.opening ≡ opening → entry ≡ action → Comes opening action → Comes old.opening entry
+finished_own opening old entry action opened same comes = subst (λ (o : Opening). Comes o entry) (sym opened) (subst (Comes opening) (sym same) comes)
+
 -- ---- what a hand is told
 
-pub told_by : (opening : Opening) (t : Taken) (b d : Seen) (old new : HandSeen) → TakeStep old.number t b d → AreActionsOf opening.jobs d.state.standings.actions → old.runs ≡ None
+pub told_by : (opening : Opening) (t : Taken) (b d : Seen) (old new : HandSeen) → TakeStep old.number t b d → AreActionsOf opening.jobs d.state.standings.actions → IsOwn opening t → old.runs ≡ None
     → new ≡ record { number = old.number; runs = job_of t; made = with_taken old.number t old.made } → ToldOrLater opening t old new
-told_by opening (told.Job task) b d old new s formed none e = (formed task.job task.action (s.runs).its, e)
-told_by opening told.Idle b d old new s formed none e = e
-told_by opening told.Later b d old new s formed none e = e ∙ ap (λ (r : Option ℕ). let h : HandSeen = record { number = old.number; runs = r; made = old.made } in h) (sym none)
+told_by opening (told.Job task) b d old new s formed own none e = (formed task.job task.action (s.runs).its, own, e)
+told_by opening told.Idle b d old new s formed own none e = e
+told_by opening told.Later b d old new s formed own none e = e ∙ ap (λ (r : Option ℕ). let h : HandSeen = record { number = old.number; runs = r; made = old.made } in h) (sym none)

@@ -10,7 +10,7 @@ use Rattle.ws_board.specs.declared.work.Taken.{Taken}
 use Rattle.ws_board.specs.declared.work.Taken.TheVariants as taken
 use Rattle.ws_board.specs.Work.{Work, Job, acted, Task, Opening, Seen}
 use Rattle.ws_board.specs.Machine.{action_at}
-use Rattle.ws_board.specs.Ends.{work_at, AddsOwn}
+use Rattle.ws_board.specs.Ends.{work_at, AddsOwn, Comes}
 use Rattle.ws_shared.specs.Counts.{Counts, none_made, counted, counts_of, counts_code}
 
 -- a hand: its number, the number of the job that it runs, if it runs one, and how many events of each kind it made
@@ -48,9 +48,16 @@ pub record IsActionOf (work : Option Work) (action : Action) : Type 0 where
 abbrev pub AreActionsOf : List Job → List (Option Action) → Type 0
 AreActionsOf jobs actions = (job : ℕ) (action : Action) → action_at actions job ≡ Some action → IsActionOf (work_at jobs job) action
 
--- A hand was given a task of one of the opening's jobs, which it now runs, or was told that nothing is left to do.
+-- a task that was given is of an action that comes
+abbrev pub IsOwn : Opening → Taken → Type 0
+IsOwn opening (taken.Job task) = Comes opening task.action
+IsOwn opening taken.Idle = Unit {0}
+IsOwn opening taken.Later = Unit {0}
+
+-- A hand was given a task of one of the opening's jobs, which it now runs, and whose action comes; or was told that nothing is left to do.
 abbrev pub Told : Opening → Option Task → HandSeen → HandSeen → Type 0
-Told opening (Some task) old new = IsActionOf (work_at opening.jobs task.job) task.action × (new ≡ after old (Some task.job) (Take old.number task.job))
+Told opening (Some task) old new =
+    IsActionOf (work_at opening.jobs task.job) task.action × Comes opening task.action × (new ≡ after old (Some task.job) (Take old.number task.job))
 Told opening None old new = new ≡ after old None (Idle old.number)
 
 -- the same, or that it has to wait

@@ -3,7 +3,7 @@ ghost use Rattle.std.specs.Prelude.{◌≡◌, ◌<◌, All, None, IfOk, IfErr, 
 ghost use Rattle.std.specs.Bool.{OnTrue, OnFalse};
 ghost use Rattle.ws_board.specs.declared.work.Event.TheVariants as event;
 ghost use Rattle.ws_shared.specs.Counts.{counts_of};
-ghost use Rattle.ws_board.specs.Ends.{AddsOwn};
+ghost use Rattle.ws_board.specs.Ends.{AddsOwn, Comes};
 ghost use Rattle.ws_shared.specs.Hands.{after, new_hands, made_by, Told};
 
 use crate::hand::{SharedHand, hands_of, merged};
@@ -76,7 +76,8 @@ impl<L: Desk> SharedBoard<L> {
     }
 
     /// The task is done, if the hand runs it and there is memory: the entry is in the cache. An
-    /// `Err` gives both back, and the hand is unchanged.
+    /// `Err` gives both back, and the hand is unchanged. That the action comes is known to who took
+    /// the task, so that under the lock ids alone are compared.
     pub fn finish<R: Wait>(
         &self,
         rt: &R,
@@ -84,7 +85,8 @@ impl<L: Desk> SharedBoard<L> {
         task: Task,
         entry: Entry,
     ) -> Result<(), (Task, Entry)>
-        requires { entry ≡ task.action }
+        requires fits { entry ≡ task.action }
+        requires own { Comes L.opening task.action }
         ensures ok { OnOk result (hand.new ≡ after hand.old None (event.Finish hand.old.number task.job)) }
         ensures back { IfErr result (λ back. (back.0 ≡ task) × (back.1 ≡ entry)) }
         ensures err { OnErr result (hand.new ≡ hand.old) }

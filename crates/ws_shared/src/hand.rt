@@ -2,6 +2,7 @@
 ghost use Rattle.std.specs.Prelude.{◌≡◌, ◌+◌, ◌<◌, None, IfOk, IfErr, OnOk, OnErr, vec_len};
 ghost use Rattle.std.specs.Bool.{OnTrue, OnFalse};
 ghost use Rattle.ws_board.specs.declared.work.Event.TheVariants as event;
+ghost use Rattle.ws_board.specs.Ends.{Comes};
 ghost use Rattle.ws_shared.specs.Counts.{none_made};
 ghost use Rattle.ws_shared.specs.Hands.{after, new_hands, made_by, job_of, ToldOrLater};
 
@@ -87,7 +88,8 @@ impl<L: Desk> SharedHand<L> {
         task: Task,
         entry: Entry,
     ) -> Result<(), (Task, Entry)>
-        requires { entry ≡ task.action }
+        requires fits { entry ≡ task.action }
+        requires own { Comes L.opening task.action }
         ensures ok { OnOk result (self.new ≡ after self.old None (event.Finish self.old.number task.job)) }
         ensures back { IfErr result (λ back. (back.0 ≡ task) × (back.1 ≡ entry)) }
         ensures err { OnErr result (self.new ≡ self.old) }

@@ -6,8 +6,8 @@ ghost use Rattle.ws_board.specs.declared.work.Event.TheVariants as event;
 ghost use Rattle.ws_board.specs.Machine.{is_open};
 ghost use Rattle.ws_board.specs.Calls.{IsFresh, TakeStep};
 ghost use Rattle.ws_shared.specs.Counts.{none_made, noted, counts_of};
-ghost use Rattle.ws_board.specs.Ends.{AddsOwn};
-ghost use Rattle.ws_shared.specs.Hands.{with_taken, AreActionsOf};
+ghost use Rattle.ws_board.specs.Ends.{AddsOwn, Comes};
+ghost use Rattle.ws_shared.specs.Hands.{with_taken, AreActionsOf, IsOwn};
 
 use crate::tally::{Books, Desk, Tally};
 use std::alloc::AllocError;
@@ -65,6 +65,7 @@ impl<L: Desk> Locked<L> {
         requires { 0 < mine.old.parts }
         ensures step { IfOk result (λ taken. TakeStep hand.now taken self.old self.new) }
         ensures formed { AreActionsOf L.opening.jobs self.new.state.standings.actions }
+        ensures own { IfOk result (λ taken. IsOwn L.opening taken) }
         ensures mine { IfOk result (λ taken. mine.new ≡ record { parts = mine.old.parts; made = with_taken hand.now taken mine.old.made }) }
         ensures err { OnErr result (mine.new ≡ mine.old) }
     {
@@ -84,6 +85,7 @@ impl<L: Desk> Locked<L> {
     ) -> Result<(), (Task, Entry)>
         requires part { 0 < mine.old.parts }
         requires fits { entry ≡ task.action }
+        requires own { Comes L.opening task.action }
         ensures ok { OnOk result (mine.new ≡ noted mine.old (event.Finish hand.now task.job)) }
         ensures back { IfErr result (λ back. (back.0 ≡ task) × (back.1 ≡ entry)) }
         ensures err { OnErr result (mine.new ≡ mine.old) }

@@ -1,6 +1,7 @@
 //! Two hands of a shared board in one thread.
-ghost use Rattle.std.specs.Prelude.{◌≡◌};
+ghost use Rattle.std.specs.Prelude.{◌≡◌, IfOk};
 ghost use Rattle.std.specs.FinMap.{empty};
+ghost use Rattle.ws_board.specs.Ends.{Comes};
 
 use crate::tests::fixture::{APART, jobs};
 use std::alloc::Global;
@@ -18,12 +19,16 @@ fn takes<L: Desk, R: Wait + Abort>(
     rt: &R,
     board: &SharedBoard<L>,
     hand: &mut SharedHand<L>,
-) -> Result<Task, Fail> {
+) -> Result<Task, Fail>
+    ensures { IfOk result (λ task. Comes L.opening task.action) }
+{
     if hand.runs().is_some() {
         panic!(rt; "it runs one");
     }
-    let task = board.take(rt, hand)?;
-    task.ok_or_else(|| Fail::from("no job"))
+    match board.take(rt, hand)? {
+        Some(task) => Ok(task),
+        None => Err(Fail::from("no job")),
+    }
 }
 
 /// Whether the hand is told that nothing is left.
@@ -65,7 +70,8 @@ fn ends<L: Desk, R: Wait + Abort>(
     task: Task,
     entry: Entry,
 )
-    requires { entry ≡ task.action }
+    requires fits { entry ≡ task.action }
+    requires own { Comes L.opening task.action }
 {
     if let Err((task, _)) = board.finish(rt, hand, task, entry) {
         board.back(rt, hand, task);

@@ -7,7 +7,7 @@ use Rattle.ws_cache.specs.Joined.{lesser}
 use Rattle.ws_board.specs.declared.work.Event.TheVariants.{Finish}
 use Rattle.ws_board.specs.declared.index.Ready.{Ready as AReady}
 use Rattle.ws_board.specs.Work.{Job, Entries, Opening, State, Seen}
-use Rattle.ws_board.specs.Machine.{Held, is_running, IsMarked, IsRunBy, Finishes, BoardStep, IsHistory}
+use Rattle.ws_board.specs.Machine.{Held, is_running, IsMarked, IsRunWith, Finishes, BoardStep, IsHistory}
 use Rattle.ws_board.specs.Carrying.{held_with}
 use Rattle.ws_board.specs.Rows.{those_of, import_count, is_back, FinishesRows, KnowsBacks}
 use Rattle.ws_board.specs.Table.{standings_of}
@@ -54,8 +54,8 @@ pub end-requires : goal.end-requires
 end-requires c =
     let b = c.self.inside in
     let R = b.rows.rows in
-    let run : IsRunBy (standings_of R) c.args.hand.now c.args.task.job c.args.task.action = subst (λ (v : Seen). IsRunBy v.state.standings c.args.hand.now c.args.task.job c.args.task.action) (sym c.self.view_is) c.requires.runs in
-    omega (arith, c.finish_rows.ensures.same.running, c.self.invariant.3.running, runs_some R c.args.hand.now c.args.task.job (run_row R c.args.hand.now c.args.task.job c.args.task.action run).0)
+    let by : IsRunWith (standings_of R) c.args.hand.now c.args.task.job (action_id c.args.task.action) = subst (λ (v : Seen). IsRunWith v.state.standings c.args.hand.now c.args.task.job (action_id c.args.task.action)) (sym c.self.view_is) c.requires.runs in
+    omega (arith, c.finish_rows.ensures.same.running, c.self.invariant.3.running, runs_some R c.args.hand.now c.args.task.job (run_row R c.args.hand.now c.args.task.job by.action by.run).0)
 
 pub release-requires : goal.release-requires
 release-requires c =
@@ -72,7 +72,6 @@ invariant_of-self-2 c =
     let b = c.self.inside in
     let hand = c.args.hand.now in
     let job = c.args.task.job in
-    let action : Action = c.args.task.action in
     let entry : Action = c.args.entry in
     let id = c.id-id.result in
     let good = c.is_good.result in
@@ -88,13 +87,14 @@ invariant_of-self-2 c =
     let opening : Opening = record { jobs = J; cache = b.opened } in
     let old : State = record { standings = standings_of b.rows.rows; added = b.added } in
     let now : State = record { standings = standings_of N; added = added } in
-    let run : IsRunBy old.standings hand job action = subst (λ (v : Seen). IsRunBy v.state.standings hand job action) (sym c.self.view_is) c.requires.runs in
+    let by : IsRunWith old.standings hand job (action_id c.args.task.action) = subst (λ (v : Seen). IsRunWith v.state.standings hand job (action_id c.args.task.action)) (sym c.self.view_is) c.requires.runs in
+    let action : Action = by.action in
     let done : FinishesRows h id good b.rows new ready = c.in-Ok.ensures.ok in
     let keeps : KeepsIn opening old = history_keeps opening b.history.items old c.self.invariant.0 in
     let carried = finish_carried h id good b.rows new ready done in
-    let marked = subst (λ i. IsMarked i good old.standings (standings_of done.marked)) c.id-id.ensures (finish_marked h id good b.rows new ready done) in
+    let marked = subst (λ i. IsMarked i good old.standings (standings_of done.marked)) (c.id-id.ensures ∙ sym by.its) (finish_marked h id good b.rows new ready done) in
     let ends : Finishes opening old hand job action entry (record { standings = standings_of N; added = taken lesser b.added (action_id entry) entry }) =
-    finish_step opening old hand job action entry good (standings_of done.marked) (standings_of N) keeps run c.requires.fits c.is_good.ensures marked carried in
+    finish_step opening old hand job action entry good (standings_of done.marked) (standings_of N) keeps by.run (c.requires.fits ∙ sym by.its) c.is_good.ensures marked carried in
     let fin : Finishes opening old hand job action entry now = subst (λ (m : Entries). Finishes opening old hand job action entry (record { standings = standings_of N; added = m })) (sym c.in_default-put.ensures.ok) ends in
     let step : BoardStep opening old (Finish hand job) now = (action, entry, fin) in
     let pushed : all ≡ b.history.items ++ Finish hand job ∷ [] =
@@ -102,7 +102,7 @@ invariant_of-self-2 c =
     let legal : IsHistory opening all now = history_more opening b.history.items all old (Finish hand job) now c.self.invariant.0 step pushed in
     let there = held_there b.opened b.added entry id (c.requires.fits ∙ sym c.id-id.ensures) in
     let agrees : Agrees N y =
-    finish_index h id good b.rows new ready done b.index c.finish_rows.new.index c.end.new.self y c.self.invariant.3 hand job action there.0 run (sym c.id-id.ensures) there.1
+    finish_index h id good b.rows new ready done b.index c.finish_rows.new.index c.end.new.self y c.self.invariant.3 hand job action there.0 by.run (by.its ∙ sym c.id-id.ensures) there.1
     c.in-Ok.ensures.joined c.finish_rows.ensures.same c.end.ensures.changes c.end.ensures.free c.end.ensures.running c.release.ensures.ids
     (λ j. c.release.ensures.free j ∙ ap (λ l. if is_released c.end.new.self l j then true else is_free_in c.end.new.self j) c.ready-2.ensures)
     c.release.ensures.len c.release.ensures.running in
@@ -203,7 +203,6 @@ returns-clause-step c =
     let b = c.self.inside in
     let hand = c.args.hand.now in
     let job = c.args.task.job in
-    let action : Action = c.args.task.action in
     let entry : Action = c.args.entry in
     let id = c.id-id.result in
     let good = c.is_good.result in
@@ -216,13 +215,14 @@ returns-clause-step c =
     let opening : Opening = record { jobs = J; cache = b.opened } in
     let old : State = record { standings = standings_of b.rows.rows; added = b.added } in
     let now : State = record { standings = standings_of N; added = c.put.new.self } in
-    let run : IsRunBy old.standings hand job action = subst (λ (v : Seen). IsRunBy v.state.standings hand job action) (sym c.self.view_is) c.requires.runs in
+    let by : IsRunWith old.standings hand job (action_id c.args.task.action) = subst (λ (v : Seen). IsRunWith v.state.standings hand job (action_id c.args.task.action)) (sym c.self.view_is) c.requires.runs in
+    let action : Action = by.action in
     let done : FinishesRows h id good b.rows new ready = c.in-Ok.ensures.ok in
     let keeps : KeepsIn opening old = history_keeps opening b.history.items old c.self.invariant.0 in
     let carried = finish_carried h id good b.rows new ready done in
-    let marked = subst (λ i. IsMarked i good old.standings (standings_of done.marked)) c.id-id.ensures (finish_marked h id good b.rows new ready done) in
+    let marked = subst (λ i. IsMarked i good old.standings (standings_of done.marked)) (c.id-id.ensures ∙ sym by.its) (finish_marked h id good b.rows new ready done) in
     let ends : Finishes opening old hand job action entry (record { standings = standings_of N; added = taken lesser b.added (action_id entry) entry }) =
-    finish_step opening old hand job action entry good (standings_of done.marked) (standings_of N) keeps run c.requires.fits c.is_good.ensures marked carried in
+    finish_step opening old hand job action entry good (standings_of done.marked) (standings_of N) keeps by.run (c.requires.fits ∙ sym by.its) c.is_good.ensures marked carried in
     let fin : Finishes opening old hand job action entry now = subst (λ (m : Entries). Finishes opening old hand job action entry (record { standings = standings_of N; added = m })) (sym c.in_default-put.ensures.ok) ends in
     let pushed : all ≡ b.history.items ++ Finish hand job ∷ [] =
     c.push_reserved.ensures.items ∙ ap (λ (k : ℕ). b.history.items ++ Finish k c.spend.result ∷ []) c.number.ensures ∙ ap (λ (j : ℕ). b.history.items ++ Finish hand j ∷ []) c.spend.ensures in
@@ -235,19 +235,15 @@ returns-clause-step c =
 pub returns-clause-own : goal.returns-clause-own
 returns-clause-own c =
     let b = c.self.inside in
-    let hand = c.args.hand.now in
-    let job = c.args.task.job in
-    let action : Action = c.args.task.action in
     let opening : Opening = record { jobs = b.rows.jobs.items; cache = b.opened } in
     let later : Opening = record { jobs = c.finish_rows.new.rows.jobs.items; cache = b.opened } in
     let old : State = record { standings = standings_of b.rows.rows; added = b.added } in
     let new : State = record { standings = standings_of c.finish_rows.new.rows.rows; added = c.put.new.self } in
     let before : Seen = record { opening = opening; state = old; history = b.history.items; looks = b.looks } in
     let after : Seen = record { opening = later; state = new; history = c.push_reserved.new.self.items; looks = c.finish_rows.new.looks } in
-    let run : IsRunBy old.standings hand job action = subst (λ (v : Seen). IsRunBy v.state.standings hand job action) (sym c.self.view_is) c.requires.runs in
-    rw (← c.self.view_is) (λ same own. own_finish before after job action (history_keeps opening b.history.items old c.self.invariant.0) run.its
+    rw (← c.self.view_is) (own_finish before after c.args.entry
     (ap (λ (jobs : List Job). let opening : Opening = record { jobs = jobs; cache = b.opened } in opening) c.finish_rows.ensures.undone.jobs)
-    (c.in_default-put.ensures.ok ∙ ap (λ (z : Action). taken lesser b.added (action_id z) z) same) own)
+    c.in_default-put.ensures.ok)
 
 pub returns-clause-looks : goal.returns-clause-looks
 returns-clause-looks c =

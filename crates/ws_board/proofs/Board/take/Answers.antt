@@ -1,16 +1,21 @@
-use Rattle.std.proofs.Common.{ℕ, List, ◌∙◌, ◌≡◌, ◌+◌, ◌≤◌, ◌<◌, ◌∷◌, ◌++◌, [], Some, arith, ap, subst, sym, refl, rules, vec_len, vec_capacity, length, count_by}
+use Rattle.std.proofs.Common.{ℕ, List, ◌∙◌, ◌≡◌, ◌≢◌, ◌+◌, ◌≤◌, ◌<◌, ◌∷◌, ◌++◌, [], None, Some, false, eqb, arith, ap, subst, sym, refl, rules, vec_len, vec_capacity, length, count_by}
 use Rattle.std.proofs.Math.ListN.{set}
+use Rattle.std.specs.Prelude.{if◌then◌else◌}
+use Rattle.std.specs.List.{list_any}
 use Rattle.ws_action.specs.Actions.{Action, action_id}
 use Rattle.ws_board.specs.declared.work.Status.TheVariants.{Running}
 use Rattle.ws_board.specs.declared.work.Event.TheVariants.{Take, Idle}
 use Rattle.ws_board.specs.Work.{Job, Task, Standings, Opening, State, Seen}
-use Rattle.ws_board.specs.Machine.{is_running, IsRunBy, IsIdle, BoardStep, IsHistory, stood}
+use Rattle.ws_board.specs.Machine.{action_at, is_running, IsRunBy, IsIdle, BoardStep, IsHistory, stood}
 use Rattle.ws_board.specs.Calls.{Happens, Gives, SomeRuns}
 use Rattle.ws_board.specs.Rows.{import_count, is_back, IsPaid}
 use Rattle.ws_board.specs.Table.{row_at, standings_of}
-use Rattle.ws_board.specs.Indexes.{jobs_in, Changes, Agrees}
+use Rattle.ws_board.specs.Indexes.{id_in, jobs_in, is_free_in, Changes, Agrees}
 use Rattle.ws_board.proofs.Histories.{history_more, ready_has}
-use Rattle.ws_board.proofs.Marks.{idle_is}
+use Rattle.ws_board.proofs.Idle.{idle_is}
+use Rattle.ws_board.proofs.Own.{own_comes}
+use Rattle.ws_board.proofs.Sounds.{history_keeps}
+use Rattle.ws_board.proofs.Standing.{action_row}
 use Rattle.ws_board.proofs.Stepping.{counted_some}
 use Rattle.ws_board.proofs.Boarding.{reads_fit, still_backs, still_paid, moved, within, none_runs_of, not_running, backs_few}
 use Rattle.ws_board.proofs.Taking.{few_run, free_job, free_inside, listed_inside, one_more_runs, none_free, first_least, take_kept, take_free, take_stood, taken_run, take_good, take_waits, take_backs, take_paid, take_agrees}
@@ -96,10 +101,11 @@ run-requires-clause-kept c =
     let b = c.self.inside in
     let R = b.rows.rows in
     let k = c.in-Some.k in
-    take_kept b.rows.jobs.items b.rows.importers.items R (set R k (record (row_at R k) { status = Running 0 })) b.index b.index k 0 c.in-Ok.action c.self.invariant.1 c.self.invariant.3 c.in-Some.ensures.some c.in-Ok.ensures.action refl
+    subst (λ i. id_in b.index.ids.entries i ≢ None) (sym c.id.ensures)
+    (take_kept b.rows.jobs.items b.rows.importers.items R (set R k (record (row_at R k) { status = Running 0 })) b.index b.index k 0 c.in-Ok.task.action c.self.invariant.1 c.self.invariant.3 c.in-Some.ensures.some c.in-Ok.ensures.action refl)
 
 pub run-requires-clause-inside : goal.run-requires-clause-inside
-run-requires-clause-inside c = listed_inside c.self.inside.rows.rows c.self.inside.index c.self.invariant.3 (action_id c.in-Ok.action)
+run-requires-clause-inside c = listed_inside c.self.inside.rows.rows c.self.inside.index c.self.invariant.3 c.id.result
 
 pub run-requires-clause-room : goal.run-requires-clause-room
 run-requires-clause-room c =
@@ -114,7 +120,7 @@ invariant_of-self-in-Ok c =
     let b = c.self.inside in
     let k = c.in-Some.k in
     let hand = c.args.hand.now in
-    let a : Action = c.in-Ok.action in
+    let a : Action = c.in-Ok.task.action in
     let J = b.rows.jobs.items in
     let I = b.rows.importers.items in
     let R = b.rows.rows in
@@ -133,9 +139,12 @@ invariant_of-self-in-Ok c =
     c.push_reserved.ensures.items ∙ ap (λ l. l ++ Take c.number-in-Ok-3.result k ∷ []) c.in_ok-reserve.ensures.items ∙ ap (λ (h : ℕ). b.history.items ++ Take h k ∷ []) c.number-in-Ok-3.ensures in
     let step : BoardStep opening now (Take hand k) new = (a, take_free J I R N b.index index k hand a c.self.invariant.1 c.self.invariant.3 free its written, refl) in
     let legal : IsHistory opening all new = history_more opening b.history.items all now (Take hand k) new c.self.invariant.0 step pushed in
-    let changes : Changes b.index index (action_id a) (jobs_in b.index (action_id a)) (Some (record { hand = hand; job = k; action = a })) =
-    subst (λ (h : ℕ). Changes b.index index (action_id a) (jobs_in b.index (action_id a)) (Some (record { hand = h; job = k; action = a }))) c.number-in-Ok.ensures c.run.ensures.changes in
-    let agrees : Agrees N index = take_agrees J I R N b.index index k hand a c.self.invariant.1 c.self.invariant.3 free its written changes c.run.ensures.free c.run.ensures.len c.run.ensures.running in
+    let changes : Changes b.index index (action_id a) (jobs_in b.index (action_id a)) (Some (record { hand = hand; job = k })) =
+    subst (λ i. Changes b.index index i (jobs_in b.index i) (Some (record { hand = hand; job = k }))) c.id.ensures
+    (subst (λ (h : ℕ). Changes b.index index c.id.result (jobs_in b.index c.id.result) (Some (record { hand = h; job = k }))) c.number-in-Ok.ensures c.run.ensures.changes) in
+    let marked : (j : ℕ) → is_free_in index j ≡ (if list_any (λ i. eqb i j) (jobs_in b.index (action_id a)) then false else is_free_in b.index j) =
+    λ j. c.run.ensures.free j ∙ ap (λ i. if list_any (λ l. eqb l j) (jobs_in b.index i) then false else is_free_in b.index j) c.id.ensures in
+    let agrees : Agrees N index = take_agrees J I R N b.index index k hand a c.self.invariant.1 c.self.invariant.3 free its written changes marked c.run.ensures.len c.run.ensures.running in
     let paid : IsPaid c.given.new.looks N (import_count J) (count_by is_back all) =
     take_paid J I R N b.index index k hand a c.self.invariant.1 c.self.invariant.3 free its written b.looks c.given.new.looks (import_count J) b.history.items all hand pushed c.given.ensures.one c.self.invariant.5 in
     let parts =
@@ -160,7 +169,7 @@ returns-in-Ok-clause-step c =
     let b = c.self.inside in
     let k = c.in-Some.k in
     let hand = c.args.hand.now in
-    let a : Action = c.in-Ok.action in
+    let a : Action = c.in-Ok.task.action in
     let J = b.rows.jobs.items in
     let I = b.rows.importers.items in
     let R = b.rows.rows in
@@ -192,12 +201,24 @@ returns-in-Ok-clause-least c =
     let job : c.in-Ok.task.job ≡ k = ap (λ (t : Task). t.job) c.in-Ok.ensures.task in
     rw (← c.self.view_is) (λ j action f. (let least : k ≤ j = first_least R b.index c.self.invariant.3 k c.in-Some.ensures.least j action f in omega (arith, job, least)))
 
+pub returns-in-Ok-clause-own : goal.returns-in-Ok-clause-own
+returns-in-Ok-clause-own c =
+    let b = c.self.inside in
+    let k = c.in-Some.k in
+    let a : Action = c.in-Ok.task.action in
+    let R = b.rows.rows in
+    let opening : Opening = record { jobs = b.rows.jobs.items; cache = b.opened } in
+    let now : State = record { standings = standings_of R; added = b.added } in
+    let before : Seen = record { opening = opening; state = now; history = b.history.items; looks = b.looks } in
+    let its : action_at now.standings.actions k ≡ Some a = action_row R k ∙ c.in-Ok.ensures.action in
+    rw (← c.self.view_is) (own_comes before k a (history_keeps opening b.history.items now c.self.invariant.0) its)
+
 pub returns-in-Ok-clause-looks : goal.returns-in-Ok-clause-looks
 returns-in-Ok-clause-looks c =
     let b = c.self.inside in
     let k = c.in-Some.k in
     let hand = c.args.hand.now in
-    let a : Action = c.in-Ok.action in
+    let a : Action = c.in-Ok.task.action in
     let J = b.rows.jobs.items in
     let I = b.rows.importers.items in
     let R = b.rows.rows in
