@@ -3,8 +3,10 @@ pub mod Bounded
 mod Built
 pub mod Faults
 pub mod Filed
+pub mod First
 pub mod Imported
 pub mod Inserted
+pub mod Joint
 pub mod Judging
 pub mod Leading
 pub mod Linked
@@ -22,4 +24,5 @@ pub mod SomeBuildPlan
 pub mod SomePlan
 pub mod Sorted
 pub mod Walking
+pub mod Wholes
 pub mod Within

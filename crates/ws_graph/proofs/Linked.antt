@@ -5,11 +5,11 @@ use Rattle.std.specs.List.Sorted.{IsStrictlySortedBy}
 use Rattle.std.specs.Global.{Vec}
 use Rattle.go_text.specs.Faults.{Fault}
 use Rattle.ws_version.specs.Writes.{path_cmp}
-use Rattle.ws_reach.specs.Reach.{Edge, Reaches, rows_of}
+use Rattle.ws_reach.specs.Reach.{Edge, rows_of}
 use Rattle.ws_reach.proofs.Reached.{reaches_more, reaches_stay, get_contains, contains_get}
 use Rattle.ws_graph.specs.Packages.{package_files}
 use Rattle.ws_graph.specs.Plan.{Planned, NoFiles, Faulty, Sound, IsPlan}
-use Rattle.ws_graph.specs.BuildPlan.{Sources, Imports, HasImports, HasNoFiles, IsProgram, IsPlannedAs, Directory, paths_of, AreNumbers, IsBuildPlan}
+use Rattle.ws_graph.specs.BuildPlan.{Sources, Imports, HasImports, HasNoFiles, IsProgram, IsPlannedAs, Directory, paths_of, AreNumbers, ReachedFrom, IsJointPlan}
 use Rattle.std.proofs.lemmas.List.{length-append}
 use Rattle.ws_graph.specs.Node.{planned_of, directory_of}
 use Rattle.ws_graph.specs.declared.planning.Directory.{Directory as CodeDirectory}
@@ -105,12 +105,16 @@ none_first closing programs here targets target fault e (of_missing a is) = noth
 none_first closing programs here targets target fault e (of_cycle n a is) = nothing_first a.front target a.rest (sym a.whole ∙ e)
 none_first closing programs here targets target fault e (of_program n m a is) = nothing_first a.front target a.rest (sym a.whole ∙ e)
 
-module _ (sources : Sources) (target : List ℕ) (paths : List (List ℕ)) (founds : List Found) (links : Links) (all : AreAll sources target paths founds) (are : AreLinks paths founds links) where
+module _ (sources : Sources) (targets : List (List ℕ)) (paths : List (List ℕ)) (founds : List Found) (links : Links) (all : AreAll sources targets paths founds) (are : AreLinks paths founds links) where
   reached_files : (q : List ℕ) → Contains paths q → HasNoFiles sources q → ⊥
-  reached_files q c = reaches_stay (Imports sources) (λ p. HasNoFiles sources p → ⊥) (λ y x h i. i.files) target q ((all.reached q).0 c) all.files
+  reached_files q c =
+      let way = (all.reached q).0 c in
+      reaches_stay (Imports sources) (λ p. HasNoFiles sources p → ⊥) (λ y x h i. i.files) way.0 q way.2 (all.files way.0 way.1)
 
   closed : IsClosed sources paths
-  closed a b here imports = (all.reached b).1 (reaches_more (Imports sources) target a b ((all.reached a).0 here) imports)
+  closed a b here imports =
+      let way = (all.reached a).0 here in
+      (all.reached b).1 (way.0, way.1, reaches_more (Imports sources) way.0 a b way.2 imports)
 
   imported : (p : List ℕ) → Contains paths p → HasImported sources paths p
   imported p here = record { filed = λ q import c. reached_files q c; listed = λ q import files. closed p q here (record { import = import; files = files }) }
@@ -197,7 +201,7 @@ module _ (sources : Sources) (target : List ℕ) (paths : List (List ℕ)) (foun
         });
       }
 
-  pub build_plan : (ds : List Directory) → AreLinkedFrom paths links 0 founds ds → IsBuildPlan sources target ds
+  pub build_plan : (ds : List Directory) → AreLinkedFrom paths links 0 founds ds → IsJointPlan sources targets ds
   build_plan ds linked =
       let same : paths_of ds ≡ paths = same_list (paths_of ds) paths (λ k p at. (
       let d = map_left (λ (x : Directory). x.path) ds k p at in
@@ -212,7 +216,7 @@ module _ (sources : Sources) (target : List ℕ) (paths : List (List ℕ)) (foun
       record {
         files = all.files;
         ascending = subst (IsStrictlySortedBy path_cmp) (sym same) all.ascending;
-        reached = subst (λ (ps : List (List ℕ)). (q : List ℕ) → (Contains ps q → Reaches (Imports sources) target q) × (Reaches (Imports sources) target q → Contains ps q)) (sym same) all.reached;
+        reached = subst (λ (ps : List (List ℕ)). (q : List ℕ) → (Contains ps q → ReachedFrom sources targets q) × (ReachedFrom sources targets q → Contains ps q)) (sym same) all.reached;
         planned = λ d c. (right d c).planned;
         imports = λ d c. subst (λ (ps : List (List ℕ)). AreNumbers sources ps d.path d.imports) (sym same) (right d c).numbers;
       }

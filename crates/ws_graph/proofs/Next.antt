@@ -27,7 +27,7 @@ next_begun sources met paths rest wave none same = record {
   all = λ path c. inr ((same path).1 c);
 }
 
-waiting_more : (sources : Sources) (wave : List Waiting) (w : Waiting) → AreWaiting sources wave → IsWaiting sources w → AreWaiting sources (wave ++ w ∷ [])
+pub waiting_more : (sources : Sources) (wave : List Waiting) (w : Waiting) → AreWaiting sources wave → IsWaiting sources w → AreWaiting sources (wave ++ w ∷ [])
 waiting_more sources [] w are is = (is, tt)
 waiting_more sources (v ∷ vs) w are is = (are.0, waiting_more sources vs w are.1 is)
 

@@ -11,9 +11,10 @@ use Rattle.ws_reach.proofs.Reached.{reaches_itself, reaches_from, get_contains}
 use Rattle.ws_reach.proofs.Closure.{IsOneOf, reach, reach_sound, reach_complete}
 use Rattle.ws_graph.specs.Plan.{Sound}
 use Rattle.ws_graph.specs.BuildPlan as plan
-use Rattle.ws_graph.specs.BuildPlan.{Sources, Import, Imports, ImportsAreSound, IsPlannedAs, Directory, paths_of, AreNumbers, IsBuildPlan, IsBuildPlanOf, AreRanks}
+use Rattle.ws_graph.specs.BuildPlan.{Sources, Import, Imports, ImportsAreSound, IsPlannedAs, Directory, paths_of, IsBuildPlanOf, AreRanks}
 use Rattle.ws_graph.proofs.OneBuildPlan.{same_imports}
 use Rattle.ws_graph.proofs.Sorted.{one_of, contained}
+use Rattle.ws_graph.proofs.Wholes.{IsWhole, IsWholeOf, whole_plan_of}
 
 -- ---- numbers in lists
 
@@ -114,7 +115,7 @@ pub length-paths : (ds : List Directory) → length (paths_of ds) ≡ length ds
 length-paths [] = refl
 length-paths (d ∷ ds) = ap suc (length-paths ds)
 
-module _ (sources : Sources) (target : List ℕ) (ds : List Directory) (h : IsBuildPlan sources target ds) where
+module _ (sources : Sources) (ds : List Directory) (h : IsWhole sources ds) where
   leads_to : (p q : ℕ) → Goes ds p q → (a : List ℕ) → slice_get (paths_of ds) p ≡ Some a → (b : List ℕ) × (slice_get (paths_of ds) q ≡ Some b) × Imports sources a b
   unfolding Goes
   leads_to p q g a at =
@@ -192,5 +193,8 @@ module _ (sources : Sources) (target : List ℕ) (ds : List Directory) (h : IsBu
   pub ranked : (rank : ℕ → ℕ) × AreRanks ds rank
   ranked = (rank, are_ranks)
 
+pub ranked_whole : (W : List Write) (ds : List Directory) → IsWholeOf W ds → (rank : ℕ → ℕ) × AreRanks ds rank
+ranked_whole W ds h = ranked h.0 ds h.2
+
 pub ranked_build_plan : (W : List Write) (target : List ℕ) (ds : List Directory) → IsBuildPlanOf W target ds → (rank : ℕ → ℕ) × AreRanks ds rank
-ranked_build_plan W target ds h = ranked h.0 target ds h.2
+ranked_build_plan W target ds h = ranked_whole W ds (whole_plan_of W target ds h)

@@ -8,12 +8,12 @@ use Rattle.std.specs.List.Sorted.{IsStrictlySortedBy}
 use Rattle.std.specs.BTreeMap.{insert_entry}
 use Rattle.std.specs.Map.{keys_of, values_of}
 use Rattle.std.proofs.lemmas.List.Elements.{Contains-append_left, Contains-append_right, Contains-append_cases}
-use Rattle.ws_reach.specs.Reach.{Walks, Reaches}
+use Rattle.ws_reach.specs.Reach.{Walks}
 use Rattle.ws_reach.proofs.Reached.{reaches_itself, reaches_more}
 use Rattle.ws_reach.proofs.Closure.{IsOneOf}
-use Rattle.ws_graph.specs.BuildPlan.{Sources, HasNoFiles, Imports}
+use Rattle.ws_graph.specs.BuildPlan.{Sources, HasNoFiles, Imports, ReachedFrom}
 use Rattle.ws_graph.specs.Node.{planned_of}
-use Rattle.ws_graph.specs.Discovery.{Met, met_paths, waiting_paths, IsWaiting, AreWaiting, IsReadAs, AreRead, IsFound, Walking, TakesWave, AddsImported, IsNextWave, AreAll}
+use Rattle.ws_graph.specs.Discovery.{Met, met_paths, waiting_paths, AreWaiting, IsReadAs, AreRead, IsFound, Walking, TakesWave, AddsImported, IsNextWave, AreAll}
 use Rattle.ws_graph.specs.declared.wave.Found.{Found}
 use Rattle.ws_graph.specs.declared.waiting.Waiting.{Waiting}
 use Rattle.ws_graph.proofs.Bounded.{one_more, few_directories, reached_files}
@@ -29,16 +29,16 @@ abbrev Text : Type 0
 Text = String Global
 
 -- the first that waits is read
-pub taken : (sources : Sources) (target : Path) (old new : Met) (path : Text) (found : Found) (waiting imported more : List Path) → Walking sources target old (string_bytes path ∷ waiting) imported → IsFound sources (string_bytes path) found
-    → new ≡ insert_entry string_cmp old path found → AddsImported sources (planned_of found.node) imported more → Walking sources target new waiting more
-taken sources target old new path found waiting imported more w is put adds = record {
-  first = elim w.first [
+pub taken : (sources : Sources) (targets : List Path) (old new : Met) (path : Text) (found : Found) (waiting imported more : List Path) → Walking sources targets old (string_bytes path ∷ waiting) imported → IsFound sources (string_bytes path) found
+    → new ≡ insert_entry string_cmp old path found → AddsImported sources (planned_of found.node) imported more → Walking sources targets new waiting more
+taken sources targets old new path found waiting imported more w is put adds = record {
+  first = λ target among. elim (w.first target among) [
     | inl m ↦ inl (stays target m)
     | inr c ↦ from_waiting target c
   ];
   reached = λ q h. elim h [
     | inl m ↦ elim (to q m) [
-      | inl same ↦ subst (Reaches (Imports sources) target) (sym same) here
+      | inl same ↦ subst (ReachedFrom sources targets) (sym same) here
       | inr o ↦ w.reached q (inl o)
     ]
     | inr c ↦ w.reached q (inr (contained (string_bytes path ∷ waiting) q (inr (one_of waiting q c))))
@@ -64,7 +64,7 @@ taken sources target old new path found waiting imported more w is put adds = re
   ];
 }
   where
-    here : Reaches (Imports sources) target (string_bytes path)
+    here : ReachedFrom sources targets (string_bytes path)
     here = w.reached (string_bytes path) (inr (contained (string_bytes path ∷ waiting) (string_bytes path) (inl refl)))
 
     to : (q : Path) → Contains (met_paths new) q → (q ≡ string_bytes path) ⊎ Contains (met_paths old) q
@@ -88,36 +88,36 @@ taken sources target old new path found waiting imported more w is put adds = re
 -- ---- a wave
 
 -- those of a wave that are left to take in, and what holds by then
-pub record Taking (sources : Sources) (target : Path) (wave : List Waiting) (old met : Met) (imported : List Path) (rest : List (Result (Text × Found) AllocError)) : Type 0 where
+pub record Taking (sources : Sources) (targets : List Path) (wave : List Waiting) (old met : Met) (imported : List Path) (rest : List (Result (Text × Found) AllocError)) : Type 0 where
   pub left : List Waiting
   pub read : AreRead sources left rest
-  pub walking : Walking sources target met (waiting_paths left) imported
+  pub walking : Walking sources targets met (waiting_paths left) imported
   pub kept : (path : Path) → Contains (met_paths old) path ⊎ Contains (waiting_paths wave) path → Contains (met_paths met) path ⊎ Contains (waiting_paths left) path
 
-pub none_taken : (sources : Sources) (target : Path) (wave : List Waiting) (old : Met) (imported : List Path) (read : List (Result (Text × Found) AllocError)) → imported ≡ [] → AreRead sources wave read → Walking sources target old (waiting_paths wave) [] → Taking sources target wave old old imported read
-none_taken sources target wave old imported read none are w = record {
+pub none_taken : (sources : Sources) (targets : List Path) (wave : List Waiting) (old : Met) (imported : List Path) (read : List (Result (Text × Found) AllocError)) → imported ≡ [] → AreRead sources wave read → Walking sources targets old (waiting_paths wave) [] → Taking sources targets wave old old imported read
+none_taken sources targets wave old imported read none are w = record {
   left = wave;
   read = are;
-  walking = subst (Walking sources target old (waiting_paths wave)) (sym none) w;
+  walking = subst (Walking sources targets old (waiting_paths wave)) (sym none) w;
   kept = λ path h. h;
 }
 
-pub one_taken : (sources : Sources) (target : Path) (wave : List Waiting) (old met new : Met) (imported more : List Path) (results rest : List (Result (Text × Found) AllocError)) (r : Result (Text × Found) AllocError) (path : Text) (found : Found)
-    → results ≡ r ∷ rest → r ≡ Ok (path, found) → new ≡ insert_entry string_cmp met path found → AddsImported sources (planned_of found.node) imported more → Taking sources target wave old met imported results → Taking sources target wave old new more rest
-one_taken sources target wave old met new imported more results rest r path found taken_from is put adds t = by_left t.left refl
+pub one_taken : (sources : Sources) (targets : List Path) (wave : List Waiting) (old met new : Met) (imported more : List Path) (results rest : List (Result (Text × Found) AllocError)) (r : Result (Text × Found) AllocError) (path : Text) (found : Found)
+    → results ≡ r ∷ rest → r ≡ Ok (path, found) → new ≡ insert_entry string_cmp met path found → AddsImported sources (planned_of found.node) imported more → Taking sources targets wave old met imported results → Taking sources targets wave old new more rest
+one_taken sources targets wave old met new imported more results rest r path found taken_from is put adds t = by_left t.left refl
   where
-    by_left : (left : List Waiting) → t.left ≡ left → Taking sources target wave old new more rest
+    by_left : (left : List Waiting) → t.left ≡ left → Taking sources targets wave old new more rest
     by_left [] e = absurd (subst (AreRead sources []) taken_from (subst (λ l. AreRead sources l results) e t.read))
     by_left (w ∷ left) e =
         let both = subst (AreRead sources (w ∷ left)) taken_from (subst (λ l. AreRead sources l results) e t.read) in
         let here : IsReadAs sources w (path, found) = subst (λ o. IfOk o (IsReadAs sources w)) is both.0 in
         let same : string_bytes path ≡ string_bytes w.path = here.0 in
-        let walking : Walking sources target met (string_bytes path ∷ waiting_paths left) imported = subst (λ p. Walking sources target met (p ∷ waiting_paths left) imported) (sym same) (subst (λ l. Walking sources target met (waiting_paths l) imported) e t.walking) in
+        let walking : Walking sources targets met (string_bytes path ∷ waiting_paths left) imported = subst (λ p. Walking sources targets met (p ∷ waiting_paths left) imported) (sym same) (subst (λ l. Walking sources targets met (waiting_paths l) imported) e t.walking) in
         let inserted = λ (q : Path) (h : (q ≡ string_bytes path) ⊎ IsOneOf q (met_paths met)). contained (met_paths new) q (subst (λ (l : Met). IsOneOf q (met_paths l)) (sym put) (from_path q path found met h)) in
         record {
           left = left;
           read = both.1;
-          walking = taken sources target met new path found (waiting_paths left) imported more walking (subst (λ p. IsFound sources p found) (sym same) here.1) put adds;
+          walking = taken sources targets met new path found (waiting_paths left) imported more walking (subst (λ p. IsFound sources p found) (sym same) here.1) put adds;
           kept = λ q h. elim (t.kept q h) [
             | inl m ↦ inl (inserted q (inr (one_of (met_paths met) q m)))
             | inr c ↦ elim (one_of (waiting_paths (w ∷ left)) q (subst (λ l. Contains (waiting_paths l) q) e c)) [
@@ -127,13 +127,13 @@ one_taken sources target wave old met new imported more results rest r path foun
           ];
         }
 
-pub all_taken : (sources : Sources) (target : Path) (wave : List Waiting) (old met : Met) (imported : List Path) (rest : List (Result (Text × Found) AllocError)) → rest ≡ [] → Taking sources target wave old met imported rest → TakesWave sources target wave old met imported
-all_taken sources target wave old met imported rest none t = by_left t.left refl
+pub all_taken : (sources : Sources) (targets : List Path) (wave : List Waiting) (old met : Met) (imported : List Path) (rest : List (Result (Text × Found) AllocError)) → rest ≡ [] → Taking sources targets wave old met imported rest → TakesWave sources targets wave old met imported
+all_taken sources targets wave old met imported rest none t = by_left t.left refl
   where
-    by_left : (left : List Waiting) → t.left ≡ left → TakesWave sources target wave old met imported
+    by_left : (left : List Waiting) → t.left ≡ left → TakesWave sources targets wave old met imported
     by_left (w ∷ left) e = absurd (subst (AreRead sources (w ∷ left)) none (subst (λ l. AreRead sources l rest) e t.read))
     by_left [] e = record {
-      walking = subst (λ l. Walking sources target met (waiting_paths l) imported) e t.walking;
+      walking = subst (λ l. Walking sources targets met (waiting_paths l) imported) e t.walking;
       kept = λ q h. elim (t.kept q h) [
         | inl m ↦ m
         | inr c ↦ absurd (one_of [] q (subst (λ l. Contains (waiting_paths l) q) e c))
@@ -143,42 +143,43 @@ all_taken sources target wave old met imported rest none t = by_left t.left refl
 -- ---- the whole walk
 
 -- at the head of a wave: those that wait have files, and weren't met
-pub record AtWave (sources : Sources) (target : Path) (met : Met) (wave : List Waiting) : Type 0 where
-  pub walking : Walking sources target met (waiting_paths wave) []
+pub record AtWave (sources : Sources) (targets : List Path) (met : Met) (wave : List Waiting) : Type 0 where
+  pub walking : Walking sources targets met (waiting_paths wave) []
   pub waiting : AreWaiting sources wave
   pub fresh : (path : Path) → Contains (waiting_paths wave) path → Contains (met_paths met) path → ⊥
   pub ordered : IsStrictlySortedBy string_cmp (keys_of met)
 
-pub begun : (sources : Sources) (first : Waiting) (met : Met) (wave : List Waiting) → met ≡ [] → wave ≡ first ∷ [] → IsWaiting sources first → AtWave sources (string_bytes first.path) met wave
+pub begun : (sources : Sources) (first : List Waiting) (met : Met) → met ≡ [] → AreWaiting sources first → AtWave sources (waiting_paths first) met first
 unfolding IsStrictlySortedBy
-begun sources first met wave none one is = subst (λ m. AtWave sources (string_bytes first.path) m wave) (sym none) (subst (AtWave sources (string_bytes first.path) []) (sym one) (record {
+begun sources first met none are = subst (λ m. AtWave sources (waiting_paths first) m first) (sym none) (record {
   walking = record {
-    first = inr (contained (string_bytes first.path ∷ []) (string_bytes first.path) (inl refl));
+    first = λ target among. inr among;
     reached = λ q h. elim h [
       | inl m ↦ absurd (one_of [] q m)
-      | inr c ↦ elim (one_of (string_bytes first.path ∷ []) q c) [
-        | inl same ↦ subst (Reaches (Imports sources) (string_bytes first.path)) (sym same) (reaches_itself (Imports sources) (string_bytes first.path))
-        | inr o ↦ absurd o
-      ]
+      | inr c ↦ (q, c, reaches_itself (Imports sources) q)
     ];
     from = λ q c. absurd (one_of [] q c);
     closed = λ p q c. absurd (one_of [] p c);
     founds = λ e c. absurd (one_of [] e c);
   };
-  waiting = (is, tt);
+  waiting = are;
   fresh = λ q c m. absurd (one_of [] q m);
   ordered = tt;
-}))
+})
 
 waits_with_files : (sources : Sources) (wave : List Waiting) (q : Path) → AreWaiting sources wave → IsOneOf q (waiting_paths wave) → HasNoFiles sources q → ⊥
 waits_with_files sources [] q are o = absurd o
 waits_with_files sources (w ∷ ws) q are (inl same) = λ none. are.0.some (subst (HasNoFiles sources) same none)
 waits_with_files sources (w ∷ ws) q are (inr o) = waits_with_files sources ws q are.1 o
 
-pub next_head : (sources : Sources) (target : Path) (wave next : List Waiting) (old met : Met) (imported : List Path) → TakesWave sources target wave old met imported → IsStrictlySortedBy string_cmp (keys_of met) → IsNextWave sources (met_paths met) imported next → AtWave sources target met next
-next_head sources target wave next old met imported t ordered n = record {
+-- those that wait have files
+pub waiting_files : (sources : Sources) (wave : List Waiting) → AreWaiting sources wave → (q : Path) → Contains (waiting_paths wave) q → HasNoFiles sources q → ⊥
+waiting_files sources wave are q c = waits_with_files sources wave q are (one_of (waiting_paths wave) q c)
+
+pub next_head : (sources : Sources) (targets : List Path) (wave next : List Waiting) (old met : Met) (imported : List Path) → TakesWave sources targets wave old met imported → IsStrictlySortedBy string_cmp (keys_of met) → IsNextWave sources (met_paths met) imported next → AtWave sources targets met next
+next_head sources targets wave next old met imported t ordered n = record {
   walking = record {
-    first = elim w.first [
+    first = λ target among. elim (w.first target among) [
       | inl m ↦ inl m
       | inr c ↦ absurd (one_of [] target c)
     ];
@@ -186,7 +187,8 @@ next_head sources target wave next old met imported t ordered n = record {
       | inl m ↦ w.reached q (inl m)
       | inr c ↦ (
           let i = w.from q (n.from q c).0 in
-          reaches_more (Imports sources) target i.0 q i.1 (record { import = i.2; files = waits_with_files sources next q n.waiting (one_of (waiting_paths next) q c) }))
+          let way = i.1 in
+          (way.0, way.1, reaches_more (Imports sources) way.0 i.0 q way.2 (record { import = i.2; files = waiting_files sources next n.waiting q c })))
     ];
     from = λ q c. absurd (one_of [] q c);
     closed = λ p q c i. elim (w.closed p q c i) [
@@ -205,7 +207,7 @@ next_head sources target wave next old met imported t ordered n = record {
   ordered = ordered;
 }
   where
-    w : Walking sources target met [] imported
+    w : Walking sources targets met [] imported
     w = t.walking
 
 pub not_empty : (wave : List Waiting) (b : Bool) (n : ℕ) → n ≡ length wave → b ≡ (n == 0) → b ≡ false → wave ≡ [] → ⊥
@@ -218,15 +220,15 @@ length-paths [] = refl
 length-paths (e ∷ es) = ap suc (length-paths es)
 
 -- a wave grows what was met, which stays among the directories that there are
-pub grows : (sources : Sources) (target : Path) (wave : List Waiting) (old met : Met) (imported : List Path) → (HasNoFiles sources target → ⊥) → AtWave sources target old wave → (wave ≡ [] → ⊥) → IsStrictlySortedBy string_cmp (keys_of met) → TakesWave sources target wave old met imported
+pub grows : (sources : Sources) (targets : List Path) (wave : List Waiting) (old met : Met) (imported : List Path) → ((target : Path) → Contains targets target → HasNoFiles sources target → ⊥) → AtWave sources targets old wave → (wave ≡ [] → ⊥) → IsStrictlySortedBy string_cmp (keys_of met) → TakesWave sources targets wave old met imported
     → (suc (length old) ≤ length met) × (length met ≤ length (built_directories sources))
-grows sources target [] old met imported files at some ordered t = absurd (some refl)
-grows sources target (w ∷ ws) old met imported files at some ordered t = (
+grows sources targets [] old met imported files at some ordered t = absurd (some refl)
+grows sources targets (w ∷ ws) old met imported files at some ordered t = (
   (let more = one_more (string_bytes w.path) (met_paths old) (met_paths met) (texts_sorted (keys_of old) at.ordered) (at.fresh (string_bytes w.path) (contained (waiting_paths (w ∷ ws)) (string_bytes w.path) (inl refl))) (λ z h. one_of (met_paths met) z (t.kept z (elim h [
     | inl same ↦ inr (contained (waiting_paths (w ∷ ws)) z (inl same))
     | inr o ↦ inl (contained (met_paths old) z o)
   ]))) in omega (arith, more, length-paths old, length-paths met)),
-  (let few = few_directories sources (met_paths met) (texts_sorted (keys_of met) ordered) (λ p one. reached_files sources target p files (t.walking.reached p (inl (contained (met_paths met) p one)))) in omega (arith, few, length-paths met)),
+  (let few = few_directories sources (met_paths met) (texts_sorted (keys_of met) ordered) (λ p one. let way = t.walking.reached p (inl (contained (met_paths met) p one)) in reached_files sources way.0 p (files way.0 way.1) way.2) in omega (arith, few, length-paths met)),
 )
 
 -- ---- the end
@@ -235,19 +237,19 @@ zip_founds : (sources : Sources) (met : Met) → ((e : Text × Found) → IsOneO
 zip_founds sources [] h = tt
 zip_founds sources (e ∷ es) h = (h e (inl refl), zip_founds sources es (λ x o. h x (inr o)))
 
-pub all_met : (sources : Sources) (target : Path) (met : Met) (wave : List Waiting) → (HasNoFiles sources target → ⊥) → AtWave sources target met wave → wave ≡ [] → AreAll sources target (met_paths met) (values_of met)
-all_met sources target met wave files at none = record {
+pub all_met : (sources : Sources) (targets : List Path) (met : Met) (wave : List Waiting) → ((target : Path) → Contains targets target → HasNoFiles sources target → ⊥) → AtWave sources targets met wave → wave ≡ [] → AreAll sources targets (met_paths met) (values_of met)
+all_met sources targets met wave files at none = record {
   files = files;
   ascending = texts_sorted (keys_of met) at.ordered;
-  reached = λ path. (λ c. at.walking.reached path (inl c), λ way. walk way.0 target path start way.1);
+  reached = λ path. (λ c. at.walking.reached path (inl c), λ (target, among, way). walk way.0 target path (start target among) way.1);
   founds_are = zip_founds sources met (λ e o. at.walking.founds e (contained met e o));
 }
   where
     nothing : (q : Path) → Contains (waiting_paths wave) q → ⊥
     nothing q c = one_of [] q (subst (λ l. Contains (waiting_paths l) q) none c)
 
-    start : Contains (met_paths met) target
-    start = elim at.walking.first [
+    start : (target : Path) → Contains targets target → Contains (met_paths met) target
+    start target among = elim (at.walking.first target among) [
       | inl m ↦ m
       | inr c ↦ absurd (nothing target c)
     ]

@@ -13,7 +13,7 @@ use Rattle.ws_reach.specs.Reach as reach
 use Rattle.ws_version.specs.Writes.{Write, path_cmp}
 use Rattle.ws_register.specs.Sources.{IsSources}
 use Rattle.ws_graph.specs.Packages.{package_files}
-use Rattle.ws_graph.specs.Plan.{Planned, NoFiles, Faulty, Sound, AreParsed, IsPlan}
+use Rattle.ws_graph.specs.Plan.{Planned, NoFiles, Faulty, Sound, AreParsed, IsPlan, IsPlanOf}
 
 -- path and text of each
 abbrev pub Sources : Type 0
@@ -146,6 +146,25 @@ pub record IsBuildPlan (sources : Sources) (target : List ℕ) (directories : Li
 -- the plan of a build for a set of writes: from the sources alone
 abbrev pub IsBuildPlanOf : List Write → List ℕ → List Directory → Type 0
 IsBuildPlanOf writes target directories = (sources : Sources) × IsSources writes sources × IsBuildPlan sources target directories
+
+-- one of the targets reaches the directory
+abbrev pub ReachedFrom : Sources → List (List ℕ) → List ℕ → Type 0
+ReachedFrom sources targets path = (target : List ℕ) × Contains targets target × Reaches sources target path
+
+-- The joint plan of some targets has each directory that one of them reaches, once. They have none where one of them has no files.
+pub record IsJointPlan (sources : Sources) (targets : List (List ℕ)) (directories : List Directory) : Type 0 where
+  pub files : (target : List ℕ) → Contains targets target → ¬ (HasNoFiles sources target)
+  pub ascending : IsStrictlySortedBy path_cmp (paths_of directories)
+  pub reached : (path : List ℕ) → Contains (paths_of directories) path ↔ ReachedFrom sources targets path
+  pub planned : (d : Directory) → Contains directories d → IsPlannedAs sources d.path d.planned
+  pub imports : (d : Directory) → Contains directories d → AreNumbers sources (paths_of directories) d.path d.imports
+
+abbrev pub IsJointPlanOf : List Write → List (List ℕ) → List Directory → Type 0
+IsJointPlanOf writes targets directories = (sources : Sources) × IsSources writes sources × IsJointPlan sources targets directories
+
+-- one of the targets has no files
+abbrev pub SomeHasNoFiles : List Write → List (List ℕ) → Type 0
+SomeHasNoFiles writes targets = (target : List ℕ) × Contains targets target × IsPlanOf writes target NoFiles
 
 -- Ranks of a plan's directories: what a sound directory imports lies lower. So a sound directory lies on no cycle.
 abbrev pub AreRanks : List Directory → (ℕ → ℕ) → Type 0

@@ -21,7 +21,7 @@ use Rattle.ws_register.specs.Edits.{Contents}
 use Rattle.ws_register.specs.Sources.{texts_of, pair_of, IsSources}
 use Rattle.ws_graph.specs.Packages.{package_files}
 use Rattle.ws_graph.specs.Plan.{Planned, NoFiles, Faulty, Sound, IsPlan, source_of}
-use Rattle.ws_graph.specs.BuildPlan.{Sources, Import, imports_in, AreImports, IsBuildPlan, Directory, HasImport, HasNoFiles, IsProgram, Imports}
+use Rattle.ws_graph.specs.BuildPlan.{Sources, Import, imports_in, AreImports, IsJointPlan, Directory, HasImport, HasNoFiles, IsProgram, Imports, ReachedFrom}
 use Rattle.ws_graph.specs.Node.{planned_of}
 use Rattle.ws_graph.specs.declared.target.Target.{Target}
 use Rattle.ws_graph.specs.declared.wave.Found.{Found}
@@ -167,22 +167,22 @@ abbrev pub met_paths : Met → List (List ℕ)
 met_paths met = texts (keys_of met)
 
 -- A walk under way: directories were read, others wait, and further paths are imported by those that were read.
-pub record Walking (sources : Sources) (target : List ℕ) (met : Met) (waiting imported : List (List ℕ)) : Type 0 where
-  pub first : Contains (met_paths met) target ⊎ Contains waiting target
-  pub reached : (path : List ℕ) → Contains (met_paths met) path ⊎ Contains waiting path → reach.Reaches (Imports sources) target path
-  pub from : (path : List ℕ) → Contains imported path → (p : List ℕ) × reach.Reaches (Imports sources) target p × HasImport sources p path
+pub record Walking (sources : Sources) (targets : List (List ℕ)) (met : Met) (waiting imported : List (List ℕ)) : Type 0 where
+  pub first : (target : List ℕ) → Contains targets target → Contains (met_paths met) target ⊎ Contains waiting target
+  pub reached : (path : List ℕ) → Contains (met_paths met) path ⊎ Contains waiting path → ReachedFrom sources targets path
+  pub from : (path : List ℕ) → Contains imported path → (p : List ℕ) × ReachedFrom sources targets p × HasImport sources p path
   pub closed : (p q : List ℕ) → Contains (met_paths met) p → Imports sources p q → Contains (met_paths met) q ⊎ (Contains waiting q ⊎ Contains imported q)
   pub founds : (e : String Global × Found) → Contains met e → IsFound sources (string_bytes e.0) e.1
 
 -- a whole wave is taken in
-pub record TakesWave (sources : Sources) (target : List ℕ) (wave : List Waiting) (old new : Met) (imported : List (List ℕ)) : Type 0 where
-  pub walking : Walking sources target new [] imported
+pub record TakesWave (sources : Sources) (targets : List (List ℕ)) (wave : List Waiting) (old new : Met) (imported : List (List ℕ)) : Type 0 where
+  pub walking : Walking sources targets new [] imported
   pub kept : (path : List ℕ) → Contains (met_paths old) path ⊎ Contains (waiting_paths wave) path → Contains (met_paths new) path
 
 -- the same of any wave that was read so
 abbrev pub TakesAll : Sources → List (Result (String Global × Found) AllocError) → Met → Met → List (List ℕ) → Type 0
 TakesAll sources read old new imported =
-    (target : List ℕ) (wave : List Waiting) → AreRead sources wave read → Walking sources target old (waiting_paths wave) [] → TakesWave sources target wave old new imported
+    (targets : List (List ℕ)) (wave : List Waiting) → AreRead sources wave read → Walking sources targets old (waiting_paths wave) [] → TakesWave sources targets wave old new imported
 
 -- the paths that a directory's files import are added, those at least that have files
 pub record AddsImported (sources : Sources) (planned : Planned) (old new : List (List ℕ)) : Type 0 where
@@ -226,16 +226,30 @@ AddsFile all file old new = (tree : File) × IsParse file.text (Derived tree) ×
 abbrev pub AreFilesOf : List Write → List ℕ → Sources → Type 0
 AreFilesOf writes directory files = (sources : Sources) × IsSources writes sources × (files ≡ package_files directory sources)
 
--- the paths are those of the directories that the target reaches, each with what was found
-pub record AreAll (sources : Sources) (target : List ℕ) (paths : List (List ℕ)) (founds : List Found) : Type 0 where
-  pub files : ¬ (HasNoFiles sources target)
+-- the paths are those of the directories that the targets reach, each with what was found
+pub record AreAll (sources : Sources) (targets : List (List ℕ)) (paths : List (List ℕ)) (founds : List Found) : Type 0 where
+  pub files : (target : List ℕ) → Contains targets target → ¬ (HasNoFiles sources target)
   pub ascending : IsStrictlySortedBy path_cmp paths
-  pub reached : (path : List ℕ) → Contains paths path ↔ reach.Reaches (Imports sources) target path
+  pub reached : (path : List ℕ) → Contains paths path ↔ ReachedFrom sources targets path
   pub founds_are : AllZip (IsFound sources) paths founds
 
--- where paths and what was found are those of a target, this is the plan of its build
+-- where paths and what was found are those of targets, this is the plan of their build
 abbrev pub ArePlanned : List (List ℕ) → List Found → List Directory → Type 0
-ArePlanned paths founds directories = (sources : Sources) (target : List ℕ) → AreAll sources target paths founds → IsBuildPlan sources target directories
+ArePlanned paths founds directories =
+    (sources : Sources) (targets : List (List ℕ)) → AreAll sources targets paths founds → IsJointPlan sources targets directories
+
+-- the first wave: of each target, once
+pub record IsFirstWave (sources : Sources) (targets : List (List ℕ)) (wave : List Waiting) : Type 0 where
+  pub waiting : AreWaiting sources wave
+  pub are : (path : List ℕ) → Contains (waiting_paths wave) path ↔ Contains targets path
+
+-- one of the targets has no files
+abbrev pub LacksFiles : Sources → List (List ℕ) → Type 0
+LacksFiles sources targets = (target : List ℕ) × Contains targets target × HasNoFiles sources target
+
+-- where one of them has no files there is none
+abbrev pub IsWaveIfFilled : Sources → List (List ℕ) → Option (Vec Waiting) → Type 0
+IsWaveIfFilled sources targets wave = MatchOption wave (LacksFiles sources targets) (λ w. IsFirstWave sources targets w.items)
 
 -- the numbers of some targets, ascending
 pub record AreNumbersOf (targets : Vec Target) (numbers : Vec ℕ) : Type 0 where

@@ -1,8 +1,8 @@
-//! The directories that a target reaches, found wave by wave.
-ghost use Rattle.std.specs.Prelude.{IfOk, OnOk, string_bytes, string_cmp};
+//! The directories that targets reach, found wave by wave.
+ghost use Rattle.std.specs.Prelude.{IfOk, OnOk, string_cmp};
 ghost use Rattle.std.specs.BTreeMap.{IsOrdered, values};
 ghost use Rattle.ws_graph.specs.Node.{planned_of};
-ghost use Rattle.ws_graph.specs.Discovery.{held_sources, texts, met_paths, AreAll, IsWaiting, TakesAll, AddsPath, AddsPaths, AddsImported, AddsUnmet, IsNextWave};
+ghost use Rattle.ws_graph.specs.Discovery.{held_sources, texts, met_paths, waiting_paths, AreAll, AreWaiting, TakesAll, AddsPath, AddsPaths, AddsImported, AddsUnmet, IsNextWave};
 
 use crate::planned::Node;
 use crate::target::{Target, targets_of};
@@ -13,20 +13,20 @@ use std::collections::BTreeMap;
 use std::thread::Threads;
 use ws_register::Registers;
 
-/// What becomes of each directory that one reaches, by its path. The directories of a wave are
-/// those that the wave before imports, and that weren't met yet: they are read at once.
+/// What becomes of each directory that those of a first wave reach, by its path. The directories
+/// of a wave are those that the wave before imports, and that weren't met yet: they are read at
+/// once.
 pub fn discover(
     rt: &(impl Threads + Sync),
     alloc: Global,
     registers: &Registers,
-    first: Waiting,
+    first: Vec<Waiting>,
 ) -> Result<BTreeMap<String, Found>, AllocError>
-    requires { IsWaiting (held_sources registers.now) first }
-    ensures { IfOk result (λ met. AreAll (held_sources registers.now) (string_bytes first.path) (met_paths met.entries) (values met)) }
+    requires { AreWaiting (held_sources registers.now) first.items }
+    ensures { IfOk result (λ met. AreAll (held_sources registers.now) (waiting_paths first.items) (met_paths met.entries) (values met)) }
 {
     let mut met = BTreeMap::new(alloc);
-    let mut wave = Vec::new(alloc);
-    wave.push(first)?;
+    let mut wave = first;
     while !wave.is_empty() {
         let read = read_all(rt, alloc, wave)?;
         let imported = take_all(alloc, registers, read, &mut met)?;

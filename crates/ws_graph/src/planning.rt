@@ -1,20 +1,20 @@
-//! Plans of builds: every directory that a target reaches by imports.
-ghost use Rattle.std.specs.Prelude.{◌≡◌, ◌<◌, List, length, map, string_bytes, IfOk, Err, Some};
+//! Plans of builds: every directory that targets reach by imports.
+ghost use Rattle.std.specs.Prelude.{◌≡◌, ◌<◌, ◌↔◌, ℕ, List, [], ◌∷◌, length, map, string_bytes, IfOk, Err, Some};
 ghost use Rattle.std.specs.BTreeMap.{keys, values};
-ghost use Rattle.std.specs.List.{slice_get};
+ghost use Rattle.std.specs.List.{slice_get, Contains};
 ghost use Rattle.std.specs.List.Sorted.{IsStrictlySortedBy};
 ghost use Rattle.ws_version.specs.Writes.{Write, held_cmp, path_cmp};
 ghost use Rattle.ws_map.specs.Kept.{StandsFor};
 ghost use Rattle.ws_graph.specs.Plan.{NoFiles, IsPlanOf};
-ghost use Rattle.ws_graph.specs.BuildPlan.{IsBuildPlanOf};
+ghost use Rattle.ws_graph.specs.BuildPlan.{IsBuildPlanOf, IsJointPlanOf, SomeHasNoFiles};
 ghost use Rattle.ws_graph.specs.Node.{planned_of, directory_of};
-ghost use Rattle.ws_graph.specs.Discovery.{texts, planned_with, IsLinkedAt, ArePlanned};
+ghost use Rattle.ws_graph.specs.Discovery.{held_sources, texts, planned_with, IsWaveIfFilled, IsLinkedAt, ArePlanned};
 
 use crate::discovery::discover;
 use crate::link::{Links, import_fault, links_of};
 use crate::planned::{Node, PlanError};
 use crate::target::Target;
-use crate::waiting::waiting_at;
+use crate::waiting::{Waiting, waiting_at};
 use crate::wave::Found;
 use go_text::fault::Fault;
 use std::alloc::{AllocError, Global};
@@ -33,7 +33,8 @@ pub struct Directory {
     pub imports: Vec<usize>,
 }
 
-/// The directories that a target reaches by imports, the target too, in the order of their paths.
+/// The directories that targets reach by imports, the targets too, each once, in the order of their
+/// paths.
 #[derive(Drop)]
 pub struct BuildPlan {
     pub directories: Vec<Directory>,
@@ -50,13 +51,76 @@ pub fn plan(
     ensures ok { (W : List Write) → StandsFor held_cmp registers.now W → IfOk result (λ plan. IsBuildPlanOf W target.now (map directory_of plan.directories.items)) }
     ensures none { (W : List Write) → StandsFor held_cmp registers.now W → result ≡ Err PlanError.NoPackage → IsPlanOf W target.now NoFiles }
 {
-    let Some(first) = waiting_at(alloc, registers, target)? else {
+    let only = only(alloc, target)?;
+    plan_all(rt, alloc, registers, only.as_slice())
+}
+
+/// The joint plan of a build of several targets: what several of them reach is read once.
+/// `NoPackage` comes where one of them has no file that belongs to a package, and `Memory` for a
+/// refused allocation.
+pub fn plan_all(
+    rt: &(impl Threads + Sync),
+    alloc: Global,
+    registers: &Registers,
+    targets: &[String],
+) -> Result<BuildPlan, PlanError>
+    ensures ok { (W : List Write) → StandsFor held_cmp registers.now W → IfOk result (λ plan. IsJointPlanOf W (texts targets.now) (map directory_of plan.directories.items)) }
+    ensures none { (W : List Write) → StandsFor held_cmp registers.now W → result ≡ Err PlanError.NoPackage → SomeHasNoFiles W (texts targets.now) }
+{
+    let Some(first) = first_wave(alloc, registers, targets)? else {
         return Err(PlanError::NoPackage);
     };
     let met = discover(rt, alloc, registers, first)?;
     let (paths, founds) = parted(alloc, met)?;
     let directories = linked(alloc, paths.as_slice(), founds)?;
     Ok(BuildPlan { directories })
+}
+
+// The directories of some targets, each once, in the order of their paths, if all have files.
+fn first_wave(
+    alloc: Global,
+    registers: &Registers,
+    targets: &[String],
+) -> Result<Option<Vec<Waiting>>, AllocError>
+    ensures { IfOk result (IsWaveIfFilled (held_sources registers.now) (texts targets.now)) }
+{
+    let paths = each_once(alloc, targets)?;
+    let mut wave = Vec::new(alloc);
+    for path in paths {
+        let Some(waiting) = waiting_at(alloc, registers, path.as_str())? else {
+            return Ok(None);
+        };
+        wave.push(waiting)?;
+    }
+    Ok(Some(wave))
+}
+
+fn only(alloc: Global, text: &str) -> Result<Vec<String>, AllocError>
+    ensures { IfOk result (λ only. texts only.items ≡ text.now ∷ []) }
+{
+    let mut only = Vec::new(alloc);
+    only.push(String::from_str(alloc, text)?)?;
+    Ok(only)
+}
+
+// Some texts, each once, ascending.
+fn each_once(alloc: Global, some: &[String]) -> Result<Vec<String>, AllocError>
+    ensures { IfOk result (λ once. (text : List ℕ) → Contains (texts once.items) text ↔ Contains (texts some.now) text) }
+{
+    let mut once = copies(alloc, some)?;
+    once.sort()?;
+    once.dedup();
+    Ok(once)
+}
+
+fn copies(alloc: Global, some: &[String]) -> Result<Vec<String>, AllocError>
+    ensures { IfOk result (λ copies. texts copies.items ≡ texts some.now) }
+{
+    let mut copies = Vec::new(alloc);
+    for text in some {
+        copies.push(copy_of(text)?)?;
+    }
+    Ok(copies)
 }
 
 // The paths of the directories that were met, ascending, and what was found there.

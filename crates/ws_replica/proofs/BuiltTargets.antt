@@ -1,7 +1,7 @@
 -- What a build of several targets says, and what the replicas then hold.
-use Rattle.std.proofs.Common.{◌≡◌, ℕ, zero, suc, Bool, true, false, ◌||◌, ◌==◌, List, [], ◌∷◌, ◌++◌, map, Option, Some, None, refl, sym, ap, subst, ◌∙◌, inl, inr}
+use Rattle.std.proofs.Common.{◌≡◌, ℕ, zero, suc, ◌+◌, Bool, true, false, ◌||◌, ◌==◌, List, [], ◌∷◌, ◌++◌, map, Option, Some, None, refl, sym, ap, subst, ◌∙◌, inl, inr, arith}
 use Rattle.std.specs.Prelude.{if◌then◌else◌, option_map}
-use Rattle.std.specs.List.{slice_get, Contains, flat_map}
+use Rattle.std.specs.List.{AllZip, slice_get, Contains, flat_map}
 use Rattle.std.specs.FinMap.{FinMap}
 use Rattle.std.proofs.lemmas.Bool.{eqb-true}
 use Rattle.std.proofs.lemmas.Option.{slice_get-map}
@@ -10,22 +10,40 @@ use Rattle.ws_version.specs.Writes.{held_cmp}
 use Rattle.ws_map.specs.Kept.{StandsFor, SameMembers, joined}
 use Rattle.ws_register.specs.Edits.{Contents}
 use Rattle.ws_action.specs.Actions.{Action}
-use Rattle.ws_action.specs.Clash.{AllSized}
-use Rattle.ws_action.proofs.Members.{none_in_empty}
+use Rattle.ws_action.specs.Clash.{NoClash, AllSized, hashed, hashed_actions}
+use Rattle.ws_action.proofs.Members.{none_in_empty, head_or_later, at_head, later}
 use Rattle.ws_board.specs.Ends.{AreClear}
+use Rattle.ws_cache.specs.Count.{compiled_count}
 use Rattle.ws_cache.specs.Held.{id_cmp, IsHeld, CacheStandsFor}
 use Rattle.ws_cache.specs.Joined.{lesser}
 use Rattle.ws_cache.proofs.Joined.{one_cache}
 use Rattle.ws_report.specs.declared.Report.{Report}
 use Rattle.ws_replica.specs.Builds.{took_at, held_by, builds, StandsAfter, AreBuilds, AreBuilt, AreBuiltFrom, AllTookSized}
 use Rattle.ws_replica.specs.Holdings.{Replica, ReplicaStandsFor, Took, AllStandFor}
-use Rattle.ws_replica.specs.Jobs.{Reached, IsRun}
-use Rattle.ws_replica.specs.Reports.{TargetBuild, all_actions}
-use Rattle.ws_replica.specs.Targets.{AreReached, IsOpening, HaveCache, TakeResults}
+use Rattle.ws_replica.specs.Jobs.{Reached, rows_of, IsRun}
+use Rattle.ws_replica.specs.Parts.{Part, IsPartOf, IsRunOf}
+use Rattle.ws_replica.specs.Reports.{TargetBuild, report_of, all_actions}
+use Rattle.ws_replica.specs.Targets.{directories_at, IsReached, AreReached, IsOpening, HaveCache, TakeResults}
 use Rattle.ws_replica.proofs.Numbered.{some_same}
-use Rattle.ws_replica.proofs.TargetPieces.{pieces_of, builds_of, reached_of_all, builds_are, run_says, run_counts, run_sized, run_holds}
+use Rattle.ws_replica.proofs.SameCounts.{same_count}
+use Rattle.ws_replica.proofs.TargetParts.{Owns, owns_of, own_builds, owns_are, owns_tell, owns_count, same_actions}
+use Rattle.ws_replica.proofs.TargetPieces.{Piece, Pieces, pieces_of, builds_of, reached_of_all, run_says, run_counts, run_sized, run_holds}
 
 -- ---- sets of actions
+
+hashed_by : (E : List Action) (s : List ℕ) → Contains (hashed_actions E) s → (a : Action) × Contains E a × Contains (hashed a) s
+hashed_by [] s c = absurd (none_in_empty s c)
+hashed_by (x ∷ E) s c = elim (Contains-append_cases (hashed x) (hashed_actions E) s c) [
+  | inl l ↦ (x, at_head E x x refl, l)
+  | inr r ↦ (let rest = hashed_by E s r in (rest.0, later x E rest.0 rest.1, rest.2))
+]
+
+hashed_from : (E : List Action) (a : Action) → Contains E a → (s : List ℕ) → Contains (hashed a) s → Contains (hashed_actions E) s
+hashed_from [] a c s h = absurd (none_in_empty a c)
+hashed_from (x ∷ E) a c s h = elim (head_or_later x E a c) [
+  | inl e ↦ Contains-append_left (hashed x) (hashed_actions E) s (subst (λ (z : Action). Contains (hashed z) s) (sym e) h)
+  | inr l ↦ Contains-append_right (hashed x) (hashed_actions E) s (hashed_from E a l s h)
+]
 
 members_hold : (E F : List Action) → ((a : Action) → Contains E a → Contains F a) → ((a : Action) → Contains F a → Contains E a) → (id : List ℕ) (held : Option Action) → IsHeld E id held → IsHeld F id held
 members_hold E F to from id None h = λ a c e. h a (from a c) e
@@ -82,25 +100,59 @@ mapped_at f xs ys same k x y at also =
 
 -- ---- the build
 
-pub are_built_from : (edition : ℕ) (old : List Replica) (took : List Took) (targets : List (ℕ × List ℕ)) → AllStandFor old took → AllTookSized took → (all : List (List Reached)) → AreReached edition old targets all → (opening : FinMap id_cmp Action) → IsOpening old targets opening → (reports : List Report) (added : FinMap id_cmp Action) → IsRun opening all reports added → AreBuiltFrom edition took targets reports (joined lesser opening added)
-are_built_from edition old took targets stand sized all reached opening opens reports added run =
-    let pieces = pieces_of edition old took stand targets all reached in
-    let bs : List TargetBuild = builds_of edition took pieces.list in
-    let its_run : IsRun opening (reached_of_all edition took pieces.list) reports added = subst (λ rs. IsRun opening rs reports added) (sym pieces.all_are) run in
+hashed_same : (E A B : List Action) → ((a : Action) → Contains B a → Contains A a) → NoClash (hashed_actions (E ++ A)) → NoClash (hashed_actions (E ++ B))
+hashed_same E A B from clear s t c d = clear s t (among s c) (among t d)
+  where
+    member : (a : Action) → Contains (E ++ B) a → Contains (E ++ A) a
+    member a c = elim (Contains-append_cases E B a c) [
+      | inl l ↦ Contains-append_left E A a l
+      | inr r ↦ Contains-append_right E A a (from a r)
+    ]
+
+    among : (s : List ℕ) → Contains (hashed_actions (E ++ B)) s → Contains (hashed_actions (E ++ A)) s
+    among s c = let a = hashed_by (E ++ B) s c in hashed_from (E ++ A) a.0 (member a.0 a.1) s a.2
+
+actions_same : (E A B : List Action) → SameMembers A B → SameMembers (E ++ A) (E ++ B)
+actions_same E A B same a = (one_way A B (λ x. (same x).0) a, one_way B A (λ x. (same x).1) a)
+  where
+    one_way : (X Y : List Action) → ((x : Action) → Contains X x → Contains Y x) → (a : Action) → Contains (E ++ X) a → Contains (E ++ Y) a
+    one_way X Y h a c = elim (Contains-append_cases E X a c) [
+      | inl l ↦ Contains-append_left E Y a l
+      | inr r ↦ Contains-append_right E Y a (h a r)
+    ]
+
+pub are_built_from : (edition : ℕ) (old : List Replica) (took : List Took) (targets : List (ℕ × List ℕ)) → AllStandFor old took → AllTookSized took → (all : List (List Reached)) → AreReached edition old targets all → (parts : List Part) → AllZip (IsPartOf all) targets parts
+    → (opening : FinMap id_cmp Action) → IsOpening old targets opening → (reports : List Report) (added : FinMap id_cmp Action) → IsRunOf opening all parts reports added → AreBuiltFrom edition took targets reports (joined lesser opening added)
+are_built_from edition old took targets stand sized all reached parts parts_are opening opens reports added run =
+    let pieces : Pieces edition took targets 0 all = pieces_of edition old took stand targets 0 all (λ k rs at. subst (λ n. IsReached edition old targets n rs) (let z : k ≡ 0 + k = omega arith in z) (reached.are k rs at)) in
+    let ps : List (Piece edition took) = pieces.list in
+    let each : (k : ℕ) (p : Piece edition took) → slice_get ps k ≡ Some p → (p.number ≡ k) × (p.targets ≡ directories_at targets k) =
+    λ k p at. (let its = pieces.each k p at in let z : 0 + k ≡ k = omega arith in (its.0 ∙ z, its.1 ∙ ap (directories_at targets) z)) in
+    let owns : Owns edition took ps run.told targets reports = owns_of edition took ps run.told targets all pieces.all_are each targets parts reports (λ t c. c) parts_are run.reports_are in
+    let os = owns.list in
+    let bs : List TargetBuild = own_builds edition took ps run.told os in
+    let us : List TargetBuild = builds_of edition took ps in
+    let same : SameMembers (all_actions edition bs) (all_actions edition us) = same_actions edition took ps run.told targets each os owns.targets_are in
+    let its_run : IsRun opening (reached_of_all edition took ps) run.told added = subst (λ rs. IsRun opening rs run.told added) (sym pieces.all_are) run.run in
     let E : List Action = held_by took targets in
     let stands : CacheStandsFor opening E = opens took stand in
     record {
       all = bs;
-      are = subst (λ ts. AreBuilds took ts bs) pieces.targets_are (builds_are edition took pieces.list);
+      are = subst (λ ts. AreBuilds took ts bs) owns.targets_are (owns_are edition took ps run.told os);
       right = λ no_clash.
-          let clear : AreClear E (all_actions edition bs) = record { sized = held_sized took targets sized; clear = no_clash } in
+          let clear : AreClear E (all_actions edition us) = record { sized = held_sized took targets sized; clear = hashed_same E (all_actions edition bs) (all_actions edition us) (λ a. (same a).1) no_clash } in
+          let says : map rows_of run.told ≡ map report_of us = run_says edition took ps opening E stands run.told added its_run clear in
+          let counts : (r : Report) → Contains run.told r → r.compiled ≡ compiled_count E (all_actions edition bs) =
+          λ r c. run_counts edition took ps opening E stands run.told added its_run clear r c ∙ sym (same_count E (all_actions edition bs) (all_actions edition us) same) in
           record {
             told = record {
-              reports = run_says edition took pieces.list opening E stands reports added its_run clear;
-              counts = run_counts edition took pieces.list opening E stands reports added its_run clear;
+              reports = subst (λ rs. map rows_of rs ≡ map report_of bs) owns.reports_are (owns_tell edition took ps run.told says os);
+              counts = subst (λ (rs : List Report). (r : Report) → Contains rs r → r.compiled ≡ compiled_count E (all_actions edition bs)) owns.reports_are
+                  (owns_count edition took ps run.told (compiled_count E (all_actions edition bs)) counts os);
             };
-            sized = run_sized edition took pieces.list opening E stands reports added its_run clear;
-            stands = run_holds edition took pieces.list opening E stands reports added its_run clear;
+            sized = λ a c. run_sized edition took ps opening E stands run.told added its_run clear a ((same a).0 c);
+            stands = same_stands (joined lesser opening added) (E ++ all_actions edition us) (E ++ all_actions edition bs) (actions_same E (all_actions edition us) (all_actions edition bs) (λ a. ((same a).1, (same a).0)))
+                (run_holds edition took ps opening E stands run.told added its_run clear);
           };
     }
 
@@ -134,9 +186,9 @@ module _ (edition : ℕ) (old new : List Replica) (took : List Took) (targets : 
     stand_after k t r its at =
         subst (λ b. ReplicaStandsFor r t.writes (if b then t.actions ++ (held_by took targets ++ C) else t.actions)) refl (stands_if k t r its at (builds targets k) refl)
 
-  pub are_built : AllTookSized took → (all : List (List Reached)) → AreReached edition old targets all → (opening : FinMap id_cmp Action) → IsOpening old targets opening → (reports : List Report) (added : FinMap id_cmp Action) → IsRun opening all reports added → TakeResults targets added old new → AreBuilt edition took targets reports new
-  are_built sized all reached opening opens reports added run take =
-      let from = are_built_from edition old took targets stand sized all reached opening opens reports added run in
+  pub are_built : AllTookSized took → (all : List (List Reached)) → AreReached edition old targets all → (parts : List Part) → AllZip (IsPartOf all) targets parts → (opening : FinMap id_cmp Action) → IsOpening old targets opening → (reports : List Report) (added : FinMap id_cmp Action) → IsRunOf opening all parts reports added → TakeResults targets added old new → AreBuilt edition took targets reports new
+  are_built sized all reached parts parts_are opening opens reports added run take =
+      let from = are_built_from edition old took targets stand sized all reached parts parts_are opening opens reports added run in
       let E : List Action = held_by took targets in
       let one : take.opening ≡ opening = one_cache take.opening opening E E (λ a. (λ c. c, λ c. c)) (take.opens took stand) (opens took stand) in
       let have : HaveCache targets (joined lesser opening added) old new = subst (λ (m : FinMap id_cmp Action). HaveCache targets (joined lesser m added) old new) one take.have in

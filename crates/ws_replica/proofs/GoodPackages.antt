@@ -1,5 +1,5 @@
 -- The good packages of a build, in an order in which each stands behind those that it imports, whatever the others are.
-use Rattle.std.proofs.Common.{◌≡◌, ℕ, zero, suc, ◌<◌, Bool, true, false, cond, List, [], ◌∷◌, ◌++◌, length, map, Option, Some, None, refl, sym, ap, subst, ◌∙◌, inl, inr, true≢false, arith}
+use Rattle.std.proofs.Common.{◌≡◌, ℕ, zero, suc, ◌<◌, Bool, true, false, cond, List, [], ◌∷◌, ◌++◌, length, Some, refl, sym, ap, subst, ◌∙◌, inl, inr, true≢false, arith}
 use Rattle.std.specs.List.{AllZip, Contains, filter, slice_get}
 use Rattle.std.specs.Option.{option_map}
 use Rattle.std.proofs.lemmas.Bool.{cases_Bool}
@@ -14,7 +14,7 @@ use Rattle.ws_graph.specs.BuildPlan.{Directory, AreRanks}
 use Rattle.ws_replica.specs.Reports.{Fate, Stopped, Blocked, Wrong, Good, fate_at, ArePackages, IsFate, AreFates}
 use Rattle.ws_replica.proofs.Numbered.{some_same}
 use Rattle.ws_replica.proofs.HeldImages.{there}
-use Rattle.ws_replica.proofs.OneBuild.{FateAt, fate_of, at_fate}
+use Rattle.ws_replica.proofs.OneBuild.{fate_of, at_fate}
 use Rattle.ws_replica.proofs.CheckedPackages.{rows_of, AreOrdered}
 use Rattle.ws_replica.proofs.PlanMakes.{package_at}
 

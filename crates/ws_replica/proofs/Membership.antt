@@ -1,6 +1,5 @@
 -- What a replica stands for is read by membership alone.
 use Rattle.std.specs.Prelude.{List, ◌++◌, ℕ, Option, None, Some}
-use Rattle.std.specs.List.{Contains}
 use Rattle.std.specs.FinMap.{FinMap, get}
 use Rattle.std.proofs.Common.{inl, inr}
 use Rattle.std.proofs.lemmas.List.Elements.{Contains-append_left, Contains-append_right, Contains-append_cases}

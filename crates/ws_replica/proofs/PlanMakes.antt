@@ -30,8 +30,9 @@ use Rattle.ws_reach.specs.Reach as reach
 use Rattle.ws_graph.specs.Packages.{is_built, package_files}
 use Rattle.ws_graph.specs.Plan.{Sound, AllNamed, IsSound}
 use Rattle.ws_graph.specs.BuildPlan as plan
-use Rattle.ws_graph.specs.BuildPlan.{Sources, Directory, Import, AreImports, HasImport, HasNoFiles, ImportsAreSound, imports_in, names_directory, paths_of, IsPlannedAs, IsBuildPlan, IsBuildPlanOf}
+use Rattle.ws_graph.specs.BuildPlan.{Sources, Directory, Import, AreImports, HasImport, HasNoFiles, ImportsAreSound, imports_in, names_directory, paths_of, IsPlannedAs, IsBuildPlanOf}
 use Rattle.ws_graph.proofs.OnePlan.{one_file, one_parsed}
+use Rattle.ws_graph.proofs.Wholes.{IsWhole, IsWholeOf, whole_plan_of}
 use Rattle.ws_replica.specs.Reports.{Fate, Blocked, Good, fate_at, ArePackages, IsReady, IsFate, AreFates}
 use Rattle.ws_replica.proofs.Numbered.{some_same, member_at}
 use Rattle.ws_replica.proofs.OneBuild.{fate_of, fate_past, at_fate, past_fate}
@@ -329,10 +330,10 @@ sorted_at (z ∷ xs) h (suc i) zero x y lt at also = absurd (omega (arith, lt))
 sorted_at (z ∷ xs) h (suc i) (suc j) x y lt at also = sorted_at xs h.1 i j x y (omega (arith, lt)) at also
 
 -- numbers that ascend
-tail_increasing : (k : ℕ) (ks : List ℕ) → IsStrictlyIncreasing (k ∷ ks) → IsStrictlyIncreasing ks
+pub tail_increasing : (k : ℕ) (ks : List ℕ) → IsStrictlyIncreasing (k ∷ ks) → IsStrictlyIncreasing ks
 tail_increasing k ks h i lt = (let step : slice_index ks i < slice_index (k ∷ ks) (suc i + 1) = h (suc i) (omega (arith, lt)) in subst (λ m. slice_index ks i < slice_index (k ∷ ks) m) (let z : suc i + 1 ≡ suc (i + 1) = omega arith in z) step)
 
-below_later : (k : ℕ) (ks : List ℕ) → IsStrictlyIncreasing (k ∷ ks) → (j : ℕ) → Contains ks j → k < j
+pub below_later : (k : ℕ) (ks : List ℕ) → IsStrictlyIncreasing (k ∷ ks) → (j : ℕ) → Contains ks j → k < j
 below_later k [] h j c = absurd (none_in_empty j c)
 below_later k (l ∷ ks) h j c =
     let first : k < l = h 0 (omega arith) in
@@ -351,11 +352,11 @@ package_at ds fates are k p good = elim (slice_get ds k) as (λ o. slice_get ds 
       (d, at, typed_path d.path is.0 _ p is.3))
 ] refl
 
-module _ (W : List Write) (paths : HasFiles W) (target : List ℕ) (ds : List Directory) (fates : List Fate) (of : IsBuildPlanOf W target ds) (are : AreFates ds fates) where
+module _ (W : List Write) (paths : HasFiles W) (ds : List Directory) (fates : List Fate) (of : IsWholeOf W ds) (are : AreFates ds fates) where
   abbrev sources : Sources
   sources = of.0
 
-  abbrev its : IsBuildPlan sources target ds
+  abbrev its : IsWhole sources ds
   its = of.2
 
   -- the files of a sound directory
@@ -408,7 +409,7 @@ module _ (W : List Write) (paths : HasFiles W) (target : List ℕ) (ds : List Di
         let import : HasImport sources d.path path = record { imports = imports.imports; has = imports.has; import = found.0; among = found.1; path = named } in
         let leads : plan.Imports sources d.path path = record { import = import; files = subst (λ q. ¬ (HasNoFiles sources q)) named (imports.none_missing found.0 found.1) } in
         let here : Contains (paths_of ds) d.path = mapped (λ (x : Directory). x.path) ds d among in
-        let there : Contains (paths_of ds) path = (its.reached path).1 (further sources target d.path path ((its.reached d.path).0 here) leads) in
+        let there : Contains (paths_of ds) path = its.closed d.path path here leads in
         let k = member_at (paths_of ds) path there in
         has_summary d.imports ps ready.good k.0 (((its.imports d among).are k.0).1 (path, k.1, leads)) path k.1
 
@@ -460,6 +461,10 @@ module _ (W : List Write) (paths : HasFiles W) (target : List ℕ) (ds : List Di
       imported = record { all = all_imported; only = only_imported };
     }
 
+pub whole_makes : (W : List Write) → HasFiles W → (ds : List Directory) (fates : List Fate) → IsWholeOf W ds → AreFates ds fates
+    → (d : Directory) → Contains ds d → (files : List Parsed) (ps : List Package) → IsReady fates d files ps → MakeAction files (map summary_of ps)
+whole_makes W paths ds fates of are d among files ps ready = makes W paths ds fates of are d among files ps ready
+
 pub plan_makes : (W : List Write) → HasFiles W → (target : List ℕ) (ds : List Directory) (fates : List Fate) → IsBuildPlanOf W target ds → AreFates ds fates
     → (d : Directory) → Contains ds d → (files : List Parsed) (ps : List Package) → IsReady fates d files ps → MakeAction files (map summary_of ps)
-plan_makes W paths target ds fates of are d among files ps ready = makes W paths target ds fates of are d among files ps ready
+plan_makes W paths target ds fates of = whole_makes W paths ds fates (whole_plan_of W target ds of)

@@ -1,5 +1,5 @@
 -- The good packages of a build can be shown by their summaries' texts.
-use Rattle.std.proofs.Common.{◌≡◌, ℕ, suc, true, List, [], ◌∷◌, length, map, Some, refl, sym, ap, subst, ◌∙◌}
+use Rattle.std.proofs.Common.{◌≡◌, ℕ, suc, true, List, [], ◌∷◌, map, Some, refl, sym, ap, subst, ◌∙◌}
 use Rattle.std.specs.List.{All, Contains, slice_get}
 use Rattle.std.specs.Map.{values_of}
 use Rattle.std.proofs.lemmas.List.Elements.{All-nil, All-cons}
@@ -23,13 +23,13 @@ use Rattle.ws_cache.specs.Compiles.{AreGood}
 use Rattle.ws_pool.specs.Unshown.{IsUnshown}
 use Rattle.ws_graph.specs.Packages.{package_files}
 use Rattle.ws_graph.specs.Plan.{IsSound}
-use Rattle.ws_graph.specs.BuildPlan.{Directory, IsBuildPlanOf}
+use Rattle.ws_graph.specs.BuildPlan.{Directory}
 use Rattle.ws_graph.proofs.RankedPlan.{ranked_build_plan}
-use Rattle.ws_replica.specs.Reports.{Fate, Good, fate_at, ArePackages, IsReady, IsFate, AreFates, TargetBuild, IsTargetBuild}
+use Rattle.ws_replica.specs.Reports.{Fate, Good, fate_at, ArePackages, IsReady, TargetBuild, IsTargetBuild}
 use Rattle.ws_replica.proofs.Numbered.{at_member, member_at}
 use Rattle.ws_replica.proofs.OneBuild.{at_fate, fate_of, one_fate, agree_refl}
 use Rattle.ws_replica.proofs.OrderedPackages.{package_of, one_good}
-use Rattle.ws_replica.proofs.CheckedPackages.{Placed, placed, sound, ordered_checked}
+use Rattle.ws_replica.proofs.CheckedPackages.{placed, sound, ordered_checked}
 use Rattle.ws_replica.proofs.GoodPackages.{ordered, are_ordered, all_ordered, all_packages}
 use Rattle.ws_replica.proofs.PlainPaths.{directory_plain}
 use Rattle.ws_replica.proofs.PlanMakes.{files_from, sources_good}

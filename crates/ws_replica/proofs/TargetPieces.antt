@@ -1,4 +1,4 @@
--- What a run of the jobs of several targets says where no two texts clash.
+-- What a run of the jobs of several plans says where no two texts clash.
 use Rattle.std.proofs.Common.{◌≡◌, ℕ, zero, suc, ◌+◌, ◌<◌, List, [], ◌∷◌, ◌++◌, map, length, Option, Some, refl, sym, ap, subst, ◌∙◌, inl, inr, arith, length-append, append_assoc, append-nil}
 use Rattle.std.specs.List.{slice_get, Contains, All, AllZip, count_by}
 use Rattle.std.specs.FinMap.{FinMap}
@@ -10,7 +10,7 @@ use Rattle.ws_map.specs.Kept.{joined}
 use Rattle.ws_register.specs.Sources.{HasFiles}
 use Rattle.ws_action.specs.Actions.{Action}
 use Rattle.ws_action.specs.Clash.{AllSized}
-use Rattle.ws_action.proofs.Members.{none_in_empty, head_or_later, at_head, later}
+use Rattle.ws_action.proofs.Members.{none_in_empty, head_or_later}
 use Rattle.ws_board.specs.Work.{Job, Opening}
 use Rattle.ws_board.specs.Machine.{is_finish}
 use Rattle.ws_board.specs.Calls.{result_at}
@@ -18,31 +18,34 @@ use Rattle.ws_board.specs.Ends.{End, end_at, came_of, came, somes, IsEnd, AreEnd
 use Rattle.ws_cache.specs.Count.{compiled_count}
 use Rattle.ws_cache.specs.Held.{id_cmp, CacheStandsFor}
 use Rattle.ws_cache.specs.Joined.{lesser}
-use Rattle.ws_graph.specs.BuildPlan.{Directory, IsBuildPlanOf, AreRanks, paths_of}
-use Rattle.ws_graph.proofs.RankedPlan.{ranked_build_plan}
+use Rattle.ws_graph.specs.BuildPlan.{Directory, IsBuildPlanOf, IsJointPlanOf, AreRanks, paths_of}
+use Rattle.ws_graph.proofs.RankedPlan.{ranked_whole as plan_ranks}
+use Rattle.ws_graph.proofs.Wholes.{IsWholeOf, whole_plan_of, whole_joint_of}
 use Rattle.ws_report.specs.declared.Report.{Report}
 use Rattle.ws_report.specs.Reports.{Verdict}
 use Rattle.ws_replica.specs.Builds.{took_at}
 use Rattle.ws_replica.specs.Holdings.{Replica, ReplicaStandsFor, Took, AllStandFor}
 use Rattle.ws_replica.specs.Jobs.{Place, Reached, reached_by, job_after, jobs_after, AreTold, AllTold, rows_of, IsRun}
-use Rattle.ws_replica.specs.Reports.{AreFates, actions_of, all_actions, report_of, TargetBuild, IsTargetBuild}
-use Rattle.ws_replica.specs.Targets.{IsReached, AreReached}
+use Rattle.ws_replica.specs.Reports.{AreFates, actions_of, all_actions, report_of, TargetBuild}
+use Rattle.ws_replica.specs.Targets.{IsReached, directories_at}
 use Rattle.ws_replica.proofs.EndFates.{ends_by, IsCompiled, are_ends, came_are, place_in, told_report, ends_length, jobs_ranked}
 use Rattle.ws_replica.proofs.Numbered.{some_same}
-use Rattle.ws_replica.proofs.PlanMakes.{plan_makes}
+use Rattle.ws_replica.proofs.Picked.{from_map}
+use Rattle.ws_replica.proofs.PlanMakes.{whole_makes}
 use Rattle.ws_replica.proofs.SeveralPlans.{job_of, AreWithin, somes_append, zip_append, end_within, AreFrom, IsRankedFrom, after_from, after_ranked, after_below, ranked_append, from_append, ranked_whole}
 use Rattle.ws_replica.proofs.SomeBuild.{some_fates}
 
--- a target, what was reached of it, and what becomes of its directories
+-- a replica's targets, what was reached of them, and what becomes of the directories
 pub record Piece (edition : ℕ) (took : List Took) : Type 0 where
-  pub target : ℕ × List ℕ
+  pub number : ℕ
+  pub targets : List (List ℕ)
   pub reached : List Reached
   pub build : TargetBuild
-  pub of : IsBuildPlanOf (took_at took target.0).writes target.1 build.directories
+  pub of : IsJointPlanOf (took_at took number).writes targets build.directories
   pub fated : AreFates build.directories build.fates
   pub same : reached ≡ map (reached_by edition) build.directories
   pub inside : (d : Directory) → Contains build.directories d → (k : ℕ) → Contains d.imports k → k < length build.directories
-  pub files : HasFiles (took_at took target.0).writes
+  pub files : HasFiles (took_at took number).writes
 
 -- ---- a piece of what was reached
 
@@ -53,56 +56,68 @@ stands_at (x ∷ replicas) [] all k r e = absurd all
 stands_at (x ∷ replicas) (t ∷ took) all zero r e = subst (λ (z : Replica). ReplicaStandsFor z t.writes t.actions) (some_same x r e) all.0
 stands_at (x ∷ replicas) (t ∷ took) all (suc k) r e = stands_at replicas took all.1 k r e
 
-pub plan_inside : (W : List Write) (target : List ℕ) (ds : List Directory) → IsBuildPlanOf W target ds → (d : Directory) → Contains ds d → (k : ℕ) → Contains d.imports k → k < length ds
-plan_inside W target ds of d c k among =
+pub whole_inside : (W : List Write) (ds : List Directory) → IsWholeOf W ds → (d : Directory) → Contains ds d → (k : ℕ) → Contains d.imports k → k < length ds
+whole_inside W ds of d c k among =
     let there = ((of.2.imports d c).are k).0 among in
     omega (arith, slice_get_within (paths_of ds) k there.0 there.1, length-map ds (λ (d : Directory). d.path))
 
-piece_of : (edition : ℕ) (replicas : List Replica) (took : List Took) → AllStandFor replicas took → (t : ℕ × List ℕ) (rs : List Reached) → IsReached edition replicas t rs → (p : Piece edition took) × (p.target ≡ t) × (p.reached ≡ rs)
-piece_of edition replicas took all t rs h =
-    let W : List Write = (took_at took t.0).writes in
+pub plan_inside : (W : List Write) (target : List ℕ) (ds : List Directory) → IsBuildPlanOf W target ds → (d : Directory) → Contains ds d → (k : ℕ) → Contains d.imports k → k < length ds
+plan_inside W target ds of = whole_inside W ds (whole_plan_of W target ds of)
+
+piece_of : (edition : ℕ) (replicas : List Replica) (took : List Took) → AllStandFor replicas took → (targets : List (ℕ × List ℕ)) (k : ℕ) (rs : List Reached) → IsReached edition replicas targets k rs
+    → (p : Piece edition took) × (p.number ≡ k) × (p.targets ≡ directories_at targets k) × (p.reached ≡ rs)
+piece_of edition replicas took all targets k rs h =
+    let W : List Write = (took_at took k).writes in
     let ds : List Directory = h.by.directories in
-    let of : IsBuildPlanOf W t.1 ds = h.by.planned W (stands_at replicas took all t.0 h.replica h.at).registers in
-    let ranks = ranked_build_plan W t.1 ds of in
+    let of : IsJointPlanOf W (directories_at targets k) ds = h.by.planned W (stands_at replicas took all k h.replica h.at).registers in
+    let whole : IsWholeOf W ds = whole_joint_of W (directories_at targets k) ds of in
+    let ranks = plan_ranks W ds whole in
     let fates = some_fates of.0 ds of.2.planned ranks.0 ranks.1 in (
       record {
-        target = t;
+        number = k;
+        targets = directories_at targets k;
         reached = rs;
         build = record { directories = ds; fates = fates.0 };
         of = of;
         fated = fates.1;
         same = h.by.same;
-        inside = plan_inside W t.1 ds of;
-        files = h.by.files W (stands_at replicas took all t.0 h.replica h.at).registers;
+        inside = whole_inside W ds whole;
+        files = h.by.files W (stands_at replicas took all k h.replica h.at).registers;
       },
+      refl,
       refl,
       refl,
     )
 
-from_map : {A B : Type 0} (f : A → B) (xs : List A) (y : B) → Contains (map f xs) y → (x : A) × Contains xs x × (f x ≡ y)
-from_map f [] y c = absurd (none_in_empty y c)
-from_map f (x ∷ xs) y c = elim (head_or_later (f x) (map f xs) y c) [
-  | inl e ↦ (x, at_head xs x x refl, e)
-  | inr l ↦ let rest = from_map f xs y l in (rest.0, later x xs rest.0 rest.1, rest.2)
-]
-
--- all pieces of what was reached
-pub record Pieces (edition : ℕ) (took : List Took) (targets : List (ℕ × List ℕ)) (all : List (List Reached)) : Type 0 where
+-- all pieces of what was reached, from the replica of the number n on
+pub record Pieces (edition : ℕ) (took : List Took) (targets : List (ℕ × List ℕ)) (n : ℕ) (all : List (List Reached)) : Type 0 where
   pub list : List (Piece edition took)
-  pub targets_are : map (λ (p : Piece edition took). p.target) list ≡ targets
   pub all_are : map (λ (p : Piece edition took). p.reached) list ≡ all
+  pub each : (k : ℕ) (p : Piece edition took) → slice_get list k ≡ Some p → (p.number ≡ n + k) × (p.targets ≡ directories_at targets (n + k))
 
-pub pieces_of : (edition : ℕ) (replicas : List Replica) (took : List Took) → AllStandFor replicas took → (targets : List (ℕ × List ℕ)) (all : List (List Reached)) → AreReached edition replicas targets all → Pieces edition took targets all
-pieces_of edition replicas took stand [] [] h = record { list = []; targets_are = refl; all_are = refl }
-pieces_of edition replicas took stand [] (rs ∷ all) h = absurd h
-pieces_of edition replicas took stand (t ∷ targets) [] h = absurd h
-pieces_of edition replicas took stand (t ∷ targets) (rs ∷ all) h =
-    let p = piece_of edition replicas took stand t rs h.0 in
-    let rest = pieces_of edition replicas took stand targets all h.1 in
+each_more : (edition : ℕ) (took : List Took) (targets : List (ℕ × List ℕ)) (n : ℕ) (q : Piece edition took) (list : List (Piece edition took)) → q.number ≡ n → q.targets ≡ directories_at targets n
+    → ((k : ℕ) (p : Piece edition took) → slice_get list k ≡ Some p → (p.number ≡ suc n + k) × (p.targets ≡ directories_at targets (suc n + k)))
+    → (k : ℕ) (p : Piece edition took) → slice_get (q ∷ list) k ≡ Some p → (p.number ≡ n + k) × (p.targets ≡ directories_at targets (n + k))
+each_more edition took targets n q list number its rest zero p at =
+    let same : q ≡ p = some_same q p at in
+    let place : n ≡ n + 0 = omega arith in
+    (sym (ap (λ (x : Piece edition took). x.number) same) ∙ number ∙ place, sym (ap (λ (x : Piece edition took). x.targets) same) ∙ its ∙ ap (directories_at targets) place)
+each_more edition took targets n q list number its rest (suc k) p at =
+    let place : suc n + k ≡ n + suc k = omega arith in
+    let there = rest k p at in
+    (there.0 ∙ place, there.1 ∙ ap (directories_at targets) place)
+
+pub pieces_of : (edition : ℕ) (replicas : List Replica) (took : List Took) → AllStandFor replicas took → (targets : List (ℕ × List ℕ)) (n : ℕ) (all : List (List Reached))
+    → ((k : ℕ) (rs : List Reached) → slice_get all k ≡ Some rs → IsReached edition replicas targets (n + k) rs) → Pieces edition took targets n all
+pieces_of edition replicas took stand targets n [] h = record { list = []; all_are = refl; each = λ k p at. cc (at) }
+pieces_of edition replicas took stand targets n (rs ∷ all) h =
+    let first : IsReached edition replicas targets n rs = subst (λ m. IsReached edition replicas targets m rs) (let z : n + 0 ≡ n = omega arith in z) (h 0 rs refl) in
+    let p = piece_of edition replicas took stand targets n rs first in
+    let rest = pieces_of edition replicas took stand targets (suc n) all (λ k xs at. subst (λ m. IsReached edition replicas targets m xs) (let z : n + suc k ≡ suc n + k = omega arith in z) (h (suc k) xs at)) in
     record {
       list = p.0 ∷ rest.list;
-      targets_are = ap (λ (x : ℕ × List ℕ). x ∷ map (λ (p : Piece edition took). p.target) rest.list) p.1 ∙ ap (λ xs. t ∷ xs) rest.targets_are;
-      all_are = ap (λ (x : List Reached). x ∷ map (λ (p : Piece edition took). p.reached) rest.list) p.2 ∙ ap (λ xs. rs ∷ xs) rest.all_are;
+      all_are = ap (λ (x : List Reached). x ∷ map (λ (p : Piece edition took). p.reached) rest.list) p.3 ∙ ap (λ xs. rs ∷ xs) rest.all_are;
+      each = each_more edition took targets n p.0 rest.list p.1 p.2 rest.each;
     }
 
 module _ (edition : ℕ) (took : List Took) where
@@ -111,13 +126,6 @@ module _ (edition : ℕ) (took : List Took) where
 
   abbrev pub reached_of_all : List (Piece edition took) → List (List Reached)
   reached_of_all ps = map (λ (p : Piece edition took). p.reached) ps
-
-  abbrev pub targets_of : List (Piece edition took) → List (ℕ × List ℕ)
-  targets_of ps = map (λ (p : Piece edition took). p.target) ps
-
-  pub builds_are : (ps : List (Piece edition took)) → AllZip (λ t b. IsTargetBuild (took_at took t.0).writes t.1 (Some b)) (targets_of ps) (builds_of ps)
-  builds_are [] = tt
-  builds_are (p ∷ ps) = ((p.of, p.fated), builds_are ps)
 
   abbrev ends_of : Piece edition took → List End
   ends_of p = ends_by edition p.build.fates p.build.directories p.build.fates
@@ -145,7 +153,8 @@ module _ (edition : ℕ) (took : List Took) where
 
   piece_ranked : (p : Piece edition took) (n : ℕ) → (rank : ℕ → ℕ) × IsRankedFrom n rank (map (job_after n) p.reached)
   piece_ranked p n =
-      let ranks : (rank : ℕ → ℕ) × AreRanks p.build.directories rank = ranked_build_plan (took_at took p.target.0).writes p.target.1 p.build.directories p.of in
+      let W : List Write = (took_at took p.number).writes in
+      let ranks : (rank : ℕ → ℕ) × AreRanks p.build.directories rank = plan_ranks W p.build.directories (whole_joint_of W p.targets p.build.directories p.of) in
       (ranks.0, after_ranked n p.reached ranks.0 (subst (λ rs. IsRanked ranks.0 (map job_of rs)) (sym p.same) (jobs_ranked edition p.build.directories ranks.0 ranks.1)))
 
   all_from : (ps : List (Piece edition took)) (n : ℕ) → AreFrom n (jobs_after n (reached_of_all ps))
@@ -184,7 +193,7 @@ module _ (edition : ℕ) (took : List Took) where
     piece_ends p n within =
         subst (λ rs. AllZip (IsEnd whole) (map (job_after n) rs) (ends_of p)) (sym p.same)
         (are_ends edition p.build.directories p.build.fates p.fated whole n within p.build.directories p.build.fates
-        (λ d c. (p.inside d c, plan_makes (took_at took p.target.0).writes p.files p.target.1 p.build.directories p.build.fates p.of p.fated d c)) p.fated)
+        (λ d c. (p.inside d c, whole_makes (took_at took p.number).writes p.files p.build.directories p.build.fates (whole_joint_of (took_at took p.number).writes p.targets p.build.directories p.of) p.fated d c)) p.fated)
 
     all_end : (ps : List (Piece edition took)) (n : ℕ) (front : List End) → whole ≡ front ++ all_ends ps → length front ≡ n → AllZip (IsEnd whole) (jobs_after n (reached_of_all ps)) (all_ends ps)
     all_end [] n front is long = tt

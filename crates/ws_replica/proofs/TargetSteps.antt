@@ -1,31 +1,27 @@
 -- The steps of the loops over targets.
 use Rattle.std.proofs.Common.{◌≡◌, ◌≢◌, ℕ, zero, suc, ◌+◌, ◌<◌, Bool, true, false, ◌||◌, ◌==◌, List, [], ◌∷◌, ◌++◌, map, length, take, get_or, Option, Some, None, refl, sym, ap, subst, ◌∙◌, inl, inr, arith, append-nil, append_assoc, length-append}
-use Rattle.std.specs.Prelude.{slice_set, Vec}
+use Rattle.std.specs.Prelude.{slice_set}
 use Rattle.std.specs.List.{slice_get, Contains, AllZip, list_all}
 use Rattle.std.specs.FinMap.{FinMap, empty}
-use Rattle.std.specs.Global.{Global}
 use Rattle.std.proofs.lemmas.Bool.{eqb-true, eq-eqb, cases_eq}
 use Rattle.std.proofs.lemmas.List.{take_more, map-append, length-map}
 use Rattle.std.proofs.lemmas.List.Elements.{Contains-append_left, Contains-append_right, Contains-append_cases}
 use Rattle.std.proofs.lemmas.List.Folds.{list_any-append}
 use Rattle.std.proofs.lemmas.Grind.{flat_map-append}
-use Rattle.ws_version.specs.Writes.{Write, held_cmp}
-use Rattle.ws_map.specs.Kept.{StandsFor, joined}
+use Rattle.ws_map.specs.Kept.{joined}
 use Rattle.ws_action.specs.Actions.{Action}
 use Rattle.ws_action.proofs.Members.{none_in_empty, head_or_later, at_head, later}
 use Rattle.ws_board.specs.Work.{Job}
 use Rattle.ws_cache.specs.Held.{id_cmp, CacheStandsFor}
 use Rattle.ws_cache.specs.Joined.{lesser}
 use Rattle.ws_cache.proofs.Joined.{empty_stands}
-use Rattle.ws_graph.specs.Plan.{NoFiles, IsPlanOf}
 use Rattle.ws_report.specs.Reports.{Verdict}
-use Rattle.ws_replica.specs.Builds.{took_at, held_by, builds, target_of, LacksPackage}
+use Rattle.ws_replica.specs.Builds.{took_at, held_by, builds, target_of}
 use Rattle.ws_replica.specs.Holdings.{Replica, Took, AllStandFor}
-use Rattle.ws_replica.specs.Jobs.{Place, Reached, place_of, reached_of, all_reached_of, job_after, jobs_after, AreTold, AllTold}
-use Rattle.ws_replica.specs.Targets.{IsReachedBy, IsReached, AreReached, IsOpening, HaveCache, TakesInto, TakeResults}
+use Rattle.ws_replica.specs.Jobs.{Place, Reached, place_of, job_after, jobs_after, AreTold, AllTold}
+use Rattle.ws_replica.specs.Targets.{IsOpening, HaveCache, TakesInto, TakeResults}
 use Rattle.ws_replica.specs.declared.building.Target.{Target}
 use Rattle.ws_replica.specs.declared.reached.Place.{Place as RustPlace}
-use Rattle.ws_replica.specs.declared.reached.Reached.{Reached as RustReached}
 use Rattle.ws_replica.proofs.BuiltTargets.{same_stands}
 use Rattle.ws_replica.proofs.Numbered.{some_same, and_left, and_right}
 use Rattle.ws_replica.proofs.TargetPieces.{stands_at}
@@ -69,22 +65,6 @@ listed_more g done pushed x y left rest whole push next same h =
 
 pub places_push : (places pushed : List RustPlace) (x : RustPlace) → pushed ≡ places ++ x ∷ [] → map place_of pushed ≡ map place_of places ++ place_of x ∷ []
 places_push places pushed x push = ap (map place_of) push ∙ map-append place_of places (x ∷ [])
-
--- ---- plans
-
--- one more target's plan
-pub reached_next : (edition : ℕ) (replicas : List Replica) (targets : List Target) (i : ℕ) (r : Replica) (done pushed : List (Vec RustReached Global)) (x : Vec RustReached Global) → i < length targets → slice_get replicas (target_at targets i).replica ≡ Some r → pushed ≡ done ++ x ∷ []
-    → IsReachedBy edition r.registers (target_at targets i).directory.now (map reached_of x.items) → AreReached edition replicas (map target_of (take i targets)) (all_reached_of done) → AreReached edition replicas (map target_of (take (i + 1) targets)) (all_reached_of pushed)
-reached_next edition replicas targets i r done pushed x within at push by h =
-    subst (λ ts. AreReached edition replicas ts (all_reached_of pushed)) (sym (targets_next targets i within))
-    (subst (AreReached edition replicas (map target_of (take i targets) ++ target_of (target_at targets i) ∷ [])) (sym (ap all_reached_of push ∙ map-append (λ (v : Vec RustReached Global). map reached_of v.items) done (x ∷ [])))
-    (zip_push (IsReached edition replicas) (map target_of (take i targets)) (all_reached_of done) (target_of (target_at targets i)) (map reached_of x.items) h (record { replica = r; at = at; by = by })))
-
--- a target whose directory has no package files
-pub lacks_here : (replicas : List Replica) (targets : List Target) (i : ℕ) (r : Replica) → i < length targets → slice_get replicas (target_at targets i).replica ≡ Some r → ((W : List Write) → StandsFor held_cmp r.registers W → IsPlanOf W (target_at targets i).directory.now NoFiles) → (took : List Took) → AllStandFor replicas took → LacksPackage took (map target_of targets)
-lacks_here replicas targets i r within at none took stand =
-    let t : Target = target_at targets i in
-    (t.replica, t.directory.now, target_member targets i within, none (took_at took t.replica).writes (stands_at replicas took stand t.replica r at).registers)
 
 -- ---- jobs
 

@@ -1,5 +1,5 @@
 -- What a replica holds, and for which writes and actions it stands.
-use Rattle.std.specs.Prelude.{◌≡◌, List, [], ◌∷◌, refl}
+use Rattle.std.specs.Prelude.{◌≡◌, List, [], ◌∷◌, ◌++◌, refl}
 use Rattle.std.specs.List.{flat_map}
 use Rattle.std.specs.Coded.{Coded, code_by, coded×, coded_ℕ, coded_list}
 use Rattle.std.specs.FinMap.{FinMap, code}
@@ -13,6 +13,8 @@ use Rattle.ws_cache.specs.Held.{id_cmp, CacheStandsFor}
 use Rattle.ws_cache.specs.Joined.{lesser}
 use Rattle.ws_cache.specs.Laws.{lesser-semilattice}
 use Rattle.ws_cache.proofs.Joined.{id_cmp_total, id_cmp-IsAntisymmetric}
+use Rattle.ws_version_vector.specs.Told.{Brings}
+use Rattle.ws_version_vector.specs.declared.vector.News.{News}
 
 -- what is held at each path, and what is compiled
 pub record Replica : Type 0 where
@@ -38,6 +40,16 @@ AllStandFor [] [] = Unit {0}
 AllStandFor [] (took ∷ others) = ⊥
 AllStandFor (replica ∷ rest) [] = ⊥
 AllStandFor (replica ∷ rest) (took ∷ others) = ReplicaStandsFor replica took.writes took.actions × AllStandFor rest others
+
+-- registers that hold what two do, where this is news of the second's
+abbrev pub HoldBoth : News → Contents → Contents → Contents → Type 0
+HoldBoth news mine theirs both =
+    (V W : List Write) → Brings news V W → StandsFor held_cmp mine V → StandsFor held_cmp theirs W → StandsFor held_cmp both (V ++ W)
+
+-- a cache that holds what two do
+abbrev pub CacheHoldsBoth : News → FinMap id_cmp Action → FinMap id_cmp Action → FinMap id_cmp Action → Type 0
+CacheHoldsBoth news mine theirs both =
+    (E F : List Action) → Brings news E F → CacheStandsFor mine E → CacheStandsFor theirs F → CacheStandsFor both (E ++ F)
 
 -- all that any of them took
 abbrev pub all_taken : List Took → Took

@@ -5,5 +5,6 @@ pub mod Ids
 pub mod Programs
 pub mod Builds
 pub mod Jobs
+pub mod Parts
 pub mod Opened
 pub mod Targets

@@ -1,34 +1,56 @@
 -- The steps of a build of several targets.
-use Rattle.std.specs.Prelude.{◌≡◌, ℕ, true, false, List, map, Some, slice_set}
-use Rattle.std.specs.List.{slice_get, AllZip}
+use Rattle.std.specs.Prelude.{◌≡◌, ◌==◌, ℕ, true, false, List, length, map, Some, slice_set}
+use Rattle.std.specs.List.{slice_get, filter}
+use Rattle.std.specs.List.Sorted.{IsStrictlySortedBy}
 use Rattle.std.specs.FinMap.{FinMap}
-use Rattle.ws_version.specs.Writes.{Write, held_cmp}
+use Rattle.ws_version.specs.Writes.{Write, held_cmp, path_cmp}
 use Rattle.ws_map.specs.Kept.{StandsFor, joined}
 use Rattle.ws_register.specs.Edits.{Contents}
 use Rattle.ws_register.specs.Sources.{HasFiles}
 use Rattle.ws_action.specs.Actions.{Action}
 use Rattle.ws_cache.specs.Held.{id_cmp, CacheStandsFor}
 use Rattle.ws_cache.specs.Joined.{lesser}
-use Rattle.ws_graph.specs.BuildPlan.{Directory, IsBuildPlanOf}
+use Rattle.ws_graph.specs.BuildPlan.{Directory, IsJointPlanOf}
+use Rattle.ws_reach.specs.Reach.{EdgesStayWithin}
 use Rattle.ws_replica.specs.Holdings.{Replica, Took, AllStandFor}
 use Rattle.ws_replica.specs.Jobs.{Reached, reached_by}
+use Rattle.ws_replica.specs.Parts.{reached_paths, reached_rows}
 use Rattle.ws_replica.specs.Builds.{held_by, builds}
 
--- what is reached of a directory, from the sources of these registers, which are of files
-pub record IsReachedBy (edition : ℕ) (registers : Contents) (directory : List ℕ) (reached : List Reached) : Type 0 where
+-- what is reached of some directories, from the sources of these registers, which are of files
+pub record IsReachedBy (edition : ℕ) (registers : Contents) (targets : List (List ℕ)) (reached : List Reached) : Type 0 where
   pub directories : List Directory
-  pub planned : (W : List Write) → StandsFor held_cmp registers W → IsBuildPlanOf W directory directories
+  pub planned : (W : List Write) → StandsFor held_cmp registers W → IsJointPlanOf W targets directories
   pub files : (W : List Write) → StandsFor held_cmp registers W → HasFiles W
   pub same : reached ≡ map (reached_by edition) directories
 
--- what is reached of a target, by its replica
-pub record IsReached (edition : ℕ) (replicas : List Replica) (target : ℕ × List ℕ) (reached : List Reached) : Type 0 where
-  pub replica : Replica
-  pub at : slice_get replicas target.0 ≡ Some replica
-  pub by : IsReachedBy edition replica.registers target.1 reached
+-- the directories of those targets that are the replica's of that number
+abbrev pub directories_at : List (ℕ × List ℕ) → ℕ → List (List ℕ)
+directories_at targets k = map (λ t. t.1) (filter (λ t. t.0 == k) targets)
 
-abbrev pub AreReached : ℕ → List Replica → List (ℕ × List ℕ) → List (List Reached) → Type 0
-AreReached edition replicas targets all = AllZip (IsReached edition replicas) targets all
+-- what is reached of the targets of the replica of that number
+pub record IsReached (edition : ℕ) (replicas : List Replica) (targets : List (ℕ × List ℕ)) (k : ℕ) (reached : List Reached) : Type 0 where
+  pub replica : Replica
+  pub at : slice_get replicas k ≡ Some replica
+  pub by : IsReachedBy edition replica.registers (directories_at targets k) reached
+
+-- the same of the first replicas
+abbrev pub AreReachedOf : ℕ → List Replica → List (ℕ × List ℕ) → List (List Reached) → Type 0
+AreReachedOf edition replicas targets all =
+    (k : ℕ) (reached : List Reached) → slice_get all k ≡ Some reached → IsReached edition replicas targets k reached
+
+-- the same of each replica
+pub record AreReached (edition : ℕ) (replicas : List Replica) (targets : List (ℕ × List ℕ)) (all : List (List Reached)) : Type 0 where
+  pub size : length all ≡ length replicas
+  pub are : AreReachedOf edition replicas targets all
+
+-- paths ascend, and imports are numbers of the same list
+pub record AreInOrder (reached : List Reached) : Type 0 where
+  pub ascending : IsStrictlySortedBy path_cmp (reached_paths reached)
+  pub within : EdgesStayWithin (reached_rows reached)
+
+abbrev pub AllInOrder : List (List Reached) → Type 0
+AllInOrder all = (k : ℕ) (reached : List Reached) → slice_get all k ≡ Some reached → AreInOrder reached
 
 -- the cache stands for all that the replicas of the targets hold
 abbrev pub IsOpening : List Replica → List (ℕ × List ℕ) → FinMap id_cmp Action → Type 0

@@ -2,12 +2,14 @@
 ghost use Rattle.std.specs.Prelude.{◌≡◌, ◌<◌, ◌+◌, ◌++◌, List, length, map, IfOk, OnOk, OnErr, Err, All};
 ghost use Rattle.go_text.specs.Editions.{edition_number};
 ghost use Rattle.ws_replica.specs.Holdings.{Took, AllStandFor};
-ghost use Rattle.ws_replica.specs.Jobs.{place_of, reached_of, all_reached_of, all_places_of, job_after, jobs_after, IsRun};
+ghost use Rattle.ws_replica.specs.Jobs.{place_of, reached_of, all_reached_of, all_places_of, job_after, jobs_after};
+ghost use Rattle.ws_replica.specs.Parts.{part_of, AllPartsWithin, IsRunOf};
 ghost use Rattle.ws_replica.specs.Builds.{target_of, AreBuilt, LacksPackage, AllTookSized};
 
 use crate::openings::{all_planned, give_results, opening_of};
+use crate::parts::{Part, all_parts};
 use crate::reached::{Place, Reached};
-use crate::telling::{number_after, reports};
+use crate::telling::{number_after, part_reports, reports};
 use crate::{BuildError, Replica};
 use go_text::edition::Edition;
 use std::alloc::{AllocError, Global};
@@ -78,27 +80,31 @@ fn parted(alloc: Global, all: Vec<Vec<Reached>>) -> Result<(Vec<Vec<Place>>, Vec
     Ok((places, jobs))
 }
 
-/// Compiles what the opening lacks of all that was reached: the reports, and the new entries.
+/// Compiles what the opening lacks of all that was reached: the reports of the parts, and the new
+/// entries.
 pub(crate) fn run<R: Threads + Wait + Sync, G: Gate>(
     rt: &R,
     alloc: Global,
     all: Vec<Vec<Reached>>,
+    parts: &[Part],
     opening: Cache,
     workers: u64,
     gate: &G,
 ) -> Result<(Vec<Report>, Cache), AllocError>
-    requires { 0 < workers }
-    ensures { IfOk result (λ run. IsRun opening (all_reached_of all.items) run.0.items run.1) }
+    requires some { 0 < workers }
+    requires within { AllPartsWithin (length all.items) parts.now }
+    ensures { IfOk result (λ run. IsRunOf opening (all_reached_of all.items) (map part_of parts.now) run.0.items run.1) }
 {
     let (places, jobs) = parted(alloc, all)?;
     let built = build_jobs(rt, alloc, jobs, opening, workers, gate)?;
-    let reports = reports(alloc, &built, places)?;
+    let told = reports(alloc, &built, places)?;
+    let reports = part_reports(alloc, told.as_slice(), parts)?;
     Ok((reports, built.into_added()))
 }
 
 /// Builds targets, all of them on one board that is opened over the join of the caches of the
-/// replicas that they name: a report for each, of all directories that it reaches, with how many
-/// were compiled for all of them. The reports depend on the replicas' sources alone. Each replica
+/// replicas that they name, where what several reach from one replica has one job: a report for
+/// each, of all directories that it reaches, with how many were compiled for all of them. The reports depend on the replicas' sources alone. Each replica
 /// that is named then holds what all of these held and what was compiled; the others stay.
 ///
 /// `NoPackage` comes where a target's directory has no files that belong to a build, and `Memory`
@@ -122,8 +128,9 @@ pub fn build<R: Threads + Wait + Sync, G: Gate>(
     ensures err { OnErr result (replicas.new ≡ replicas.old) }
 {
     let all = all_planned(rt, alloc, replicas, targets, edition)?;
+    let parts = all_parts(alloc, all.as_slice(), targets)?;
     let opening = opening_of(alloc, replicas, targets)?;
-    let (reports, added) = run(rt, alloc, all, opening, workers, gate)?;
+    let (reports, added) = run(rt, alloc, all, parts.as_slice(), opening, workers, gate)?;
     give_results(alloc, replicas, targets, &added)?;
     Ok(reports)
 }

@@ -50,6 +50,7 @@ pub mod join;
 mod linking;
 mod opened;
 mod openings;
+mod parts;
 mod reached;
 mod sharing;
 mod snapshot;
@@ -296,7 +297,8 @@ pub fn law_equal_replicas()
 
 /// What a replica stands for is a matter of membership alone.
 pub fn law_same_members()
-    ensures { (a : AReplica) (V W : List AWrite) (E F : List AnAction) → SameMembers V W → SameMembers E F → ReplicaStandsFor a V E → ReplicaStandsFor a W F }
+    ensures { (a : AReplica) (V W : List AWrite) (E F : List AnAction) → SameMembers V W → SameMembers E F
+        → ReplicaStandsFor a V E → ReplicaStandsFor a W F }
 {}
 
 /// Replicas that took the same writes and the same results have equal images, where no two hashed

@@ -1,5 +1,5 @@
 //! What the replicas that targets name bring to a build, and what they take from it.
-ghost use Rattle.std.specs.Prelude.{◌≡◌, ◌==◌, ◌<◌, ℕ, List, length, map, IfOk, OnOk, OnErr, Err, Some, All};
+ghost use Rattle.std.specs.Prelude.{◌≡◌, ◌==◌, ◌<◌, ◌++◌, ◌∷◌, [], ℕ, List, length, map, IfOk, OnOk, OnErr, Err, Some, All};
 ghost use Rattle.std.specs.FinMap.{FinMap};
 ghost use Rattle.std.specs.List.{slice_get, list_all};
 ghost use Rattle.go_text.specs.Editions.{edition_number};
@@ -7,11 +7,12 @@ ghost use Rattle.ws_map.specs.Kept.{StandsFor};
 ghost use Rattle.ws_version.specs.Writes.{Write as AWrite, held_cmp};
 ghost use Rattle.ws_action.specs.Actions.{Action as AnAction};
 ghost use Rattle.ws_cache.specs.Held.{id_cmp};
-ghost use Rattle.ws_graph.specs.Plan.{NoFiles, IsPlanOf};
+ghost use Rattle.ws_graph.specs.BuildPlan.{SomeHasNoFiles};
+ghost use Rattle.ws_graph.specs.Discovery.{texts};
 ghost use Rattle.ws_replica.specs.Holdings.{Took, AllStandFor};
 ghost use Rattle.ws_replica.specs.Jobs.{reached_of, all_reached_of};
 ghost use Rattle.ws_replica.specs.Builds.{target_of, LacksPackage};
-ghost use Rattle.ws_replica.specs.Targets.{IsReachedBy, AreReached, IsOpening, HaveCache, TakesInto, TakeResults};
+ghost use Rattle.ws_replica.specs.Targets.{directories_at, IsReachedBy, AreReached, AllInOrder, IsOpening, HaveCache, TakesInto, TakeResults};
 
 use crate::building::Target;
 use crate::join::copies;
@@ -21,7 +22,7 @@ use go_text::edition::Edition;
 use std::alloc::{AllocError, Global};
 use std::thread::Threads;
 use ws_cache::Cache;
-use ws_graph::planning::plan;
+use ws_graph::planning::plan_all;
 use ws_register::Registers;
 use ws_version::Join;
 
@@ -32,25 +33,56 @@ fn replica_at(replicas: &[Replica], number: usize) -> &Replica
     &replicas[number]
 }
 
-/// What is reached of a directory, by the sources of the registers.
+/// Adds a target's directory, if it is the replica's of that number.
+fn add_directory(
+    alloc: Global,
+    target: &Target<'_>,
+    number: usize,
+    directories: &mut Vec<String>,
+) -> Result<(), AllocError>
+    ensures { OnOk result (texts directories.new.items ≡ texts directories.old.items ++ directories_at (target_of target.now ∷ []) number) }
+{
+    if target.replica != number {
+        return Ok(());
+    }
+    directories.push(String::from_str(alloc, target.directory)?)?;
+    Ok(())
+}
+
+/// The directories of those targets that are the replica's of that number.
+fn directories_at(
+    alloc: Global,
+    targets: &[Target<'_>],
+    number: usize,
+) -> Result<Vec<String>, AllocError>
+    ensures { IfOk result (λ directories. texts directories.items ≡ directories_at (map target_of targets.now) number) }
+{
+    let mut directories = Vec::new(alloc);
+    for target in targets {
+        add_directory(alloc, target, number, &mut directories)?;
+    }
+    Ok(directories)
+}
+
+/// What is reached of some directories, by the sources of the registers.
 fn planned(
     rt: &(impl Threads + Sync),
     alloc: Global,
     registers: &Registers,
-    directory: &str,
+    directories: &[String],
     edition: Edition,
 ) -> Result<Vec<Reached>, BuildError>
-    ensures ok { IfOk result (λ reached. IsReachedBy (edition_number edition) registers.now directory.now (map reached_of reached.items)) }
-    ensures none { result ≡ Err BuildError.NoPackage → (W : List AWrite) → StandsFor held_cmp registers.now W → IsPlanOf W directory.now NoFiles }
+    ensures ok { IfOk result (λ reached. IsReachedBy (edition_number edition) registers.now (texts directories.now) (map reached_of reached.items)) }
+    ensures none { result ≡ Err BuildError.NoPackage → (W : List AWrite) → StandsFor held_cmp registers.now W → SomeHasNoFiles W (texts directories.now) }
 {
     registers.see_files();
-    let plan = plan(rt, alloc, registers, directory)?;
+    let plan = plan_all(rt, alloc, registers, directories)?;
     let reached = all_reached(alloc, edition, plan.directories)?;
     Ok(reached)
 }
 
-/// What is reached of each target. `NoPackage` comes where a target's directory has no files that
-/// belong to a build.
+/// What is reached of the targets of each replica, all of its targets in one plan. `NoPackage`
+/// comes where a target's directory has no files that belong to a build.
 pub(crate) fn all_planned(
     rt: &(impl Threads + Sync),
     alloc: Global,
@@ -58,15 +90,16 @@ pub(crate) fn all_planned(
     targets: &[Target<'_>],
     edition: Edition,
 ) -> Result<Vec<Vec<Reached>>, BuildError>
-    requires { All (λ t. t.replica < length replicas.now) targets.now }
     ensures ok { IfOk result (λ all. AreReached (edition_number edition) replicas.now (map target_of targets.now) (all_reached_of all.items)) }
+    ensures order { IfOk result (λ all. AllInOrder (all_reached_of all.items)) }
     ensures none { result ≡ Err BuildError.NoPackage → (took : List Took) → AllStandFor replicas.now took
         → LacksPackage took (map target_of targets.now) }
 {
     let mut all = Vec::new(alloc);
-    for target in targets {
-        let registers = replica_at(replicas, target.replica).registers();
-        let reached = planned(rt, alloc, registers, target.directory, edition)?;
+    for number in 0..replicas.len() {
+        let directories = directories_at(alloc, targets, number)?;
+        let registers = replica_at(replicas, number).registers();
+        let reached = planned(rt, alloc, registers, directories.as_slice(), edition)?;
         if let Err(e) = all.push(reached) {
             return Err(AllocError::from(e).into());
         }

@@ -1,11 +1,7 @@
 //! What one replica takes of another, where it is known what is news.
 
-ghost use Rattle.std.specs.Prelude.{◌++◌, List, IfOk, OnOk, OnErr, ◌≡◌};
-ghost use Rattle.ws_map.specs.Kept.{StandsFor};
-ghost use Rattle.ws_version.specs.Writes.{Write as AWrite, held_cmp};
-ghost use Rattle.ws_action.specs.Actions.{Action as AnAction};
-ghost use Rattle.ws_cache.specs.Held.{CacheStandsFor};
-ghost use Rattle.ws_version_vector.specs.Told.{Brings};
+ghost use Rattle.std.specs.Prelude.{IfOk, OnOk, OnErr, ◌≡◌};
+ghost use Rattle.ws_replica.specs.Holdings.{HoldBoth, CacheHoldsBoth};
 
 use std::alloc::AllocError;
 use ws_cache::Cache;
@@ -20,7 +16,7 @@ pub(crate) fn registers_of(
     theirs: &Registers,
     news: News,
 ) -> Result<Registers, AllocError>
-    ensures { IfOk result (λ both. (V W : List AWrite) → Brings news V W → StandsFor held_cmp mine.now V → StandsFor held_cmp theirs.now W → StandsFor held_cmp both (V ++ W)) }
+    ensures { IfOk result (HoldBoth news mine.now theirs.now) }
 {
     match news {
         News::Nothing => mine.copy(),
@@ -36,7 +32,7 @@ pub(crate) fn registers_of(
 /// Takes what another cache holds. They are walked only where each may have news; else one of them
 /// is kept or shared. An `Err`, for want of memory, changes nothing.
 pub(crate) fn merge_cache(mine: &mut Cache, theirs: &Cache, news: News) -> Result<(), AllocError>
-    ensures stands { OnOk result ((E F : List AnAction) → Brings news E F → CacheStandsFor mine.old E → CacheStandsFor theirs.now F → CacheStandsFor mine.new (E ++ F)) }
+    ensures stands { OnOk result (CacheHoldsBoth news mine.old theirs.now mine.new) }
     ensures err { OnErr result (mine.new ≡ mine.old) }
 {
     match news {

@@ -6,6 +6,7 @@ ghost use Rattle.ws_replica.specs.Builds.{target_of, AreBuiltFrom, LacksPackage,
 
 use crate::building::{Target, run};
 use crate::openings::{all_planned, opening_of};
+use crate::parts::all_parts;
 use crate::{BuildError, Replica};
 use go_text::edition::Edition;
 use std::alloc::{AllocError, Global};
@@ -85,9 +86,10 @@ pub fn build_from<R: Threads + Wait + Sync, G: Gate>(
 {
     let replicas = replicas_of(alloc, snapshots)?;
     let all = all_planned(rt, alloc, &replicas, targets, edition)?;
+    let parts = all_parts(alloc, all.as_slice(), targets)?;
     let opening = opening_of(alloc, &replicas, targets)?;
     let mut cache = opening.copy()?;
-    let (reports, added) = run(rt, alloc, all, opening, workers, gate)?;
+    let (reports, added) = run(rt, alloc, all, parts.as_slice(), opening, workers, gate)?;
     cache.merge(&added)?;
     Ok((reports, cache))
 }

@@ -1,12 +1,14 @@
 //! What is said of the directories of plans, by what a board came to.
-ghost use Rattle.std.specs.Prelude.{◌≡◌, ◌+◌, map, IfOk};
-ghost use Rattle.std.specs.List.{All, count_by};
+ghost use Rattle.std.specs.Prelude.{◌≡◌, ◌+◌, ◌++◌, ◌∷◌, [], ◌<◌, length, map, string_bytes, IfOk, OnOk, Some};
+ghost use Rattle.std.specs.List.{All, AllZip, count_by, filter_map, slice_get};
 ghost use Rattle.ws_cache.specs.Compiles.{compiled_of};
 ghost use Rattle.ws_board.specs.Calls.{result_at};
 ghost use Rattle.ws_board.specs.Machine.{is_finish};
-ghost use Rattle.ws_report.specs.Reports.{rows, seen};
+ghost use Rattle.ws_report.specs.Reports.{row, rows, seen};
 ghost use Rattle.ws_replica.specs.Jobs.{fault_in, verdict_of, place_of, all_places_of, rows_of, IsTold, AreTold, AllTold};
+ghost use Rattle.ws_replica.specs.Parts.{part_of, AllPartsWithin, IsToldPart};
 
+use crate::parts::Part;
 use crate::reached::Place;
 use go_text::fault::Fault;
 use std::alloc::{AllocError, Global};
@@ -86,6 +88,107 @@ pub(crate) fn reports(
             compiled,
         })?;
         before = next;
+    }
+    Ok(reports)
+}
+
+fn copied(verdict: &Verdict) -> Result<Verdict, AllocError>
+    ensures { IfOk result (λ copy. seen copy ≡ seen verdict.now) }
+{
+    match verdict {
+        Verdict::Good => Ok(Verdict::Good),
+        Verdict::Blocked => Ok(Verdict::Blocked),
+        Verdict::Faulty(fault) => Ok(Verdict::Faulty(fault.copy()?)),
+    }
+}
+
+fn path_of(path: &String) -> Result<String, AllocError>
+    ensures { IfOk result (λ copy. string_bytes copy ≡ string_bytes path.now) }
+{
+    let copy = path.clone()?;
+    Ok(copy)
+}
+
+fn copy_of(told: &(String, Verdict)) -> Result<(String, Verdict), AllocError>
+    ensures { IfOk result (λ copy. row copy ≡ row told.now) }
+{
+    let path = path_of(&told.0)?;
+    let verdict = copied(&told.1)?;
+    Ok((path, verdict))
+}
+
+fn row_at(told: &[(String, Verdict)], number: usize) -> &(String, Verdict)
+    requires { number < length told.now }
+    ensures { slice_get told.now number ≡ Some result.now }
+{
+    &told[number]
+}
+
+/// Adds a copy of the row of that number, if there is one.
+fn add_row(
+    told: &[(String, Verdict)],
+    number: usize,
+    picked: &mut Vec<(String, Verdict)>,
+) -> Result<(), AllocError>
+    ensures { OnOk result (rows picked.new.items ≡ rows picked.old.items ++ filter_map (slice_get (rows told.now)) (number ∷ [])) }
+{
+    let count = told.len();
+    if number >= count {
+        return Ok(());
+    }
+    let copy = copy_of(row_at(told, number))?;
+    picked.push(copy)?;
+    Ok(())
+}
+
+/// Copies of the rows of some numbers.
+fn picked(
+    alloc: Global,
+    told: &[(String, Verdict)],
+    numbers: &[usize],
+) -> Result<Vec<(String, Verdict)>, AllocError>
+    ensures { IfOk result (λ picked. rows picked.items ≡ filter_map (slice_get (rows told.now)) numbers.now) }
+{
+    let mut picked = Vec::new(alloc);
+    for number in numbers {
+        add_row(told, *number, &mut picked)?;
+    }
+    Ok(picked)
+}
+
+fn told_at(told: &[Report], number: usize) -> &Report
+    requires { number < length told.now }
+    ensures { slice_get told.now number ≡ Some result.now }
+{
+    &told[number]
+}
+
+/// The report of a part: its rows of the report on its replica.
+fn part_report(alloc: Global, told: &[Report], part: &Part) -> Result<Report, AllocError>
+    requires { part.now.replica < length told.now }
+    ensures { IfOk result (λ report. IsToldPart told.now (part_of part.now) report) }
+{
+    let whole = told_at(told, part.replica);
+    let directories = picked(alloc, &whole.directories, &part.numbers)?;
+    Ok(Report {
+        directories,
+        compiled: whole.compiled,
+    })
+}
+
+/// The report of each part.
+pub(crate) fn part_reports(
+    alloc: Global,
+    told: &[Report],
+    parts: &[Part],
+) -> Result<Vec<Report>, AllocError>
+    requires { AllPartsWithin (length told.now) parts.now }
+    ensures { IfOk result (λ reports. AllZip (IsToldPart told.now) (map part_of parts.now) reports.items) }
+{
+    let mut reports = Vec::new(alloc);
+    for part in parts {
+        let report = part_report(alloc, told, part)?;
+        reports.push(report)?;
     }
     Ok(reports)
 }

@@ -1,16 +1,19 @@
 -- What the replicas of a session stand for.
-use Rattle.std.specs.Prelude.{◌≡◌, ℕ, ◌+◌, ◌==◌, suc, not, is_some, cond, true, false, List, [], ◌∷◌, ◌++◌, map, slice_set, slice_index_or, Option, None, Some, Result, Ok, Err, Vec}
+use Rattle.std.specs.Prelude.{◌≡◌, ℕ, ◌+◌, ◌==◌, suc, not, is_some, cond, true, false, List, [], ◌∷◌, ◌++◌, map, slice_set, slice_index_or, Option, None, Some, MatchOption, Result, Ok, Err, Vec}
 use Rattle.std.specs.Borrow.{Bor}
 use Rattle.std.specs.Global.{Global}
-use Rattle.std.specs.List.{AllZip, Contains, list_all}
+use Rattle.std.specs.List.{AllZip, Contains, flat_map, list_all}
 use Rattle.std.specs.Str.{bytes_eq, is_utf8}
 use Rattle.std.specs.Option.{option_map}
 use Rattle.go_text.specs.Editions.{edition_number}
+use Rattle.go_text.specs.Named.{Source}
+use Rattle.ws_path.specs.Paths.{file_name}
 use Rattle.ws_session.specs.declared.replicas.Named.{Named}
 use Rattle.ws_session.specs.declared.replicas.Replicas.{Replicas}
 use Rattle.ws_version.specs.Writes.{Write}
+use Rattle.ws_version.specs.declared.Version.{Version}
 use Rattle.ws_version_vector.specs.declared.vector.News.{News}
-use Rattle.ws_version_vector.specs.Counts.{counts_at, IsRaised, IsMost}
+use Rattle.ws_version_vector.specs.Counts.{counts_at, IsRaised, IsMost, AreFirst, AreShared}
 use Rattle.ws_version_vector.specs.Counts as counted
 use Rattle.ws_version_vector.specs.Told.{AreKept, Brings}
 use Rattle.ws_register.specs.Sources.{top}
@@ -19,7 +22,7 @@ use Rattle.ws_action.specs.Actions.{Action}
 use Rattle.ws_action.specs.Clash.{AllSized, NoClash, hashed_actions}
 use Rattle.ws_replica.specs.Reports.{TargetBuild, IsTargetBuild, actions_of}
 use Rattle.ws_replica.specs.declared.building.Target.{Target}
-use Rattle.ws_replica.specs.Builds.{target_of, AllTookSized, AreBuilt, LacksPackage}
+use Rattle.ws_replica.specs.Builds.{took_at, target_of, AllTookSized, AreBuilt, LacksPackage}
 use Rattle.ws_report.specs.declared.Report.{Report}
 use Rattle.ws_report.specs.Reports.{rows}
 use Rattle.ws_replica.specs.Holdings as holdings
@@ -31,9 +34,9 @@ use Rattle.go_typed.specs.Trees.{Package}
 use Rattle.go_meaning.specs.Programs.{SourceMeaning}
 use Rattle.go_vm.specs.Outcomes.{Outcome}
 use Rattle.ws_command.specs.Refusals.{refused, first_of}
-use Rattle.ws_command.specs.Commands.{Command}
+use Rattle.ws_command.specs.Commands.{Command, Apply, Build}
 use Rattle.ws_command.specs.Printing.{report_text}
-use Rattle.ws_session.specs.World.{World, Replica, refusals, AfterBy, After, Prints, hashed, is_content, content_in}
+use Rattle.ws_session.specs.World.{World, Replica, refusals, AfterBy, After, Prints, hashed, is_text, is_content, content_in}
 use Rattle.ws_command.specs.declared.refusal.Refusal.{Refusal}
 use Rattle.ws_command.specs.declared.refusal.Refusal.TheVariants.{Unknown, NoFile, CounterFull, BadText, NoPackage}
 
@@ -93,6 +96,23 @@ pub record Settles (command : Command) (text : Option (List ℕ)) (world : World
   pub edition : next.edition ≡ world.edition
   pub stand : AllStand named next.replicas
 
+-- the text that came with a command
+abbrev pub text_in : Option (Vec ℕ Global) → Option (List ℕ)
+text_in text = option_map (λ v. v.items) text
+
+-- the command that applies a write of that version
+abbrev pub applied_by : List ℕ → List ℕ → Version → Option ℕ → Command
+applied_by name path version lines = Apply name path version.counter version.number lines
+
+-- the same from whatever world the replicas stood for before
+abbrev pub SettlesFrom : Command → Option (List ℕ) → Vec Named Global → Option Refusal → Vec Named Global → Type 0
+SettlesFrom command text old refusal new = (world : World) → AllStand old.items world.replicas → Settles command text world refusal new.items
+
+-- where what each took was counted so
+abbrev pub SettlesCounted : Command → List (List ℕ) → List (List ℕ) → Vec Named Global → Option Refusal → Vec Named Global → Type 0
+SettlesCounted command wrote compiled old refusal new =
+    (text : Option (List ℕ)) (world : World) → AllStand old.items world.replicas → AreCounted wrote compiled world → Settles command text world refusal new.items
+
 abbrev pub told_of : Option Refusal → List ℕ
 told_of None = []
 told_of (Some refusal) = refused refusal
@@ -110,6 +130,21 @@ pub record TellsCounted (command : Command) (text : Option (List ℕ)) (world : 
   pub tells : Tells command text world told named
   pub counted : AreCompiled compiled tells.next
 
+-- what a command tells that changes no replica, of whatever world these stand for
+abbrev pub TellsStill : Command → Vec Named Global → List ℕ → Type 0
+TellsStill command named told = (text : Option (List ℕ)) (world : World) → AllStand named.items world.replicas → Tells command text world told named.items
+
+-- the same in an edition
+abbrev pub TellsIn : ℕ → Command → Vec Named Global → List ℕ → Type 0
+TellsIn edition command named told =
+    (text : Option (List ℕ)) (world : World) → edition ≡ world.edition → AllStand named.items world.replicas → Tells command text world told named.items
+
+-- what a build of names with directories tells, from whatever world the replicas stood for, where what they compiled was counted so
+abbrev pub TellsFrom : ℕ → List (List ℕ × List ℕ) → Vec Named Global → List (List ℕ) → List ℕ → Vec Named Global → List (List ℕ) → Type 0
+TellsFrom edition asked old was_compiled told new compiled =
+    (text : Option (List ℕ)) (world : World) → edition ≡ world.edition → AllStand old.items world.replicas → AreApart (names_in world)
+    → AreCompiled was_compiled world → TellsCounted (Build asked) text world told new.items compiled
+
 -- a write of the replica at an index was counted there, if there was one
 abbrev pub IsWriteCounted : Option Refusal → Option ℕ → List (List ℕ) → List (List ℕ) → Type 0
 IsWriteCounted (Some refusal) at old new = new ≡ old
@@ -122,6 +157,14 @@ IsMergeCounted (Some refusal) mine theirs old new = new ≡ old
 IsMergeCounted None None theirs old new = new ≡ old
 IsMergeCounted None (Some k) None old new = new ≡ old
 IsMergeCounted None (Some k) (Some j) old new = (counts : List ℕ) × IsMost (counts_at k old) (counts_at j old) counts × counted.ChangedAt k old new counts
+
+-- the same of names
+abbrev pub MergesCounted : Vec Named Global → List ℕ → List ℕ → Option Refusal → List (List ℕ) → List (List ℕ) → Type 0
+MergesCounted named name other refusal old new = IsMergeCounted refusal (index_of name named.items) (index_of other named.items) old new
+
+-- what all took of one another was counted
+abbrev pub SharesCounted : ℕ → List (List ℕ) → List (List ℕ) → Type 0
+SharesCounted count old new = (ks : List ℕ) × AreFirst count ks × AreShared ks old new
 
 -- one replica is changed so, and no other
 pub record ChangedAt (Change : Named → Named → Type 0) (old : List Named) (index : ℕ) (new : List Named) : Type 0 where
@@ -161,6 +204,15 @@ pub record Applied (write : Write) (old new : Named) : Type 0 where
   pub number : new.number ≡ old.number
   pub holds : (W : List Write) (E : List Action) → ReplicaStandsFor old.replica W E → ReplicaStandsFor new.replica (W ++ write ∷ []) E
 
+-- the source of a text at a path, if it is a source text
+abbrev pub IsSourceIn : List ℕ → Option (List ℕ) → Option Source → Type 0
+IsSourceIn path text source = MatchOption source (is_text text ≡ false) (λ s. (is_text text ≡ true) × (s.name ≡ file_name path) × (Some s.text ≡ text))
+
+-- the greatest counter of what the replica at an index took
+abbrev pub IsTopAt : Vec Named Global → ℕ → ℕ → Type 0
+IsTopAt named index counter =
+    (n : Named) (W : List Write) (E : List Action) → n ≡ slice_index_or named.items index n → ReplicaStandsFor n.replica W E → counter ≡ top W
+
 -- what is applied, or that it is no content
 abbrev pub IsContent : Option ℕ → Option (List ℕ) → Result (Option (List ℕ)) Refusal → Type 0
 IsContent lines text (Ok content) = (is_content lines text ≡ true) × (content ≡ content_in lines text)
@@ -172,6 +224,12 @@ labels_of ns = map (λ n. (n.name, n.number)) ns
 
 abbrev pub replicas_of : List Named → List holdings.Replica
 replicas_of ns = map (λ n. n.replica) ns
+
+-- a replica stands for what those at some indices took
+abbrev pub HoldsAllOf : Vec Named Global → List ℕ → holdings.Replica → Type 0
+HoldsAllOf named indices joined =
+    (took : List Took) → AllStandFor (replicas_of named.items) took
+    → ReplicaStandsFor joined (flat_map (λ k. (took_at took k).writes) indices) (flat_map (λ k. (took_at took k).actions) indices)
 
 -- it took what the replica at that index holds, of which this is news
 pub record MergedFrom (writes results : News) (named : List Named) (theirs : ℕ) (old new : Named) : Type 0 where

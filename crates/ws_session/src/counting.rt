@@ -1,11 +1,9 @@
 //! How much the replicas of a session took of one another: what each command counts.
 
 ghost use Rattle.std.specs.Prelude.{ℕ, List, map, vec_len, Option, None, IfOk, OnOk};
-ghost use Rattle.std.specs.Option.{option_map};
-ghost use Rattle.ws_version_vector.specs.Counts.{AreFirst, AreShared, AreRaisedAndShared};
-ghost use Rattle.ws_command.specs.Commands.{Write, Remove, Apply, Merge, Settle};
-ghost use Rattle.ws_session.specs.Standing.{index_of, AllStand, AreCounted, Settles, IsWriteCounted, IsMergeCounted};
-ghost use Rattle.ws_session.specs.World.{World};
+ghost use Rattle.ws_version_vector.specs.Counts.{AreRaisedAndShared};
+ghost use Rattle.ws_command.specs.Commands.{Write, Remove, Merge, Settle};
+ghost use Rattle.ws_session.specs.Standing.{index_of, text_in, applied_by, SettlesFrom, SettlesCounted, IsWriteCounted, IsMergeCounted, MergesCounted, SharesCounted};
 
 use crate::replicas::{Named, apply, index_of, remove, write};
 use crate::taking::{merge, settle_all};
@@ -25,7 +23,7 @@ pub(crate) fn write_counted(
     word: &[u8],
     text: Option<Vec<u8>>,
 ) -> Result<Option<Refusal>, AllocError>
-    ensures settles { IfOk result (λ refusal. (lines : ℕ) (world : World) → AllStand named.old.items world.replicas → Settles (Write name.now word.now lines) (option_map (λ v. v.items) text) world refusal named.new.items) }
+    ensures settles { IfOk result (λ refusal. (lines : ℕ) → SettlesFrom (Write name.now word.now lines) (text_in text) named.old refusal named.new) }
     ensures counted { IfOk result (λ refusal. IsWriteCounted refusal (index_of name.now named.old.items) wrote.old wrote.new) }
 {
     let at = index_of(named.as_slice(), name);
@@ -42,7 +40,7 @@ pub(crate) fn remove_counted(
     name: &[u8],
     word: &[u8],
 ) -> Result<Option<Refusal>, AllocError>
-    ensures settles { IfOk result (λ refusal. (text : Option (List ℕ)) (world : World) → AllStand named.old.items world.replicas → Settles (Remove name.now word.now) text world refusal named.new.items) }
+    ensures settles { IfOk result (λ refusal. (text : Option (List ℕ)) → SettlesFrom (Remove name.now word.now) text named.old refusal named.new) }
     ensures counted { IfOk result (λ refusal. IsWriteCounted refusal (index_of name.now named.old.items) wrote.old wrote.new) }
 {
     let at = index_of(named.as_slice(), name);
@@ -62,7 +60,7 @@ pub(crate) fn apply_counted(
     lines: Option<u64>,
     text: Option<Vec<u8>>,
 ) -> Result<Option<Refusal>, AllocError>
-    ensures settles { IfOk result (λ refusal. (world : World) → AllStand named.old.items world.replicas → Settles (Apply name.now word.now version.counter version.number lines) (option_map (λ v. v.items) text) world refusal named.new.items) }
+    ensures settles { IfOk result (λ refusal. SettlesFrom (applied_by name.now word.now version lines) (text_in text) named.old refusal named.new) }
     ensures counted { IfOk result (λ refusal. IsWriteCounted refusal (index_of name.now named.old.items) wrote.old wrote.new) }
 {
     let at = index_of(named.as_slice(), name);
@@ -80,9 +78,9 @@ pub(crate) fn merge_counted(
     name: &[u8],
     other: &[u8],
 ) -> Result<Option<Refusal>, AllocError>
-    ensures settles { IfOk result (λ refusal. (text : Option (List ℕ)) (world : World) → AllStand named.old.items world.replicas → AreCounted wrote.old compiled.old world → Settles (Merge name.now other.now) text world refusal named.new.items) }
-    ensures wrote { IfOk result (λ refusal. IsMergeCounted refusal (index_of name.now named.old.items) (index_of other.now named.old.items) wrote.old wrote.new) }
-    ensures compiled { IfOk result (λ refusal. IsMergeCounted refusal (index_of name.now named.old.items) (index_of other.now named.old.items) compiled.old compiled.new) }
+    ensures settles { IfOk result (λ refusal. SettlesCounted (Merge name.now other.now) wrote.old compiled.old named.old refusal named.new) }
+    ensures wrote { IfOk result (λ refusal. MergesCounted named.old name.now other.now refusal wrote.old wrote.new) }
+    ensures compiled { IfOk result (λ refusal. MergesCounted named.old name.now other.now refusal compiled.old compiled.new) }
 {
     let mine = index_of(named.as_slice(), name);
     let theirs = index_of(named.as_slice(), other);
@@ -100,9 +98,9 @@ pub(crate) fn settle_counted<R: Threads + Sync>(
     wrote: &mut Vectors,
     compiled: &mut Vectors,
 ) -> Result<(), AllocError>
-    ensures settles { OnOk result ((text : Option (List ℕ)) (world : World) → AllStand named.old.items world.replicas → AreCounted wrote.old compiled.old world → Settles Settle text world None named.new.items) }
-    ensures wrote { OnOk result ((ks : List ℕ) × AreFirst (vec_len named.old) ks × AreShared ks wrote.old wrote.new) }
-    ensures compiled { OnOk result ((ks : List ℕ) × AreFirst (vec_len named.old) ks × AreShared ks compiled.old compiled.new) }
+    ensures settles { OnOk result (SettlesCounted Settle wrote.old compiled.old named.old None named.new) }
+    ensures wrote { OnOk result (SharesCounted (vec_len named.old) wrote.old wrote.new) }
+    ensures compiled { OnOk result (SharesCounted (vec_len named.old) compiled.old compiled.new) }
 {
     let count = named.len();
     settle_all(rt, alloc, named, wrote, compiled)?;

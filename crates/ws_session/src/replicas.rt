@@ -1,18 +1,13 @@
 //! The replicas of a session: what each command does to them.
-ghost use Rattle.std.specs.Prelude.{◌≡◌, ◌<◌, ℕ, List, length, slice_index_or, vec_len, map, zip, true, false, IfOk, OnOk, IfSome, MatchOption, Option, Some, None, Err};
+ghost use Rattle.std.specs.Prelude.{◌≡◌, ◌<◌, ℕ, List, length, vec_len, map, zip, true, false, IfOk, OnOk, IfSome, MatchOption, Option, Some, None, Err};
 ghost use Rattle.std.specs.List.{All, flat_map};
 ghost use Rattle.std.specs.Option.{option_map};
 ghost use Rattle.ws_path.specs.Paths.{file_name};
 ghost use Rattle.go_text.specs.Editions.{edition_number};
-ghost use Rattle.ws_version.specs.Writes.{Write as AWrite};
-ghost use Rattle.ws_register.specs.Sources.{top};
-ghost use Rattle.ws_session.specs.declared.replicas.Named.{Named as ANamed};
-ghost use Rattle.ws_action.specs.Actions.{Action as AnAction};
-ghost use Rattle.ws_replica.specs.Holdings.{ReplicaStandsFor};
 ghost use Rattle.ws_replica.specs.Builds.{target_of};
 ghost use Rattle.ws_report.specs.Reports.{id_row};
 ghost use Rattle.ws_path.specs.Paths.{is_path};
-ghost use Rattle.ws_session.specs.Standing.{StandFor, index_of, AllStand, Settles, Tells, told_of, ChangedAt, Edited, Removal, Applied, asked_of, AreTargets, AreBuiltBy, AreApart, names_in, words_of, report_line, HasNoFilesAt, RanAt, AreIdsAt, IsContent, AreCompiled, TellsCounted};
+ghost use Rattle.ws_session.specs.Standing.{StandFor, index_of, told_of, ChangedAt, Edited, Removal, Applied, asked_of, AreTargets, AreBuiltBy, words_of, report_line, HasNoFilesAt, RanAt, AreIdsAt, IsContent, TellsFrom, text_in, applied_by, SettlesFrom, TellsStill, TellsIn, IsSourceIn, IsTopAt};
 ghost use Rattle.ws_session.specs.World.{World, opening, is_text, is_path_word, hashed, After, Prints};
 ghost use Rattle.ws_action.specs.Clash.{NoClash};
 ghost use Rattle.ws_command.specs.Seen.{seen};
@@ -100,7 +95,7 @@ fn file_path_of(alloc: Global, word: &[u8]) -> Result<Option<FilePath>, AllocErr
 
 /// A text as the source of a path's file, if a source may hold it.
 fn source_of(alloc: Global, path: &str, text: Option<Vec<u8>>) -> Result<Option<Source>, AllocError>
-    ensures { IfOk result (λ source. MatchOption source (is_text (option_map (λ v. v.items) text) ≡ false) (λ s. (is_text (option_map (λ v. v.items) text) ≡ true) × (s.name ≡ file_name path.now) × (Some s.text ≡ option_map (λ v. v.items) text))) }
+    ensures { IfOk result (λ source. IsSourceIn path.now (text_in text) source) }
 {
     let Some(bytes) = text else {
         return Ok(None);
@@ -118,7 +113,7 @@ fn source_of(alloc: Global, path: &str, text: Option<Vec<u8>>) -> Result<Option<
 
 /// A new replica, whose number is one more than the number of those before it.
 fn create(alloc: Global, named: &mut Vec<Named>, name: &[u8]) -> Result<Option<Refusal>, AllocError>
-    ensures { IfOk result (λ refusal. (text : Option (List ℕ)) (world : World) → AllStand named.old.items world.replicas → Settles (Create name.now) text world refusal named.new.items) }
+    ensures { IfOk result (λ refusal. (text : Option (List ℕ)) → SettlesFrom (Create name.now) text named.old refusal named.new) }
 {
     if named.len() >= MOST_REPLICAS {
         return Ok(Some(Refusal::BadCommand));
@@ -140,7 +135,7 @@ fn create(alloc: Global, named: &mut Vec<Named>, name: &[u8]) -> Result<Option<R
 /// The greatest counter that the replica at an index holds.
 fn greatest_at(named: &Vec<Named>, index: usize) -> u64
     requires { index < vec_len named.now }
-    ensures { (n : ANamed) (W : List AWrite) (E : List AnAction) → n ≡ slice_index_or named.now.items index n → ReplicaStandsFor n.replica W E → result ≡ top W }
+    ensures { IsTopAt named.now index result }
 {
     named[index].replica.greatest_counter()
 }
@@ -173,7 +168,7 @@ pub(crate) fn write(
     word: &[u8],
     text: Option<Vec<u8>>,
 ) -> Result<Option<Refusal>, AllocError>
-    ensures { IfOk result (λ refusal. (lines : ℕ) (world : World) → AllStand named.old.items world.replicas → Settles (Write name.now word.now lines) (option_map (λ v. v.items) text) world refusal named.new.items) }
+    ensures { IfOk result (λ refusal. (lines : ℕ) → SettlesFrom (Write name.now word.now lines) (text_in text) named.old refusal named.new) }
 {
     let Some(index) = index_of(named.as_slice(), name) else {
         return Ok(Some(Refusal::Unknown));
@@ -221,7 +216,7 @@ pub(crate) fn remove(
     name: &[u8],
     word: &[u8],
 ) -> Result<Option<Refusal>, AllocError>
-    ensures { IfOk result (λ refusal. (text : Option (List ℕ)) (world : World) → AllStand named.old.items world.replicas → Settles (Remove name.now word.now) text world refusal named.new.items) }
+    ensures { IfOk result (λ refusal. (text : Option (List ℕ)) → SettlesFrom (Remove name.now word.now) text named.old refusal named.new) }
 {
     let Some(index) = index_of(named.as_slice(), name) else {
         return Ok(Some(Refusal::Unknown));
@@ -275,7 +270,7 @@ pub(crate) fn apply(
     lines: Option<u64>,
     text: Option<Vec<u8>>,
 ) -> Result<Option<Refusal>, AllocError>
-    ensures { IfOk result (λ refusal. (world : World) → AllStand named.old.items world.replicas → Settles (Apply name.now word.now version.counter version.number lines) (option_map (λ v. v.items) text) world refusal named.new.items) }
+    ensures { IfOk result (λ refusal. SettlesFrom (applied_by name.now word.now version lines) (text_in text) named.old refusal named.new) }
 {
     let Some(index) = index_of(named.as_slice(), name) else {
         return Ok(Some(Refusal::Unknown));
@@ -294,7 +289,7 @@ pub(crate) fn apply(
 
 /// What the replica of that name holds, and what is printed of it.
 fn show(alloc: Global, named: &Vec<Named>, name: &[u8]) -> Result<Vec<u8>, AllocError>
-    ensures { IfOk result (λ told. (text : Option (List ℕ)) (world : World) → AllStand named.now.items world.replicas → Tells (Show name.now) text world told.items named.now.items) }
+    ensures { IfOk result (λ told. TellsStill (Show name.now) named.now told.items) }
 {
     let Some(index) = index_of(named.as_slice(), name) else {
         return refused(alloc, Refusal::Unknown);
@@ -392,8 +387,7 @@ fn build_targets<R: Threads + Wait + Sync, G: Gate>(
     asked: &[(&[u8], &[u8])],
 ) -> Result<Vec<u8>, AllocError>
     requires { 0 < workers }
-    ensures { IfOk result (λ told. (text : Option (List ℕ)) (world : World) → edition_number edition ≡ world.edition → AllStand named.old.items world.replicas → AreApart (names_in world)
-        → AreCompiled compiled.old world → TellsCounted (Build (map asked_of asked.now)) text world told.items named.new.items compiled.new) }
+    ensures { IfOk result (λ told. TellsFrom (edition_number edition) (map asked_of asked.now) named.old compiled.old told.items named.new compiled.new) }
 {
     let targets = match targets_of(alloc, named.as_slice(), asked)? {
         Ok(targets) => targets,
@@ -451,7 +445,7 @@ fn run_target<R: Threads + Sync>(
     word: &[u8],
     ticks: u64,
 ) -> Result<Vec<u8>, AllocError>
-    ensures { IfOk result (λ told. (text : Option (List ℕ)) (world : World) → edition_number edition ≡ world.edition → AllStand named.now.items world.replicas → Tells (Run name.now word.now ticks) text world told.items named.now.items) }
+    ensures { IfOk result (λ told. TellsIn (edition_number edition) (Run name.now word.now ticks) named.now told.items) }
 {
     let Some(index) = index_of(named.as_slice(), name) else {
         return refused(alloc, Refusal::Unknown);
@@ -492,7 +486,7 @@ fn ids_target<R: Threads + Sync>(
     name: &[u8],
     word: &[u8],
 ) -> Result<Vec<u8>, AllocError>
-    ensures { IfOk result (λ told. (text : Option (List ℕ)) (world : World) → edition_number edition ≡ world.edition → AllStand named.now.items world.replicas → Tells (Ids name.now word.now) text world told.items named.now.items) }
+    ensures { IfOk result (λ told. TellsIn (edition_number edition) (Ids name.now word.now) named.now told.items) }
 {
     let Some(index) = index_of(named.as_slice(), name) else {
         return refused(alloc, Refusal::Unknown);

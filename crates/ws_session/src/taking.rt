@@ -1,10 +1,9 @@
 //! What the replicas of a session take of one another: merges, and settles of all.
-ghost use Rattle.std.specs.Prelude.{◌≡◌, ◌≢◌, ◌<◌, ℕ, List, vec_len, replicate, IfOk, OnOk, Option, None};
+ghost use Rattle.std.specs.Prelude.{◌≡◌, ◌≢◌, ◌<◌, vec_len, replicate, IfOk, OnOk, None};
 ghost use Rattle.std.specs.List.{All, flat_map};
-ghost use Rattle.ws_replica.specs.Holdings.{ReplicaStandsFor, Took as ATook, AllStandFor};
-ghost use Rattle.ws_replica.specs.Builds.{took_at};
+ghost use Rattle.ws_replica.specs.Holdings.{ReplicaStandsFor};
 ghost use Rattle.ws_command.specs.Commands.{Merge, Settle};
-ghost use Rattle.ws_session.specs.Standing.{AllStand, AreCounted, Settles, ChangedAt, MergedFrom, replicas_of, labels_of};
+ghost use Rattle.ws_session.specs.Standing.{AllStand, AreCounted, SettlesCounted, ChangedAt, MergedFrom, HoldsAllOf, replicas_of, labels_of};
 ghost use Rattle.ws_session.specs.World.{World};
 
 use crate::replicas::{Named, index_of};
@@ -46,7 +45,7 @@ pub(crate) fn merge(
     name: &[u8],
     other: &[u8],
 ) -> Result<Option<Refusal>, AllocError>
-    ensures { IfOk result (λ refusal. (text : Option (List ℕ)) (world : World) → AllStand named.old.items world.replicas → AreCounted wrote.now compiled.now world → Settles (Merge name.now other.now) text world refusal named.new.items) }
+    ensures { IfOk result (λ refusal. SettlesCounted (Merge name.now other.now) wrote.now compiled.now named.old refusal named.new) }
 {
     let Some(mine) = index_of(named.as_slice(), name) else {
         return Ok(Some(Refusal::Unknown));
@@ -118,7 +117,7 @@ fn joined_of<R: Threads + Sync>(
     tops: &[usize],
 ) -> Result<Replica, AllocError>
     requires { All (λ t. t < vec_len named.now) tops.now }
-    ensures { IfOk result (λ joined. (took : List ATook) → AllStandFor (replicas_of named.now.items) took → ReplicaStandsFor joined (flat_map (λ t. (took_at took t).writes) tops.now) (flat_map (λ t. (took_at took t).actions) tops.now)) }
+    ensures { IfOk result (HoldsAllOf named.now tops.now) }
 {
     let mut members = Vec::new(alloc);
     for top in tops {
@@ -172,7 +171,7 @@ pub(crate) fn settle_all<R: Threads + Sync>(
     wrote: &Vectors,
     compiled: &Vectors,
 ) -> Result<(), AllocError>
-    ensures { OnOk result ((text : Option (List ℕ)) (world : World) → AllStand named.old.items world.replicas → AreCounted wrote.now compiled.now world → Settles Settle text world None named.new.items) }
+    ensures { OnOk result (SettlesCounted Settle wrote.now compiled.now named.old None named.new) }
 {
     let joined = together(rt, alloc, named, wrote, compiled)?;
     let (labels, replicas) = parted(alloc, mem::replace(named, Vec::new(alloc)))?;

@@ -4,7 +4,7 @@ use go_text::source::Source;
 use std::alloc::Global;
 use std::thread::Threads;
 use test_rows::answers::RowError;
-use ws_graph::planning::{Directory, plan};
+use ws_graph::planning::{BuildPlan, Directory, plan, plan_all};
 use ws_graph::{Node, PlanError};
 use ws_path::file_name;
 use ws_register::Registers;
@@ -27,14 +27,9 @@ fn told(alloc: Global, directory: &Directory) -> Result<String, RowError> {
     Ok(all)
 }
 
-fn planned(
-    rt: &(impl Threads + Sync),
-    alloc: Global,
-    registers: &Registers,
-    target: &str,
-) -> Result<String, RowError> {
+fn listed(alloc: Global, planned: Result<BuildPlan, PlanError>) -> Result<String, RowError> {
     let mut all = String::new(alloc);
-    match plan(rt, alloc, registers, target) {
+    match planned {
         Ok(plan) => {
             for directory in &plan.directories {
                 all.push_str(told(alloc, directory)?.as_str())?;
@@ -44,6 +39,20 @@ fn planned(
         Err(PlanError::Memory) => return Err(RowError::Memory),
     }
     Ok(all)
+}
+
+/// The joint plan of some targets.
+fn planned_all(
+    rt: &(impl Threads + Sync),
+    alloc: Global,
+    registers: &Registers,
+    asked: &str,
+) -> Result<String, RowError> {
+    let mut targets = Vec::new(alloc);
+    for target in asked.split(' ') {
+        targets.push(String::from_str(alloc, target)?)?;
+    }
+    listed(alloc, plan_all(rt, alloc, registers, targets.as_slice()))
 }
 
 /// A file of a path and a text is written.
@@ -61,7 +70,8 @@ fn write(
     Ok(answer(registers.edit(String::from_str(alloc, path)?, source, 1)))
 }
 
-/// A file, its path and its text, is written; or behind `plan` a target is planned.
+/// A file, its path and its text, is written; or behind `plan` a target is planned, and behind
+/// `plans` some targets.
 pub(crate) fn planned_step(
     rt: &(impl Threads + Sync),
     alloc: Global,
@@ -69,7 +79,10 @@ pub(crate) fn planned_step(
     asked: &str,
 ) -> Result<String, RowError> {
     if let Some(target) = asked.strip_prefix("plan ") {
-        return planned(rt, alloc, registers, target);
+        return listed(alloc, plan(rt, alloc, registers, target));
+    }
+    if let Some(targets) = asked.strip_prefix("plans ") {
+        return planned_all(rt, alloc, registers, targets);
     }
     let (path, text) = asked.split_once(['\n', ' ']).ok_or(RowError::NoRow)?;
     Ok(String::from_str(alloc, write(alloc, registers, path, text)?)?)

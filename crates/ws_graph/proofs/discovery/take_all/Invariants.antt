@@ -9,6 +9,6 @@ use Rattle.ws_graph.proofs.discovery.take_all.Given as goal
 abbrev pub invariant-loop-directory : goal.invariant-loop-directory
 invariant-loop-directory l = record {
   ordered : IsOrdered string_cmp l.met;
-  takes : (target : List ℕ) (wave : List Waiting) → AreRead (held_sources l.registers) wave l.fn.read.items → Walking (held_sources l.registers) target l.fn.met.entries (waiting_paths wave) []
-      → Taking (held_sources l.registers) target wave l.fn.met.entries l.met.entries (texts l.imported.items) l.directory-iterator.rest.items;
+  takes : (targets : List (List ℕ)) (wave : List Waiting) → AreRead (held_sources l.registers) wave l.fn.read.items → Walking (held_sources l.registers) targets l.fn.met.entries (waiting_paths wave) []
+      → Taking (held_sources l.registers) targets wave l.fn.met.entries l.met.entries (texts l.imported.items) l.directory-iterator.rest.items;
 }

@@ -1,27 +1,18 @@
-use Rattle.std.proofs.Common.{rules, ◌≡◌, sym, ◌∙◌, subst, refl}
-use Rattle.std.specs.BTreeMap.{keys, values}
-use Rattle.std.specs.List.Sorted.{IsStrictlySortedBy}
-use Rattle.ws_version.specs.Writes.{path_cmp}
-use Rattle.ws_graph.specs.BuildPlan.{HasNoFiles}
-use Rattle.ws_graph.specs.Discovery.{held_sources, texts, met_paths, IsWaitingAt, AreAll}
+use Rattle.std.proofs.Common.{rules, ◌≡◌, ◌∷◌, [], ap, ◌∙◌, subst}
+use Rattle.std.specs.Prelude.{map}
+use Rattle.std.proofs.lemmas.Result.{IfOk-weaker}
+use Rattle.ws_graph.specs.BuildPlan.{IsJointPlan, SomeHasNoFiles}
+use Rattle.ws_graph.specs.Discovery.{texts}
+use Rattle.ws_graph.specs.Node.{directory_of}
+use Rattle.ws_graph.proofs.Joint.{joint_of_one, lacks_one}
 use Rattle.ws_graph.proofs.planning.plan.Goals as goal
-
-pub returns-in_default-clause-none : goal.returns-in_default-clause-none
-returns-in_default-clause-none g c = λ W stands is.
-    let sources = held_sources c.args.registers.now in
-    let none : HasNoFiles sources c.args.target.now = search rules in
-    (sources, (c.args.registers.now, stands, refl), none)
-
-pub linked-requires-clause-ascending : goal.linked-requires-clause-ascending
-linked-requires-clause-ascending g c = subst (λ l. IsStrictlySortedBy path_cmp (texts l)) (sym (c.as_slice.ensures.value ∙ c.in_ok-paths.ensures.paths)) c.in_ok-met.ensures.ascending
 
 pub returns-clause-ok : goal.returns-clause-ok
 returns-clause-ok g c = λ W stands.
-    let sources = held_sources c.args.registers.now in
-    let target = c.args.target.now in
-    let at : IsWaitingAt sources target c.in-Some.first = search rules in
-    let all : AreAll sources target (met_paths c.in_ok-met.met.entries) (values c.in_ok-met.met) = subst (λ t. AreAll sources t (met_paths c.in_ok-met.met.entries) (values c.in_ok-met.met)) at.0 c.in_ok-met.ensures in
-    let paths : c.as_slice.result.now ≡ keys c.in_ok-met.met = c.as_slice.ensures.value ∙ c.in_ok-paths.ensures.paths in
-    let here : AreAll sources target (texts c.as_slice.result.now) c.in_ok-paths.founds.items =
-    subst (λ ps. AreAll sources target (texts ps) c.in_ok-paths.founds.items) (sym paths) (subst (AreAll sources target (met_paths c.in_ok-met.met.entries)) (sym c.in_ok-paths.ensures.founds) all) in
-    (sources, (c.args.registers.now, stands, refl), c.in_ok-directories.ensures sources target here)
+    let only : texts c.as_slice.result.now ≡ c.args.target.now ∷ [] = ap texts c.as_slice.ensures.value ∙ c.in_ok-only.ensures in
+    IfOk-weaker c.plan_all.result _ _ (λ plan h. (h.0, h.1, joint_of_one h.0 c.args.target.now (map directory_of plan.directories.items) (subst (λ ts. IsJointPlan h.0 ts (map directory_of plan.directories.items)) only h.2))) (c.plan_all.ensures.ok W stands)
+
+pub returns-clause-none : goal.returns-clause-none
+returns-clause-none g c = λ W stands is.
+    let only : texts c.as_slice.result.now ≡ c.args.target.now ∷ [] = ap texts c.as_slice.ensures.value ∙ c.in_ok-only.ensures in
+    lacks_one W c.args.target.now (subst (SomeHasNoFiles W) only (c.plan_all.ensures.none W stands is))

@@ -1,11 +1,41 @@
-use Rattle.std.proofs.Common.{map}
+use Rattle.std.proofs.Common.{◌≡◌, ◌∙◌, List, sym, ap, subst, map, length}
+use Rattle.std.proofs.lemmas.List.{length-map}
+use Rattle.std.specs.Prelude.{Vec}
+use Rattle.std.specs.Global.{Global}
+use Rattle.std.specs.List.{AllZip}
 use Rattle.go_text.specs.Editions.{edition_number}
 use Rattle.ws_replica.specs.Builds.{target_of}
-use Rattle.ws_replica.specs.Jobs.{all_reached_of}
+use Rattle.ws_replica.specs.Jobs.{reached_of, all_reached_of}
+use Rattle.ws_replica.specs.Parts.{part_of, AllPartsWithin, IsPartOf, IsRunOf}
+use Rattle.ws_replica.specs.Targets.{AllInOrder}
+use Rattle.ws_replica.specs.declared.parts.Part.{Part}
+use Rattle.ws_replica.specs.declared.reached.Reached.{Reached}
 use Rattle.ws_replica.proofs.BuiltTargets.{are_built}
+use Rattle.ws_replica.proofs.PartSteps.{named_within}
 use Rattle.ws_replica.proofs.building.build.Goals as goal
+
+pub all_parts-requires-clause-named : goal.all_parts-requires-clause-named
+all_parts-requires-clause-named g c =
+    let all = c.in_ok-all.all.items in
+    let same : length c.args.replicas.now ≡ length c.as_slice.result.now =
+    sym c.in_ok-all.ensures.ok.size ∙ length-map all (λ (v : Vec Reached Global). map reached_of v.items) ∙ ap (λ (xs : List (Vec Reached Global)). length xs) (sym c.as_slice.ensures.value) in
+    named_within c.args.targets.now (length c.args.replicas.now) (length c.as_slice.result.now) same c.requires.within
+
+pub all_parts-requires-clause-order : goal.all_parts-requires-clause-order
+all_parts-requires-clause-order g c = subst (λ (xs : List (Vec Reached Global)). AllInOrder (all_reached_of xs)) (sym c.as_slice.ensures.value) c.in_ok-all.ensures.order
+
+pub run-requires-clause-within : goal.run-requires-clause-within
+run-requires-clause-within g c κs within =
+    subst (λ (ps : List Part). AllPartsWithin (length c.in_ok-all.all.items) ps) (sym c.as_slice-2.ensures.value)
+    (subst (λ (xs : List (Vec Reached Global)). AllPartsWithin (length xs) c.in_ok-parts.parts.items) c.as_slice.ensures.value c.in_ok-parts.ensures.within)
 
 pub returns-clause-ok : goal.returns-clause-ok
 returns-clause-ok g c took stand sized =
-    are_built (edition_number c.args.edition) c.args.replicas.now c.give_results.new.replicas took (map target_of c.args.targets.now) stand sized
-    (all_reached_of c.in_ok-all.all.items) c.in_ok-all.ensures.ok c.in_ok-opening.opening c.in_ok-opening.ensures c.in_ok-reports.reports.items c.in_ok-reports.added c.in_ok-reports.ensures c.in_ok-give_results.ensures.ok
+    let all = all_reached_of c.in_ok-all.all.items in
+    let parts = map part_of c.in_ok-parts.parts.items in
+    let targets = map target_of c.args.targets.now in
+    let parts_are : AllZip (IsPartOf all) targets parts = subst (λ (xs : List (Vec Reached Global)). AllZip (IsPartOf (all_reached_of xs)) targets parts) c.as_slice.ensures.value c.in_ok-parts.ensures.are in
+    let run : IsRunOf c.in_ok-opening.opening all parts c.in_ok-reports.reports.items c.in_ok-reports.added =
+    subst (λ (ps : List Part). IsRunOf c.in_ok-opening.opening all (map part_of ps) c.in_ok-reports.reports.items c.in_ok-reports.added) c.as_slice-2.ensures.value c.in_ok-reports.ensures in
+    are_built (edition_number c.args.edition) c.args.replicas.now c.give_results.new.replicas took targets stand sized
+    all c.in_ok-all.ensures.ok parts parts_are c.in_ok-opening.opening c.in_ok-opening.ensures c.in_ok-reports.reports.items c.in_ok-reports.added run c.in_ok-give_results.ensures.ok

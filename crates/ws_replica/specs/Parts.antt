@@ -1,0 +1,61 @@
+-- What a target reaches of all that is reached from its replica, and what is told of it.
+use Rattle.std.specs.Prelude.{◌≡◌, ◌↔◌, ◌<◌, ℕ, List, length, map, Some}
+use Rattle.std.specs.List.{AllZip, Contains, filter_map, slice_get}
+use Rattle.std.specs.List.Sorted.{IsStrictlyIncreasing}
+use Rattle.std.specs.FinMap.{FinMap}
+use Rattle.std.specs.Global.{Vec}
+use Rattle.ws_action.specs.Actions.{Action}
+use Rattle.ws_cache.specs.Held.{id_cmp}
+use Rattle.ws_reach.specs.Reach.{Edge, Reaches}
+use Rattle.ws_reach.specs.Reach.{rows_of as rows_of_code}
+use Rattle.ws_report.specs.declared.Report.{Report}
+use Rattle.ws_replica.specs.declared.parts.Part.{Part as RustPart}
+use Rattle.ws_replica.specs.Jobs.{Reached, rows_of, IsRun}
+
+-- a replica's number, and numbers of directories that are reached from it
+pub record Part : Type 0 where
+  pub replica : ℕ
+  pub numbers : List ℕ
+
+abbrev pub part_of : RustPart → Part
+part_of p = record { replica = p.replica; numbers = p.numbers.items }
+
+abbrev pub reached_paths : List Reached → List (List ℕ)
+reached_paths reached = map (λ r. r.place.path) reached
+
+-- the numbers that each imports
+abbrev pub reached_rows : List Reached → List (List ℕ)
+reached_rows reached = map (λ r. r.imports) reached
+
+-- of what the code keeps
+abbrev pub all_rows_of : List (Vec (Vec ℕ)) → List (List (List ℕ))
+all_rows_of all = map (λ rows. rows_of_code rows.items) all
+
+-- the numbers, ascending, of what the directory of that path reaches along these rows
+pub record ArePart (paths rows : List (List ℕ)) (target : List ℕ) (numbers : List ℕ) : Type 0 where
+  pub ascending : IsStrictlyIncreasing numbers
+  pub are : (k : ℕ) → Contains numbers k ↔ ((n : ℕ) × (slice_get paths n ≡ Some target) × Reaches (Edge rows) n k)
+
+-- the target's part of what is reached from its replica
+pub record IsPartOf (all : List (List Reached)) (target : ℕ × List ℕ) (part : Part) : Type 0 where
+  pub reached : List Reached
+  pub at : slice_get all target.0 ≡ Some reached
+  pub replica : part.replica ≡ target.0
+  pub are : ArePart (reached_paths reached) (reached_rows reached) target.1 part.numbers
+
+-- the rows of these numbers of the report on what is reached from the replica
+pub record IsToldPart (told : List Report) (part : Part) (report : Report) : Type 0 where
+  pub whole : Report
+  pub at : slice_get told part.replica ≡ Some whole
+  pub rows : rows_of report ≡ filter_map (slice_get (rows_of whole)) part.numbers
+  pub compiled : report.compiled ≡ whole.compiled
+
+-- what a board came to with the jobs of all that is reached, and what was said of each part
+pub record IsRunOf (cache : FinMap id_cmp Action) (all : List (List Reached)) (parts : List Part) (reports : List Report) (added : FinMap id_cmp Action) : Type 0 where
+  pub told : List Report
+  pub run : IsRun cache all told added
+  pub reports_are : AllZip (IsToldPart told) parts reports
+
+-- each is of one of so many replicas
+abbrev pub AllPartsWithin : ℕ → List RustPart → Type 0
+AllPartsWithin count parts = (part : RustPart) → Contains parts part → part.replica < count
