@@ -72,8 +72,8 @@ def proved_program(program="goset"):
     """Where a proved program is. Whatever needs it ends with a sentence where there is none, which asks for no proof by itself."""
     file = program_file(program)
     if not os.access(file, os.X_OK):
-        name = os.path.relpath(sys.argv[0], TOP)
-        told = f"{name}: there is no program {os.path.relpath(file, TOP)}; ./goset --prove builds it, after its proof"
+        name, by = os.path.relpath(sys.argv[0], TOP), "./goset --prove" if program == "goset" else f"rt ci {program}"
+        told = f"{name}: there is no program {os.path.relpath(file, TOP)}; {by} builds it, after its proof"
         print(told, file=sys.stderr)
         sys.exit(2)
     return file
