@@ -3,7 +3,9 @@ pub mod Imports
 pub mod Members
 pub mod OneAction
 pub mod Order
+mod Ascending
 mod Imported
+mod ImportPaths
 mod Mapped
 mod Walks
 pub mod Crossing

@@ -1,6 +1,7 @@
 -- Elements of mapped lists.
-use Rattle.std.proofs.Common.{◌≡◌, List, [], ◌∷◌, map, refl, ap, inl, inr}
+use Rattle.std.proofs.Common.{◌≡◌, List, [], ◌∷◌, ◌++◌, map, refl, ap, ◌∙◌, inl, inr}
 use Rattle.std.specs.List.{All, Contains}
+use Rattle.std.proofs.lemmas.List.{map-append}
 use Rattle.std.proofs.lemmas.List.Elements.{All-nil, All-cons, All-head, All-tail}
 use Rattle.ws_action.proofs.Members.{none_in_empty, head_or_later, later, at_head}
 
@@ -22,3 +23,7 @@ mapped_from f (y ∷ ys) b c = elim (head_or_later (f y) (map f ys) b c) [
   | inl e ↦ (y, at_head ys y y refl, e)
   | inr l ↦ let found = mapped_from f ys b l in (found.0, later y ys found.0 found.1, found.2)
 ]
+
+-- one more element
+pub mapped_more : {A B : Type 0} (f : A → B) (xs ys : List A) (y : A) (b : B) → ys ≡ xs ++ y ∷ [] → f y ≡ b → map f ys ≡ map f xs ++ b ∷ []
+mapped_more f xs ys y b e is = ap (map f) e ∙ map-append f xs (y ∷ []) ∙ ap (λ c. map f xs ++ c ∷ []) is

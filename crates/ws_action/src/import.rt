@@ -1,104 +1,75 @@
 //! Which packages files import, and whether summaries are of exactly these.
-ghost use Rattle.std.specs.Prelude.{◌≡◌, ℕ, List, map};
+ghost use Rattle.std.specs.Prelude.{◌≡◌, ◌≢◌, ℕ, List, map, IfOk};
 ghost use Rattle.std.specs.Arc.{arc_value};
 ghost use Rattle.std.specs.Bool.{OnTrue, OnFalse};
-ghost use Rattle.ws_action.specs.Actions.{Imports, IsImported, HasSummary, AreImports};
+ghost use Rattle.ws_action.specs.Imported.{AddsImports, AreImported, AreImportPaths};
 
 use go_ast::parsed::Parsed;
 use go_export::summary::Summary;
+use std::alloc::{AllocError, Global};
 use std::sync::Arc;
 
 /// The import path of the library.
 const LIBRARY: &[u8] = b"fmt";
 
-/// Whether a summary has that path.
-fn has_summary(summaries: &[Arc<Summary>], path: &[u8]) -> bool
-    ensures some { OnTrue result (HasSummary (map arc_value summaries.now) path.now) }
-    ensures none { OnFalse result (HasSummary (map arc_value summaries.now) path.now → ⊥) }
+/// The paths of the packages that files import, `fmt` aside, in ascending order and each once.
+pub(crate) fn import_paths(alloc: Global, files: &[Parsed]) -> Result<Vec<Vec<u8>>, AllocError>
+    ensures { IfOk result (λ paths. AreImportPaths files.now (map (λ p. p.items) paths.items)) }
 {
-    for summary in summaries {
-        if summary.path().as_bytes() == path {
-            return true;
-        }
-    }
-    false
+    let mut paths = all_imports(alloc, files)?;
+    paths.sort_unstable();
+    paths.dedup();
+    let copies = copies(alloc, &paths)?;
+    Ok(copies)
 }
 
-/// Whether a file imports a package at that path, other than the library.
-fn imports(file: &Parsed, path: &[u8]) -> bool
-    ensures some { OnTrue result (Imports file.now.text path.now) }
-    ensures none { OnFalse result (Imports file.now.text path.now → ⊥) }
+/// The paths that files import, `fmt` aside, in the order of the files.
+fn all_imports(alloc: Global, files: &[Parsed]) -> Result<Vec<&[u8]>, AllocError>
+    ensures { IfOk result (λ paths. AreImported files.now (map (λ p. p.now) paths.items)) }
 {
-    if path == LIBRARY {
-        return false;
-    }
-    let specs = file.file().imports.as_slice();
-    for spec in specs {
-        if spec.path.as_slice() == path {
-            return true;
-        }
-    }
-    false
-}
-
-/// Whether one of the files does.
-fn is_imported(files: &[Parsed], path: &[u8]) -> bool
-    ensures some { OnTrue result (IsImported files.now path.now) }
-    ensures none { OnFalse result (IsImported files.now path.now → ⊥) }
-{
+    let mut paths = Vec::new(alloc);
     for file in files {
-        if imports(file, path) {
-            return true;
-        }
+        add_imports(file, &mut paths)?;
     }
-    false
+    Ok(paths)
 }
 
-/// Whether each summary is of a package that a file imports.
-fn are_imported(summaries: &[Arc<Summary>], files: &[Parsed]) -> bool
-    ensures all { OnTrue result ((path : List ℕ) → HasSummary (map arc_value summaries.now) path → IsImported files.now path) }
-    ensures other { OnFalse result (((path : List ℕ) → HasSummary (map arc_value summaries.now) path → IsImported files.now path) → ⊥) }
-{
-    for summary in summaries {
-        if !is_imported(files, summary.path().as_bytes()) {
-            return false;
-        }
-    }
-    true
-}
-
-/// Whether each package that a file imports has a summary.
-fn has_summaries(file: &Parsed, summaries: &[Arc<Summary>]) -> bool
-    ensures all { OnTrue result ((path : List ℕ) → Imports file.now.text path → HasSummary (map arc_value summaries.now) path) }
-    ensures other { OnFalse result (((path : List ℕ) → Imports file.now.text path → HasSummary (map arc_value summaries.now) path) → ⊥) }
+/// Adds the paths that a file imports, `fmt` aside.
+fn add_imports<'a>(file: &'a Parsed, paths: &mut Vec<&'a [u8]>) -> Result<(), AllocError>
+    ensures { IfOk result (λ _. AddsImports file.now.text (map (λ p. p.now) paths.old.items) (map (λ p. p.now) paths.new.items)) }
 {
     let specs = file.file().imports.as_slice();
     for spec in specs {
         let path = spec.path.as_slice();
-        if path != LIBRARY && !has_summary(summaries, path) {
+        if path != LIBRARY {
+            paths.push(path)?;
+        }
+    }
+    Ok(())
+}
+
+fn copies(alloc: Global, paths: &[&[u8]]) -> Result<Vec<Vec<u8>>, AllocError>
+    ensures { IfOk result (λ copies. map (λ p. p.items) copies.items ≡ map (λ p. p.now) paths.now) }
+{
+    let mut copies = Vec::with_capacity(alloc, paths.len())?;
+    for path in paths {
+        copies.push(Vec::from_slice(alloc, path)?)?;
+    }
+    Ok(copies)
+}
+
+/// Whether these are the paths of the summaries, in this order.
+pub(crate) fn are_paths(paths: &[Vec<u8>], summaries: &[Arc<Summary>]) -> bool
+    ensures same { OnTrue result (map (λ s. s.path) (map arc_value summaries.now) ≡ map (λ p. p.items) paths.now) }
+    ensures other { OnFalse result (map (λ s. s.path) (map arc_value summaries.now) ≢ map (λ p. p.items) paths.now) }
+{
+    if paths.len() != summaries.len() {
+        return false;
+    }
+    for (i, summary) in summaries.iter().enumerate() {
+        if summary.path().as_bytes() != paths[i].as_slice() {
             return false;
         }
     }
     true
-}
-
-/// Whether each package that the files import has a summary.
-fn have_summaries(files: &[Parsed], summaries: &[Arc<Summary>]) -> bool
-    ensures all { OnTrue result ((path : List ℕ) → IsImported files.now path → HasSummary (map arc_value summaries.now) path) }
-    ensures other { OnFalse result (((path : List ℕ) → IsImported files.now path → HasSummary (map arc_value summaries.now) path) → ⊥) }
-{
-    for file in files {
-        if !has_summaries(file, summaries) {
-            return false;
-        }
-    }
-    true
-}
-
-/// Whether the summaries are exactly those of the packages that the files import, `fmt` aside.
-pub(crate) fn are_imports(files: &[Parsed], summaries: &[Arc<Summary>]) -> bool
-    ensures are { OnTrue result (AreImports files.now (map arc_value summaries.now)) }
-    ensures other { OnFalse result (AreImports files.now (map arc_value summaries.now) → ⊥) }
-{
-    have_summaries(files, summaries) && are_imported(summaries, files)
 }

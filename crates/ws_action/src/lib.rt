@@ -16,7 +16,6 @@ mod import;
 mod origin;
 mod part;
 
-use crate::import::are_imports;
 use crate::part::{ascend, cmp_lists, measure, push_parts};
 pub use files::Files;
 use go_ast::parsed::Parsed;
@@ -93,7 +92,7 @@ impl Action {
         ensures refused { IfErr result (λ e. AreRefused (arc_value files) (map arc_value imports.items) e) }
         ensures sized { IfOk result (λ a. IsSized a) }
     {
-        check_parts(files.parsed(), &imports)?;
+        check_parts(&files, &imports)?;
         let _ = path.len();
         measure(files.parsed());
         measure(&imports);
@@ -198,20 +197,21 @@ impl Action {
 }
 
 /// What keeps files and summaries from making an action: the first that holds.
-fn check_parts(files: &[Parsed], imports: &[Arc<Summary>]) -> Result<(), ActionError>
+fn check_parts(files: &Files, imports: &[Arc<Summary>]) -> Result<(), ActionError>
     ensures ok { OnOk result (MakeAction files.now (map arc_value imports.now)) }
     ensures err { IfErr result (λ e. AreRefused files.now (map arc_value imports.now) e) }
 {
-    if files.is_empty() {
+    let parsed = files.parsed();
+    if parsed.is_empty() {
         return Err(ActionError::NoFile);
     }
-    if !are_ordered(files, imports) {
+    if !are_ordered(parsed, imports) {
         return Err(ActionError::Unordered);
     }
-    if !has_one_name(files) {
+    if !has_one_name(parsed) {
         return Err(ActionError::MixedNames);
     }
-    if !are_imports(files, imports) {
+    if !files.are_imports(imports) {
         return Err(ActionError::NotImports);
     }
     Ok(())

@@ -1,4 +1,4 @@
-use Rattle.std.proofs.Common.{rules, ◌≡◌, ◌<◌, ◌≤◌, length, arith}
+use Rattle.std.proofs.Common.{rules, ◌<◌, ◌≤◌, length, arith}
 use Rattle.std.specs.Arc.{arc_value}
 use Rattle.go_export.specs.Summaries.{Summary}
 use Rattle.go_export.specs.Writable.{IsWritten}
