@@ -10,7 +10,7 @@ use Rattle.ws_map.proofs.Kept.{get-joined}
 use Rattle.ws_action.specs.Actions.{Action}
 use Rattle.ws_cache.specs.Held.{id_cmp}
 use Rattle.ws_cache.specs.Joined.{lesser}
-use Rattle.ws_cache.proofs.Joined.{id_cmp_total, id_cmp-IsAntisymmetric}
+use Rattle.ws_cache.specs.Laws.{id_cmp_total, id_cmp-IsAntisymmetric}
 use Rattle.ws_board.specs.Work.{Entries, Opening, State}
 use Rattle.ws_board.specs.Machine.{Held, held}
 

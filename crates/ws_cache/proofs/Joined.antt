@@ -1,9 +1,7 @@
 -- Caches as maps that keep the least action for each id: what stands for a set of actions, one more action, and the union.
 use Rattle.std.specs.Prelude.{◌≡◌, ℕ, List, [], ◌∷◌, ◌++◌, refl, Option, Some, None}
 use Rattle.std.specs.List.{Contains}
-use Rattle.std.specs.Cmp.{IsTotalOrder}
-use Rattle.std.specs.FinMap.{FinMap, IsAntisymmetric, nat_cmp-IsAntisymmetric, slice_cmp-IsAntisymmetric, get, empty, get-empty}
-use Rattle.std.proofs.lemmas.Cmp.{nat_list_cmp_total}
+use Rattle.std.specs.FinMap.{FinMap, get, empty, get-empty}
 use Rattle.std.proofs.Common.{sym, ap, subst, ◌∙◌, inl, inr}
 use Rattle.ws_map.specs.Kept.{StandsAt, StandsFor, SameMembers, joined, taken}
 use Rattle.ws_map.proofs.Gathered.{stands_for_taken, stands_for_joined}
@@ -12,13 +10,7 @@ use Rattle.ws_action.specs.Actions.{Action, action_id}
 use Rattle.ws_action.proofs.Members.{head_or_later, later, at_head, none_in_empty}
 use Rattle.ws_cache.specs.Held.{IsHeld, id_cmp, CacheStandsFor}
 use Rattle.ws_cache.specs.Joined.{downwards, lesser}
-use Rattle.ws_cache.specs.Laws.{downwards_total, downwards-IsAntisymmetric}
-
-pub id_cmp_total : IsTotalOrder id_cmp
-id_cmp_total = nat_list_cmp_total
-
-pub id_cmp-IsAntisymmetric : IsAntisymmetric id_cmp
-id_cmp-IsAntisymmetric = slice_cmp-IsAntisymmetric nat_cmp-IsAntisymmetric
+use Rattle.ws_cache.specs.Laws.{id_cmp_total, id_cmp-IsAntisymmetric, downwards_total, downwards-IsAntisymmetric}
 
 -- ---- sets of actions as sets of pairs
 

@@ -20,7 +20,8 @@ use Rattle.ws_action.proofs.Order.{action_cmp_total, action_cmp-IsAntisymmetric}
 use Rattle.ws_cache.specs.Count.{count_new, compiled_count, new_actions_count}
 use Rattle.ws_cache.specs.Held.{IsHeld, id_cmp, CacheStandsFor}
 use Rattle.ws_cache.specs.Joined.{lesser}
-use Rattle.ws_cache.proofs.Joined.{id_cmp_total, id_cmp-IsAntisymmetric, cache_stands, taken_stands, one_cache}
+use Rattle.ws_cache.specs.Laws.{id_cmp_total, id_cmp-IsAntisymmetric}
+use Rattle.ws_cache.proofs.Joined.{cache_stands, taken_stands, one_cache}
 
 pub put_again : (m : FinMap id_cmp Action) (E : List Action) (a : Action) → CacheStandsFor m E → Contains E a → taken lesser m (action_id a) a ≡ m
 put_again m E a h p =

@@ -10,7 +10,9 @@ use Rattle.go_text.specs.declared.fault.FaultKind.TheVariants.{NoImport, Cycle, 
 use Rattle.go_ast.specs.Trees.{ImportSpec, File}
 use Rattle.go_ast.specs.Parse.{Parsed, Derived, IsParse, IsNamed}
 use Rattle.ws_reach.specs.Reach as reach
-use Rattle.ws_version.specs.Writes.{Write, path_cmp}
+use Rattle.ws_version.specs.Writes.{Write, held_cmp, path_cmp}
+use Rattle.ws_map.specs.Kept.{StandsFor}
+use Rattle.ws_register.specs.Edits.{Contents}
 use Rattle.ws_register.specs.Sources.{IsSources}
 use Rattle.ws_graph.specs.Packages.{package_files}
 use Rattle.ws_graph.specs.Plan.{Planned, NoFiles, Faulty, Sound, AreParsed, IsPlan, IsPlanOf}
@@ -161,6 +163,10 @@ pub record IsJointPlan (sources : Sources) (targets : List (List ℕ)) (director
 
 abbrev pub IsJointPlanOf : List Write → List (List ℕ) → List Directory → Type 0
 IsJointPlanOf writes targets directories = (sources : Sources) × IsSources writes sources × IsJointPlan sources targets directories
+
+-- of each set of writes that the registers stand for
+abbrev pub IsJointPlanFor : Contents → List (List ℕ) → List Directory → Type 0
+IsJointPlanFor registers targets directories = (W : List Write) → StandsFor held_cmp registers W → IsJointPlanOf W targets directories
 
 -- one of the targets has no files
 abbrev pub SomeHasNoFiles : List Write → List (List ℕ) → Type 0

@@ -6,7 +6,7 @@ ghost use Rattle.std.specs.List.Sorted.{IsStrictlySortedBy};
 ghost use Rattle.ws_version.specs.Writes.{Write, held_cmp, path_cmp};
 ghost use Rattle.ws_map.specs.Kept.{StandsFor};
 ghost use Rattle.ws_graph.specs.Plan.{NoFiles, IsPlanOf};
-ghost use Rattle.ws_graph.specs.BuildPlan.{IsBuildPlanOf, IsJointPlanOf, SomeHasNoFiles};
+ghost use Rattle.ws_graph.specs.BuildPlan.{IsBuildPlanOf, IsJointPlanFor, SomeHasNoFiles};
 ghost use Rattle.ws_graph.specs.Node.{planned_of, directory_of};
 ghost use Rattle.ws_graph.specs.Discovery.{held_sources, texts, planned_with, IsWaveIfFilled, IsLinkedAt, ArePlanned};
 
@@ -64,7 +64,7 @@ pub fn plan_all(
     registers: &Registers,
     targets: &[String],
 ) -> Result<BuildPlan, PlanError>
-    ensures ok { (W : List Write) → StandsFor held_cmp registers.now W → IfOk result (λ plan. IsJointPlanOf W (texts targets.now) (map directory_of plan.directories.items)) }
+    ensures ok { IfOk result (λ plan. IsJointPlanFor registers.now (texts targets.now) (map directory_of plan.directories.items)) }
     ensures none { (W : List Write) → StandsFor held_cmp registers.now W → result ≡ Err PlanError.NoPackage → SomeHasNoFiles W (texts targets.now) }
 {
     let Some(first) = first_wave(alloc, registers, targets)? else {

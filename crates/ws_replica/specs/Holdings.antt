@@ -11,8 +11,7 @@ use Rattle.ws_register.specs.Edits.{Contents}
 use Rattle.ws_action.specs.Actions.{Action, action_code}
 use Rattle.ws_cache.specs.Held.{id_cmp, CacheStandsFor}
 use Rattle.ws_cache.specs.Joined.{lesser}
-use Rattle.ws_cache.specs.Laws.{lesser-semilattice}
-use Rattle.ws_cache.proofs.Joined.{id_cmp_total, id_cmp-IsAntisymmetric}
+use Rattle.ws_cache.specs.Laws.{id_cmp_total, id_cmp-IsAntisymmetric, lesser-semilattice}
 use Rattle.ws_version_vector.specs.Told.{Brings}
 use Rattle.ws_version_vector.specs.declared.vector.News.{News}
 

@@ -10,7 +10,7 @@ use Rattle.ws_register.specs.Sources.{HasFiles}
 use Rattle.ws_action.specs.Actions.{Action}
 use Rattle.ws_cache.specs.Held.{id_cmp, CacheStandsFor}
 use Rattle.ws_cache.specs.Joined.{lesser}
-use Rattle.ws_graph.specs.BuildPlan.{Directory, IsJointPlanOf}
+use Rattle.ws_graph.specs.BuildPlan.{Directory, IsJointPlanFor}
 use Rattle.ws_reach.specs.Reach.{EdgesStayWithin}
 use Rattle.ws_replica.specs.Holdings.{Replica, Took, AllStandFor}
 use Rattle.ws_replica.specs.Jobs.{Reached, reached_by}
@@ -20,7 +20,7 @@ use Rattle.ws_replica.specs.Builds.{held_by, builds}
 -- what is reached of some directories, from the sources of these registers, which are of files
 pub record IsReachedBy (edition : ℕ) (registers : Contents) (targets : List (List ℕ)) (reached : List Reached) : Type 0 where
   pub directories : List Directory
-  pub planned : (W : List Write) → StandsFor held_cmp registers W → IsJointPlanOf W targets directories
+  pub planned : IsJointPlanFor registers targets directories
   pub files : (W : List Write) → StandsFor held_cmp registers W → HasFiles W
   pub same : reached ≡ map (reached_by edition) directories
 

@@ -104,8 +104,9 @@ pub(crate) fn run<R: Threads + Wait + Sync, G: Gate>(
 
 /// Builds targets, all of them on one board that is opened over the join of the caches of the
 /// replicas that they name, where what several reach from one replica has one job: a report for
-/// each, of all directories that it reaches, with how many were compiled for all of them. The reports depend on the replicas' sources alone. Each replica
-/// that is named then holds what all of these held and what was compiled; the others stay.
+/// each, of all directories that it reaches, with how many were compiled for all of them. The
+/// reports depend on the replicas' sources alone. Each replica that is named then holds what all of
+/// these held and what was compiled; the others stay.
 ///
 /// `NoPackage` comes where a target's directory has no files that belong to a build, and `Memory`
 /// where an allocation was refused, a worker's too. An `Err` changes nothing.

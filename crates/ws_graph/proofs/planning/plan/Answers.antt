@@ -10,7 +10,7 @@ use Rattle.ws_graph.proofs.planning.plan.Goals as goal
 pub returns-clause-ok : goal.returns-clause-ok
 returns-clause-ok g c = λ W stands.
     let only : texts c.as_slice.result.now ≡ c.args.target.now ∷ [] = ap texts c.as_slice.ensures.value ∙ c.in_ok-only.ensures in
-    IfOk-weaker c.plan_all.result _ _ (λ plan h. (h.0, h.1, joint_of_one h.0 c.args.target.now (map directory_of plan.directories.items) (subst (λ ts. IsJointPlan h.0 ts (map directory_of plan.directories.items)) only h.2))) (c.plan_all.ensures.ok W stands)
+    IfOk-weaker c.plan_all.result _ _ (λ plan planned. let h = planned W stands in (h.0, h.1, joint_of_one h.0 c.args.target.now (map directory_of plan.directories.items) (subst (λ ts. IsJointPlan h.0 ts (map directory_of plan.directories.items)) only h.2))) c.plan_all.ensures.ok
 
 pub returns-clause-none : goal.returns-clause-none
 returns-clause-none g c = λ W stands is.

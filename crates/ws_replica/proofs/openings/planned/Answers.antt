@@ -5,7 +5,7 @@ use Rattle.ws_replica.proofs.openings.planned.Goals as goal
 pub returns-clause-ok : goal.returns-clause-ok
 returns-clause-ok g c = record {
   directories = map directory_of c.in_ok-plan.plan.directories.items;
-  planned = λ W stands. c.in_ok-plan.ensures.ok W stands;
+  planned = c.in_ok-plan.ensures.ok;
   files = λ W stands. c.see_files.ensures W stands;
   same = c.in_ok-reached.ensures;
 }
