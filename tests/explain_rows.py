@@ -22,7 +22,10 @@ NAMED = [
     ("func f[T any]() {}\n", "[T", "generics"),
     ("func f() { go g() }\n", "go", "goroutines"),
     ("func f() { defer g() }\n", "defer", "deferred"),
-    ("var x = a[i:]\n", ":]", "slice expressions"),
+    ("var x = a[i:]\n", ":]", "slice expressions (a[i:j]): --edition 2"),
+    ("var x = a[i:j:k]\n", ":k", "slice expressions with three bounds"),
+    ("var x = a[]\n", "]\n", "indexes that are missing"),
+    ("var x [3][]int\n", "]int", "slices"),
     ("func f() {\n\tx: for {}\n}\n", ": for", "labels"),
     ("func f() { for { break x } }\n", "x }", "labels"),
     ("var x = T{0: 1}\n", ": 1", "keys"),
@@ -38,6 +41,7 @@ NAMED = [
     ("var x = nil\n", "nil", "nil"),
     ("func f(x float64) {}\n", "float64", "floats"),
     ("func f() { x := append(a, 1) }\n", "append", "slices"),
+    ("func f() { copy(a, b) }\n", "copy", "copy"),
     ("var x = 1 << n\n", "1 <<", "shifts"),
     ("var x = 1 << n\n", "<< n", "shifts"),
     ("var x = [2]int{a: 1}\n", "a: 1", "keys"),
@@ -55,10 +59,12 @@ def forms_have_their_names(room):
 @row
 def each_form_of_the_page_has_a_name(room):
     """Of docs/GRAMMAR.md, whose examples stand on a line of their own."""
-    with open(os.path.join(TOP, "docs", "GRAMMAR.md"), encoding="utf-8") as page:
-        table = page.read().partition("### What is left out")[2].partition("###")[0]
-    examples = re.findall(r"\| `([^`]+)` \| (\d+) \|", table)
-    assert len(examples) > 25, examples
+    with open(os.path.join(TOP, "docs", "GRAMMAR.md"), encoding="utf-8") as file:
+        page = file.read()
+    tables = [page.partition(head)[2].partition(end)[0] for head, end in (("### What is left out", "###"), ("**Left out.**", "These are 3"))]
+    found = [re.findall(r"\| `([^`]+)` \| (\d+) \|", table) for table in tables]
+    assert len(found[0]) > 25 and len(found[1]) > 2, found
+    examples = [*found[0], *found[1]]
     for text, column in examples:
         text = text.replace("\\|", "|")
         assert forms.left_out(f"package p\n{text}\n", 10 + int(column) - 1), text

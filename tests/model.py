@@ -158,8 +158,8 @@ class Replica:
     """Writes are (path, counter, number, text or None); actions are a directory, its files by name and text, and the summaries of its
     imports, by path and text."""
 
-    def __init__(self, number):
-        self.number, self.writes, self.actions = number, frozenset(), frozenset()
+    def __init__(self, number, edition):
+        self.number, self.edition, self.writes, self.actions = number, edition, frozenset(), frozenset()
 
     def held(self):
         """The greatest write of each path."""
@@ -185,10 +185,10 @@ class Replica:
         return there
 
 
-def id_of(action):
-    """The id of an action in hexadecimal digits, by docs/TEXTS.md."""
+def id_of(edition, action):
+    """The id of an action of an edition in hexadecimal digits, by docs/TEXTS.md."""
     at, *parts = action
-    text = field(b"goset action") + field(b"1") + field(at)
+    text = field(b"goset action") + field(b"%d" % edition) + field(at)
     text += b"".join(numeral(len(part)) + b"".join(field(name) + field(digest(it)) for name, it in part) for part in parts)
     return hashlib.sha256(text).hexdigest().encode()
 
@@ -210,6 +210,7 @@ class Plan:
 
     def __init__(self, by_text, replica, target):
         self.by_text, self.answers, self.known, self.packages, self.held = by_text, {}, {}, replica.packages(), replica.actions
+        self.edition = replica.edition
         self.reached = self.reach(target)
 
     def files(self, at):
@@ -365,7 +366,7 @@ class Plan:
         """What ids say of a directory: nothing where one that it imports isn't held and good."""
         if self.fault(at) or not all(self.is_standing(it) for it in self.imports(at)):
             return b"none"
-        return id_of(self.action(at)) + (b" held" if self.is_held(at) else b" absent")
+        return id_of(self.edition, self.action(at)) + (b" held" if self.is_held(at) else b" absent")
 
     def report(self, name, target, count):
         """What a build of so many actions prints of this target."""
@@ -388,8 +389,8 @@ class Plan:
 
 
 class World:
-    def __init__(self, script, by_text):
-        self.left, self.by_text, self.replicas, self.printed = script, by_text, {}, b""
+    def __init__(self, script, by_text, edition=1):
+        self.left, self.by_text, self.edition, self.replicas, self.printed = script, by_text, edition, {}, b""
 
     def line(self):
         line, _, self.left = self.left.partition(b"\n")
@@ -432,7 +433,7 @@ class World:
             raise Refused(1)
         if name in self.replicas:
             raise Refused(3)
-        self.replicas[name] = Replica(len(self.replicas) + 1)
+        self.replicas[name] = Replica(len(self.replicas) + 1, self.edition)
 
     def do_write(self, word, path, lines):
         name, (text, lacks) = name_of(word), self.text(number(lines))

@@ -4,7 +4,8 @@ It reads the text around a fault's place alone, so it may find no name for a for
 """
 import re
 
-SLICES = "slices, make, append and cap: this edition has arrays of a length that is constant"
+SLICES = "slices, make, append and cap: --edition 2 has them, edition 1 arrays of a length that is constant"
+PARTS = "slice expressions (a[i:j]): --edition 2 has them"
 POINTERS = "pointers: arguments and receivers are copies, and results give back what changed"
 INTERFACES = "interfaces, any and error"
 FLOATS = "floats and complex numbers: numbers with a fraction, an exponent or an i"
@@ -29,16 +30,17 @@ TOKENS = {
     ".": "dot imports",
     ")": "parameters without names: write _ for a name",
 }
-# Names that Go declares everywhere, and this edition doesn't.
+# Names that Go declares everywhere, and the subset, or its first edition, doesn't.
 NAMES = {
     **dict.fromkeys("float32 float64".split(), FLOATS),
     **dict.fromkeys("complex64 complex128 complex real imag".split(), FLOATS),
     **dict.fromkeys("any error comparable".split(), INTERFACES),
-    **dict.fromkeys("append cap copy make".split(), SLICES),
+    **dict.fromkeys("append cap make".split(), SLICES),
+    "copy": "copy: a loop copies elements",
     **dict.fromkeys("clear delete".split(), "maps and slices"),
     **dict.fromkeys("print println".split(), "print and println: fmt.Println prints"),
     **dict.fromkeys("max min".split(), "min and max"),
-    "nil": "nil: there are no pointers, slices, maps and interfaces",
+    "nil": "nil: there are no pointers, maps and interfaces, and a slice without elements is written []T{}",
     "new": POINTERS,
     "close": "channels",
     "recover": "recover: a panic ends the program",
@@ -74,7 +76,7 @@ def opened(before):
 def behind_colon(before):
     """What a `:` ends that stands behind this."""
     if opened(before) == "[":
-        return "slice expressions (a[i:j])"
+        return "slice expressions with three bounds (a[i:j:k])" if ":" in before.rpartition("[")[2] else PARTS
     # (a brace that stands right behind a type is that of a value)
     return LABELS if re.search(r"(?:^|[\n;}]|(?<![\w\])]){)\s*[^\W\d]\w*\s*$", before) else KEYS
 
@@ -88,7 +90,7 @@ def behind(before, token):
     if token == "[" and re.search(r"\bfunc(?:\s+\w+)?\s*$", before):
         return "generics: functions and types with type parameters"
     if token == "]" and re.search(r"\[\s*$", before):
-        return SLICES
+        return "indexes that are missing (a[])" if re.search(r"[\w)]\[\s*$", before) else SLICES
     if token == ":":
         return behind_colon(before)
     if token == "=":

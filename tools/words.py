@@ -12,9 +12,11 @@ import script
 from kit import TOP
 
 HELP, VERSION = ("--help", "-h"), ("--version", "-V")
-RUN_USAGE = "usage: ./goset --run [--ticks N] FILE.. | FOLDER\n"
+RUN_USAGE = "usage: ./goset --run [--ticks N] [--edition N] FILE.. | FOLDER\n"
 # What each option of a session takes at most; the least is 1.
-OPTIONS = {"--workers": 64, "--edition": 1}
+OPTIONS = {"--workers": 64, "--edition": 2}
+# What each option behind --run takes, at least and at most.
+RUN_OPTIONS = {"--ticks": (0, script.GREATEST), "--edition": (1, 2)}
 NO_TEXT = "not a text: it is UTF-8 without NUL, with a byte order mark at its start alone"
 NO_PATH = "not a path of a Go file, as docs/SCRIPT.md has them"
 ALONE = "main"
@@ -84,17 +86,28 @@ def look_at_session(words):
         seen.add(option)
 
 
-def ticks_and_files(words):
-    """Words of the program behind --run: the files, behind `--ticks N` where that stands in front."""
+def run_options(words):
+    """The options that words of the program behind --run begin with, each with its number and at most once, and the others."""
+    at = 0
+    while at + 1 < len(words) and words[at] in RUN_OPTIONS and words[at] not in words[:at:2]:
+        at += 2
+    return words[:at], words[at:]
+
+
+def options_and_files(words):
+    """Words of the program behind --run: options in any order, and the files."""
     if len(words) == 1 and words[0] in HELP:
         raise Answer(0, RUN_USAGE)
     if len(words) == 1 and words[0] in VERSION:
         raise Answer(0, own("--version").out.partition("\n")[0] + "\n")
-    has_ticks = len(words) > 1 and words[0] == "--ticks"
-    files = words[2:] if has_ticks else words
-    if not files or any(it.startswith("-") for it in files) or has_ticks and not is_number(words[1]):
+    options, files = run_options(words)
+    for option, number in zip(options[::2], options[1::2]):
+        least, most = RUN_OPTIONS[option]
+        if not is_number(number, most) or int(number) < least:
+            raise Answer(64, err=RUN_USAGE)
+    if not files or any(it.startswith("-") for it in files):
         raise Answer(64, err=RUN_USAGE)
-    return words[: 2 * has_ticks], files
+    return options, files
 
 
 def why_unread(file):
@@ -162,4 +175,4 @@ def look_at(program, words):
     if program == "goset":
         look_at_session(words)
     else:
-        look_at_files(ticks_and_files(words)[1])
+        look_at_files(options_and_files(words)[1])

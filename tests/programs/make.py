@@ -1,12 +1,13 @@
 #!/usr/bin/env python3
-"""Makes the table of programs of the crate go_program_tests, and what each prints, by Go itself.
+"""Makes the tables of programs of the crates go_program_tests and go_slice_tests, and what each prints, by Go itself.
 
-    python3 tests/programs/make.py           says which rows of the kept table differ from what is made here
-    python3 tests/programs/make.py --write   writes the crate's stdin and stdout
+    python3 tests/programs/make.py           says which of the kept tables differ from what is made here
+    python3 tests/programs/make.py --write   writes the crates' stdin and stdout
 
 A row is a line with a name and a number of ticks, the text of one Go file, or of several with a line `---- next` between
-each two, and a line `----`. Rows come from rows/, from
-templates for each integer type (templates.py), and from three programs that are cut at every tick (ticks.py).
+each two, and a line `----`. Rows of the first edition come from rows/, from
+templates for each integer type (templates.py), and from three programs that are cut at every tick (ticks.py); those of
+the second, which has slices, from slices/.
 
 What a row's program prints is what Go prints: the row is built and run by the `go` that is installed, which is to be Go
 1.19 or later, and its end is told in this project's words. Two things are rewritten for a Go before 1.22: a range over
@@ -26,14 +27,15 @@ import templates
 import ticks
 
 HERE = os.path.dirname(os.path.abspath(__file__))
-CRATE = os.path.join(os.path.dirname(os.path.dirname(HERE)), "crates", "go_program_tests")
-ROWS = os.path.join(HERE, "rows")
+CRATES = os.path.join(os.path.dirname(os.path.dirname(HERE)), "crates")
 END = "----\n"
 NEXT = "---- next\n"
 REFUSED = "?? Go refuses it"
 # How a Go program says that it panicked, and the word for that here.
 PANICS = [
     (re.compile(r"panic: runtime error: index out of range"), "panicked index\n"),
+    (re.compile(r"panic: runtime error: slice bounds out of range"), "panicked slice\n"),
+    (re.compile(r"panic: runtime error: makeslice: (len|cap) out of range"), "panicked make\n"),
     (re.compile(r"panic: runtime error: integer divide by zero"), "panicked divide\n"),
     (re.compile(r"panic: runtime error: negative shift amount"), "panicked shift\n"),
 ]
@@ -70,18 +72,24 @@ def row_of(text):
     return Row(name, limit, program + "\n", wanted, why)
 
 
-def kept_rows():
+def kept_rows(folder):
     rows = []
-    for name in sorted(os.listdir(ROWS)):
-        with open(os.path.join(ROWS, name), encoding="utf-8") as file:
+    for name in sorted(os.listdir(os.path.join(HERE, folder))):
+        with open(os.path.join(HERE, folder, name), encoding="utf-8") as file:
             rows += [row_of(text) for text in file.read().split(END) if text]
     return rows
 
 
-def all_rows():
-    rows = kept_rows()
+def first_rows():
+    """The rows of the first edition."""
+    rows = kept_rows("rows")
     rows += [Row(name, 100000, text) for name, text in templates.programs()]
     rows += [Row(name, limit, text, wanted) for name, limit, text, wanted in ticks.programs()]
+    return rows
+
+
+def with_names(rows):
+    """The rows, whose names differ."""
     names = [row.name for row in rows]
     twice = {name for name in names if names.count(name) > 1}
     if twice:
@@ -139,35 +147,40 @@ def wanted_of(row, folder):
     return row.wanted if row.wanted is not None else go_told(row, folder)
 
 
-def made():
+def made(crate, rows):
     """The table, and what is wanted of each row."""
-    if not shutil.which("go"):
-        sys.exit("tests/programs/make.py: there is no go on the path: what programs print is what Go itself prints")
-    rows = all_rows()
     with tempfile.TemporaryDirectory() as folder, concurrent.futures.ThreadPoolExecutor(2) as pool:
         wanted = list(pool.map(lambda row: wanted_of(row, folder), rows))
     for row, told in zip(rows, wanted):
         if "?? " in told:
             print(f"{row.name}: {told}")
     by_hand = sum(row.wanted is not None for row in rows)
-    print(f"{len(rows)} rows, {len(rows) - by_hand} by Go, {by_hand} by hand")
+    print(f"{crate}: {len(rows)} rows, {len(rows) - by_hand} by Go, {by_hand} by hand")
     stdin = "".join(row.stdin() for row in rows)
     return stdin, "".join(row.stdout(told) for row, told in zip(rows, wanted))
 
 
-def main(words):
-    status = 0
-    for name, text in zip(("stdin", "stdout"), made()):
-        path = os.path.join(CRATE, name)
+def kept(crate, rows, words):
+    """Whether the tables of a crate are those of the rows, once they are written where that is wanted."""
+    same = True
+    for name, text in zip(("stdin", "stdout"), made(crate, with_names(rows))):
+        path = os.path.join(CRATES, crate, name)
         if words == ["--write"]:
             with open(path, "w", encoding="utf-8", newline="") as file:
                 file.write(text)
             continue
         with open(path, encoding="utf-8", newline="") as file:
             if file.read() != text:
-                print(f"{name} is another")
-                status = 1
-    return status
+                print(f"{crate}: {name} is another")
+                same = False
+    return same
+
+
+def main(words):
+    if not shutil.which("go"):
+        sys.exit("tests/programs/make.py: there is no go on the path: what programs print is what Go itself prints")
+    tables = [("go_program_tests", first_rows()), ("go_slice_tests", kept_rows("slices"))]
+    return 0 if all([kept(crate, rows, words) for crate, rows in tables]) else 1
 
 
 if __name__ == "__main__":

@@ -1,5 +1,6 @@
 -- Moves by tests, and tests of kinds.
 use Rattle.std.proofs.Common.{◌≡◌, ℕ, ◌⊎◌, inl, inr, Bool, true, false, ◌||◌, ◌&&◌, List, ◌∷◌, refl, sym, ap, ◌∙◌, subst}
+use Rattle.go_text.specs.declared.edition.Edition.{Edition}
 use Rattle.go_scan.specs.declared.token.TokenKind.{TokenKind}
 use Rattle.go_ast.specs.Kinds.{same}
 use Rattle.go_ast.specs.Trees.{File}
@@ -47,24 +48,24 @@ cond_true b m n e = ap (λ x. cond x m n) e
 pub cond_false : (b : Bool) (m n : Move) → b ≡ false → cond b m n ≡ n
 cond_false b m n e = ap (λ x. cond x m n) e
 
-module _ (B : ℕ) where
-  pub after_cond : (b : Bool) (m n : Move) (us : List Lexeme) (f : File) → After B (cond b m n) us f → ((b ≡ true) × After B m us f)
-      ⊎ ((b ≡ false) × After B n us f)
+module _ (ed : Edition) (B : ℕ) where
+  pub after_cond : (b : Bool) (m n : Move) (us : List Lexeme) (f : File) → After ed B (cond b m n) us f → ((b ≡ true) × After ed B m us f)
+      ⊎ ((b ≡ false) × After ed B n us f)
   after_cond true m n us f a = inl (refl, a)
   after_cond false m n us f a = inr (refl, a)
 
-  pub kept_cond : (b : Bool) (m n : Move) → (b ≡ true → Kept B m) → (b ≡ false → Kept B n) → Kept B (cond b m n)
+  pub kept_cond : (b : Bool) (m n : Move) → (b ≡ true → Kept ed B m) → (b ≡ false → Kept ed B n) → Kept ed B (cond b m n)
   kept_cond true m n p q = p refl
   kept_cond false m n p q = q refl
 
   -- the move is the one that a test of kinds chooses
-  pub after_same : (k : TokenKind) (t : Lexeme) (m n : Move) (us : List Lexeme) (f : File) → t.kind ≡ k → After B m us f →
-      After B (cond (same k t.kind) m n) us f
-  after_same k t m n us f e a = subst (λ x. After B x us f) (sym (cond_true (same k t.kind) m n (is_same k t.kind e))) a
+  pub after_same : (k : TokenKind) (t : Lexeme) (m n : Move) (us : List Lexeme) (f : File) → t.kind ≡ k → After ed B m us f →
+      After ed B (cond (same k t.kind) m n) us f
+  after_same k t m n us f e a = subst (λ x. After ed B x us f) (sym (cond_true (same k t.kind) m n (is_same k t.kind e))) a
 
-  pub after_other : (k : TokenKind) (t : Lexeme) (m n : Move) (us : List Lexeme) (f : File) → same k t.kind ≡ false → After B n us f →
-      After B (cond (same k t.kind) m n) us f
-  after_other k t m n us f e a = subst (λ x. After B x us f) (sym (cond_false (same k t.kind) m n e)) a
+  pub after_other : (k : TokenKind) (t : Lexeme) (m n : Move) (us : List Lexeme) (f : File) → same k t.kind ≡ false → After ed B n us f →
+      After ed B (cond (same k t.kind) m n) us f
+  after_other k t m n us f e a = subst (λ x. After ed B x us f) (sym (cond_false (same k t.kind) m n e)) a
 
 -- a first token
 pub token_here : (k : TokenKind) (t : Lexeme) (us : List Lexeme) → t.kind ≡ k → Token k t (t ∷ us) us

@@ -1,6 +1,7 @@
 -- A parsed source may go to another thread, and be read by several: so may what it holds, type by type.
 use denote.RattleType.{RattleType}
-use denote.Param.Send.{IsSend, IsSync, recorded_send, recorded_sync, sendable}
+use denote.Param.Send.{IsSend, IsSync, recorded_send, recorded_sync, enum_send, enum_sync, sendable}
+use denote.Enum.Declared.{shape}
 use denote.Hole.FixSend.{Sends, Syncs, fix_send, fix_sync}
 use Rattle.std.proofs.Crossing.{crosses}
 use Rattle.std.proofs.MapsCrossing as maps
@@ -10,10 +11,11 @@ use Rattle.go_ast.proofs.name.Name.TheSendSync as names
 use Rattle.go_ast.proofs.expression.UnaryOperator.TheSendSync as unary
 use Rattle.go_ast.proofs.expression.BinaryOperator.TheSendSync as binary
 use Rattle.go_ast.proofs.file.ImportSpec.TheSendSync as imports
-use Rattle.go_ast.specs.contracts.expression.ElementValue.TheKnot as knot
-use Rattle.go_ast.specs.declared.expression.ElementValue.TheBlock as parts
+use Rattle.go_ast.specs.contracts.expression.Bound.TheKnot as knot
+use Rattle.go_ast.specs.declared.expression.Bound.TheBlock as parts
 use Rattle.go_ast.specs.contracts.statement.Else.TheKnot as statements
 use Rattle.go_ast.specs.declared.statement.Else.TheBlock as statement_parts
+use Rattle.go_ast.specs.contracts.expression.Bound as bound_type
 use Rattle.go_ast.specs.contracts.expression.ElementValue as element_value_type
 use Rattle.go_ast.specs.contracts.expression.ExprKind as expr_kind_type
 use Rattle.go_ast.specs.contracts.expression.TypeKind as type_kind_type
@@ -42,14 +44,17 @@ use Rattle.go_ast.specs.contracts.parsed.Parsed as parsed
 -- ---- going to another thread
 
 -- each layer, where those inside may
+bound_layer_send : (A0 : RattleType) → IsSend A0 → IsSend (knot.layer-Bound A0)
+bound_layer_send A0 a0 = search (names.the_send, places.the_field_send, places.the_send, unary.the_send, binary.the_send, crosses, maps.crosses, sendable) depth 30
+
 element_value_layer_send : (A0 A1 : RattleType) → IsSend A0 → IsSend A1 → IsSend (knot.layer-ElementValue A0 A1)
 element_value_layer_send A0 A1 a0 a1 = search (names.the_send, places.the_field_send, places.the_send, unary.the_send, binary.the_send, crosses, maps.crosses, sendable) depth 30
 
-expr_kind_layer_send : (A0 A1 A2 A3 A4 A5 A6 A7 A8 A9 A10 A11 A12 : RattleType) → IsSend A0 → IsSend A1 → IsSend A2 → IsSend A3 → IsSend A4 → IsSend A5 → IsSend A6 → IsSend A7 → IsSend A8 → IsSend A9 → IsSend A10 → IsSend A11 → IsSend A12 → IsSend (knot.layer-ExprKind A0 A1 A2 A3 A4 A5 A6 A7 A8 A9 A10 A11 A12)
-expr_kind_layer_send A0 A1 A2 A3 A4 A5 A6 A7 A8 A9 A10 A11 A12 a0 a1 a2 a3 a4 a5 a6 a7 a8 a9 a10 a11 a12 = search (names.the_send, places.the_field_send, places.the_send, unary.the_send, binary.the_send, crosses, maps.crosses, sendable) depth 30
+expr_kind_layer_send : (A0 A1 A2 A3 A4 A5 A6 A7 A8 A9 A10 A11 A12 A13 A14 A15 A16 : RattleType) → IsSend A0 → IsSend A1 → IsSend A2 → IsSend A3 → IsSend A4 → IsSend A5 → IsSend A6 → IsSend A7 → IsSend A8 → IsSend A9 → IsSend A10 → IsSend A11 → IsSend A12 → IsSend A13 → IsSend A14 → IsSend A15 → IsSend A16 → IsSend (knot.layer-ExprKind A0 A1 A2 A3 A4 A5 A6 A7 A8 A9 A10 A11 A12 A13 A14 A15 A16)
+expr_kind_layer_send A0 A1 A2 A3 A4 A5 A6 A7 A8 A9 A10 A11 A12 A13 A14 A15 A16 a0 a1 a2 a3 a4 a5 a6 a7 a8 a9 a10 a11 a12 a13 a14 a15 a16 = search (names.the_send, places.the_field_send, places.the_send, unary.the_send, binary.the_send, crosses, maps.crosses, sendable) depth 30
 
-type_kind_layer_send : (A0 A1 A2 : RattleType) → IsSend A0 → IsSend A1 → IsSend A2 → IsSend (knot.layer-TypeKind A0 A1 A2)
-type_kind_layer_send A0 A1 A2 a0 a1 a2 = search (names.the_send, places.the_field_send, places.the_send, unary.the_send, binary.the_send, crosses, maps.crosses, sendable) depth 30
+type_kind_layer_send : (A0 A1 A2 A3 : RattleType) → IsSend A0 → IsSend A1 → IsSend A2 → IsSend A3 → IsSend (knot.layer-TypeKind A0 A1 A2 A3)
+type_kind_layer_send A0 A1 A2 A3 a0 a1 a2 a3 = search (names.the_send, places.the_field_send, places.the_send, unary.the_send, binary.the_send, crosses, maps.crosses, sendable) depth 30
 
 element_layer_send : (A0 : RattleType) → IsSend A0 → IsSend (knot.layer-Element A0)
 element_layer_send A0 a0 = search (names.the_send, places.the_field_send, places.the_send, unary.the_send, binary.the_send, crosses, maps.crosses, sendable) depth 30
@@ -64,13 +69,17 @@ type_expr_layer_send : (A0 : RattleType) → IsSend A0 → IsSend (knot.layer-Ty
 type_expr_layer_send A0 a0 = search (names.the_send, places.the_field_send, places.the_send, unary.the_send, binary.the_send, crosses, maps.crosses, sendable) depth 30
 
 knot_layer_send : (i : knot.the_members) → Sends knot.ring i
+knot_layer_send parts.member-Bound = record { send = λ h inside. bound_layer_send (h knot.member-Expr) (inside knot.member-Expr) }
 knot_layer_send parts.member-ElementValue = record { send = λ h inside. element_value_layer_send (h knot.member-Expr) (h knot.member-Element) (inside knot.member-Expr) (inside knot.member-Element) }
-knot_layer_send parts.member-ExprKind = record { send = λ h inside. expr_kind_layer_send (h knot.member-Expr) (h knot.member-TypeExpr) (h knot.member-Element) (h knot.member-TypeExpr) (h knot.member-Expr) (h knot.member-Expr) (h knot.member-Expr) (h knot.member-Expr) (h knot.member-Expr) (h knot.member-Expr) (h knot.member-Expr) (h knot.member-Expr) (h knot.member-Expr) (inside knot.member-Expr) (inside knot.member-TypeExpr) (inside knot.member-Element) (inside knot.member-TypeExpr) (inside knot.member-Expr) (inside knot.member-Expr) (inside knot.member-Expr) (inside knot.member-Expr) (inside knot.member-Expr) (inside knot.member-Expr) (inside knot.member-Expr) (inside knot.member-Expr) (inside knot.member-Expr) }
-knot_layer_send parts.member-TypeKind = record { send = λ h inside. type_kind_layer_send (h knot.member-Expr) (h knot.member-TypeExpr) (h knot.member-Field) (inside knot.member-Expr) (inside knot.member-TypeExpr) (inside knot.member-Field) }
+knot_layer_send parts.member-ExprKind = record { send = λ h inside. expr_kind_layer_send (h knot.member-Expr) (h knot.member-TypeExpr) (h knot.member-Element) (h knot.member-TypeExpr) (h knot.member-Expr) (h knot.member-Expr) (h knot.member-Expr) (h knot.member-Expr) (h knot.member-Expr) (h knot.member-Bound) (h knot.member-Bound) (h knot.member-TypeExpr) (h knot.member-Expr) (h knot.member-Expr) (h knot.member-Expr) (h knot.member-Expr) (h knot.member-Expr) (inside knot.member-Expr) (inside knot.member-TypeExpr) (inside knot.member-Element) (inside knot.member-TypeExpr) (inside knot.member-Expr) (inside knot.member-Expr) (inside knot.member-Expr) (inside knot.member-Expr) (inside knot.member-Expr) (inside knot.member-Bound) (inside knot.member-Bound) (inside knot.member-TypeExpr) (inside knot.member-Expr) (inside knot.member-Expr) (inside knot.member-Expr) (inside knot.member-Expr) (inside knot.member-Expr) }
+knot_layer_send parts.member-TypeKind = record { send = λ h inside. type_kind_layer_send (h knot.member-Expr) (h knot.member-TypeExpr) (h knot.member-TypeExpr) (h knot.member-Field) (inside knot.member-Expr) (inside knot.member-TypeExpr) (inside knot.member-TypeExpr) (inside knot.member-Field) }
 knot_layer_send parts.member-Element = record { send = λ h inside. element_layer_send (h knot.member-ElementValue) (inside knot.member-ElementValue) }
 knot_layer_send parts.member-Expr = record { send = λ h inside. expr_layer_send (h knot.member-ExprKind) (inside knot.member-ExprKind) }
 knot_layer_send parts.member-Field = record { send = λ h inside. field_layer_send (h knot.member-TypeExpr) (inside knot.member-TypeExpr) }
 knot_layer_send parts.member-TypeExpr = record { send = λ h inside. type_expr_layer_send (h knot.member-TypeKind) (inside knot.member-TypeKind) }
+
+bound_inside_send : IsSend knot.hole-Bound
+bound_inside_send = fix_send knot.ring knot_layer_send knot.member-Bound
 
 element_value_inside_send : IsSend knot.hole-ElementValue
 element_value_inside_send = fix_send knot.ring knot_layer_send knot.member-ElementValue
@@ -93,26 +102,32 @@ field_inside_send = fix_send knot.ring knot_layer_send knot.member-Field
 type_expr_inside_send : IsSend knot.hole-TypeExpr
 type_expr_inside_send = fix_send knot.ring knot_layer_send knot.member-TypeExpr
 
+bound_field_send : IsSend (bound_type.the_field).row
+bound_field_send = search (expr_inside_send, crosses, maps.crosses, sendable) depth 30
+
+bound_send : IsSend bound_type.the_row
+bound_send = recorded_send (bound_type.the_field).row _ _ (bound_type.the_type).to_one bound_field_send
+
 expr_kind_field_send : IsSend (expr_kind_type.the_field).row
-expr_kind_field_send = search (expr_inside_send, type_expr_inside_send, element_inside_send, names.the_send, places.the_field_send, places.the_send, unary.the_send, binary.the_send, crosses, maps.crosses, sendable) depth 60 fits 30000
+expr_kind_field_send = enum_send (shape expr_kind_type.the_type) (search (bound_field_send, expr_inside_send, type_expr_inside_send, element_inside_send, names.the_send, places.the_field_send, unary.the_send, binary.the_send, crosses, maps.crosses, sendable) depth 30, (search (bound_field_send, expr_inside_send, type_expr_inside_send, element_inside_send, names.the_send, places.the_field_send, unary.the_send, binary.the_send, crosses, maps.crosses, sendable) depth 30, (search (bound_field_send, expr_inside_send, type_expr_inside_send, element_inside_send, names.the_send, places.the_field_send, unary.the_send, binary.the_send, crosses, maps.crosses, sendable) depth 30, (search (bound_field_send, expr_inside_send, type_expr_inside_send, element_inside_send, names.the_send, places.the_field_send, unary.the_send, binary.the_send, crosses, maps.crosses, sendable) depth 30, (search (bound_field_send, expr_inside_send, type_expr_inside_send, element_inside_send, names.the_send, places.the_field_send, unary.the_send, binary.the_send, crosses, maps.crosses, sendable) depth 30, (search (bound_field_send, expr_inside_send, type_expr_inside_send, element_inside_send, names.the_send, places.the_field_send, unary.the_send, binary.the_send, crosses, maps.crosses, sendable) depth 30, (search (bound_field_send, expr_inside_send, type_expr_inside_send, element_inside_send, names.the_send, places.the_field_send, unary.the_send, binary.the_send, crosses, maps.crosses, sendable) depth 30, (search (bound_field_send, expr_inside_send, type_expr_inside_send, element_inside_send, names.the_send, places.the_field_send, unary.the_send, binary.the_send, crosses, maps.crosses, sendable) depth 30, (search (bound_field_send, expr_inside_send, type_expr_inside_send, element_inside_send, names.the_send, places.the_field_send, unary.the_send, binary.the_send, crosses, maps.crosses, sendable) depth 30, (search (bound_field_send, expr_inside_send, type_expr_inside_send, element_inside_send, names.the_send, places.the_field_send, unary.the_send, binary.the_send, crosses, maps.crosses, sendable) depth 30, (search (bound_field_send, expr_inside_send, type_expr_inside_send, element_inside_send, names.the_send, places.the_field_send, unary.the_send, binary.the_send, crosses, maps.crosses, sendable) depth 30, (search (bound_field_send, expr_inside_send, type_expr_inside_send, element_inside_send, names.the_send, places.the_field_send, unary.the_send, binary.the_send, crosses, maps.crosses, sendable) depth 30, (search (bound_field_send, expr_inside_send, type_expr_inside_send, element_inside_send, names.the_send, places.the_field_send, unary.the_send, binary.the_send, crosses, maps.crosses, sendable) depth 30, (search (bound_field_send, expr_inside_send, type_expr_inside_send, element_inside_send, names.the_send, places.the_field_send, unary.the_send, binary.the_send, crosses, maps.crosses, sendable) depth 30, tt))))))))))))))
 
 expr_kind_send : IsSend expr_kind_type.the_row
 expr_kind_send = recorded_send (expr_kind_type.the_field).row _ _ (expr_kind_type.the_type).to_one expr_kind_field_send
 
 type_kind_field_send : IsSend (type_kind_type.the_field).row
-type_kind_field_send = search (expr_kind_field_send, expr_kind_send, element_value_inside_send, expr_kind_inside_send, type_kind_inside_send, element_inside_send, expr_inside_send, field_inside_send, type_expr_inside_send, names.the_send, places.the_field_send, places.the_send, unary.the_send, binary.the_send, crosses, maps.crosses, sendable) depth 30
+type_kind_field_send = search (expr_kind_field_send, expr_kind_send, bound_inside_send, element_value_inside_send, expr_kind_inside_send, type_kind_inside_send, element_inside_send, expr_inside_send, field_inside_send, type_expr_inside_send, names.the_send, places.the_field_send, places.the_send, unary.the_send, binary.the_send, crosses, maps.crosses, sendable) depth 30
 
 type_kind_send : IsSend type_kind_type.the_row
 type_kind_send = recorded_send (type_kind_type.the_field).row _ _ (type_kind_type.the_type).to_one type_kind_field_send
 
 expr_field_send : IsSend (expr_type.the_field).row
-expr_field_send = search (type_kind_field_send, type_kind_send, expr_kind_field_send, expr_kind_send, element_value_inside_send, expr_kind_inside_send, type_kind_inside_send, element_inside_send, expr_inside_send, field_inside_send, type_expr_inside_send, names.the_send, places.the_field_send, places.the_send, unary.the_send, binary.the_send, crosses, maps.crosses, sendable) depth 30
+expr_field_send = search (type_kind_field_send, type_kind_send, expr_kind_field_send, expr_kind_send, bound_inside_send, element_value_inside_send, expr_kind_inside_send, type_kind_inside_send, element_inside_send, expr_inside_send, field_inside_send, type_expr_inside_send, names.the_send, places.the_field_send, places.the_send, unary.the_send, binary.the_send, crosses, maps.crosses, sendable) depth 30
 
 expr_send : IsSend expr_type.the_row
 expr_send = recorded_send (expr_type.the_field).row _ _ (expr_type.the_type).to_one expr_field_send
 
 type_expr_field_send : IsSend (type_expr_type.the_field).row
-type_expr_field_send = search (expr_field_send, expr_send, type_kind_field_send, type_kind_send, expr_kind_field_send, expr_kind_send, element_value_inside_send, expr_kind_inside_send, type_kind_inside_send, element_inside_send, expr_inside_send, field_inside_send, type_expr_inside_send, names.the_send, places.the_field_send, places.the_send, unary.the_send, binary.the_send, crosses, maps.crosses, sendable) depth 30
+type_expr_field_send = search (expr_field_send, expr_send, type_kind_field_send, type_kind_send, expr_kind_field_send, expr_kind_send, bound_inside_send, element_value_inside_send, expr_kind_inside_send, type_kind_inside_send, element_inside_send, expr_inside_send, field_inside_send, type_expr_inside_send, names.the_send, places.the_field_send, places.the_send, unary.the_send, binary.the_send, crosses, maps.crosses, sendable) depth 30
 
 type_expr_send : IsSend type_expr_type.the_row
 type_expr_send = recorded_send (type_expr_type.the_field).row _ _ (type_expr_type.the_type).to_one type_expr_field_send
@@ -124,13 +139,13 @@ element_value_send : IsSend element_value_type.the_row
 element_value_send = recorded_send (element_value_type.the_field).row _ _ (element_value_type.the_type).to_one element_value_field_send
 
 element_field_send : IsSend (element_type.the_field).row
-element_field_send = search (element_value_field_send, element_value_send, type_expr_field_send, type_expr_send, expr_field_send, expr_send, type_kind_field_send, type_kind_send, expr_kind_field_send, expr_kind_send, element_value_inside_send, expr_kind_inside_send, type_kind_inside_send, element_inside_send, expr_inside_send, field_inside_send, type_expr_inside_send, names.the_send, places.the_field_send, places.the_send, unary.the_send, binary.the_send, crosses, maps.crosses, sendable) depth 30
+element_field_send = search (element_value_field_send, element_value_send, type_expr_field_send, type_expr_send, expr_field_send, expr_send, type_kind_field_send, type_kind_send, expr_kind_field_send, expr_kind_send, bound_inside_send, element_value_inside_send, expr_kind_inside_send, type_kind_inside_send, element_inside_send, expr_inside_send, field_inside_send, type_expr_inside_send, names.the_send, places.the_field_send, places.the_send, unary.the_send, binary.the_send, crosses, maps.crosses, sendable) depth 30
 
 element_send : IsSend element_type.the_row
 element_send = recorded_send (element_type.the_field).row _ _ (element_type.the_type).to_one element_field_send
 
 field_field_send : IsSend (field_type.the_field).row
-field_field_send = search (element_field_send, element_send, element_value_field_send, element_value_send, type_expr_field_send, type_expr_send, expr_field_send, expr_send, type_kind_field_send, type_kind_send, expr_kind_field_send, expr_kind_send, element_value_inside_send, expr_kind_inside_send, type_kind_inside_send, element_inside_send, expr_inside_send, field_inside_send, type_expr_inside_send, names.the_send, places.the_field_send, places.the_send, unary.the_send, binary.the_send, crosses, maps.crosses, sendable) depth 30
+field_field_send = search (element_field_send, element_send, element_value_field_send, element_value_send, type_expr_field_send, type_expr_send, expr_field_send, expr_send, type_kind_field_send, type_kind_send, expr_kind_field_send, expr_kind_send, bound_inside_send, element_value_inside_send, expr_kind_inside_send, type_kind_inside_send, element_inside_send, expr_inside_send, field_inside_send, type_expr_inside_send, names.the_send, places.the_field_send, places.the_send, unary.the_send, binary.the_send, crosses, maps.crosses, sendable) depth 30
 
 field_send : IsSend field_type.the_row
 field_send = recorded_send (field_type.the_field).row _ _ (field_type.the_type).to_one field_field_send
@@ -286,14 +301,17 @@ file_send = recorded_send (file_type.the_field).row _ _ (file_type.the_type).to_
 -- ---- being read by several
 
 -- each layer, where those inside may
+bound_layer_sync : (A0 : RattleType) → IsSync A0 → IsSync (knot.layer-Bound A0)
+bound_layer_sync A0 a0 = search (names.the_sync, places.the_field_sync, places.the_sync, unary.the_sync, binary.the_sync, crosses, maps.crosses, sendable) depth 30
+
 element_value_layer_sync : (A0 A1 : RattleType) → IsSync A0 → IsSync A1 → IsSync (knot.layer-ElementValue A0 A1)
 element_value_layer_sync A0 A1 a0 a1 = search (names.the_sync, places.the_field_sync, places.the_sync, unary.the_sync, binary.the_sync, crosses, maps.crosses, sendable) depth 30
 
-expr_kind_layer_sync : (A0 A1 A2 A3 A4 A5 A6 A7 A8 A9 A10 A11 A12 : RattleType) → IsSync A0 → IsSync A1 → IsSync A2 → IsSync A3 → IsSync A4 → IsSync A5 → IsSync A6 → IsSync A7 → IsSync A8 → IsSync A9 → IsSync A10 → IsSync A11 → IsSync A12 → IsSync (knot.layer-ExprKind A0 A1 A2 A3 A4 A5 A6 A7 A8 A9 A10 A11 A12)
-expr_kind_layer_sync A0 A1 A2 A3 A4 A5 A6 A7 A8 A9 A10 A11 A12 a0 a1 a2 a3 a4 a5 a6 a7 a8 a9 a10 a11 a12 = search (names.the_sync, places.the_field_sync, places.the_sync, unary.the_sync, binary.the_sync, crosses, maps.crosses, sendable) depth 30
+expr_kind_layer_sync : (A0 A1 A2 A3 A4 A5 A6 A7 A8 A9 A10 A11 A12 A13 A14 A15 A16 : RattleType) → IsSync A0 → IsSync A1 → IsSync A2 → IsSync A3 → IsSync A4 → IsSync A5 → IsSync A6 → IsSync A7 → IsSync A8 → IsSync A9 → IsSync A10 → IsSync A11 → IsSync A12 → IsSync A13 → IsSync A14 → IsSync A15 → IsSync A16 → IsSync (knot.layer-ExprKind A0 A1 A2 A3 A4 A5 A6 A7 A8 A9 A10 A11 A12 A13 A14 A15 A16)
+expr_kind_layer_sync A0 A1 A2 A3 A4 A5 A6 A7 A8 A9 A10 A11 A12 A13 A14 A15 A16 a0 a1 a2 a3 a4 a5 a6 a7 a8 a9 a10 a11 a12 a13 a14 a15 a16 = search (names.the_sync, places.the_field_sync, places.the_sync, unary.the_sync, binary.the_sync, crosses, maps.crosses, sendable) depth 30
 
-type_kind_layer_sync : (A0 A1 A2 : RattleType) → IsSync A0 → IsSync A1 → IsSync A2 → IsSync (knot.layer-TypeKind A0 A1 A2)
-type_kind_layer_sync A0 A1 A2 a0 a1 a2 = search (names.the_sync, places.the_field_sync, places.the_sync, unary.the_sync, binary.the_sync, crosses, maps.crosses, sendable) depth 30
+type_kind_layer_sync : (A0 A1 A2 A3 : RattleType) → IsSync A0 → IsSync A1 → IsSync A2 → IsSync A3 → IsSync (knot.layer-TypeKind A0 A1 A2 A3)
+type_kind_layer_sync A0 A1 A2 A3 a0 a1 a2 a3 = search (names.the_sync, places.the_field_sync, places.the_sync, unary.the_sync, binary.the_sync, crosses, maps.crosses, sendable) depth 30
 
 element_layer_sync : (A0 : RattleType) → IsSync A0 → IsSync (knot.layer-Element A0)
 element_layer_sync A0 a0 = search (names.the_sync, places.the_field_sync, places.the_sync, unary.the_sync, binary.the_sync, crosses, maps.crosses, sendable) depth 30
@@ -308,13 +326,17 @@ type_expr_layer_sync : (A0 : RattleType) → IsSync A0 → IsSync (knot.layer-Ty
 type_expr_layer_sync A0 a0 = search (names.the_sync, places.the_field_sync, places.the_sync, unary.the_sync, binary.the_sync, crosses, maps.crosses, sendable) depth 30
 
 knot_layer_sync : (i : knot.the_members) → Syncs knot.ring i
+knot_layer_sync parts.member-Bound = record { sync = λ h inside. bound_layer_sync (h knot.member-Expr) (inside knot.member-Expr) }
 knot_layer_sync parts.member-ElementValue = record { sync = λ h inside. element_value_layer_sync (h knot.member-Expr) (h knot.member-Element) (inside knot.member-Expr) (inside knot.member-Element) }
-knot_layer_sync parts.member-ExprKind = record { sync = λ h inside. expr_kind_layer_sync (h knot.member-Expr) (h knot.member-TypeExpr) (h knot.member-Element) (h knot.member-TypeExpr) (h knot.member-Expr) (h knot.member-Expr) (h knot.member-Expr) (h knot.member-Expr) (h knot.member-Expr) (h knot.member-Expr) (h knot.member-Expr) (h knot.member-Expr) (h knot.member-Expr) (inside knot.member-Expr) (inside knot.member-TypeExpr) (inside knot.member-Element) (inside knot.member-TypeExpr) (inside knot.member-Expr) (inside knot.member-Expr) (inside knot.member-Expr) (inside knot.member-Expr) (inside knot.member-Expr) (inside knot.member-Expr) (inside knot.member-Expr) (inside knot.member-Expr) (inside knot.member-Expr) }
-knot_layer_sync parts.member-TypeKind = record { sync = λ h inside. type_kind_layer_sync (h knot.member-Expr) (h knot.member-TypeExpr) (h knot.member-Field) (inside knot.member-Expr) (inside knot.member-TypeExpr) (inside knot.member-Field) }
+knot_layer_sync parts.member-ExprKind = record { sync = λ h inside. expr_kind_layer_sync (h knot.member-Expr) (h knot.member-TypeExpr) (h knot.member-Element) (h knot.member-TypeExpr) (h knot.member-Expr) (h knot.member-Expr) (h knot.member-Expr) (h knot.member-Expr) (h knot.member-Expr) (h knot.member-Bound) (h knot.member-Bound) (h knot.member-TypeExpr) (h knot.member-Expr) (h knot.member-Expr) (h knot.member-Expr) (h knot.member-Expr) (h knot.member-Expr) (inside knot.member-Expr) (inside knot.member-TypeExpr) (inside knot.member-Element) (inside knot.member-TypeExpr) (inside knot.member-Expr) (inside knot.member-Expr) (inside knot.member-Expr) (inside knot.member-Expr) (inside knot.member-Expr) (inside knot.member-Bound) (inside knot.member-Bound) (inside knot.member-TypeExpr) (inside knot.member-Expr) (inside knot.member-Expr) (inside knot.member-Expr) (inside knot.member-Expr) (inside knot.member-Expr) }
+knot_layer_sync parts.member-TypeKind = record { sync = λ h inside. type_kind_layer_sync (h knot.member-Expr) (h knot.member-TypeExpr) (h knot.member-TypeExpr) (h knot.member-Field) (inside knot.member-Expr) (inside knot.member-TypeExpr) (inside knot.member-TypeExpr) (inside knot.member-Field) }
 knot_layer_sync parts.member-Element = record { sync = λ h inside. element_layer_sync (h knot.member-ElementValue) (inside knot.member-ElementValue) }
 knot_layer_sync parts.member-Expr = record { sync = λ h inside. expr_layer_sync (h knot.member-ExprKind) (inside knot.member-ExprKind) }
 knot_layer_sync parts.member-Field = record { sync = λ h inside. field_layer_sync (h knot.member-TypeExpr) (inside knot.member-TypeExpr) }
 knot_layer_sync parts.member-TypeExpr = record { sync = λ h inside. type_expr_layer_sync (h knot.member-TypeKind) (inside knot.member-TypeKind) }
+
+bound_inside_sync : IsSync knot.hole-Bound
+bound_inside_sync = fix_sync knot.ring knot_layer_sync knot.member-Bound
 
 element_value_inside_sync : IsSync knot.hole-ElementValue
 element_value_inside_sync = fix_sync knot.ring knot_layer_sync knot.member-ElementValue
@@ -337,26 +359,32 @@ field_inside_sync = fix_sync knot.ring knot_layer_sync knot.member-Field
 type_expr_inside_sync : IsSync knot.hole-TypeExpr
 type_expr_inside_sync = fix_sync knot.ring knot_layer_sync knot.member-TypeExpr
 
+bound_field_sync : IsSync (bound_type.the_field).row
+bound_field_sync = search (expr_inside_sync, crosses, maps.crosses, sendable) depth 30
+
+bound_sync : IsSync bound_type.the_row
+bound_sync = recorded_sync (bound_type.the_field).row _ _ (bound_type.the_type).to_one bound_field_sync
+
 expr_kind_field_sync : IsSync (expr_kind_type.the_field).row
-expr_kind_field_sync = search (expr_inside_sync, type_expr_inside_sync, element_inside_sync, names.the_sync, places.the_field_sync, places.the_sync, unary.the_sync, binary.the_sync, crosses, maps.crosses, sendable) depth 60 fits 30000
+expr_kind_field_sync = enum_sync (shape expr_kind_type.the_type) (search (bound_field_sync, expr_inside_sync, type_expr_inside_sync, element_inside_sync, names.the_sync, places.the_field_sync, unary.the_sync, binary.the_sync, crosses, maps.crosses, sendable) depth 30, (search (bound_field_sync, expr_inside_sync, type_expr_inside_sync, element_inside_sync, names.the_sync, places.the_field_sync, unary.the_sync, binary.the_sync, crosses, maps.crosses, sendable) depth 30, (search (bound_field_sync, expr_inside_sync, type_expr_inside_sync, element_inside_sync, names.the_sync, places.the_field_sync, unary.the_sync, binary.the_sync, crosses, maps.crosses, sendable) depth 30, (search (bound_field_sync, expr_inside_sync, type_expr_inside_sync, element_inside_sync, names.the_sync, places.the_field_sync, unary.the_sync, binary.the_sync, crosses, maps.crosses, sendable) depth 30, (search (bound_field_sync, expr_inside_sync, type_expr_inside_sync, element_inside_sync, names.the_sync, places.the_field_sync, unary.the_sync, binary.the_sync, crosses, maps.crosses, sendable) depth 30, (search (bound_field_sync, expr_inside_sync, type_expr_inside_sync, element_inside_sync, names.the_sync, places.the_field_sync, unary.the_sync, binary.the_sync, crosses, maps.crosses, sendable) depth 30, (search (bound_field_sync, expr_inside_sync, type_expr_inside_sync, element_inside_sync, names.the_sync, places.the_field_sync, unary.the_sync, binary.the_sync, crosses, maps.crosses, sendable) depth 30, (search (bound_field_sync, expr_inside_sync, type_expr_inside_sync, element_inside_sync, names.the_sync, places.the_field_sync, unary.the_sync, binary.the_sync, crosses, maps.crosses, sendable) depth 30, (search (bound_field_sync, expr_inside_sync, type_expr_inside_sync, element_inside_sync, names.the_sync, places.the_field_sync, unary.the_sync, binary.the_sync, crosses, maps.crosses, sendable) depth 30, (search (bound_field_sync, expr_inside_sync, type_expr_inside_sync, element_inside_sync, names.the_sync, places.the_field_sync, unary.the_sync, binary.the_sync, crosses, maps.crosses, sendable) depth 30, (search (bound_field_sync, expr_inside_sync, type_expr_inside_sync, element_inside_sync, names.the_sync, places.the_field_sync, unary.the_sync, binary.the_sync, crosses, maps.crosses, sendable) depth 30, (search (bound_field_sync, expr_inside_sync, type_expr_inside_sync, element_inside_sync, names.the_sync, places.the_field_sync, unary.the_sync, binary.the_sync, crosses, maps.crosses, sendable) depth 30, (search (bound_field_sync, expr_inside_sync, type_expr_inside_sync, element_inside_sync, names.the_sync, places.the_field_sync, unary.the_sync, binary.the_sync, crosses, maps.crosses, sendable) depth 30, (search (bound_field_sync, expr_inside_sync, type_expr_inside_sync, element_inside_sync, names.the_sync, places.the_field_sync, unary.the_sync, binary.the_sync, crosses, maps.crosses, sendable) depth 30, tt))))))))))))))
 
 expr_kind_sync : IsSync expr_kind_type.the_row
 expr_kind_sync = recorded_sync (expr_kind_type.the_field).row _ _ (expr_kind_type.the_type).to_one expr_kind_field_sync
 
 type_kind_field_sync : IsSync (type_kind_type.the_field).row
-type_kind_field_sync = search (expr_kind_field_sync, expr_kind_sync, element_value_inside_sync, expr_kind_inside_sync, type_kind_inside_sync, element_inside_sync, expr_inside_sync, field_inside_sync, type_expr_inside_sync, names.the_sync, places.the_field_sync, places.the_sync, unary.the_sync, binary.the_sync, crosses, maps.crosses, sendable) depth 30
+type_kind_field_sync = search (expr_kind_field_sync, expr_kind_sync, bound_inside_sync, element_value_inside_sync, expr_kind_inside_sync, type_kind_inside_sync, element_inside_sync, expr_inside_sync, field_inside_sync, type_expr_inside_sync, names.the_sync, places.the_field_sync, places.the_sync, unary.the_sync, binary.the_sync, crosses, maps.crosses, sendable) depth 30
 
 type_kind_sync : IsSync type_kind_type.the_row
 type_kind_sync = recorded_sync (type_kind_type.the_field).row _ _ (type_kind_type.the_type).to_one type_kind_field_sync
 
 expr_field_sync : IsSync (expr_type.the_field).row
-expr_field_sync = search (type_kind_field_sync, type_kind_sync, expr_kind_field_sync, expr_kind_sync, element_value_inside_sync, expr_kind_inside_sync, type_kind_inside_sync, element_inside_sync, expr_inside_sync, field_inside_sync, type_expr_inside_sync, names.the_sync, places.the_field_sync, places.the_sync, unary.the_sync, binary.the_sync, crosses, maps.crosses, sendable) depth 30
+expr_field_sync = search (type_kind_field_sync, type_kind_sync, expr_kind_field_sync, expr_kind_sync, bound_inside_sync, element_value_inside_sync, expr_kind_inside_sync, type_kind_inside_sync, element_inside_sync, expr_inside_sync, field_inside_sync, type_expr_inside_sync, names.the_sync, places.the_field_sync, places.the_sync, unary.the_sync, binary.the_sync, crosses, maps.crosses, sendable) depth 30
 
 expr_sync : IsSync expr_type.the_row
 expr_sync = recorded_sync (expr_type.the_field).row _ _ (expr_type.the_type).to_one expr_field_sync
 
 type_expr_field_sync : IsSync (type_expr_type.the_field).row
-type_expr_field_sync = search (expr_field_sync, expr_sync, type_kind_field_sync, type_kind_sync, expr_kind_field_sync, expr_kind_sync, element_value_inside_sync, expr_kind_inside_sync, type_kind_inside_sync, element_inside_sync, expr_inside_sync, field_inside_sync, type_expr_inside_sync, names.the_sync, places.the_field_sync, places.the_sync, unary.the_sync, binary.the_sync, crosses, maps.crosses, sendable) depth 30
+type_expr_field_sync = search (expr_field_sync, expr_sync, type_kind_field_sync, type_kind_sync, expr_kind_field_sync, expr_kind_sync, bound_inside_sync, element_value_inside_sync, expr_kind_inside_sync, type_kind_inside_sync, element_inside_sync, expr_inside_sync, field_inside_sync, type_expr_inside_sync, names.the_sync, places.the_field_sync, places.the_sync, unary.the_sync, binary.the_sync, crosses, maps.crosses, sendable) depth 30
 
 type_expr_sync : IsSync type_expr_type.the_row
 type_expr_sync = recorded_sync (type_expr_type.the_field).row _ _ (type_expr_type.the_type).to_one type_expr_field_sync
@@ -368,13 +396,13 @@ element_value_sync : IsSync element_value_type.the_row
 element_value_sync = recorded_sync (element_value_type.the_field).row _ _ (element_value_type.the_type).to_one element_value_field_sync
 
 element_field_sync : IsSync (element_type.the_field).row
-element_field_sync = search (element_value_field_sync, element_value_sync, type_expr_field_sync, type_expr_sync, expr_field_sync, expr_sync, type_kind_field_sync, type_kind_sync, expr_kind_field_sync, expr_kind_sync, element_value_inside_sync, expr_kind_inside_sync, type_kind_inside_sync, element_inside_sync, expr_inside_sync, field_inside_sync, type_expr_inside_sync, names.the_sync, places.the_field_sync, places.the_sync, unary.the_sync, binary.the_sync, crosses, maps.crosses, sendable) depth 30
+element_field_sync = search (element_value_field_sync, element_value_sync, type_expr_field_sync, type_expr_sync, expr_field_sync, expr_sync, type_kind_field_sync, type_kind_sync, expr_kind_field_sync, expr_kind_sync, bound_inside_sync, element_value_inside_sync, expr_kind_inside_sync, type_kind_inside_sync, element_inside_sync, expr_inside_sync, field_inside_sync, type_expr_inside_sync, names.the_sync, places.the_field_sync, places.the_sync, unary.the_sync, binary.the_sync, crosses, maps.crosses, sendable) depth 30
 
 element_sync : IsSync element_type.the_row
 element_sync = recorded_sync (element_type.the_field).row _ _ (element_type.the_type).to_one element_field_sync
 
 field_field_sync : IsSync (field_type.the_field).row
-field_field_sync = search (element_field_sync, element_sync, element_value_field_sync, element_value_sync, type_expr_field_sync, type_expr_sync, expr_field_sync, expr_sync, type_kind_field_sync, type_kind_sync, expr_kind_field_sync, expr_kind_sync, element_value_inside_sync, expr_kind_inside_sync, type_kind_inside_sync, element_inside_sync, expr_inside_sync, field_inside_sync, type_expr_inside_sync, names.the_sync, places.the_field_sync, places.the_sync, unary.the_sync, binary.the_sync, crosses, maps.crosses, sendable) depth 30
+field_field_sync = search (element_field_sync, element_sync, element_value_field_sync, element_value_sync, type_expr_field_sync, type_expr_sync, expr_field_sync, expr_sync, type_kind_field_sync, type_kind_sync, expr_kind_field_sync, expr_kind_sync, bound_inside_sync, element_value_inside_sync, expr_kind_inside_sync, type_kind_inside_sync, element_inside_sync, expr_inside_sync, field_inside_sync, type_expr_inside_sync, names.the_sync, places.the_field_sync, places.the_sync, unary.the_sync, binary.the_sync, crosses, maps.crosses, sendable) depth 30
 
 field_sync : IsSync field_type.the_row
 field_sync = recorded_sync (field_type.the_field).row _ _ (field_type.the_type).to_one field_field_sync

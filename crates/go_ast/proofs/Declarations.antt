@@ -1,5 +1,6 @@
 -- Declarations: one spec, or a list of them in parentheses.
 use Rattle.std.proofs.Common.{◌≡◌, ℕ, ◌+◌, ◌≤◌, ◌⊎◌, inl, inr, true, false, ◌||◌, List, [], ◌∷◌, ◌++◌, Some, None, refl, sym, subst, arith}
+use Rattle.go_text.specs.declared.edition.Edition.{Edition}
 use Rattle.go_text.specs.declared.place.Place.{Place}
 use Rattle.go_scan.specs.declared.token.TokenKind.{TokenKind}
 use Rattle.go_scan.specs.declared.token.TokenKind.TheVariants as kinds
@@ -22,145 +23,145 @@ group_line : (k : TokenKind) → (same semicolon k || same closing k) ≡ true �
 group_line k e = left_true (same semicolon k || same closing k) (same closing_brace k) e
 
 -- one item, or a list of them in parentheses
-abbrev pub IsGroupOf : (k : ListKind) → List (Item k) → List Lexeme → List Lexeme → Type 0
-IsGroupOf k ss us ws =
-    ((s : Item k) × (ss ≡ s ∷ []) × IsItem k s us ws)
-    ⊎ ((o c : Lexeme) × (vs xs : List Lexeme) × Token opening o us vs × AreItems (IsItem k) (separator k) ss vs xs × Token (closer k) c xs ws)
+abbrev pub IsGroupOf : (ed : Edition) → (k : ListKind) → List (Item k) → List Lexeme → List Lexeme → Type 0
+IsGroupOf ed k ss us ws =
+    ((s : Item k) × (ss ≡ s ∷ []) × IsItem ed k s us ws)
+    ⊎ ((o c : Lexeme) × (vs xs : List Lexeme) × Token opening o us vs × AreItems (IsItem ed k) (separator k) ss vs xs × Token (closer k) c xs ws)
 
-module _ (B : ℕ) where
+module _ (ed : Edition) (B : ℕ) where
   -- the greatest height of a list
-  pub greatest_fits : {A : Type 0} (tall : A → ℕ) (l : ℕ) (xs : List A) → l ≤ B + 1 → AllFit B tall l xs → l + greatest tall xs ≤ B + 1
+  pub greatest_fits : {A : Type 0} (tall : A → ℕ) (l : ℕ) (xs : List A) → l ≤ B + 1 → AllFit ed B tall l xs → l + greatest tall xs ≤ B + 1
   greatest_fits tall l [] low fit = omega (arith, low)
   greatest_fits tall l (x ∷ xs) low fit = omega (arith, fit.0, greatest_fits tall l xs low fit.1)
 
-  pub fits_greatest : {A : Type 0} (tall : A → ℕ) (l : ℕ) (xs : List A) → l + greatest tall xs ≤ B + 1 → AllFit B tall l xs
+  pub fits_greatest : {A : Type 0} (tall : A → ℕ) (l : ℕ) (xs : List A) → l + greatest tall xs ≤ B + 1 → AllFit ed B tall l xs
   fits_greatest tall l [] fit = tt
   fits_greatest tall l (x ∷ xs) fit = (omega (arith, fit), fits_greatest tall l xs (omega (arith, fit)))
 
   -- a group
   pub group_back : (k : ListKind) (next : List (Item k) → State) (single : (Item k → State) → State) (us : List Lexeme) (f : File) →
-      (Means B (single (λ s. next (s ∷ []))) us f →
-      (s : Item k) × (ws : List Lexeme) × IsItem k s us ws × (item_level k + item_height k s ≤ B + 1) × Means B (next (s ∷ [])) ws f) →
-      Means B (group k next single) us f → (ss : List (Item k)) × (ws : List Lexeme) × IsGroupOf k ss us ws × FitItems B k ss × Means B (next ss) ws f
+      (Means ed B (single (λ s. next (s ∷ []))) us f →
+      (s : Item k) × (ws : List Lexeme) × IsItem ed k s us ws × (item_level k + item_height k s ≤ B + 1) × Means ed B (next (s ∷ [])) ws f) →
+      Means ed B (group k next single) us f → (ss : List (Item k)) × (ws : List Lexeme) × IsGroupOf ed k ss us ws × FitItems ed B k ss × Means ed B (next ss) ws f
   group_back k next single us f alone (inl (o, vs, opens, need, (ss, c, xs, ws, are, fit, close, m))) = (ss, ws, inr (o, c, vs, xs, opens, are, close), fit, m)
   group_back k next single us f alone (inr m) = let a = alone m in (a.0 ∷ [], a.1, inl (a.0, refl, a.2), (a.3, tt), a.4)
 
   pub group_forth : (k : ListKind) (next : List (Item k) → State) (single : (Item k → State) → State) (ss : List (Item k)) (us ws : List Lexeme) (f : File) →
-      ((s : Item k) → IsItem k s us ws → item_level k + item_height k s ≤ B + 1 → Means B (next (s ∷ [])) ws f → Means B (single (λ s. next (s ∷ []))) us f) →
-      IsGroupOf k ss us ws → FitItems B k ss → Means B (next ss) ws f → Means B (group k next single) us f
+      ((s : Item k) → IsItem ed k s us ws → item_level k + item_height k s ≤ B + 1 → Means ed B (next (s ∷ [])) ws f → Means ed B (single (λ s. next (s ∷ []))) us f) →
+      IsGroupOf ed k ss us ws → FitItems ed B k ss → Means ed B (next ss) ws f → Means ed B (group k next single) us f
   group_forth k next single ss us ws f alone (inl (s, e, is)) fit m =
-      let one : FitItems B k (s ∷ []) = subst (FitItems B k) e fit in
-      inr (alone s is one.0 (subst (λ x. Means B (next x) ws f) e m))
+      let one : FitItems ed B k (s ∷ []) = subst (FitItems ed B k) e fit in
+      inr (alone s is one.0 (subst (λ x. Means ed B (next x) ws f) e m))
   group_forth k next single ss us ws f alone (inr (o, c, vs, xs, opens, are, close)) fit m =
       inl (o, vs, opens, omega arith, (ss, c, xs, ws, are, fit, close, m))
 
   pub group_good : (k : ListKind) (next : List (Item k) → State) (single : (Item k → State) → State) → item_level k ≤ B + 1 →
-      ((ss : List (Item k)) → FitItems B k ss → Good B (next ss)) → Okay B (single (λ s. next (s ∷ []))) →
+      ((ss : List (Item k)) → FitItems ed B k ss → Good ed B (next ss)) → Okay ed B (single (λ s. next (s ∷ []))) →
       begins (single (λ s. next (s ∷ []))) opening ≡ false →
-      Good B (group k next single)
+      Good ed B (group k next single)
   group_good k next single low good alone apart = (inl (omega arith), ((λ t e le. (tt, (low, tt, λ is c fit. good is fit))), alone, apart))
 
   -- constants
   pub behind_const_back : (l : ℕ) (next : Decl → State) (t : Lexeme) (us : List Lexeme) (f : File) → l ≤ B + 1 → t.kind ≡ kinds.Keyword keywords.Const →
-      Means B (behind_const l next t) us f →
-      (ss : List ConstSpec) × (ws : List Lexeme) × IsDecl (constants t.place ss) (t ∷ us) ws × (l + decl_height (constants t.place ss) ≤ B + 1)
-      × Means B (next (constants t.place ss)) ws f
+      Means ed B (behind_const l next t) us f →
+      (ss : List ConstSpec) × (ws : List Lexeme) × IsDecl ed (constants t.place ss) (t ∷ us) ws × (l + decl_height (constants t.place ss) ≤ B + 1)
+      × Means ed B (next (constants t.place ss)) ws f
   behind_const_back l next t us f low e m =
       let r = group_back (const_specs l) (λ ss. next (constants t.place ss)) (λ one. names 0 (const_rest l one)) us f
-      (const_spec_back B l (λ s. next (constants t.place (s ∷ []))) us f low) m in
+      (const_spec_back ed B l (λ s. next (constants t.place (s ∷ []))) us f low) m in
       (r.0, r.1, (t, us, record { whole = refl; is = e }, refl, r.2), greatest_fits const_height l r.0 low r.3, r.4)
 
   pub behind_const_forth : (l : ℕ) (next : Decl → State) (p : Place) (ss : List ConstSpec) (t : Lexeme) (us ws : List Lexeme) (f : File) →
-      IsDecl (constants p ss) (t ∷ us) ws → l + decl_height (constants p ss) ≤ B + 1 → Means B (next (constants p ss)) ws f →
-      (t.kind ≡ kinds.Keyword keywords.Const) × Means B (behind_const l next t) us f
+      IsDecl ed (constants p ss) (t ∷ us) ws → l + decl_height (constants p ss) ≤ B + 1 → Means ed B (next (constants p ss)) ws f →
+      (t.kind ≡ kinds.Keyword keywords.Const) × Means ed B (behind_const l next t) us f
   behind_const_forth l next p ss t us ws f d fit m =
       let h = first_is (kinds.Keyword keywords.Const) t d.0 us d.1 d.2 in
-      let m1 : Means B (next (constants t.place ss)) ws f =
-      subst (λ (x : Lexeme). Means B (next (constants x.place ss)) ws f) (sym h.0) (subst (λ x. Means B (next (constants x ss)) ws f) d.3 m) in (
+      let m1 : Means ed B (next (constants t.place ss)) ws f =
+      subst (λ (x : Lexeme). Means ed B (next (constants x.place ss)) ws f) (sym h.0) (subst (λ x. Means ed B (next (constants x ss)) ws f) d.3 m) in (
         h.2,
-        subst (λ x. Means B (behind_const l next t) x f) (sym h.1)
+        subst (λ x. Means ed B (behind_const l next t) x f) (sym h.1)
             (group_forth (const_specs l) (λ x. next (constants t.place x)) (λ one. names 0 (const_rest l one)) ss d.1 ws f
-            (λ s is fits n. const_spec_forth B l (λ x. next (constants t.place (x ∷ []))) s d.1 ws f is fits n) d.4 (fits_greatest const_height l ss fit) m1),
+            (λ s is fits n. const_spec_forth ed B l (λ x. next (constants t.place (x ∷ []))) s d.1 ws f is fits n) d.4 (fits_greatest const_height l ss fit) m1),
       )
 
-  pub behind_const_good : (l : ℕ) (next : Decl → State) (t : Lexeme) → l ≤ B + 1 → ((d : Decl) → l + decl_height d ≤ B + 1 → Good B (next d)) → EndsLine next →
-      Good B (behind_const l next t)
+  pub behind_const_good : (l : ℕ) (next : Decl → State) (t : Lexeme) → l ≤ B + 1 → ((d : Decl) → l + decl_height d ≤ B + 1 → Good ed B (next d)) → EndsLine next →
+      Good ed B (behind_const l next t)
   behind_const_good l next t low good ends =
       group_good (const_specs l) (λ ss. next (constants t.place ss)) (λ one. names 0 (const_rest l one)) low
       (λ ss fit. good (constants t.place ss) (greatest_fits const_height l ss low fit))
-      (const_spec_good B l (λ s. next (constants t.place (s ∷ []))) low
+      (const_spec_good ed B l (λ s. next (constants t.place (s ∷ []))) low
       (λ s fit. good (constants t.place (s ∷ [])) (greatest_fits const_height l (s ∷ []) low (fit, tt)))
       (λ s k b. ends (constants t.place (s ∷ [])) k b)) refl
 
   -- variables
   pub behind_var_back : (l : ℕ) (next : Decl → State) (t : Lexeme) (us : List Lexeme) (f : File) → l ≤ B + 1 → t.kind ≡ kinds.Keyword keywords.Var →
-      Means B (behind_var l next t) us f →
-      (ss : List VarSpec) × (ws : List Lexeme) × IsDecl (variables t.place ss) (t ∷ us) ws × (l + decl_height (variables t.place ss) ≤ B + 1)
-      × Means B (next (variables t.place ss)) ws f
+      Means ed B (behind_var l next t) us f →
+      (ss : List VarSpec) × (ws : List Lexeme) × IsDecl ed (variables t.place ss) (t ∷ us) ws × (l + decl_height (variables t.place ss) ≤ B + 1)
+      × Means ed B (next (variables t.place ss)) ws f
   behind_var_back l next t us f low e m =
       let r = group_back (var_specs l) (λ ss. next (variables t.place ss)) (λ one. names l (var_rest l one)) us f
-      (var_spec_back B l (λ s. next (variables t.place (s ∷ []))) us f) m in
+      (var_spec_back ed B l (λ s. next (variables t.place (s ∷ []))) us f) m in
       (r.0, r.1, (t, us, record { whole = refl; is = e }, refl, r.2), greatest_fits var_height l r.0 low r.3, r.4)
 
   pub behind_var_forth : (l : ℕ) (next : Decl → State) (p : Place) (ss : List VarSpec) (t : Lexeme) (us ws : List Lexeme) (f : File) →
-      IsDecl (variables p ss) (t ∷ us) ws → l + decl_height (variables p ss) ≤ B + 1 → Means B (next (variables p ss)) ws f →
-      (t.kind ≡ kinds.Keyword keywords.Var) × Means B (behind_var l next t) us f
+      IsDecl ed (variables p ss) (t ∷ us) ws → l + decl_height (variables p ss) ≤ B + 1 → Means ed B (next (variables p ss)) ws f →
+      (t.kind ≡ kinds.Keyword keywords.Var) × Means ed B (behind_var l next t) us f
   behind_var_forth l next p ss t us ws f d fit m =
       let h = first_is (kinds.Keyword keywords.Var) t d.0 us d.1 d.2 in
-      let m1 : Means B (next (variables t.place ss)) ws f =
-      subst (λ (x : Lexeme). Means B (next (variables x.place ss)) ws f) (sym h.0) (subst (λ x. Means B (next (variables x ss)) ws f) d.3 m) in (
+      let m1 : Means ed B (next (variables t.place ss)) ws f =
+      subst (λ (x : Lexeme). Means ed B (next (variables x.place ss)) ws f) (sym h.0) (subst (λ x. Means ed B (next (variables x ss)) ws f) d.3 m) in (
         h.2,
-        subst (λ x. Means B (behind_var l next t) x f) (sym h.1)
+        subst (λ x. Means ed B (behind_var l next t) x f) (sym h.1)
             (group_forth (var_specs l) (λ x. next (variables t.place x)) (λ one. names l (var_rest l one)) ss d.1 ws f
-            (λ s is fits n. var_spec_forth B l (λ x. next (variables t.place (x ∷ []))) s d.1 ws f is fits n) d.4 (fits_greatest var_height l ss fit) m1),
+            (λ s is fits n. var_spec_forth ed B l (λ x. next (variables t.place (x ∷ []))) s d.1 ws f is fits n) d.4 (fits_greatest var_height l ss fit) m1),
       )
 
-  pub behind_var_good : (l : ℕ) (next : Decl → State) (t : Lexeme) → l ≤ B + 1 → ((d : Decl) → l + decl_height d ≤ B + 1 → Good B (next d)) → EndsLine next →
-      Good B (behind_var l next t)
+  pub behind_var_good : (l : ℕ) (next : Decl → State) (t : Lexeme) → l ≤ B + 1 → ((d : Decl) → l + decl_height d ≤ B + 1 → Good ed B (next d)) → EndsLine next →
+      Good ed B (behind_var l next t)
   behind_var_good l next t low good ends =
       group_good (var_specs l) (λ ss. next (variables t.place ss)) (λ one. names l (var_rest l one)) low
       (λ ss fit. good (variables t.place ss) (greatest_fits var_height l ss low fit))
-      (var_spec_good B l (λ s. next (variables t.place (s ∷ [])))
+      (var_spec_good ed B l (λ s. next (variables t.place (s ∷ [])))
       (λ s fit. good (variables t.place (s ∷ [])) (greatest_fits var_height l (s ∷ []) low (fit, tt)))
       (λ s k b. ends (variables t.place (s ∷ [])) k b)) refl
 
   -- types
   pub behind_type_back : (l : ℕ) (next : Decl → State) (t : Lexeme) (us : List Lexeme) (f : File) → l ≤ B + 1 → t.kind ≡ kinds.Keyword keywords.Type →
-      Means B (behind_type l next t) us f →
-      (ss : List TypeSpec) × (ws : List Lexeme) × IsDecl (types t.place ss) (t ∷ us) ws × (l + decl_height (types t.place ss) ≤ B + 1)
-      × Means B (next (types t.place ss)) ws f
+      Means ed B (behind_type l next t) us f →
+      (ss : List TypeSpec) × (ws : List Lexeme) × IsDecl ed (types t.place ss) (t ∷ us) ws × (l + decl_height (types t.place ss) ≤ B + 1)
+      × Means ed B (next (types t.place ss)) ws f
   behind_type_back l next t us f low e m =
       let r = group_back (type_specs l) (λ ss. next (types t.place ss)) (λ one. token kinds.Name l another (type_rest l one)) us f
-      (type_spec_back B l (λ s. next (types t.place (s ∷ []))) us f) m in
+      (type_spec_back ed B l (λ s. next (types t.place (s ∷ []))) us f) m in
       (r.0, r.1, (t, us, record { whole = refl; is = e }, refl, r.2), greatest_fits type_spec_height l r.0 low r.3, r.4)
 
   pub behind_type_forth : (l : ℕ) (next : Decl → State) (p : Place) (ss : List TypeSpec) (t : Lexeme) (us ws : List Lexeme) (f : File) →
-      IsDecl (types p ss) (t ∷ us) ws → l + decl_height (types p ss) ≤ B + 1 → Means B (next (types p ss)) ws f →
-      (t.kind ≡ kinds.Keyword keywords.Type) × Means B (behind_type l next t) us f
+      IsDecl ed (types p ss) (t ∷ us) ws → l + decl_height (types p ss) ≤ B + 1 → Means ed B (next (types p ss)) ws f →
+      (t.kind ≡ kinds.Keyword keywords.Type) × Means ed B (behind_type l next t) us f
   behind_type_forth l next p ss t us ws f d fit m =
       let h = first_is (kinds.Keyword keywords.Type) t d.0 us d.1 d.2 in
-      let m1 : Means B (next (types t.place ss)) ws f =
-      subst (λ (x : Lexeme). Means B (next (types x.place ss)) ws f) (sym h.0) (subst (λ x. Means B (next (types x ss)) ws f) d.3 m) in (
+      let m1 : Means ed B (next (types t.place ss)) ws f =
+      subst (λ (x : Lexeme). Means ed B (next (types x.place ss)) ws f) (sym h.0) (subst (λ x. Means ed B (next (types x ss)) ws f) d.3 m) in (
         h.2,
-        subst (λ x. Means B (behind_type l next t) x f) (sym h.1)
+        subst (λ x. Means ed B (behind_type l next t) x f) (sym h.1)
             (group_forth (type_specs l) (λ x. next (types t.place x)) (λ one. token kinds.Name l another (type_rest l one)) ss d.1 ws f
-            (λ s is fits n. type_spec_forth B l (λ x. next (types t.place (x ∷ []))) s d.1 ws f is fits n) d.4 (fits_greatest type_spec_height l ss fit) m1),
+            (λ s is fits n. type_spec_forth ed B l (λ x. next (types t.place (x ∷ []))) s d.1 ws f is fits n) d.4 (fits_greatest type_spec_height l ss fit) m1),
       )
 
-  pub behind_type_good : (l : ℕ) (next : Decl → State) (t : Lexeme) → l ≤ B + 1 → ((d : Decl) → l + decl_height d ≤ B + 1 → Good B (next d)) → EndsLine next →
-      Good B (behind_type l next t)
+  pub behind_type_good : (l : ℕ) (next : Decl → State) (t : Lexeme) → l ≤ B + 1 → ((d : Decl) → l + decl_height d ≤ B + 1 → Good ed B (next d)) → EndsLine next →
+      Good ed B (behind_type l next t)
   behind_type_good l next t low good ends =
       group_good (type_specs l) (λ ss. next (types t.place ss)) (λ one. token kinds.Name l another (type_rest l one)) low
       (λ ss fit. good (types t.place ss) (greatest_fits type_spec_height l ss low fit))
-      (type_spec_good B l (λ s. next (types t.place (s ∷ [])))
+      (type_spec_good ed B l (λ s. next (types t.place (s ∷ [])))
       (λ s fit. good (types t.place (s ∷ [])) (greatest_fits type_spec_height l (s ∷ []) low (fit, tt)))
       (λ s k b. ends (types t.place (s ∷ [])) k b)) refl
 
   -- behind an item of a list that is good stands one
   pub item_good : (k : ListKind) (x : Expected) (front : List (Item k)) (next : List (Item k) → Lexeme → State) (i : Item k) →
-      Okay B (list_start k front next) →
-      item_level k + item_height k i ≤ B + 1 → Good B (list_end k x (front ++ i ∷ []) next)
-  item_good k x front next i ok fit = (tt, (ok.0, all_fit_append B (item_height k) (item_level k) front (i ∷ []) ok.1 (fit, tt), ok.2))
+      Okay ed B (list_start k front next) →
+      item_level k + item_height k i ≤ B + 1 → Good ed B (list_end k x (front ++ i ∷ []) next)
+  item_good k x front next i ok fit = (tt, (ok.0, all_fit_append ed B (item_height k) (item_level k) front (i ∷ []) ok.1 (fit, tt), ok.2))
 
   -- what is due behind an item, and behind a parameter's first name
   abbrev after_item : (k : ListKind) → List (Item k) → (List (Item k) → Lexeme → State) → Item k → State
@@ -170,72 +171,72 @@ module _ (B : ℕ) where
   behind_parameter_name next n = more_names (name_of n ∷ []) (λ ns. type 1 a_parameter_type (λ a. next (record { names = ns; type = a })))
 
   -- the items of groups, and parameters
-  pub const_items : (l : ℕ) → Items B (const_specs l)
+  pub const_items : (l : ℕ) → Items ed B (const_specs l)
   const_items l =
       record {
         back = λ front next t us f low a.
-            const_spec_back B l (after_item (const_specs l) front next) (t ∷ us) f low
-            (token_back B kinds.Name 0 another (λ n. more_names (name_of n ∷ []) (const_rest l (after_item (const_specs l) front next))) t us f a);
+            const_spec_back ed B l (after_item (const_specs l) front next) (t ∷ us) f low
+            (token_back ed B kinds.Name 0 another (λ n. more_names (name_of n ∷ []) (const_rest l (after_item (const_specs l) front next))) t us f a);
         forth = λ front next t us f i vs d fit m.
-            token_forth B kinds.Name 0 another
+            token_forth ed B kinds.Name 0 another
             (λ n. more_names (name_of n ∷ []) (const_rest l (after_item (const_specs l) front next))) t us f
-            (const_spec_forth B l (after_item (const_specs l) front next) i (t ∷ us) vs f d fit m);
+            (const_spec_forth ed B l (after_item (const_specs l) front next) i (t ∷ us) vs f d fit m);
         kept = λ front next t ok.
-            token_kept B kinds.Name 0 another (λ n. more_names (name_of n ∷ []) (const_rest l (after_item (const_specs l) front next))) t
-            (const_spec_good B l (after_item (const_specs l) front next) ok.0 (λ s fit. item_good (const_specs l) another front next s ok fit)
+            token_kept ed B kinds.Name 0 another (λ n. more_names (name_of n ∷ []) (const_rest l (after_item (const_specs l) front next))) t
+            (const_spec_good ed B l (after_item (const_specs l) front next) ok.0 (λ s fit. item_good (const_specs l) another front next s ok fit)
             (λ s k e. group_line k e));
         first = λ i t us vs d. names_first i.names t us d.0 d.1;
         never = λ i vs d. names_never i.names d.0 d.1;
       }
 
-  pub var_items : (l : ℕ) → Items B (var_specs l)
+  pub var_items : (l : ℕ) → Items ed B (var_specs l)
   var_items l =
       record {
         back = λ front next t us f low a.
-            var_spec_back B l (after_item (var_specs l) front next) (t ∷ us) f
-            (token_back B kinds.Name l another (λ n. more_names (name_of n ∷ []) (var_rest l (after_item (var_specs l) front next))) t us f a);
+            var_spec_back ed B l (after_item (var_specs l) front next) (t ∷ us) f
+            (token_back ed B kinds.Name l another (λ n. more_names (name_of n ∷ []) (var_rest l (after_item (var_specs l) front next))) t us f a);
         forth = λ front next t us f i vs d fit m.
-            token_forth B kinds.Name l another
+            token_forth ed B kinds.Name l another
             (λ n. more_names (name_of n ∷ []) (var_rest l (after_item (var_specs l) front next))) t us f
-            (var_spec_forth B l (after_item (var_specs l) front next) i (t ∷ us) vs f d fit m);
+            (var_spec_forth ed B l (after_item (var_specs l) front next) i (t ∷ us) vs f d fit m);
         kept = λ front next t ok.
-            token_kept B kinds.Name l another (λ n. more_names (name_of n ∷ []) (var_rest l (after_item (var_specs l) front next))) t
-            (var_spec_good B l (after_item (var_specs l) front next) (λ s fit. item_good (var_specs l) another front next s ok fit) (λ s k e. group_line k e));
+            token_kept ed B kinds.Name l another (λ n. more_names (name_of n ∷ []) (var_rest l (after_item (var_specs l) front next))) t
+            (var_spec_good ed B l (after_item (var_specs l) front next) (λ s fit. item_good (var_specs l) another front next s ok fit) (λ s k e. group_line k e));
         first = λ i t us vs d. names_first i.names t us d.0 d.1;
         never = λ i vs d. names_never i.names d.0 d.1;
       }
 
-  pub type_items : (l : ℕ) → Items B (type_specs l)
+  pub type_items : (l : ℕ) → Items ed B (type_specs l)
   type_items l =
       record {
         back = λ front next t us f low a.
-            type_spec_back B l (after_item (type_specs l) front next) (t ∷ us) f
-            (token_back B kinds.Name l another (type_rest l (after_item (type_specs l) front next)) t us f a);
+            type_spec_back ed B l (after_item (type_specs l) front next) (t ∷ us) f
+            (token_back ed B kinds.Name l another (type_rest l (after_item (type_specs l) front next)) t us f a);
         forth = λ front next t us f i vs d fit m.
-            token_forth B kinds.Name l another (type_rest l (after_item (type_specs l) front next)) t us f
-            (type_spec_forth B l (after_item (type_specs l) front next) i (t ∷ us) vs f d fit m);
+            token_forth ed B kinds.Name l another (type_rest l (after_item (type_specs l) front next)) t us f
+            (type_spec_forth ed B l (after_item (type_specs l) front next) i (t ∷ us) vs f d fit m);
         kept = λ front next t ok.
-            token_kept B kinds.Name l another (type_rest l (after_item (type_specs l) front next)) t
-            (type_spec_good B l (after_item (type_specs l) front next) (λ s fit. item_good (type_specs l) another front next s ok fit)
+            token_kept ed B kinds.Name l another (type_rest l (after_item (type_specs l) front next)) t
+            (type_spec_good ed B l (after_item (type_specs l) front next) (λ s fit. item_good (type_specs l) another front next s ok fit)
             (λ s k e. group_line k e));
         first = λ i t us vs d. same_here kinds.Name t d.0 us d.1 d.2;
         never = λ i vs d. no_token kinds.Name d.0 d.1 d.2;
       }
 
-  pub parameter_items : Items B parameters
+  pub parameter_items : Items ed B parameters
   parameter_items =
       record {
         back = λ front next t us f low a.
-            parameter_back B (after_item parameters front next) (t ∷ us) f
-            (token_back B kinds.Name 1 another (behind_parameter_name (after_item parameters front next)) t us f a);
+            parameter_back ed B (after_item parameters front next) (t ∷ us) f
+            (token_back ed B kinds.Name 1 another (behind_parameter_name (after_item parameters front next)) t us f a);
         forth = λ front next t us f i vs d fit m.
-            token_forth B kinds.Name 1 another
+            token_forth ed B kinds.Name 1 another
             (behind_parameter_name (after_item parameters front next)) t us f
-            (parameter_forth B (after_item parameters front next) i (t ∷ us) vs f d fit m);
+            (parameter_forth ed B (after_item parameters front next) i (t ∷ us) vs f d fit m);
         kept = λ front next t ok.
-            token_kept B kinds.Name 1 another
+            token_kept ed B kinds.Name 1 another
             (behind_parameter_name (after_item parameters front next)) t
-            (parameter_good B (after_item parameters front next) (λ p fit. item_good parameters another front next p ok fit) (λ p. refl));
+            (parameter_good ed B (after_item parameters front next) (λ p fit. item_good parameters another front next p ok fit) (λ p. refl));
         first = λ i t us vs d. names_first i.names t us d.0 d.1;
         never = λ i vs d. names_never i.names d.0 d.1;
       }
@@ -250,21 +251,21 @@ module _ (B : ℕ) where
   abbrev plain_import : List ImportSpec → (List ImportSpec → Lexeme → State) → Lexeme → State
   plain_import front next t = behind_import front next (import_of None t.place t)
 
-  pub import_items : Items B import_specs
+  pub import_items : Items ed B import_specs
   import_items =
       record {
         back = λ front next t us f low a.
-            import_spec_back B (behind_import front next) (t ∷ us) f
-            (optional_back B kinds.Name 0 (named_import front next) (import_path an_import (plain_import front next)) t us f
-            (import_path_back B an_import (plain_import front next) t us f) a);
+            import_spec_back ed B (behind_import front next) (t ∷ us) f
+            (optional_back ed B kinds.Name 0 (named_import front next) (import_path an_import (plain_import front next)) t us f
+            (import_path_back ed B an_import (plain_import front next) t us f) a);
         forth = λ front next t us f i vs d fit m.
-            optional_forth B kinds.Name 0 (named_import front next) (import_path an_import (plain_import front next)) t us f
-            (import_path_forth B an_import (plain_import front next) t us f) (import_path_first B an_import (plain_import front next) t us f) refl
-            (import_spec_forth B (behind_import front next) i (t ∷ us) vs f d m);
+            optional_forth ed B kinds.Name 0 (named_import front next) (import_path an_import (plain_import front next)) t us f
+            (import_path_forth ed B an_import (plain_import front next) t us f) (import_path_first ed B an_import (plain_import front next) t us f) refl
+            (import_spec_forth ed B (behind_import front next) i (t ∷ us) vs f d m);
         kept = λ front next t ok.
-            let good = import_spec_good B (behind_import front next) (λ i. item_good import_specs another front next i ok (omega arith)) in
-            optional_kept B kinds.Name 0 (named_import front next) (import_path an_import (plain_import front next)) t good
-            (import_path_kept B an_import (plain_import front next) t good.1);
+            let good = import_spec_good ed B (behind_import front next) (λ i. item_good import_specs another front next i ok (omega arith)) in
+            optional_kept ed B kinds.Name 0 (named_import front next) (import_path an_import (plain_import front next)) t good
+            (import_path_kept ed B an_import (plain_import front next) t good.1);
         first = λ i t us vs d. import_first i t us d.0 d.1 d.2 vs d.3 d.4;
         never = λ i vs d. import_never i d.0 d.1 d.2 vs d.3 d.4;
       }

@@ -1,5 +1,6 @@
 -- Functions: what is taken for them is what the grammar says, both ways.
 use Rattle.std.proofs.Common.{◌≡◌, ℕ, ◌+◌, ◌≤◌, inl, inr, true, false, ◌||◌, List, [], ◌∷◌, refl, sym, ap, ◌∙◌, subst, arith}
+use Rattle.go_text.specs.declared.edition.Edition.{Edition}
 use Rattle.go_text.specs.declared.place.Place.{Place}
 use Rattle.go_scan.specs.declared.token.TokenKind.{TokenKind}
 use Rattle.go_scan.specs.declared.token.TokenKind.TheVariants as kinds
@@ -22,25 +23,25 @@ use Rattle.go_ast.proofs.Blocks.{block_back, block_forth, block_good}
 brace_no_type : (k : TokenKind) → same opening_brace k ≡ true → (begins_type k || is_left_out_at a_type k) ≡ false
 brace_no_type k e = subst (λ j. (begins_type j || is_left_out_at a_type j) ≡ false) (sym (are_same opening_brace k e)) refl
 
-module _ (B : ℕ) where
+module _ (ed : Edition) (B : ℕ) where
   -- results
-  pub results_back : (next : List TypeExpr → State) (us : List Lexeme) (f : File) → Means B (results_at next) us f →
-      (rs : List TypeExpr) × (ws : List Lexeme) × AreResults rs us ws × AllFit B type_height 1 rs × Means B (next rs) ws f
+  pub results_back : (next : List TypeExpr → State) (us : List Lexeme) (f : File) → Means ed B (results_at next) us f →
+      (rs : List TypeExpr) × (ws : List Lexeme) × AreResults ed rs us ws × AllFit ed B type_height 1 rs × Means ed B (next rs) ws f
   results_back next us f (inl (o, vs, opens, le, (rs, c, xs, ws, are, fit, close, m))) = (rs, ws, inr (inr (o, c, vs, xs, opens, are, close)), fit, m)
   results_back next us f (inr (inl (a, ws, is, fit, m))) = (a ∷ [], ws, inr (inl (a, refl, is)), (fit, tt), m)
   results_back next us f (inr (inr m)) = ([], us, inl (refl, refl), tt, m)
 
-  pub results_forth : (next : List TypeExpr → State) (rs : List TypeExpr) (us ws : List Lexeme) (f : File) → AreResults rs us ws → AllFit B type_height 1 rs →
-      Means B (next rs) ws f →
-      Means B (results_at next) us f
-  results_forth next rs us ws f (inl (e, q)) fit m = inr (inr (subst (λ x. Means B (next []) x f) (sym q) (subst (λ x. Means B (next x) ws f) e m)))
+  pub results_forth : (next : List TypeExpr → State) (rs : List TypeExpr) (us ws : List Lexeme) (f : File) → AreResults ed rs us ws → AllFit ed B type_height 1 rs →
+      Means ed B (next rs) ws f →
+      Means ed B (results_at next) us f
+  results_forth next rs us ws f (inl (e, q)) fit m = inr (inr (subst (λ x. Means ed B (next []) x f) (sym q) (subst (λ x. Means ed B (next x) ws f) e m)))
   results_forth next rs us ws f (inr (inl (a, e, is))) fit m =
-      let one : AllFit B type_height 1 (a ∷ []) = subst (AllFit B type_height 1) e fit in
-      inr (inl (a, ws, is, one.0, subst (λ x. Means B (next x) ws f) e m))
+      let one : AllFit ed B type_height 1 (a ∷ []) = subst (AllFit ed B type_height 1) e fit in
+      inr (inl (a, ws, is, one.0, subst (λ x. Means ed B (next x) ws f) e m))
   results_forth next rs us ws f (inr (inr (o, c, vs, xs, opens, are, close))) fit m = inl (o, vs, opens, omega arith, (rs, c, xs, ws, are, fit, close, m))
 
-  pub results_good : (next : List TypeExpr → State) → ((rs : List TypeExpr) → AllFit B type_height 1 rs → Good B (next rs)) →
-      ((rs : List TypeExpr) (k : TokenKind) → begins (next rs) k ≡ true → same opening_brace k ≡ true) → Good B (results_at next)
+  pub results_good : (next : List TypeExpr → State) → ((rs : List TypeExpr) → AllFit ed B type_height 1 rs → Good ed B (next rs)) →
+      ((rs : List TypeExpr) (k : TokenKind) → begins (next rs) k ≡ true → same opening_brace k ≡ true) → Good ed B (results_at next)
   results_good next good brace = (
     inl (omega arith),
     (
@@ -59,17 +60,17 @@ module _ (B : ℕ) where
   abbrev function_made : Place → Lexeme → List Parameter → List TypeExpr → Block → Function
   function_made p n ps rs b = record { place = p; name = name_of n; parameters = ps; results = rs; body = b }
 
-  function_fits : (f : Function) → AllFit B parameter_height 1 f.parameters → AllFit B type_height 1 f.results → 1 + block_height f.body ≤ B + 1 →
+  function_fits : (f : Function) → AllFit ed B parameter_height 1 f.parameters → AllFit ed B type_height 1 f.results → 1 + block_height f.body ≤ B + 1 →
       1 + function_height f ≤ B + 1
   function_fits f ps rs b =
-      omega (arith, greatest_fits B parameter_height 1 f.parameters (omega arith) ps, greatest_fits B type_height 1 f.results (omega arith) rs, b)
+      omega (arith, greatest_fits ed B parameter_height 1 f.parameters (omega arith) ps, greatest_fits ed B type_height 1 f.results (omega arith) rs, b)
 
   pub behind_func_back : (next : Function → State) (t : Lexeme) (us : List Lexeme) (f : File) → t.kind ≡ kinds.Keyword keywords.Func →
-      Means B (behind_func next t) us f →
-      (g : Function) × (ws : List Lexeme) × IsFunction g (t ∷ us) ws × (1 + function_height g ≤ B + 1) × Means B (next g) ws f
+      Means ed B (behind_func next t) us f →
+      (g : Function) × (ws : List Lexeme) × IsFunction ed g (t ∷ us) ws × (1 + function_height g ≤ B + 1) × Means ed B (next g) ws f
   behind_func_back next t us f e (n, xs, named, low, (o, ys, opens, low', (ps, c, zs, zs', are, fit, close, m))) =
       let r = results_back (λ rs. block_at 1 (λ b. next (function_made t.place n ps rs b))) zs' f m in
-      let b = block_back B 1 (λ b. next (function_made t.place n ps r.0 b)) r.1 f r.4 in (
+      let b = block_back ed B 1 (λ b. next (function_made t.place n ps r.0 b)) r.1 f r.4 in (
         function_made t.place n ps r.0 b.0,
         b.1,
         (t, n, o, c, us, xs, ys, zs, zs', r.1, record { whole = refl; is = e }, refl, named, refl, opens, are, close, r.2, b.2),
@@ -82,26 +83,26 @@ module _ (B : ℕ) where
       ap (λ x. record { place = x; name = g.name; parameters = g.parameters; results = g.results; body = g.body }) a
       ∙ ap (λ x. record { place = p; name = x; parameters = g.parameters; results = g.results; body = g.body }) b
 
-  pub behind_func_forth : (next : Function → State) (g : Function) (t : Lexeme) (us ws : List Lexeme) (f : File) → IsFunction g (t ∷ us) ws →
+  pub behind_func_forth : (next : Function → State) (g : Function) (t : Lexeme) (us ws : List Lexeme) (f : File) → IsFunction ed g (t ∷ us) ws →
       1 + function_height g ≤ B + 1 →
-      Means B (next g) ws f → (t.kind ≡ kinds.Keyword keywords.Func) × Means B (behind_func next t) us f
+      Means ed B (next g) ws f → (t.kind ≡ kinds.Keyword keywords.Func) × Means ed B (behind_func next t) us f
   behind_func_forth next g t us ws f d fit m =
       let h = first_is (kinds.Keyword keywords.Func) t d.0 us d.4 d.10 in
       let all : g ≡ function_made t.place d.1 g.parameters g.results g.body =
       function_same g t.place d.1 (d.11 ∙ ap (λ (x : Lexeme). x.place) (sym h.0)) d.13 in
-      let ps : AllFit B parameter_height 1 g.parameters = fits_greatest B parameter_height 1 g.parameters (omega (arith, fit)) in
-      let rs : AllFit B type_height 1 g.results = fits_greatest B type_height 1 g.results (omega (arith, fit)) in
-      let b : Means B (block_at 1 (λ b. next (function_made t.place d.1 g.parameters g.results b))) d.9 f =
-      block_forth B 1 (λ b. next (function_made t.place d.1 g.parameters g.results b)) g.body d.9 ws f d.18 (omega (arith, fit))
-      (subst (λ x. Means B (next x) ws f) all m) in
+      let ps : AllFit ed B parameter_height 1 g.parameters = fits_greatest ed B parameter_height 1 g.parameters (omega (arith, fit)) in
+      let rs : AllFit ed B type_height 1 g.results = fits_greatest ed B type_height 1 g.results (omega (arith, fit)) in
+      let b : Means ed B (block_at 1 (λ b. next (function_made t.place d.1 g.parameters g.results b))) d.9 f =
+      block_forth ed B 1 (λ b. next (function_made t.place d.1 g.parameters g.results b)) g.body d.9 ws f d.18 (omega (arith, fit))
+      (subst (λ x. Means ed B (next x) ws f) all m) in
       let r = results_forth (λ rs. block_at 1 (λ b. next (function_made t.place d.1 g.parameters rs b))) g.results d.8 d.9 f d.17 rs b in (
         h.2,
-        subst (λ x. Means B (behind_func next t) x f) (sym h.1)
+        subst (λ x. Means ed B (behind_func next t) x f) (sym h.1)
             (d.1, d.5, d.12, omega arith, (d.2, d.6, d.14, omega arith, (g.parameters, d.3, d.7, d.8, d.15, ps, d.16, r))),
       )
 
-  pub behind_func_good : (next : Function → State) (t : Lexeme) → 1 ≤ B → ((g : Function) → 1 + function_height g ≤ B + 1 → Good B (next g)) →
-      Good B (behind_func next t)
+  pub behind_func_good : (next : Function → State) (t : Lexeme) → 1 ≤ B → ((g : Function) → 1 + function_height g ≤ B + 1 → Good ed B (next g)) →
+      Good ed B (behind_func next t)
   behind_func_good next t one good = (
     omega arith,
     λ n e le. (
@@ -113,7 +114,7 @@ module _ (B : ℕ) where
           tt,
           λ ps c fit.
               results_good (λ rs. block_at 1 (λ b. next (function_made t.place n ps rs b)))
-              (λ rs fits. block_good B 1 (λ b. next (function_made t.place n ps rs b)) one
+              (λ rs fits. block_good ed B 1 (λ b. next (function_made t.place n ps rs b)) one
               (λ b low. good (function_made t.place n ps rs b) (function_fits (function_made t.place n ps rs b) fit fits low)))
               (λ rs k b. b),
         ),

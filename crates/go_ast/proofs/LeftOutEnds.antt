@@ -1,5 +1,6 @@
 -- The ends of elements and of results, by what may come behind a comma.
 use Rattle.std.proofs.Common.{◌≡◌, inl, inr, Bool, true, false, List, [], ◌∷◌, refl, sym, ap, ◌∙◌}
+use Rattle.go_text.specs.declared.edition.Edition.{Edition}
 use Rattle.go_text.specs.declared.place.Place.{Place}
 use Rattle.go_scan.specs.declared.token.TokenKind.{TokenKind}
 use Rattle.go_scan.specs.declared.keyword.Keyword.TheVariants as keywords
@@ -14,28 +15,29 @@ use Rattle.go_ast.proofs.LeftOutCommas.{is_keyed, IsTest, Comma, commas}
 pub nowhere : Place
 nowhere = record { line = 0; column = 0 }
 
-pub token_off : (T : Expected → Bool) → T another ≡ false → T an_index_end ≡ false → T a_selected_name ≡ false → T a_function_name ≡ false →
-    T a_function_opening ≡ false → (x : Expected) (p : Last) (kind : TokenKind) (next : Lexeme → State) → TokenOk p kind x next → T x ≡ false
-token_off T a b c d e another p kind next h = a
-token_off T a b c d e an_index_end p kind next h = b
-token_off T a b c d e a_selected_name p kind next h = c
-token_off T a b c d e a_function_name p kind next h = d
-token_off T a b c d e a_function_opening p kind next h = e
-token_off T a b c d e _ p kind next h = absurd h
+pub token_off : (ed : Edition) → (T : Expected → Bool) → T another ≡ false → T an_index_end ≡ false → T a_selected_name ≡ false → T a_function_name ≡ false →
+    T a_function_opening ≡ false → (x : Expected) (p : Last) (kind : TokenKind) (next : Lexeme → State) → TokenOk ed p kind x next → T x ≡ false
+token_off ed T a b c d e another p kind next h = a
+token_off ed T a b c d e an_index_end p kind next h = b
+token_off ed T a b c d e a_selected_name p kind next h = c
+token_off ed T a b c d e a_function_name p kind next h = d
+token_off ed T a b c d e a_function_opening p kind next h = e
+token_off ed T a b c d e _ p kind next h = absurd h
 
 abbrev pub is_element_end : Expected → Bool
 is_element_end an_element_end = true
 is_element_end _ = false
 
-pub element_test : IsTest is_element_end colon
-element_test =
+pub element_test : (ed : Edition) → IsTest ed is_element_end colon
+element_test ed =
     record {
-      token_off = token_off is_element_end refl refl refl refl refl;
+      token_off = token_off ed is_element_end refl refl refl refl refl;
       other_off = refl;
       operand_off = refl;
       value_off = refl;
       length_off = refl;
       index_off = refl;
+      index_end_off = refl;
       type_is_off = refl;
       declared_off = refl;
       parameter_off = refl;
@@ -48,29 +50,29 @@ element_test =
       no_operand = refl;
     }
 
-abbrev pub ElementComma : Last → State → Type 0
-ElementComma p s = Comma is_element_end colon opening_brace [] true element_test p s
+abbrev pub ElementComma : (ed : Edition) → Last → State → Type 0
+ElementComma ed p s = Comma ed is_element_end colon opening_brace [] true (element_test ed) p s
 
-element_list : (s : ListKind) (x : Expected) (p : Last) (front : List (Item s)) (next : List (Item s) → Lexeme → State) → EndOk s x p →
-    ElementComma p (list_end s x front next)
-element_list (fields l) a_field_end p front next h = ((λ q. absurd (false_true q)), λ g. absurd g.2)
-element_list (elements l) an_element_end p front next h = ((λ q. ([], nowhere, ([], nowhere, tt))), λ g. inl refl)
-element_list (elements l) another p front next h = ((λ q. absurd (false_true q)), λ g. inr (refl, inr (ap is_keyed h)))
-element_list (statements l) behind_a_jump p front next h = ((λ q. absurd (false_true q)), λ g. absurd g.2)
-element_list (statements l) another p front next h = ((λ q. absurd (false_true q)), λ g. absurd g.2)
-element_list results a_result_end p front next h = ((λ q. absurd (false_true q)), λ g. absurd g.2.2)
-element_list (arguments l) another p front next h = ((λ q. absurd (false_true q)), λ g. absurd g.2.2)
-element_list (const_specs l) another p front next h = ((λ q. absurd (false_true q)), λ g. absurd g.2)
-element_list (var_specs l) another p front next h = ((λ q. absurd (false_true q)), λ g. absurd g.2)
-element_list (type_specs l) another p front next h = ((λ q. absurd (false_true q)), λ g. absurd g.2)
-element_list import_specs another p front next h = ((λ q. absurd (false_true q)), λ g. absurd g.2)
-element_list parameters another p front next h = ((λ q. absurd (false_true q)), λ g. absurd g.2.2)
-element_list _ _ p front next h = absurd h
+element_list : (ed : Edition) → (s : ListKind) (x : Expected) (p : Last) (front : List (Item s)) (next : List (Item s) → Lexeme → State) → EndOk s x p →
+    ElementComma ed p (list_end s x front next)
+element_list ed (fields l) a_field_end p front next h = ((λ q. absurd (false_true q)), λ g. absurd g.2)
+element_list ed (elements l) an_element_end p front next h = ((λ q. ([], nowhere, ([], nowhere, tt))), λ g. inl refl)
+element_list ed (elements l) another p front next h = ((λ q. absurd (false_true q)), λ g. inr (refl, inr (ap is_keyed h)))
+element_list ed (statements l) behind_a_jump p front next h = ((λ q. absurd (false_true q)), λ g. absurd g.2)
+element_list ed (statements l) another p front next h = ((λ q. absurd (false_true q)), λ g. absurd g.2)
+element_list ed results a_result_end p front next h = ((λ q. absurd (false_true q)), λ g. absurd g.2.2)
+element_list ed (arguments l) another p front next h = ((λ q. absurd (false_true q)), λ g. absurd g.2.2)
+element_list ed (const_specs l) another p front next h = ((λ q. absurd (false_true q)), λ g. absurd g.2)
+element_list ed (var_specs l) another p front next h = ((λ q. absurd (false_true q)), λ g. absurd g.2)
+element_list ed (type_specs l) another p front next h = ((λ q. absurd (false_true q)), λ g. absurd g.2)
+element_list ed import_specs another p front next h = ((λ q. absurd (false_true q)), λ g. absurd g.2)
+element_list ed parameters another p front next h = ((λ q. absurd (false_true q)), λ g. absurd g.2.2)
+element_list ed _ _ p front next h = absurd h
 
 -- behind an element, and only there, a comma and a brace may come
-pub element : (s : State) (p : Last) → Right s p → ElementComma p s
-element s p r =
-    commas is_element_end colon opening_brace [] true element_test (λ h l next g. g.2) (λ need next g. g.2) (λ s q f g. f g) element_list s p r
+pub element : (ed : Edition) → (s : State) (p : Last) → Right ed s p → ElementComma ed p s
+element ed s p r =
+    commas ed is_element_end colon opening_brace [] true (element_test ed) (λ h l next g. g.2) (λ need next g. g.2) (λ s q f g. f g) (element_list ed) s p r
 
 abbrev pub is_result : Expected → Bool
 is_result a_result_end = true
@@ -79,16 +81,17 @@ is_result _ = false
 abbrev pub behind_result : List TokenKind
 behind_result = opening_brace ∷ closing_brace ∷ closing ∷ []
 
-module _ (k : TokenKind) (type_off : is_left_out_at a_type k ≡ false) (operand_off : is_left_out_at an_operand k ≡ false) where
-  pub result_test : IsTest is_result k
+module _ (ed : Edition) (k : TokenKind) (type_off : is_left_out_at a_type k ≡ false) (operand_off : is_left_out_at an_operand k ≡ false) where
+  pub result_test : IsTest ed is_result k
   result_test =
       record {
-        token_off = token_off is_result refl refl refl refl refl;
+        token_off = token_off ed is_result refl refl refl refl refl;
         other_off = refl;
         operand_off = refl;
         value_off = refl;
         length_off = refl;
         index_off = refl;
+        index_end_off = refl;
         type_is_off = refl;
         declared_off = refl;
         parameter_off = refl;
@@ -102,7 +105,7 @@ module _ (k : TokenKind) (type_off : is_left_out_at a_type k ≡ false) (operand
       }
 
   abbrev pub ResultComma : Last → State → Type 0
-  ResultComma p s = Comma is_result k (keyword keywords.Struct) behind_result false result_test p s
+  ResultComma p s = Comma ed is_result k (keyword keywords.Struct) behind_result false result_test p s
 
   result_list : (s : ListKind) (x : Expected) (p : Last) (front : List (Item s)) (next : List (Item s) → Lexeme → State) → EndOk s x p →
       ResultComma p (list_end s x front next)
@@ -122,7 +125,7 @@ module _ (k : TokenKind) (type_off : is_left_out_at a_type k ≡ false) (operand
   result_list _ _ p front next h = absurd h
 
   -- behind a result in parentheses, and only there, a comma, an empty struct and the parenthesis may come
-  pub result : (s : State) (p : Last) → Right s p → ResultComma p s
+  pub result : (s : State) (p : Last) → Right ed s p → ResultComma p s
   result s p r =
-      commas is_result k (keyword keywords.Struct) behind_result false result_test (λ h l next g. g.2.2.2.2) (λ need next g. g.2)
-      (λ s q f g. false_true (sym q ∙ goes_starts (keyword keywords.Struct) behind_result s refl g)) result_list s p r
+      commas ed is_result k (keyword keywords.Struct) behind_result false result_test (λ h l next g. g.2.2.2.2) (λ need next g. g.2)
+      (λ s q f g. false_true (sym q ∙ goes_starts ed (keyword keywords.Struct) behind_result s refl g)) result_list s p r

@@ -1,14 +1,15 @@
 -- What is known of the tokens so far, and what the last one was where a label tells it.
 use Rattle.std.proofs.Common.{◌≡◌, ◌⊎◌, inl, inr, Bool, true, false, List, [], ◌∷◌, ◌++◌, refl, sym, ap, ◌∙◌, subst, append_assoc}
+use Rattle.go_text.specs.declared.edition.Edition.{Edition}
 use Rattle.go_scan.specs.declared.token.TokenKind.{TokenKind}
 use Rattle.go_scan.specs.declared.token.TokenKind.TheVariants as kinds
 use Rattle.go_scan.specs.declared.keyword.Keyword.TheVariants as keywords
 use Rattle.go_scan.specs.declared.punctuation.Punctuation.TheVariants as marks
-use Rattle.go_ast.specs.Expected.{Expected, a_value, a_length, an_index, a_selected_name, behind_a_name, behind_a_jump, a_function_name, a_function_opening}
+use Rattle.go_ast.specs.Expected.{Expected, a_value, a_length, a_selected_name, behind_a_name, behind_a_jump, a_function_name, a_function_opening}
 use Rattle.go_ast.specs.Grammar.{Lexeme}
 use Rattle.go_ast.specs.LeftOut.{EndsIn, May, word}
 use Rattle.go_ast.proofs.Base.{false_true}
-use Rattle.go_ast.proofs.LeftOutStates.{Last, other, name_last, names, passed, first_name, func_name, bracket, dot, equals, func, jump, keyed, nameable, is_func, is_special, Tells}
+use Rattle.go_ast.proofs.LeftOutStates.{Last, other, name_last, names, passed, first_name, func_name, bracket, dot, equals, func, jump, keyed, nameable, is_func, is_special, Tells, bounded}
 use Rattle.go_ast.proofs.LeftOutLabels.{is_fixed, LabelAt}
 use Rattle.go_ast.proofs.LeftOutAliases.{is_named}
 
@@ -17,11 +18,11 @@ abbrev pub EndsFunc : List Lexeme → Type 0
 EndsFunc good = (front : List Lexeme) × EndsIn good front (word keywords.Func ∷ [])
 
 -- what is known of the tokens so far: none, or the last, and where it came
-abbrev pub Known : List Lexeme → Last → Type 0
-Known good p =
+abbrev pub Known : (ed : Edition) → List Lexeme → Last → Type 0
+Known ed good p =
     ((good ≡ []) × (p ≡ other))
     ⊎ ((front : List Lexeme) × (t : Lexeme) × (q : Last) × (b : Bool) × (good ≡ front ++ t ∷ []) × Tells p q b t.kind
-    × (b ≡ true → May front (word keywords.Return ∷ [])) × (May front (word keywords.Return ∷ []) → b ≡ true)
+    × (b ≡ true → May ed front (word keywords.Return ∷ [])) × (May ed front (word keywords.Return ∷ []) → b ≡ true)
     × (is_func q ≡ true → EndsFunc front) × (EndsFunc front → is_func q ≡ true) × (is_func q ≡ true → b ≡ false))
 
 pub snoc_same : (xs ys : List Lexeme) (a b : Lexeme) → xs ++ a ∷ [] ≡ ys ++ b ∷ [] → (xs ≡ ys) × (a ≡ b)
@@ -53,39 +54,39 @@ tells_func_kind p q b k e h = at p (subst (Tells p q b) e h)
     at jump (inr h) = absurd (cc (h))
     at _ h = absurd h
 
-pub func_known : (good : List Lexeme) (p : Last) → Known good p → is_func p ≡ true → EndsFunc good
-func_known good p (inl h) e = absurd (false_true (sym (ap is_func h.1) ∙ e))
-func_known good func (inr h) e = (h.0, (h.1 ∷ [], h.4, (h.5, refl)))
-func_known good _ (inr h) e = absurd (false_true e)
+pub func_known : (ed : Edition) → (good : List Lexeme) (p : Last) → Known ed good p → is_func p ≡ true → EndsFunc good
+func_known ed good p (inl h) e = absurd (false_true (sym (ap is_func h.1) ∙ e))
+func_known ed good func (inr h) e = (h.0, (h.1 ∷ [], h.4, (h.5, refl)))
+func_known ed good _ (inr h) e = absurd (false_true e)
 
 none_behind : {A : Type 0} (front : List Lexeme) (a : Lexeme) (back : List Lexeme) → [] ≡ front ++ a ∷ back → A
 none_behind [] a back e = absurd (cc (e))
 none_behind (x ∷ xs) a back e = absurd (cc (e))
 
 -- what is known behind a last token of a kind, with the tokens in front of it
-abbrev pub Lasts : Last → TokenKind → List Lexeme → Type 0
-Lasts p k front =
-    (q : Last) × (b : Bool) × Tells p q b k × (May front (word keywords.Return ∷ []) → b ≡ true) × (EndsFunc front → is_func q ≡ true)
+abbrev pub Lasts : (ed : Edition) → Last → TokenKind → List Lexeme → Type 0
+Lasts ed p k front =
+    (q : Last) × (b : Bool) × Tells p q b k × (May ed front (word keywords.Return ∷ []) → b ≡ true) × (EndsFunc front → is_func q ≡ true)
     × (is_func q ≡ true → b ≡ false)
 
-pub last_of : (good : List Lexeme) (p : Last) (k : TokenKind) (front : List Lexeme) → Known good p → EndsIn good front (k ∷ []) → Lasts p k front
-last_of good p k front known ([], whole, of) = absurd of
-last_of good p k front (inl h) (a ∷ back, whole, of) = none_behind front a back (sym h.0 ∙ whole)
-last_of good p k front (inr h) (a ∷ back, whole, of) =
+pub last_of : (ed : Edition) → (good : List Lexeme) (p : Last) (k : TokenKind) (front : List Lexeme) → Known ed good p → EndsIn good front (k ∷ []) → Lasts ed p k front
+last_of ed good p k front known ([], whole, of) = absurd of
+last_of ed good p k front (inl h) (a ∷ back, whole, of) = none_behind front a back (sym h.0 ∙ whole)
+last_of ed good p k front (inr h) (a ∷ back, whole, of) =
     let last : good ≡ front ++ a ∷ [] = whole ∙ ap (λ x. front ++ a ∷ x) of.1 in
     let alike = snoc_same h.0 front h.1 a (sym h.4 ∙ last) in
     let kind : h.1.kind ≡ k = ap (λ (x : Lexeme). x.kind) alike.1 ∙ of.0 in (
       h.2,
       h.3,
       subst (Tells p h.2 h.3) kind h.5,
-      (λ m. h.7 (subst (λ f. May f (word keywords.Return ∷ [])) (sym alike.0) m)),
+      (λ m. h.7 (subst (λ f. May ed f (word keywords.Return ∷ [])) (sym alike.0) m)),
       (λ f. h.9 (subst EndsFunc (sym alike.0) f)),
       h.10,
     )
 
-pub known_func : (good : List Lexeme) (p : Last) → Known good p → EndsFunc good → is_func p ≡ true
-known_func good p k (front, ends) =
-    let l = last_of good p (word keywords.Func) front k ends in
+pub known_func : (ed : Edition) → (good : List Lexeme) (p : Last) → Known ed good p → EndsFunc good → is_func p ≡ true
+known_func ed good p k (front, ends) =
+    let l = last_of ed good p (word keywords.Func) front k ends in
     tells_func_kind p l.0 l.1 (word keywords.Func) refl l.2
 
 -- the last token of a label or of a kind
@@ -93,7 +94,6 @@ known_func good p k (front, ends) =
 abbrev pub last_of_label : Expected → Last
 last_of_label a_value = equals
 last_of_label a_length = bracket
-last_of_label an_index = bracket
 last_of_label a_selected_name = dot
 last_of_label behind_a_name = first_name
 last_of_label behind_a_jump = jump
@@ -107,7 +107,7 @@ fixed_last func_name x h e = ap last_of_label (sym h)
 fixed_last dot x h e = ap last_of_label (sym h)
 fixed_last equals x h e = ap last_of_label (sym h)
 fixed_last bracket x (inl h) e = ap last_of_label (sym h)
-fixed_last bracket x (inr h) e = ap last_of_label (sym h)
+fixed_last bracket x (inr h) e = absurd (false_true (sym (ap is_fixed h) ∙ e))
 fixed_last jump x h e = ap last_of_label (sym h)
 fixed_last first_name x h e = ap last_of_label (sym h)
 fixed_last _ x h e = absurd (false_true (sym h ∙ e))
@@ -178,39 +178,41 @@ tells_func_name jump q b (inl h) e = absurd (cc (h))
 tells_func_name jump q b (inr h) e = absurd (cc (h))
 tells_func_name _ q b h e = absurd h
 
--- no token is behind which names were last, or a colon or a name may come
-pub known_none : {A : Type 0} (good : List Lexeme) (p : Last) → Known good p → (p ≡ names) ⊎ ((p ≡ nameable) ⊎ (p ≡ keyed)) → A
-known_none good p k e = at p k e
+-- no token is behind which names were last, or a colon, a name or a bracket may come
+pub known_none : (ed : Edition) → {A : Type 0} (good : List Lexeme) (p : Last) → Known ed good p → (p ≡ names) ⊎ ((p ≡ nameable) ⊎ ((p ≡ keyed) ⊎ (p ≡ bounded))) → A
+known_none ed good p k e = at p k e
   where
-    at : {A : Type 0} (p : Last) → Known good p → (p ≡ names) ⊎ ((p ≡ nameable) ⊎ (p ≡ keyed)) → A
+    at : {A : Type 0} (p : Last) → Known ed good p → (p ≡ names) ⊎ ((p ≡ nameable) ⊎ ((p ≡ keyed) ⊎ (p ≡ bounded))) → A
     at p (inl h) (inl e) = absurd (let c : names ≡ other = sym e ∙ h.1 in cc (c))
     at p (inl h) (inr (inl e)) = absurd (let c : nameable ≡ other = sym e ∙ h.1 in cc (c))
-    at p (inl h) (inr (inr e)) = absurd (let c : keyed ≡ other = sym e ∙ h.1 in cc (c))
+    at p (inl h) (inr (inr (inl e))) = absurd (let c : keyed ≡ other = sym e ∙ h.1 in cc (c))
+    at p (inl h) (inr (inr (inr e))) = absurd (let c : bounded ≡ other = sym e ∙ h.1 in cc (c))
     at p (inr h) (inl e) = absurd (subst (λ z. Tells z h.2 h.3 h.1.kind) e h.5)
     at p (inr h) (inr (inl e)) = absurd (subst (λ z. Tells z h.2 h.3 h.1.kind) e h.5)
-    at p (inr h) (inr (inr e)) = absurd (subst (λ z. Tells z h.2 h.3 h.1.kind) e h.5)
+    at p (inr h) (inr (inr (inl e))) = absurd (subst (λ z. Tells z h.2 h.3 h.1.kind) e h.5)
+    at p (inr h) (inr (inr (inr e))) = absurd (subst (λ z. Tells z h.2 h.3 h.1.kind) e h.5)
 
 -- the last token, where the label tells it
 
-pub ends : (good : List Lexeme) (p l : Last) (k : TokenKind) → Known good p → p ≡ l → (l ≡ other → ⊥) → ((q : Last) (b : Bool) (j : TokenKind) → Tells l q b j → j ≡ k) →
+pub ends : (ed : Edition) → (good : List Lexeme) (p l : Last) (k : TokenKind) → Known ed good p → p ≡ l → (l ≡ other → ⊥) → ((q : Last) (b : Bool) (j : TokenKind) → Tells l q b j → j ≡ k) →
     (front : List Lexeme) × EndsIn good front (k ∷ [])
-ends good p l k (inl h) e ne f = absurd (ne (sym e ∙ h.1))
-ends good p l k (inr h) e ne f =
+ends ed good p l k (inl h) e ne f = absurd (ne (sym e ∙ h.1))
+ends ed good p l k (inr h) e ne f =
     let tells : Tells l h.2 h.3 h.1.kind = subst (λ z. Tells z h.2 h.3 h.1.kind) e h.5 in
     (h.0, (h.1 ∷ [], h.4, (f h.2 h.3 h.1.kind tells, refl)))
 
-pub jump_known : (good : List Lexeme) (p : Last) → Known good p → p ≡ jump →
+pub jump_known : (ed : Edition) → (good : List Lexeme) (p : Last) → Known ed good p → p ≡ jump →
     (front : List Lexeme) × (EndsIn good front (word keywords.Break ∷ []) ⊎ EndsIn good front (word keywords.Continue ∷ []))
-jump_known good p (inl h) e = absurd (let c : jump ≡ other = sym e ∙ h.1 in cc (c))
-jump_known good p (inr h) e = elim (subst (λ z. Tells z h.2 h.3 h.1.kind) e h.5) [
+jump_known ed good p (inl h) e = absurd (let c : jump ≡ other = sym e ∙ h.1 in cc (c))
+jump_known ed good p (inr h) e = elim (subst (λ z. Tells z h.2 h.3 h.1.kind) e h.5) [
   | inl k ↦ (h.0, inl (h.1 ∷ [], h.4, (k, refl)))
   | inr k ↦ (h.0, inr (h.1 ∷ [], h.4, (k, refl)))
 ]
 
-pub first_known : (good : List Lexeme) (p : Last) → Known good p → p ≡ first_name →
-    (front : List Lexeme) × EndsIn good front (kinds.Name ∷ []) × May front (word keywords.Return ∷ [])
-first_known good p (inl h) e = absurd (let c : first_name ≡ other = sym e ∙ h.1 in cc (c))
-first_known good p (inr h) e =
+pub first_known : (ed : Edition) → (good : List Lexeme) (p : Last) → Known ed good p → p ≡ first_name →
+    (front : List Lexeme) × EndsIn good front (kinds.Name ∷ []) × May ed front (word keywords.Return ∷ [])
+first_known ed good p (inl h) e = absurd (let c : first_name ≡ other = sym e ∙ h.1 in cc (c))
+first_known ed good p (inr h) e =
     let tells : Tells first_name h.2 h.3 h.1.kind = subst (λ z. Tells z h.2 h.3 h.1.kind) e h.5 in
     (h.0, (h.1 ∷ [], h.4, (tells.0, refl)), h.6 tells.2)
 
@@ -223,10 +225,10 @@ two good front t whole is (before, (a ∷ back, w, of)) =
       (a ∷ t ∷ [], whole ∙ ap (λ x. x ++ t ∷ []) last ∙ append_assoc before (a ∷ []) (t ∷ []), (of.0, (is, refl))),
     )
 
-pub func_name_known : (good : List Lexeme) (p : Last) → Known good p → p ≡ func_name →
+pub func_name_known : (ed : Edition) → (good : List Lexeme) (p : Last) → Known ed good p → p ≡ func_name →
     (front : List Lexeme) × EndsIn good front (word keywords.Func ∷ kinds.Name ∷ [])
-func_name_known good p (inl h) e = absurd (let c : func_name ≡ other = sym e ∙ h.1 in cc (c))
-func_name_known good p (inr h) e =
+func_name_known ed good p (inl h) e = absurd (let c : func_name ≡ other = sym e ∙ h.1 in cc (c))
+func_name_known ed good p (inr h) e =
     let tells : Tells func_name h.2 h.3 h.1.kind = subst (λ z. Tells z h.2 h.3 h.1.kind) e h.5 in
     two good h.0 h.1 h.4 tells.0 (h.8 tells.1)
 

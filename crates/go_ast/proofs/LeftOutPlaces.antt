@@ -1,5 +1,6 @@
 -- Where an operand, a type or a statement may begin, what is left out of these is expected.
 use Rattle.std.proofs.Common.{◌≡◌, Bool, true, false, ◌&&◌, ◌||◌, [], ◌∷◌, refl, sym, ap, ◌∙◌}
+use Rattle.go_text.specs.declared.edition.Edition.{Edition}
 use Rattle.go_scan.specs.declared.token.TokenKind.{TokenKind}
 use Rattle.go_scan.specs.declared.token.TokenKind.TheVariants as kinds
 use Rattle.go_scan.specs.declared.keyword.Keyword.TheVariants as keywords
@@ -8,10 +9,10 @@ use Rattle.go_ast.specs.Kinds.{same}
 use Rattle.go_ast.specs.Expected.{Expected, an_operand, a_value, a_type, a_declared_type, a_parameter_type, a_length, an_index, an_element_end, a_field_end, a_result_end, a_statement, behind_a_jump, an_import, an_import_path, another, is_left_out_at}
 use Rattle.go_ast.specs.Trees.{TypeExpr, Expr, name, call_statement, conditional, no_else}
 use Rattle.go_ast.specs.Grammar.{is_call}
-use Rattle.go_ast.specs.Machine.{ListKind, fields, arguments, elements, const_specs, var_specs, type_specs, import_specs, statements, parameters, results, separator, closer, Position, in_list, in_header, in_for, behind_turns, State, ended, token, package_name, import_path, optional, type, optional_type, expr, optional_expr, suffixes, operators, more_names, more_exprs, list_start, list_end, lefts, else_part, clause_start, clause_end, import_end, decl_end, keyword, behind_left}
+use Rattle.go_ast.specs.Machine.{ListKind, fields, arguments, elements, const_specs, var_specs, type_specs, import_specs, statements, parameters, results, separator, closer, Position, in_list, in_header, in_for, behind_turns, State, ended, token, package_name, import_path, optional, type, optional_type, expr, optional_expr, suffixes, operators, more_names, more_exprs, list_start, list_end, lefts, else_part, clause_start, clause_end, import_end, decl_end, keyword, behind_left, newer, operands}
 use Rattle.go_ast.proofs.Base.{false_true}
-use Rattle.go_ast.proofs.LeftOutStates.{Last, other, name_last, names, bracket, equals, nameable, starts, starts_item, pick, start_label, label, ImportOk, TypeOk, OptionalTypeOk, ExprOk, EndOk, ClauseOk, Right, under}
-use Rattle.go_ast.proofs.LeftOutLed.{optional_not}
+use Rattle.go_ast.proofs.LeftOutStates.{Last, other, name_last, names, bracket, equals, nameable, starts, starts_item, pick, start_label, label, ImportOk, TypeOk, OptionalTypeOk, ExprOk, EndOk, ClauseOk, Right, under, bounded}
+use Rattle.go_ast.proofs.LeftOutLed.{optional_not, newer_starts, newer_label}
 use Rattle.go_ast.proofs.LeftOutLabels.{by_call, call_end, token_silent, token_starts, or_right}
 
 -- `func`, `*` and `&` where `struct` may stand
@@ -35,24 +36,25 @@ import_silent nameable an_import h = refl
 import_silent name_last an_import_path h = refl
 import_silent _ _ h = absurd h
 
-type_pointers : (p : Last) (x : Expected) (next : TypeExpr → State) → TypeOk p x next → is_left_out_at x a_func ≡ true
-type_pointers other a_type next h = refl
-type_pointers names a_type next h = refl
-type_pointers names a_parameter_type next h = refl
-type_pointers name_last a_declared_type next h = refl
-type_pointers _ _ next h = absurd h
+type_pointers : (ed : Edition) → (p : Last) (x : Expected) (next : TypeExpr → State) → TypeOk ed p x next → is_left_out_at x a_func ≡ true
+type_pointers ed other a_type next h = refl
+type_pointers ed names a_type next h = refl
+type_pointers ed names a_parameter_type next h = refl
+type_pointers ed name_last a_declared_type next h = refl
+type_pointers ed _ _ next h = absurd h
 
-pub optional_type_is : (p : Last) (x : Expected) (some : TypeExpr → State) (none : State) → OptionalTypeOk p x some none → x ≡ a_type
-optional_type_is other a_type some none h = refl
-optional_type_is names a_type some none h = refl
-optional_type_is _ _ some none h = absurd h
+pub optional_type_is : (ed : Edition) → (p : Last) (x : Expected) (some : TypeExpr → State) (none : State) → OptionalTypeOk ed p x some none → x ≡ a_type
+optional_type_is ed other a_type some none h = refl
+optional_type_is ed names a_type some none h = refl
+optional_type_is ed _ _ some none h = absurd h
 
-expr_pointers : (p : Last) (x : Expected) (s : State) → ExprOk p x s → is_left_out_at x a_func ≡ true
-expr_pointers other an_operand s h = refl
-expr_pointers equals a_value s h = refl
-expr_pointers bracket a_length s h = refl
-expr_pointers bracket an_index s h = refl
-expr_pointers _ _ s h = absurd h
+expr_pointers : (ed : Edition) → (p : Last) (x : Expected) (s : State) → ExprOk ed p x s → is_left_out_at x a_func ≡ true
+expr_pointers ed other an_operand s h = refl
+expr_pointers ed equals a_value s h = refl
+expr_pointers ed bracket a_length s h = refl
+expr_pointers ed bracket an_index s h = refl
+expr_pointers ed bounded an_index s h = refl
+expr_pointers ed _ _ s h = absurd h
 
 start_pointers : (k : ListKind) → is_left_out_at (start_label k) a_func ≡ (same (closer k) a_struct || starts_item k a_struct)
 start_pointers (fields l) = refl
@@ -94,20 +96,23 @@ clause_pointers behind_a_jump p h = refl
 clause_pointers another p h = refl
 clause_pointers _ p h = absurd h
 
-module _ (k : TokenKind) (like : (x : Expected) → is_left_out_at x k ≡ is_left_out_at x a_func) where
-  pub pointers : (s : State) (p : Last) → Right s p → is_left_out_at (label s k) k ≡ starts s a_struct
+module _ (ed : Edition) (k : TokenKind) (like : (x : Expected) → is_left_out_at x k ≡ is_left_out_at x a_func) where
+  pub pointers : (s : State) (p : Last) → Right ed s p → is_left_out_at (label s k) k ≡ starts ed s a_struct
   pointers (ended f) p r = like another
   pointers (token kind need x next) p r =
-      like x ∙ token_silent a_func x p kind next refl refl refl refl refl r.0 ∙ sym (token_starts a_struct x p kind next refl r.0)
+      like x ∙ token_silent ed a_func x p kind next refl refl refl refl refl r.0 ∙ sym (token_starts ed a_struct x p kind next refl r.0)
   pointers (package_name next) p r = like another
   pointers (import_path x next) p r = like x ∙ import_silent p x r.0
   pointers (optional kind need some none) p r =
-      pointers none (under kind p) r.2 ∙ or_right (same kind a_struct) (starts none a_struct) (starts none a_struct) (optional_not kind a_struct r.0.1 refl) refl
-  pointers (type l x next) p r = like x ∙ type_pointers p x next r.0
+      pointers none (under kind p) r.2 ∙ or_right (same kind a_struct) (starts ed none a_struct) (starts ed none a_struct) (optional_not kind a_struct r.0.1 refl) refl
+  pointers (newer kind need x some none) p r =
+      ap (λ y. is_left_out_at y k) (newer_label kind need x some none k (r.3 k)) ∙ pointers none p r.2
+      ∙ sym (newer_starts ed p kind need x some none a_struct r.0 refl)
+  pointers (type l x next) p r = like x ∙ type_pointers ed p x next r.0
   pointers (optional_type l x some none) p r =
-      let e : is_left_out_at x k ≡ true = like x ∙ ap (λ y. is_left_out_at y a_func) (optional_type_is p x some none r.0) in
+      let e : is_left_out_at x k ≡ true = like x ∙ ap (λ y. is_left_out_at y a_func) (optional_type_is ed p x some none r.0) in
       pick_left (is_left_out_at x k) k x (label none k) e e
-  pointers (expr n h l x next) p r = like x ∙ expr_pointers p x (expr n h l x next) r.0
+  pointers (expr n h l x next) p r = like x ∙ expr_pointers ed p x (expr n h l x next) r.0
   pointers (optional_expr h l x some none) p r =
       let e : is_left_out_at x k ≡ true = like x ∙ ap (λ y. is_left_out_at y a_func) r.1 in
       pick_left (is_left_out_at x k) k x (label none k) e e
@@ -117,10 +122,11 @@ module _ (k : TokenKind) (like : (x : Expected) → is_left_out_at x k ≡ is_le
   pointers (more_exprs h l front next) p r = pointers (next front) p (r.1 front p r.0)
   pointers (list_start s front next) p r = like (start_label s) ∙ start_pointers s
   pointers (list_end s x front next) p r = like x ∙ list_pointers s x p r.0
+  pointers (operands l next) p r = like an_operand
   pointers (lefts m h l [] next alone range) p r = like another
   pointers (lefts m h l (e ∷ []) next alone range) p r =
       by_call
-      (λ c. is_left_out_at (pick c (label (next (call_statement e)) k) (behind_left m e)) k ≡ (c && starts (next (call_statement e)) a_struct)) (is_call e)
+      (λ c. is_left_out_at (pick c (label (next (call_statement e)) k) (behind_left m e)) k ≡ (c && starts ed (next (call_statement e)) a_struct)) (is_call e)
       (λ c. pointers (next (call_statement e)) p (r.1 (call_statement e) p (call_end m e p r.0 c))) (λ c. like (behind_left m e) ∙ left_pointers m e)
   pointers (lefts m h l (e ∷ f ∷ es) next alone range) p r = like another
   pointers (else_part l q i c b next) p r = pointers (next (conditional q i c b no_else)) other (r.1 (conditional q i c b no_else))

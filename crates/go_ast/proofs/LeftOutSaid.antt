@@ -1,6 +1,8 @@
 -- What is expected where a token may not come, and which tokens may.
 use Rattle.std.proofs.Common.{◌≡◌, ℕ, ◌+◌, Bool, true, false, ◌&&◌, ◌||◌, List, [], ◌∷◌, ◌++◌, Option, Some, None, refl, sym, ap, ◌∙◌}
 use Rattle.std.specs.Prelude.{codes, nat_eq}
+use Rattle.go_text.specs.declared.edition.Edition.{Edition}
+use Rattle.go_text.specs.Editions.{has_slices}
 use Rattle.go_scan.specs.declared.token.TokenKind.{TokenKind}
 use Rattle.go_scan.specs.declared.token.TokenKind.TheVariants as kinds
 use Rattle.go_scan.specs.declared.keyword.Keyword.TheVariants as keywords
@@ -9,13 +11,13 @@ use Rattle.go_ast.specs.Kinds.{same}
 use Rattle.go_ast.specs.Operators.{unary_of, binary_of, assignment_of, tighter}
 use Rattle.go_ast.specs.Expected.{Expected, an_operand, a_type, a_statement, an_import, a_result_end, another, is_left_out_at}
 use Rattle.go_ast.specs.Trees.{Name, UnaryOperator, BinaryOperator, TypeExpr, Expr, Simple, call_statement, Stmt, conditional, no_else}
-use Rattle.go_ast.specs.Grammar.{Lexeme, assign, opening, opening_bracket, opening_brace, closing_brace, comma, period, semicolon, define, is_call}
-use Rattle.go_ast.specs.Machine.{ListKind, fields, arguments, elements, const_specs, var_specs, type_specs, import_specs, statements, parameters, results, Item, separator, closer, Position, State, ended, token, package_name, import_path, optional, type, optional_type, expr, optional_expr, suffixes, operators, more_names, more_exprs, list_start, list_end, lefts, else_part, clause_start, clause_end, import_end, decl_end, Move, Take, Fail, cond, keyword, names_if, may_define, is_header, is_some, is_string, on_type, begins_type, on_unary, on_expr, begins_expr, on_brace, literal_type, on_operator, on_define, on_assignment, on_lefts, on_stmt, on_item, on_optional, behind_left, step}
+use Rattle.go_ast.specs.Grammar.{Lexeme, assign, opening, opening_bracket, opening_brace, closing_brace, comma, period, semicolon, define, is_call, closing}
+use Rattle.go_ast.specs.Machine.{ListKind, fields, arguments, elements, const_specs, var_specs, type_specs, import_specs, statements, parameters, results, Item, separator, closer, Position, State, ended, token, package_name, import_path, optional, type, optional_type, expr, optional_expr, suffixes, operators, more_names, more_exprs, list_start, list_end, lefts, else_part, clause_start, clause_end, import_end, decl_end, Move, Take, Fail, cond, keyword, names_if, may_define, is_header, is_some, is_string, on_type, begins_type, on_unary, on_expr, begins_expr, on_brace, literal_type, on_operator, on_define, on_assignment, on_lefts, on_stmt, on_item, on_optional, behind_left, step, newer, operands, on_operand}
 use Rattle.go_ast.proofs.Same.{are_same, is_same}
 use Rattle.go_ast.proofs.Base.{false_true, both_true, right_true, neither}
 use Rattle.go_ast.proofs.Tokens.{is_package, package_is, string_is}
 use Rattle.go_ast.proofs.Means.{is_level}
-use Rattle.go_ast.proofs.LeftOutStates.{starts, starts_type, starts_expr, starts_stmt, starts_item, goes_left, veto, pick, start_label, label}
+use Rattle.go_ast.proofs.LeftOutStates.{starts, starts_type, starts_expr, starts_stmt, starts_item, goes_left, veto, pick, start_label, label, by_newer}
 
 -- kinds of which the kind alone says whether a token may come
 abbrev pub is_sure : TokenKind → Bool
@@ -121,6 +123,25 @@ said_item (statements l) front next t = says_take t.kind (same semicolon t.kind)
 said_item parameters front next t = says_take t.kind (same kinds.Name t.kind) false another _ _ _ (says_nothing t.kind another)
 said_item results front next t = said_type t.kind 1 a_type (λ a. list_end results a_result_end (front ++ a ∷ []) next) t
 
+-- a token that came with slices
+says_newer : (k : TokenKind) (c e b : Bool) (x y : Expected) (need : ℕ) (s : State) (n : Move) → Says k b y n →
+    Says k (by_newer c e b) (pick c x y) (cond c (cond e (Take need s) (Fail x)) n)
+says_newer k true true b x y need s n i = refl
+says_newer k true false b x y need s n i = (refl, λ sure. refl)
+says_newer k false e b x y need s n i = i
+
+-- a call's first operand
+says_in : (k : TokenKind) (c b : Bool) (y : Expected) (need : ℕ) (s : State) (n : Move) → (c ≡ true → b ≡ true) → Says k b y n → Says k b y (cond c (Take need s) n)
+says_in k true b y need s n f i = f refl
+says_in k false b y need s n f i = i
+
+said_operand : (k : TokenKind) (c : Bool) (l : ℕ) (next : Expr → State) (t : Lexeme) → Says k (starts_expr t.kind) an_operand (on_operand c l next t)
+said_operand k false l next t = said_expr k 5 false l an_operand next t
+said_operand k true l next t =
+    says_in k (same opening_bracket t.kind) (starts_expr t.kind) an_operand _ _ _ (λ e. ap starts_expr (are_same opening_bracket t.kind e))
+    (says_in k (same (keyword keywords.Struct) t.kind) (starts_expr t.kind) an_operand _ _ _ (λ e. ap starts_expr (are_same (keyword keywords.Struct) t.kind e))
+    (said_expr k 5 false l an_operand next t))
+
 -- what may be missing
 says_optional : (k : TokenKind) (d b a : Bool) (x y : Expected) (c : Bool) (m n : Move) → b ≡ c → Says kinds.Integer b x m → Says k a y n →
     Says k (b || veto d a) (pick d x y) (on_optional c d x m n)
@@ -201,60 +222,65 @@ and_false : (a b : Bool) → b ≡ false → (a && b) ≡ false
 and_false true b e = e
 and_false false b e = refl
 
-pub said : (s : State) (t : Lexeme) → same opening_brace t.kind ≡ false → Says t.kind (starts s t.kind) (label s t.kind) (step s t)
-said (ended f) t ne = (refl, λ sure. refl)
-said (token kind need x next) t ne = says_take t.kind (same kind t.kind) false x _ _ _ (says_nothing t.kind x)
-said (package_name next) t ne =
+pub said : (ed : Edition) → (s : State) (t : Lexeme) → same opening_brace t.kind ≡ false → Says t.kind (starts ed s t.kind) (label s t.kind) (step ed s t)
+said ed (ended f) t ne = (refl, λ sure. refl)
+said ed (token kind need x next) t ne = says_take t.kind (same kind t.kind) false x _ _ _ (says_nothing t.kind x)
+said ed (package_name next) t ne =
     let there : is_package t ≡ true → same kinds.Name t.kind ≡ true = λ e. is_same kinds.Name t.kind (package_is t e).0 in
     says_sure t.kind (same kinds.Name t.kind) (is_package t) false another _ _ _ there
     (λ sure. agrees (same kinds.Name t.kind) (is_package t) there (λ e. kind_unsure t.kind kinds.Name e refl sure)) (says_nothing t.kind another)
-said (import_path x next) t ne = says_string t x _ _
-said (optional kind need some none) t ne = says_take t.kind (same kind t.kind) (starts none t.kind) (label none t.kind) _ _ _ (said none t ne)
-said (type l x next) t ne = said_type t.kind l x next t
-said (optional_type l x some none) t ne =
-    says_optional t.kind (is_left_out_at x t.kind) (starts_type t.kind) (starts none t.kind) x (label none t.kind) (begins_type t.kind) _ _
-    (or_three (same kinds.Name t.kind) (same opening_bracket t.kind) (same (keyword keywords.Struct) t.kind)) (said_type kinds.Integer l x some t) (said none t ne)
-said (expr n h l x next) t ne = said_expr t.kind n h l x next t
-said (optional_expr h l x some none) t ne =
-    says_optional t.kind (is_left_out_at x t.kind) (starts_expr t.kind) (starts none t.kind) x (label none t.kind) (begins_expr t.kind) _ _
+said ed (import_path x next) t ne = says_string t x _ _
+said ed (optional kind need some none) t ne = says_take t.kind (same kind t.kind) (starts ed none t.kind) (label none t.kind) _ _ _ (said ed none t ne)
+said ed (newer kind need x some none) t ne =
+    says_newer t.kind (same kind t.kind) (has_slices ed) (starts ed none t.kind) x (label none t.kind) need (some t) (step ed none t) (said ed none t ne)
+said ed (type l x next) t ne = said_type t.kind l x next t
+said ed (optional_type l x some none) t ne =
+    says_optional t.kind (is_left_out_at x t.kind) (starts_type t.kind) (starts ed none t.kind) x (label none t.kind) (begins_type t.kind) _ _
+    (or_three (same kinds.Name t.kind) (same opening_bracket t.kind) (same (keyword keywords.Struct) t.kind)) (said_type kinds.Integer l x some t) (said ed none t ne)
+said ed (expr n h l x next) t ne = said_expr t.kind n h l x next t
+said ed (optional_expr h l x some none) t ne =
+    says_optional t.kind (is_left_out_at x t.kind) (starts_expr t.kind) (starts ed none t.kind) x (label none t.kind) (begins_expr t.kind) _ _
     (or_eight (same kinds.Name t.kind) (same kinds.Integer t.kind) (same kinds.Rune t.kind) (same kinds.String t.kind) (same opening t.kind)
     (same opening_bracket t.kind) (same (keyword keywords.Struct) t.kind) (is_some (unary_of t.kind)))
-    (said_expr kinds.Integer 5 h l x some t) (said none t ne)
-said (suffixes h l e next) t ne =
+    (said_expr kinds.Integer 5 h l x some t) (said ed none t ne)
+said ed (suffixes h l e next) t ne =
     says_take t.kind (same period t.kind) _ (label (next e) t.kind) _ _ _
     (says_take t.kind (same opening_bracket t.kind) _ (label (next e) t.kind) _ _ _
     (says_take t.kind (same opening t.kind) _ (label (next e) t.kind) _ _ _
-    (says_brace t.kind (starts (next e) t.kind) h l (λ a. suffixes h l a next) t (label (next e) t.kind) (step (next e) t) (literal_type e) ne (said (next e) t ne))))
-said (operators n h l e next) t ne =
-    says_operator t.kind (starts (next e) t.kind) n h l e (λ a. operators n h l a next) (label (next e) t.kind) (step (next e) t) (binary_of t.kind)
-    (said (next e) t ne)
-said (more_names front next) t ne = says_take t.kind (same comma t.kind) _ (label (next front) t.kind) _ _ _ (said (next front) t ne)
-said (more_exprs h l front next) t ne = says_take t.kind (same comma t.kind) _ (label (next front) t.kind) _ _ _ (said (next front) t ne)
-said (list_start k front next) t ne = says_take t.kind (same (closer k) t.kind) _ (start_label k) _ _ _ (said_item k front next t)
-said (list_end k x front next) t ne =
+    (says_brace t.kind (starts ed (next e) t.kind) h l (λ a. suffixes h l a next) t (label (next e) t.kind) (step ed (next e) t) (literal_type e) ne (said ed (next e) t ne))))
+said ed (operators n h l e next) t ne =
+    says_operator t.kind (starts ed (next e) t.kind) n h l e (λ a. operators n h l a next) (label (next e) t.kind) (step ed (next e) t) (binary_of t.kind)
+    (said ed (next e) t ne)
+said ed (more_names front next) t ne = says_take t.kind (same comma t.kind) _ (label (next front) t.kind) _ _ _ (said ed (next front) t ne)
+said ed (more_exprs h l front next) t ne = says_take t.kind (same comma t.kind) _ (label (next front) t.kind) _ _ _ (said ed (next front) t ne)
+said ed (list_start k front next) t ne = says_take t.kind (same (closer k) t.kind) _ (start_label k) _ _ _ (said_item k front next t)
+said ed (list_end k x front next) t ne =
     says_take t.kind (same (separator k) t.kind) _ x _ _ _ (says_take t.kind (same (closer k) t.kind) false x _ _ _ (says_nothing t.kind x))
-said (lefts m h l [] next alone range) t ne = (refl, λ sure. refl)
-said (lefts m h l (e ∷ []) next alone range) t ne =
+said ed (operands l next) t ne =
+    says_take t.kind (same closing t.kind) (starts_expr t.kind) an_operand _ _ _
+    (said_operand t.kind (has_slices ed) l (λ e. list_end (arguments l) another (e ∷ []) next) t)
+said ed (lefts m h l [] next alone range) t ne = (refl, λ sure. refl)
+said ed (lefts m h l (e ∷ []) next alone range) t ne =
     let y : Expected = pick (is_call e) (label (next (call_statement e)) t.kind) (behind_left m e) in
     says_lefts _ y m h l (e ∷ []) next alone range t _
     (says_take t.kind (same (kinds.Punctuation marks.Increment) t.kind) _ y _ _ _
     (says_take t.kind (same (kinds.Punctuation marks.Decrement) t.kind) _ y _ _ _
     (says_assignment t.kind _ y h l e next _ (assignment_of t.kind)
-    (says_call t.kind (is_call e) (starts (next (call_statement e)) t.kind) (is_header m && same opening_brace t.kind)
-    (label (next (call_statement e)) t.kind) (behind_left m e) (step (alone e) t) (step (next (call_statement e)) t)
-    (and_false (is_header m) (same opening_brace t.kind) ne) (said (next (call_statement e)) t ne)))))
-said (lefts m h l (e ∷ f ∷ es) next alone range) t ne =
+    (says_call t.kind (is_call e) (starts ed (next (call_statement e)) t.kind) (is_header m && same opening_brace t.kind)
+    (label (next (call_statement e)) t.kind) (behind_left m e) (step ed (alone e) t) (step ed (next (call_statement e)) t)
+    (and_false (is_header m) (same opening_brace t.kind) ne) (said ed (next (call_statement e)) t ne)))))
+said ed (lefts m h l (e ∷ f ∷ es) next alone range) t ne =
     says_lefts false another m h l (e ∷ f ∷ es) next alone range t (Fail another) (says_nothing t.kind another)
-said (else_part l p i c b next) t ne =
+said ed (else_part l p i c b next) t ne =
     says_take t.kind (same (keyword keywords.Else) t.kind) _ (label (next (conditional p i c b no_else)) t.kind) _ _ _
-    (said (next (conditional p i c b no_else)) t ne)
-said (clause_start l done p values front next) t ne =
+    (said ed (next (conditional p i c b no_else)) t ne)
+said ed (clause_start l done p values front next) t ne =
     says_take t.kind (same (keyword keywords.Case) t.kind) _ a_statement _ _ _
     (says_take t.kind (same (keyword keywords.Default) t.kind) _ a_statement _ _ _
     (says_take t.kind (same closing_brace t.kind) _ a_statement _ _ _
     (says_take t.kind (same semicolon t.kind) _ a_statement _ _ _
     (said_stmt (l + 1) (λ x s. clause_end l x done p values (front ++ s ∷ []) next) t))))
-said (clause_end l x done p values front next) t ne =
+said ed (clause_end l x done p values front next) t ne =
     says_take t.kind (same semicolon t.kind) _ x _ _ _ (says_take t.kind (same closing_brace t.kind) false x _ _ _ (says_nothing t.kind x))
-said (import_end p iss) t ne = says_take t.kind (same semicolon t.kind) false another _ _ _ (says_nothing t.kind another)
-said (decl_end p is ds) t ne = says_take t.kind (same semicolon t.kind) false another _ _ _ (says_nothing t.kind another)
+said ed (import_end p iss) t ne = says_take t.kind (same semicolon t.kind) false another _ _ _ (says_nothing t.kind another)
+said ed (decl_end p is ds) t ne = says_take t.kind (same semicolon t.kind) false another _ _ _ (says_nothing t.kind another)

@@ -1,6 +1,7 @@
 -- Labels stay right from token to token: statements, items of lists and files.
 use Rattle.std.proofs.Common.{◌≡◌, ℕ, ◌+◌, inl, inr, Bool, true, false, ◌&&◌, List, [], ◌∷◌, ◌++◌, Option, Some, None, refl, sym, ap, subst}
 use Rattle.std.specs.Prelude.{codes}
+use Rattle.go_text.specs.declared.edition.Edition.{Edition}
 use Rattle.go_text.specs.declared.place.Place.{Place}
 use Rattle.go_scan.specs.declared.token.TokenKind.{TokenKind}
 use Rattle.go_scan.specs.declared.token.TokenKind.TheVariants as kinds
@@ -20,24 +21,24 @@ use Rattle.go_ast.proofs.LeftOutKept.{plain_end, Ended, Silent, led_cond, on_typ
 
 -- blocks and headers
 
-abbrev Behind : {A : Type 0} → (A → State) → Type 0
-Behind {A} next = (a : A) → Right (next a) other
+abbrev Behind : (ed : Edition) → {A : Type 0} → (A → State) → Type 0
+Behind ed {A} next = (a : A) → Right ed (next a) other
 
-pub block_right : (l : ℕ) (next : Block → State) (q : Last) → is_plain q ≡ true → Behind next → Right (block_at l next) q
-block_right l next q pl f = ((pl, refl, tt), λ o. (refl, λ ss c. f (block o.place (pack_stmts ss) c.place)))
+pub block_right : (ed : Edition) → (l : ℕ) (next : Block → State) (q : Last) → is_plain q ≡ true → Behind ed next → Right ed (block_at l next) q
+block_right ed l next q pl f = ((pl, refl, tt), λ o. (refl, λ ss c. f (block o.place (pack_stmts ss) c.place)))
 
-condition_right : (l : ℕ) (p : Place) (next : If → State) (i : Option Simple) → Behind next → Right (if_condition l p next i) other
-condition_right l p next i f = (tt, λ c q en. ((plain_end q en, refl, tt), λ o. (refl, λ ss d. (refl, f))))
+condition_right : (ed : Edition) → (l : ℕ) (p : Place) (next : If → State) (i : Option Simple) → Behind ed next → Right ed (if_condition l p next i) other
+condition_right ed l p next i f = (tt, λ c q en. ((plain_end q en, refl, tt), λ o. (refl, λ ss d. (refl, f))))
 
-pub if_right : (l : ℕ) (next : If → State) (t : Lexeme) → Behind next → Right (behind_if l next t) other
-if_right l next t f = (
+pub if_right : (ed : Edition) → (l : ℕ) (next : If → State) (t : Lexeme) → Behind ed next → Right ed (behind_if l next t) other
+if_right ed l next t f = (
   (refl, refl, refl),
-  (λ s. condition_right l t.place next None f),
+  (λ s. condition_right ed l t.place next None f),
   (
     tt,
     λ e q en. (
       en,
-      (λ s r er. ((plain_end r er, refl, tt), λ c. condition_right l t.place next (Some s) f)),
+      (λ s r er. ((plain_end r er, refl, tt), λ c. condition_right ed l t.place next (Some s) f)),
       (λ yes c r er. ((plain_end r er, refl, tt), λ o. (refl, λ ss d. (refl, f)))),
       (λ never. absurd (false_true never)),
       (λ s. refl),
@@ -45,15 +46,15 @@ if_right l next t f = (
   ),
 )
 
-pub else_right : (l : ℕ) (next : Else → State) → Behind next → Right (behind_else l next) other
-else_right l next f = (
+pub else_right : (ed : Edition) → (l : ℕ) (next : Else → State) → Behind ed next → Right ed (behind_else l next) other
+else_right ed l next f = (
   (refl, refl, tt),
-  (λ t. if_right (l + 1) (λ i. next (else_if i)) t (λ i. f (else_if i))),
-  block_right (l + 1) (λ b. next (else_block b)) other refl (λ b. f (else_block b)),
+  (λ t. if_right ed (l + 1) (λ i. next (else_if i)) t (λ i. f (else_if i))),
+  block_right ed (l + 1) (λ b. next (else_block b)) other refl (λ b. f (else_block b)),
 )
 
-turns_right : (l : ℕ) (p : Place) (next : Stmt → State) (i : Option Simple) (c : Option Expr) → Behind next → Right (for_turns l p next i c) other
-turns_right l p next i c f = (
+turns_right : (ed : Edition) → (l : ℕ) (p : Place) (next : Stmt → State) (i : Option Simple) (c : Option Expr) → Behind ed next → Right ed (for_turns l p next i c) other
+turns_right ed l p next i c f = (
   (refl, refl, tt),
   (λ o. (refl, λ ss d. f (for_statement p i c None (block o.place (pack_stmts ss) d.place)))),
   (
@@ -68,33 +69,33 @@ turns_right l p next i c f = (
   ),
 )
 
-for_condition_right : (l : ℕ) (p : Place) (next : Stmt → State) (i : Option Simple) → Behind next → Right (for_condition l p next i) other
-for_condition_right l p next i f = (
+for_condition_right : (ed : Edition) → (l : ℕ) (p : Place) (next : Stmt → State) (i : Option Simple) → Behind ed next → Right ed (for_condition l p next i) other
+for_condition_right ed l p next i f = (
   (refl, refl, refl),
-  (λ s. turns_right l p next i None f),
-  (tt, λ c q en. ((plain_end q en, refl, tt), λ s. turns_right l p next i (Some c) f)),
+  (λ s. turns_right ed l p next i None f),
+  (tt, λ c q en. ((plain_end q en, refl, tt), λ s. turns_right ed l p next i (Some c) f)),
 )
 
-range_right : (l : ℕ) (p : Place) (next : Stmt → State) (n : Option Name) (e : Expr) (q : Last) → is_end q ≡ true → Behind next → Right (range_body l p next n e) q
-range_right l p next n e q en f = ((plain_end q en, refl, tt), λ o. (refl, λ ss d. f (range_statement p n e (block o.place (pack_stmts ss) d.place))))
+range_right : (ed : Edition) → (l : ℕ) (p : Place) (next : Stmt → State) (n : Option Name) (e : Expr) (q : Last) → is_end q ≡ true → Behind ed next → Right ed (range_body l p next n e) q
+range_right ed l p next n e q en f = ((plain_end q en, refl, tt), λ o. (refl, λ ss d. f (range_statement p n e (block o.place (pack_stmts ss) d.place))))
 
-for_right : (l : ℕ) (next : Stmt → State) (t : Lexeme) → Behind next → Right (behind_for l next t) other
-for_right l next t f = (
+for_right : (ed : Edition) → (l : ℕ) (next : Stmt → State) (t : Lexeme) → Behind ed next → Right ed (behind_for l next t) other
+for_right ed l next t f = (
   (refl, refl, tt),
   (λ o. (refl, λ ss d. f (for_statement t.place None None None (block o.place (pack_stmts ss) d.place)))),
   (
     (refl, refl, refl),
-    (λ s. for_condition_right l t.place next None f),
+    (λ s. for_condition_right ed l t.place next None f),
     (
       (refl, refl, tt),
-      (λ r. (tt, λ e q en. range_right l t.place next None e q en f)),
+      (λ r. (tt, λ e q en. range_right ed l t.place next None e q en f)),
       (
         tt,
         λ e q en. (
           en,
-          (λ s r er. ((plain_end r er, refl, tt), λ c. for_condition_right l t.place next (Some s) f)),
+          (λ s r er. ((plain_end r er, refl, tt), λ c. for_condition_right ed l t.place next (Some s) f)),
           (λ yes c r er. ((plain_end r er, refl, tt), λ o. (refl, λ ss d. f (for_statement t.place None (Some c) None (block o.place (pack_stmts ss) d.place))))),
-          (λ yes n a r er. range_right l t.place next (Some n) a r er f),
+          (λ yes n a r er. range_right ed l t.place next (Some n) a r er f),
           (λ s. refl),
         ),
       ),
@@ -104,44 +105,44 @@ for_right l next t f = (
 
 -- clauses
 
-pub case_right : (l : ℕ) (done : List Clause) (next : Clauses → Lexeme → State) (t : Lexeme) → ((cs : Clauses) (c : Lexeme) → Right (next cs c) other) →
-    Right (behind_case l done next t) other
-case_right l done next t f = (tt, λ e q en. (en, (λ es r er. ((plain_end r er, refl, tt), λ c. (refl, f))), λ es. refl))
+pub case_right : (ed : Edition) → (l : ℕ) (done : List Clause) (next : Clauses → Lexeme → State) (t : Lexeme) → ((cs : Clauses) (c : Lexeme) → Right ed (next cs c) other) →
+    Right ed (behind_case l done next t) other
+case_right ed l done next t f = (tt, λ e q en. (en, (λ es r er. ((plain_end r er, refl, tt), λ c. (refl, f))), λ es. refl))
 
-pub default_right : (l : ℕ) (done : List Clause) (next : Clauses → Lexeme → State) (p : Place) → ((cs : Clauses) (c : Lexeme) → Right (next cs c) other) →
-    Right (clause_body l done next p None) other
-default_right l done next p f = ((refl, refl, tt), λ c. (refl, f))
+pub default_right : (ed : Edition) → (l : ℕ) (done : List Clause) (next : Clauses → Lexeme → State) (p : Place) → ((cs : Clauses) (c : Lexeme) → Right ed (next cs c) other) →
+    Right ed (clause_body l done next p None) other
+default_right ed l done next p f = ((refl, refl, tt), λ c. (refl, f))
 
-clauses_right : (l : ℕ) (next : Clauses → Lexeme → State) → ((cs : Clauses) (c : Lexeme) → Right (next cs c) other) → Right (clauses_at l next) other
-clauses_right l next f = (
+clauses_right : (ed : Edition) → (l : ℕ) (next : Clauses → Lexeme → State) → ((cs : Clauses) (c : Lexeme) → Right ed (next cs c) other) → Right ed (clauses_at l next) other
+clauses_right ed l next f = (
   (refl, refl, tt),
-  (λ t. case_right l [] next t f),
-  ((refl, refl, tt), (λ t. default_right l [] next t.place f), ((refl, refl, tt), λ c. f no_clauses c)),
+  (λ t. case_right ed l [] next t f),
+  ((refl, refl, tt), (λ t. default_right ed l [] next t.place f), ((refl, refl, tt), λ c. f no_clauses c)),
 )
 
-body_right : (l : ℕ) (p : Place) (next : Stmt → State) (i : Option Simple) (tag : Option Expr) → Behind next → Right (switch_body l p next i tag) other
-body_right l p next i tag f = clauses_right l (λ cs c. next (switch_statement p i tag cs)) (λ cs c. f (switch_statement p i tag cs))
+body_right : (ed : Edition) → (l : ℕ) (p : Place) (next : Stmt → State) (i : Option Simple) (tag : Option Expr) → Behind ed next → Right ed (switch_body l p next i tag) other
+body_right ed l p next i tag f = clauses_right ed l (λ cs c. next (switch_statement p i tag cs)) (λ cs c. f (switch_statement p i tag cs))
 
-tag_right : (l : ℕ) (p : Place) (next : Stmt → State) (i : Option Simple) → Behind next → Right (switch_tag l p next i) other
-tag_right l p next i f = (
+tag_right : (ed : Edition) → (l : ℕ) (p : Place) (next : Stmt → State) (i : Option Simple) → Behind ed next → Right ed (switch_tag l p next i) other
+tag_right ed l p next i f = (
   (refl, refl, tt),
-  (λ o. body_right l p next i None f),
-  (tt, λ e q en. ((plain_end q en, refl, tt), λ o. body_right l p next i (Some e) f)),
+  (λ o. body_right ed l p next i None f),
+  (tt, λ e q en. ((plain_end q en, refl, tt), λ o. body_right ed l p next i (Some e) f)),
 )
 
-switch_right : (l : ℕ) (next : Stmt → State) (t : Lexeme) → Behind next → Right (behind_switch l next t) other
-switch_right l next t f = (
+switch_right : (ed : Edition) → (l : ℕ) (next : Stmt → State) (t : Lexeme) → Behind ed next → Right ed (behind_switch l next t) other
+switch_right ed l next t f = (
   (refl, refl, tt),
-  (λ o. body_right l t.place next None None f),
+  (λ o. body_right ed l t.place next None None f),
   (
     (refl, refl, refl),
-    (λ s. tag_right l t.place next None f),
+    (λ s. tag_right ed l t.place next None f),
     (
       tt,
       λ e q en. (
         en,
-        (λ s r er. ((plain_end r er, refl, tt), λ c. tag_right l t.place next (Some s) f)),
-        (λ yes c r er. ((plain_end r er, refl, tt), λ o. body_right l t.place next None (Some c) f)),
+        (λ s r er. ((plain_end r er, refl, tt), λ c. tag_right ed l t.place next (Some s) f)),
+        (λ yes c r er. ((plain_end r er, refl, tt), λ o. body_right ed l t.place next None (Some c) f)),
         (λ never. absurd (false_true never)),
         (λ s. refl),
       ),
@@ -186,79 +187,79 @@ alone_lone (name p text) e = absurd (false_true (sym e))
 alone_lone _ e = refl
 
 -- no comma comes next
-abbrev Quiet : (Simple → State) → Type 0
-Quiet next = (s : Simple) → starts (next s) comma ≡ false
+abbrev Quiet : (ed : Edition) → (Simple → State) → Type 0
+Quiet ed next = (s : Simple) → starts ed (next s) comma ≡ false
 
-abbrev RangeRight : Position → (Name → Expr → State) → Type 0
-RangeRight m range = is_for m ≡ true → (n : Name) (e : Expr) (q : Last) → is_end q ≡ true → Right (range n e) q
+abbrev RangeRight : (ed : Edition) → Position → (Name → Expr → State) → Type 0
+RangeRight ed m range = is_for m ≡ true → (n : Name) (e : Expr) (q : Last) → is_end q ≡ true → Right ed (range n e) q
 
-define_right : (m : Position) (h : Bool) (l : ℕ) (ns : List Name) (next : Simple → State) (range : Name → Expr → State) → Ended next → RangeRight m range → Quiet next →
-    Right (behind_define m h l ns next range) other
-define_right in_for h l (n ∷ []) next range f g z = (
+define_right : (ed : Edition) → (m : Position) (h : Bool) (l : ℕ) (ns : List Name) (next : Simple → State) (range : Name → Expr → State) → Ended ed next → RangeRight ed m range → Quiet ed next →
+    Right ed (behind_define m h l ns next range) other
+define_right ed in_for h l (n ∷ []) next range f g z = (
   (refl, refl, tt),
   (λ r. (tt, λ e q en. g refl n e q en)),
   (tt, λ e q en. (en, (λ es r er. f (short_var_decl (n ∷ []) (pack es)) r er), λ es. z (short_var_decl (n ∷ []) (pack es)))),
 )
-define_right in_for h l [] next range f g z = (tt, λ e q en. (en, (λ es r er. f (short_var_decl [] (pack es)) r er), λ es. z (short_var_decl [] (pack es))))
-define_right in_for h l (n ∷ o ∷ ns) next range f g z = (tt, λ e q en. (en, (λ es r er. f (short_var_decl (n ∷ o ∷ ns) (pack es)) r er), λ es. z (short_var_decl (n ∷ o ∷ ns) (pack es))))
-define_right in_list h l ns next range f g z = (tt, λ e q en. (en, (λ es r er. f (short_var_decl ns (pack es)) r er), λ es. z (short_var_decl ns (pack es))))
-define_right in_header h l ns next range f g z = (tt, λ e q en. (en, (λ es r er. f (short_var_decl ns (pack es)) r er), λ es. z (short_var_decl ns (pack es))))
-define_right behind_turns h l ns next range f g z = (tt, λ e q en. (en, (λ es r er. f (short_var_decl ns (pack es)) r er), λ es. z (short_var_decl ns (pack es))))
+define_right ed in_for h l [] next range f g z = (tt, λ e q en. (en, (λ es r er. f (short_var_decl [] (pack es)) r er), λ es. z (short_var_decl [] (pack es))))
+define_right ed in_for h l (n ∷ o ∷ ns) next range f g z = (tt, λ e q en. (en, (λ es r er. f (short_var_decl (n ∷ o ∷ ns) (pack es)) r er), λ es. z (short_var_decl (n ∷ o ∷ ns) (pack es))))
+define_right ed in_list h l ns next range f g z = (tt, λ e q en. (en, (λ es r er. f (short_var_decl ns (pack es)) r er), λ es. z (short_var_decl ns (pack es))))
+define_right ed in_header h l ns next range f g z = (tt, λ e q en. (en, (λ es r er. f (short_var_decl ns (pack es)) r er), λ es. z (short_var_decl ns (pack es))))
+define_right ed behind_turns h l ns next range f g z = (tt, λ e q en. (en, (λ es r er. f (short_var_decl ns (pack es)) r er), λ es. z (short_var_decl ns (pack es))))
 
-define_led : (p : Last) (b : Bool) (m : Position) (h : Bool) (l : ℕ) (next : Simple → State) (range : Name → Expr → State) (t : Lexeme) (x : Move)
+define_led : (ed : Edition) → (p : Last) (b : Bool) (m : Position) (h : Bool) (l : ℕ) (next : Simple → State) (range : Name → Expr → State) (t : Lexeme) (x : Move)
     (o : Option (List Name)) →
-    Ended next → RangeRight m range → Quiet next → Led p b t.kind x → Led p b t.kind (on_define m h l next range t x o)
-define_led p b m h l next range t x None f g z r = r
-define_led p b m h l next range t x (Some ns) f g z r =
-    led_cond p b t.kind (same define t.kind && may_define m) _ _
-    (λ k. (other, ap is_special (are_same define t.kind (both_true (same define t.kind) (may_define m) k).0), define_right m h l ns next range f g z)) (λ _. r)
+    Ended ed next → RangeRight ed m range → Quiet ed next → Led ed p b t.kind x → Led ed p b t.kind (on_define m h l next range t x o)
+define_led ed p b m h l next range t x None f g z r = r
+define_led ed p b m h l next range t x (Some ns) f g z r =
+    led_cond ed p b t.kind (same define t.kind && may_define m) _ _
+    (λ k. (other, ap is_special (are_same define t.kind (both_true (same define t.kind) (may_define m) k).0), define_right ed m h l ns next range f g z)) (λ _. r)
 
-pub lefts_led : (p : Last) (b : Bool) (m : Position) (h : Bool) (l : ℕ) (front : List Expr) (next : Simple → State) (alone : Expr → State)
+pub lefts_led : (ed : Edition) → (p : Last) (b : Bool) (m : Position) (h : Bool) (l : ℕ) (front : List Expr) (next : Simple → State) (alone : Expr → State)
     (range : Name → Expr → State) (t : Lexeme) (x : Move) →
-    ((e : Expr) → is_alone m (front ++ e ∷ []) ≡ false) → Ended next → (is_header m ≡ true → Ended alone) → RangeRight m range → Quiet next → Led p b t.kind x →
-    Led p b t.kind (on_lefts m h l front next alone range t x)
-lefts_led p b m h l front next alone range t x two f a g z r =
-    led_cond p b t.kind (same comma t.kind) _ _
+    ((e : Expr) → is_alone m (front ++ e ∷ []) ≡ false) → Ended ed next → (is_header m ≡ true → Ended ed alone) → RangeRight ed m range → Quiet ed next → Led ed p b t.kind x →
+    Led ed p b t.kind (on_lefts m h l front next alone range t x)
+lefts_led ed p b m h l front next alone range t x two f a g z r =
+    led_cond ed p b t.kind (same comma t.kind) _ _
     (λ k. (other, ap is_special (are_same comma t.kind k), (tt, λ e q en. (subst (λ c. LeftsOk c q) (sym (two e)) en, f, a, g, z)))) (λ _.
-    led_cond p b t.kind (same assign t.kind) _ _
+    led_cond ed p b t.kind (same assign t.kind) _ _
     (λ k. (equals, are_same assign t.kind k, (tt, λ e q en. (en, (λ es r er. f (assignment (pack front) (pack es)) r er), λ es. z (assignment (pack front) (pack es)))))) (λ _.
-    define_led p b m h l next range t x (names_if front) f g z r))
+    define_led ed p b m h l next range t x (names_if front) f g z r))
 
-assignment_led : (p : Last) (b : Bool) (h : Bool) (l : ℕ) (e : Expr) (next : Simple → State) (k : TokenKind) (x : Move) (o : Option BinaryOperator) →
+assignment_led : (ed : Edition) → (p : Last) (b : Bool) (h : Bool) (l : ℕ) (e : Expr) (next : Simple → State) (k : TokenKind) (x : Move) (o : Option BinaryOperator) →
     assignment_of k ≡ o →
-    Ended next → Led p b k x → Led p b k (on_assignment h l e next x o)
-assignment_led p b h l e next k x None is f r = r
-assignment_led p b h l e next k x (Some op) is f r = (other, assignment_special k op is, (tt, λ a q en. f (operator_assignment op e a) q en))
+    Ended ed next → Led ed p b k x → Led ed p b k (on_assignment h l e next x o)
+assignment_led ed p b h l e next k x None is f r = r
+assignment_led ed p b h l e next k x (Some op) is f r = (other, assignment_special k op is, (tt, λ a q en. f (operator_assignment op e a) q en))
 
-pub left_led : (p : Last) (b : Bool) (h : Bool) (l : ℕ) (e : Expr) (next : Simple → State) (t : Lexeme) (x : Move) → Ended next → Led p b t.kind x →
-    Led p b t.kind (on_left h l e next t x)
-left_led p b h l e next t x f r =
-    led_cond p b t.kind (same (kinds.Punctuation marks.Increment) t.kind) _ _
+pub left_led : (ed : Edition) → (p : Last) (b : Bool) (h : Bool) (l : ℕ) (e : Expr) (next : Simple → State) (t : Lexeme) (x : Move) → Ended ed next → Led ed p b t.kind x →
+    Led ed p b t.kind (on_left h l e next t x)
+left_led ed p b h l e next t x f r =
+    led_cond ed p b t.kind (same (kinds.Punctuation marks.Increment) t.kind) _ _
     (λ k. (other, ap is_special (are_same (kinds.Punctuation marks.Increment) t.kind k), f (increment e) other refl)) (λ _.
-    led_cond p b t.kind (same (kinds.Punctuation marks.Decrement) t.kind) _ _
+    led_cond ed p b t.kind (same (kinds.Punctuation marks.Decrement) t.kind) _ _
     (λ k. (other, ap is_special (are_same (kinds.Punctuation marks.Decrement) t.kind k), f (decrement e) other refl)) (λ _.
-    assignment_led p b h l e next t.kind x (assignment_of t.kind) refl f r))
+    assignment_led ed p b h l e next t.kind x (assignment_of t.kind) refl f r))
 
 -- statements
 
-pub on_stmt_led : (b : Bool) (l : ℕ) (next : Expected → Stmt → State) (t : Lexeme) → b ≡ true → Ended (next another) →
-    ((s : Stmt) → Right (next behind_a_jump s) jump) → Silent (next another) → Led other b t.kind (on_stmt l next t)
-on_stmt_led b l next t bt f j quiet =
-    led_cond other b t.kind (same (keyword keywords.Const) t.kind) _ _
+pub on_stmt_led : (ed : Edition) → (b : Bool) (l : ℕ) (next : Expected → Stmt → State) (t : Lexeme) → b ≡ true → Ended ed (next another) →
+    ((s : Stmt) → Right ed (next behind_a_jump s) jump) → Silent ed (next another) → Led ed other b t.kind (on_stmt l next t)
+on_stmt_led ed b l next t bt f j quiet =
+    led_cond ed other b t.kind (same (keyword keywords.Const) t.kind) _ _
     (λ k. (
       other,
       ap is_special (are_same (keyword keywords.Const) t.kind k),
-      const_decl_right (l + 1) (λ d. next another (declaration t.place d)) t
+      const_decl_right ed (l + 1) (λ d. next another (declaration t.place d)) t
           (λ d q en. f (declaration t.place d) q en) (λ d. quiet (declaration t.place d)),
     )) (λ _.
-    led_cond other b t.kind (same (keyword keywords.Var) t.kind) _ _
+    led_cond ed other b t.kind (same (keyword keywords.Var) t.kind) _ _
     (λ k. (
       other,
       ap is_special (are_same (keyword keywords.Var) t.kind k),
-      var_decl_right (l + 1) (λ d. next another (declaration t.place d)) t
+      var_decl_right ed (l + 1) (λ d. next another (declaration t.place d)) t
           (λ d q en. f (declaration t.place d) q en) (λ d. quiet (declaration t.place d)),
     )) (λ _.
-    led_cond other b t.kind (same (keyword keywords.Return) t.kind) _ _
+    led_cond ed other b t.kind (same (keyword keywords.Return) t.kind) _ _
     (λ k. (
       other,
       ap is_special (are_same (keyword keywords.Return) t.kind k),
@@ -271,29 +272,29 @@ on_stmt_led b l next t bt f j quiet =
         (quiet (return t.place no_exprs)).3,
       ),
     )) (λ _.
-    led_cond other b t.kind (same (keyword keywords.Break) t.kind) _ _
+    led_cond ed other b t.kind (same (keyword keywords.Break) t.kind) _ _
     (λ k. (jump, inl (are_same (keyword keywords.Break) t.kind k), j (break t.place))) (λ _.
-    led_cond other b t.kind (same (keyword keywords.Continue) t.kind) _ _
+    led_cond ed other b t.kind (same (keyword keywords.Continue) t.kind) _ _
     (λ k. (jump, inr (are_same (keyword keywords.Continue) t.kind k), j (continue t.place))) (λ _.
-    led_cond other b t.kind (same (keyword keywords.Fallthrough) t.kind) _ _
+    led_cond ed other b t.kind (same (keyword keywords.Fallthrough) t.kind) _ _
     (λ k. (other, ap is_special (are_same (keyword keywords.Fallthrough) t.kind k), f (fallthrough t.place) other refl)) (λ _.
-    led_cond other b t.kind (same opening_brace t.kind) _ _
+    led_cond ed other b t.kind (same opening_brace t.kind) _ _
     (λ k. (
       other,
       ap is_special (are_same opening_brace t.kind k),
       (refl, λ ss c. f (block_statement (block t.place (pack_stmts ss) c.place)) other refl),
     )) (λ _.
-    led_cond other b t.kind (same (keyword keywords.If) t.kind) _ _
+    led_cond ed other b t.kind (same (keyword keywords.If) t.kind) _ _
     (λ k. (
       other,
       ap is_special (are_same (keyword keywords.If) t.kind k),
-      if_right l (λ i. next another (if_statement i)) t (λ i. f (if_statement i) other refl),
+      if_right ed l (λ i. next another (if_statement i)) t (λ i. f (if_statement i) other refl),
     )) (λ _.
-    led_cond other b t.kind (same (keyword keywords.For) t.kind) _ _
-    (λ k. (other, ap is_special (are_same (keyword keywords.For) t.kind k), for_right l (next another) t (λ s. f s other refl))) (λ _.
-    led_cond other b t.kind (same (keyword keywords.Switch) t.kind) _ _
-    (λ k. (other, ap is_special (are_same (keyword keywords.Switch) t.kind k), switch_right l (next another) t (λ s. f s other refl))) (λ _.
-    on_expr_led other b 5 false (l + 1) a_statement (list_lefts in_list false (l + 1) (λ s. next another (simple (simple_place s) s))) t
+    led_cond ed other b t.kind (same (keyword keywords.For) t.kind) _ _
+    (λ k. (other, ap is_special (are_same (keyword keywords.For) t.kind k), for_right ed l (next another) t (λ s. f s other refl))) (λ _.
+    led_cond ed other b t.kind (same (keyword keywords.Switch) t.kind) _ _
+    (λ k. (other, ap is_special (are_same (keyword keywords.Switch) t.kind k), switch_right ed l (next another) t (λ s. f s other refl))) (λ _.
+    on_expr_led ed other b 5 false (l + 1) a_statement (list_lefts in_list false (l + 1) (λ s. next another (simple (simple_place s) s))) t
     (λ e. (
       first_name,
       (e, refl, bt),
@@ -319,73 +320,73 @@ abbrev pub at_return : ListKind → Bool
 at_return (statements l) = true
 at_return _ = false
 
-pub on_item_led : (k : ListKind) (front : List (Item k)) (next : List (Item k) → Lexeme → State) (t : Lexeme) (b : Bool) → b ≡ at_return k →
-    ((is : List (Item k)) (c : Lexeme) → Right (next is c) other) → Led other b t.kind (on_item k front next t)
-on_item_led (fields l) front next t b e f =
-    led_cond other b t.kind (same kinds.Name t.kind) _ _
+pub on_item_led : (ed : Edition) → (k : ListKind) (front : List (Item k)) (next : List (Item k) → Lexeme → State) (t : Lexeme) (b : Bool) → b ≡ at_return k →
+    ((is : List (Item k)) (c : Lexeme) → Right ed (next is c) other) → Led ed other b t.kind (on_item k front next t)
+on_item_led ed (fields l) front next t b e f =
+    led_cond ed other b t.kind (same kinds.Name t.kind) _ _
     (λ k. (name_last, (are_same kinds.Name t.kind k, refl, e), (refl, (λ ns. ((λ a. refl), λ a q en. (en, f))), λ ns. refl))) (λ _. tt)
-on_item_led (arguments l) front next t b e f =
-    on_expr_led other b 5 false l an_operand (λ a. list_end (arguments l) another (front ++ a ∷ []) next) t (λ k. (passed, (k, refl, e), (refl, f)))
+on_item_led ed (arguments l) front next t b e f =
+    on_expr_led ed other b 5 false l an_operand (λ a. list_end (arguments l) another (front ++ a ∷ []) next) t (λ k. (passed, (k, refl, e), (refl, f)))
     (λ a q en nl. (en, f))
-on_item_led (elements l) front next t b e f = on_element_led b l front next t e f
-on_item_led (const_specs l) front next t b e f =
-    led_cond other b t.kind (same kinds.Name t.kind) _ _
+on_item_led ed (elements l) front next t b e f = on_element_led ed b l front next t e f
+on_item_led ed (const_specs l) front next t b e f =
+    led_cond ed other b t.kind (same kinds.Name t.kind) _ _
     (λ k. (
       name_last,
       (are_same kinds.Name t.kind k, refl, e),
       (
         refl,
-        (λ ns. const_right l (λ s. list_end (const_specs l) another (front ++ s ∷ []) next) ns
+        (λ ns. const_right ed l (λ s. list_end (const_specs l) another (front ++ s ∷ []) next) ns
             (λ s q en. (en, f)) (λ s. (refl, refl, refl, refl))),
         λ ns. refl,
       ),
     )) (λ _. tt)
-on_item_led (var_specs l) front next t b e f =
-    led_cond other b t.kind (same kinds.Name t.kind) _ _
+on_item_led ed (var_specs l) front next t b e f =
+    led_cond ed other b t.kind (same kinds.Name t.kind) _ _
     (λ k. (
       name_last,
       (are_same kinds.Name t.kind k, refl, e),
       (
         refl,
-        (λ ns. var_right l (λ s. list_end (var_specs l) another (front ++ s ∷ []) next) ns
+        (λ ns. var_right ed l (λ s. list_end (var_specs l) another (front ++ s ∷ []) next) ns
             (λ s q en. (en, f)) (λ s. (refl, refl, refl, refl))),
         λ ns. refl,
       ),
     )) (λ _. tt)
-on_item_led (type_specs l) front next t b e f =
-    led_cond other b t.kind (same kinds.Name t.kind) _ _
+on_item_led ed (type_specs l) front next t b e f =
+    led_cond ed other b t.kind (same kinds.Name t.kind) _ _
     (λ k. (
       name_last,
       (are_same kinds.Name t.kind k, refl, e),
-      type_right l (λ s. list_end (type_specs l) another (front ++ s ∷ []) next) t
+      type_right ed l (λ s. list_end (type_specs l) another (front ++ s ∷ []) next) t
           (λ s q en. (en, f)) (λ s. (refl, refl, refl, refl)),
     )) (λ _. tt)
-on_item_led import_specs front next t b e f =
-    led_cond other b t.kind (same kinds.Name t.kind) _ _
+on_item_led ed import_specs front next t b e f =
+    led_cond ed other b t.kind (same kinds.Name t.kind) _ _
     (λ k. (name_last, (are_same kinds.Name t.kind k, refl, e), (tt, λ s. (refl, f)))) (λ _.
-    led_cond other b t.kind (is_string (codes "C") t) _ _
+    led_cond ed other b t.kind (is_string (codes "C") t) _ _
     (λ k. (other, ap is_special (string_is t k).0, (refl, f))) (λ _. tt))
-on_item_led (statements l) front next t b e f =
-    led_cond other b t.kind (same semicolon t.kind) _ _
+on_item_led ed (statements l) front next t b e f =
+    led_cond ed other b t.kind (same semicolon t.kind) _ _
     (λ k. (other, ap is_special (are_same semicolon t.kind k), (refl, f))) (λ _.
-    on_stmt_led b l (λ x s. list_end (statements l) x (front ++ s ∷ []) next) t e (λ s q en. (en, f)) (λ s. (refl, f)) (λ s. (refl, refl, refl, refl)))
-on_item_led parameters front next t b e f =
-    led_cond other b t.kind (same kinds.Name t.kind) _ _
+    on_stmt_led ed b l (λ x s. list_end (statements l) x (front ++ s ∷ []) next) t e (λ s q en. (en, f)) (λ s. (refl, f)) (λ s. (refl, refl, refl, refl)))
+on_item_led ed parameters front next t b e f =
+    led_cond ed other b t.kind (same kinds.Name t.kind) _ _
     (λ k. (name_last, (are_same kinds.Name t.kind k, refl, e), (refl, (λ ns. ((λ a. refl), λ a q en. (en, f))), λ ns. refl))) (λ _. tt)
-on_item_led results front next t b e f = on_type_led other b 1 a_type (λ a. list_end results a_result_end (front ++ a ∷ []) next) t refl e (λ a q en. (en, f))
+on_item_led ed results front next t b e f = on_type_led ed other b 1 a_type (λ a. list_end results a_result_end (front ++ a ∷ []) next) t refl e (λ a q en. (en, f))
 
 -- files
 
-pub decls_right : (p : Name) (is : List ImportSpec) (ds : List TopLevel) → Right (decls_at p is ds) other
-decls_right p is ds = (
+pub decls_right : (ed : Edition) → (p : Name) (is : List ImportSpec) (ds : List TopLevel) → Right ed (decls_at p is ds) other
+decls_right ed p is ds = (
   (refl, refl, tt),
-  (λ t. const_decl_right 1 (λ d. decl_end p is (ds ++ declared d ∷ [])) t (λ d q en. en) (λ d. (refl, refl, refl, refl))),
+  (λ t. const_decl_right ed 1 (λ d. decl_end p is (ds ++ declared d ∷ [])) t (λ d q en. en) (λ d. (refl, refl, refl, refl))),
   (
     (refl, refl, tt),
-    (λ t. var_decl_right 1 (λ d. decl_end p is (ds ++ declared d ∷ [])) t (λ d q en. en) (λ d. (refl, refl, refl, refl))),
+    (λ t. var_decl_right ed 1 (λ d. decl_end p is (ds ++ declared d ∷ [])) t (λ d q en. en) (λ d. (refl, refl, refl, refl))),
     (
       (refl, refl, tt),
-      (λ t. type_decl_right 1 (λ d. decl_end p is (ds ++ declared d ∷ [])) t (λ d q en. en) (λ d. (refl, refl, refl, refl))),
+      (λ t. type_decl_right ed 1 (λ d. decl_end p is (ds ++ declared d ∷ [])) t (λ d q en. en) (λ d. (refl, refl, refl, refl))),
       (
         (refl, refl, tt),
         (λ t. (
@@ -412,16 +413,16 @@ decls_right p is ds = (
   ),
 )
 
-pub imports_right : (p : Name) (iss : List (List ImportSpec)) → Right (imports_at p iss) other
-imports_right p iss = (
+pub imports_right : (ed : Edition) → (p : Name) (iss : List (List ImportSpec)) → Right ed (imports_at p iss) other
+imports_right ed p iss = (
   (refl, refl, tt),
   (λ t. (
     (refl, refl, tt),
     (λ o. (refl, λ is c. refl)),
     ((refl, refl, (refl, refl, refl, refl)), (λ n. (tt, λ s. refl)), (tt, λ s. refl)),
   )),
-  decls_right p (concat iss) [],
+  decls_right ed p (concat iss) [],
 )
 
-pub start_right : Right start other
-start_right = ((refl, refl, tt), λ k. (refl, λ n. ((refl, refl, tt), λ s. imports_right (name_of n) [])))
+pub start_right : (ed : Edition) → Right ed start other
+start_right ed = ((refl, refl, tt), λ k. (refl, λ n. ((refl, refl, tt), λ s. imports_right ed (name_of n) [])))

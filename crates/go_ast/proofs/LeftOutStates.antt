@@ -1,7 +1,9 @@
 -- What the machine's states say of what is left out: what the last token was where a state is due, and that the labels in
 -- a state, and in all that may come behind it, are right.
 use Rattle.std.proofs.Common.{◌≡◌, ℕ, ◌⊎◌, Bool, true, false, ◌&&◌, ◌||◌, List, [], ◌∷◌}
+use Rattle.go_text.specs.declared.edition.Edition.{Edition}
 use Rattle.go_text.specs.declared.place.Place.{Place}
+use Rattle.go_text.specs.Editions.{has_slices}
 use Rattle.go_scan.specs.declared.token.TokenKind.{TokenKind}
 use Rattle.go_scan.specs.declared.token.TokenKind.TheVariants as kinds
 use Rattle.go_scan.specs.declared.keyword.Keyword.TheVariants as keywords
@@ -10,8 +12,8 @@ use Rattle.go_ast.specs.Kinds.{same}
 use Rattle.go_ast.specs.Operators.{unary_of, binary_of, assignment_of}
 use Rattle.go_ast.specs.Expected.{Expected, an_operand, a_value, a_type, a_declared_type, a_parameter_type, a_length, an_index, an_index_end, a_selected_name, an_element_end, a_field_end, a_result_end, a_statement, behind_a_jump, a_function_name, a_function_opening, an_import, an_import_path, another, is_left_out_at}
 use Rattle.go_ast.specs.Trees.{Name, TypeExpr, Expr, name, Simple, call_statement, conditional, no_else, If, Clauses}
-use Rattle.go_ast.specs.Grammar.{Lexeme, assign, opening, opening_bracket, closing_bracket, opening_brace, closing_brace, comma, period, semicolon, define, is_call}
-use Rattle.go_ast.specs.Machine.{ListKind, fields, arguments, elements, const_specs, var_specs, type_specs, import_specs, statements, parameters, results, Item, separator, closer, Position, in_list, State, ended, token, package_name, import_path, optional, type, optional_type, expr, optional_expr, suffixes, operators, more_names, more_exprs, list_start, list_end, lefts, else_part, clause_start, clause_end, import_end, decl_end, Move, Take, Fail, keyword, is_header, is_for, is_some, behind_left, step}
+use Rattle.go_ast.specs.Grammar.{Lexeme, assign, opening, closing, opening_bracket, closing_bracket, opening_brace, closing_brace, comma, period, semicolon, colon, define, is_call}
+use Rattle.go_ast.specs.Machine.{ListKind, fields, arguments, elements, const_specs, var_specs, type_specs, import_specs, statements, parameters, results, Item, separator, closer, Position, in_list, State, ended, token, package_name, import_path, optional, newer, type, optional_type, expr, optional_expr, suffixes, operators, more_names, more_exprs, list_start, list_end, operands, lefts, else_part, clause_start, clause_end, import_end, decl_end, Move, Take, Fail, keyword, is_header, is_for, is_some, behind_left, step}
 use Rattle.go_ast.proofs.Means.{is_level}
 
 -- what the last token was, as far as a label hangs on it; or what comes before a part that may be missing
@@ -30,9 +32,10 @@ pub data Last : Type 0 where
   equals : Last
   func : Last
   jump : Last
-  -- a colon may come for a key, a name may come for an import
+  -- a colon may come for a key, a name may come for an import, the bracket may come behind the colon of a part
   keyed : Last
   nameable : Last
+  bounded : Last
 
 -- an expression, a type or names may end here
 abbrev pub is_end : Last → Bool
@@ -82,6 +85,7 @@ is_optional kinds.Name = true
 is_optional (kinds.Punctuation marks.Period) = true
 is_optional (kinds.Punctuation marks.OpenBrace) = true
 is_optional (kinds.Punctuation marks.OpenParenthesis) = true
+is_optional (kinds.Punctuation marks.CloseBracket) = true
 is_optional (kinds.Punctuation marks.Comma) = true
 is_optional (kinds.Punctuation marks.Colon) = true
 is_optional (kinds.Punctuation marks.Assign) = true
@@ -96,6 +100,12 @@ is_optional (kinds.Keyword keywords.Type) = true
 is_optional (kinds.Keyword keywords.Func) = true
 is_optional (kinds.Keyword keywords.Import) = true
 is_optional _ = false
+
+-- kinds that came with slices
+abbrev pub is_newer : TokenKind → Bool
+is_newer (kinds.Punctuation marks.CloseBracket) = true
+is_newer (kinds.Punctuation marks.Colon) = true
+is_newer _ = false
 
 -- what the last token is behind one that is due
 abbrev pub after : TokenKind → Expected → Last
@@ -115,6 +125,7 @@ behind_optional _ = other
 abbrev pub under : TokenKind → Last → Last
 under kinds.Name p = nameable
 under (kinds.Punctuation marks.Colon) p = keyed
+under (kinds.Punctuation marks.CloseBracket) p = bounded
 under _ p = p
 
 -- a name and no more
@@ -135,9 +146,9 @@ abbrev pub GoesBy : (State → Type 0) → Move → Type 0
 GoesBy P (Take need q) = P q
 GoesBy P (Fail x) = ⊥
 
-abbrev pub Goes : List TokenKind → State → Type 0
-Goes [] s = Unit {0}
-Goes (k ∷ ks) s = (text : List ℕ) × (place : Place) × GoesBy (Goes ks) (step s (tok k text place))
+abbrev pub Goes : (ed : Edition) → List TokenKind → State → Type 0
+Goes ed [] s = Unit {0}
+Goes ed (k ∷ ks) s = (text : List ℕ) × (place : Place) × GoesBy (Goes ed ks) (step ed s (tok k text place))
 
 -- which kinds a state may begin with, other than an opening brace
 abbrev pub starts_type : TokenKind → Bool
@@ -174,33 +185,40 @@ abbrev pub veto : Bool → Bool → Bool
 veto true b = false
 veto false b = b
 
-abbrev pub starts : State → TokenKind → Bool
-starts (ended f) k = false
-starts (token kind need x next) k = same kind k || false
-starts (package_name next) k = same kinds.Name k || false
-starts (import_path x next) k = same kinds.String k || false
-starts (optional kind need some none) k = same kind k || starts none k
-starts (type l x next) k = starts_type k
-starts (optional_type l x some none) k = starts_type k || veto (is_left_out_at x k) (starts none k)
-starts (expr n h l x next) k = starts_expr k
-starts (optional_expr h l x some none) k = starts_expr k || veto (is_left_out_at x k) (starts none k)
-starts (suffixes h l e next) k = same period k || (same opening_bracket k || (same opening k || starts (next e) k))
-starts (operators n h l e next) k = is_level n (binary_of k) || starts (next e) k
-starts (more_names front next) k = same comma k || starts (next front) k
-starts (more_exprs h l front next) k = same comma k || starts (next front) k
-starts (list_start s front next) k = same (closer s) k || starts_item s k
-starts (list_end s x front next) k = same (separator s) k || (same (closer s) k || false)
-starts (lefts m h l [] next alone range) k = false
-starts (lefts m h l (e ∷ []) next alone range) k =
+-- what came with slices comes by the edition
+abbrev pub by_newer : Bool → Bool → Bool → Bool
+by_newer true e b = e
+by_newer false e b = b
+
+abbrev pub starts : (ed : Edition) → State → TokenKind → Bool
+starts ed (ended f) k = false
+starts ed (token kind need x next) k = same kind k || false
+starts ed (package_name next) k = same kinds.Name k || false
+starts ed (import_path x next) k = same kinds.String k || false
+starts ed (optional kind need some none) k = same kind k || starts ed none k
+starts ed (newer kind need x some none) k = by_newer (same kind k) (has_slices ed) (starts ed none k)
+starts ed (type l x next) k = starts_type k
+starts ed (optional_type l x some none) k = starts_type k || veto (is_left_out_at x k) (starts ed none k)
+starts ed (expr n h l x next) k = starts_expr k
+starts ed (optional_expr h l x some none) k = starts_expr k || veto (is_left_out_at x k) (starts ed none k)
+starts ed (suffixes h l e next) k = same period k || (same opening_bracket k || (same opening k || starts ed (next e) k))
+starts ed (operators n h l e next) k = is_level n (binary_of k) || starts ed (next e) k
+starts ed (more_names front next) k = same comma k || starts ed (next front) k
+starts ed (more_exprs h l front next) k = same comma k || starts ed (next front) k
+starts ed (list_start s front next) k = same (closer s) k || starts_item s k
+starts ed (list_end s x front next) k = same (separator s) k || (same (closer s) k || false)
+starts ed (operands l next) k = same closing k || starts_expr k
+starts ed (lefts m h l [] next alone range) k = false
+starts ed (lefts m h l (e ∷ []) next alone range) k =
     goes_left k (same (kinds.Punctuation marks.Increment) k || (same (kinds.Punctuation marks.Decrement) k || (is_some (assignment_of k)
-    || (is_call e && starts (next (call_statement e)) k))))
-starts (lefts m h l (e ∷ f ∷ es) next alone range) k = goes_left k false
-starts (else_part l p i c b next) k = same (keyword keywords.Else) k || starts (next (conditional p i c b no_else)) k
-starts (clause_start l done p values front next) k =
+    || (is_call e && starts ed (next (call_statement e)) k))))
+starts ed (lefts m h l (e ∷ f ∷ es) next alone range) k = goes_left k false
+starts ed (else_part l p i c b next) k = same (keyword keywords.Else) k || starts ed (next (conditional p i c b no_else)) k
+starts ed (clause_start l done p values front next) k =
     same (keyword keywords.Case) k || (same (keyword keywords.Default) k || (same closing_brace k || (same semicolon k || starts_stmt k)))
-starts (clause_end l x done p values front next) k = same semicolon k || (same closing_brace k || false)
-starts (import_end p iss) k = same semicolon k || false
-starts (decl_end p is ds) k = same semicolon k || false
+starts ed (clause_end l x done p values front next) k = same semicolon k || (same closing_brace k || false)
+starts ed (import_end p iss) k = same semicolon k || false
+starts ed (decl_end p is ds) k = same semicolon k || false
 
 -- what is expected where a token may not come
 abbrev pub pick : Bool → Expected → Expected → Expected
@@ -223,6 +241,7 @@ abbrev pub label : State → TokenKind → Expected
 label (token kind need x next) k = x
 label (import_path x next) k = x
 label (optional kind need some none) k = label none k
+label (newer kind need x some none) k = pick (same kind k) x (label none k)
 label (type l x next) k = x
 label (optional_type l x some none) k = pick (is_left_out_at x k) x (label none k)
 label (expr n h l x next) k = x
@@ -233,6 +252,7 @@ label (more_names front next) k = label (next front) k
 label (more_exprs h l front next) k = label (next front) k
 label (list_start s front next) k = start_label s
 label (list_end s x front next) k = x
+label (operands l next) k = an_operand
 label (lefts m h l (e ∷ []) next alone range) k = pick (is_call e) (label (next (call_statement e)) k) (behind_left m e)
 label (else_part l p i c b next) k = label (next (conditional p i c b no_else)) k
 label (clause_start l done p values front next) k = a_statement
@@ -242,61 +262,70 @@ label _ k = another
 -- the labels of parts
 
 -- what holds of a token that is due, by its kind: no period may come behind a bracket; no name was last in front of a name
-abbrev pub MarkOk : Last → TokenKind → (Lexeme → State) → Type 0
-MarkOk p (kinds.Punctuation marks.CloseBracket) next = (t : Lexeme) → starts (next t) period ≡ false
-MarkOk p kinds.Name next = p ≡ other
-MarkOk p _ next = Unit {0}
+abbrev pub MarkOk : (ed : Edition) → Last → TokenKind → (Lexeme → State) → Type 0
+MarkOk ed p (kinds.Punctuation marks.CloseBracket) next = (t : Lexeme) → starts ed (next t) period ≡ false
+MarkOk ed p kinds.Name next = p ≡ other
+MarkOk ed p _ next = Unit {0}
 
-abbrev pub TokenOk : Last → TokenKind → Expected → (Lexeme → State) → Type 0
-TokenOk p kind another next = (is_plain p ≡ true) × (is_mark kind ≡ true) × MarkOk p kind next
-TokenOk p kind an_index_end next = (is_end p ≡ true) × (kind ≡ closing_bracket) × ((t : Lexeme) → starts (next t) period ≡ true)
-TokenOk p kind a_selected_name next = (p ≡ dot) × (kind ≡ kinds.Name)
-TokenOk p kind a_function_name next = (p ≡ func) × (kind ≡ kinds.Name)
-TokenOk p kind a_function_opening next = (p ≡ func_name) × (kind ≡ opening)
-TokenOk p kind _ next = ⊥
+abbrev pub TokenOk : (ed : Edition) → Last → TokenKind → Expected → (Lexeme → State) → Type 0
+TokenOk ed p kind another next = (is_plain p ≡ true) × (is_mark kind ≡ true) × MarkOk ed p kind next
+TokenOk ed p kind an_index_end next = (is_end p ≡ true) × (kind ≡ closing_bracket) × ((t : Lexeme) → starts ed (next t) period ≡ true)
+TokenOk ed p kind a_selected_name next = (p ≡ dot) × (kind ≡ kinds.Name)
+TokenOk ed p kind a_function_name next = (p ≡ func) × (kind ≡ kinds.Name)
+TokenOk ed p kind a_function_opening next = (p ≡ func_name) × (kind ≡ opening)
+TokenOk ed p kind _ next = ⊥
 
 abbrev pub ImportOk : Last → Expected → Type 0
 ImportOk nameable an_import = Unit {0}
 ImportOk name_last an_import_path = Unit {0}
 ImportOk _ _ = ⊥
 
-abbrev pub OptionalKind : TokenKind → Last → (Lexeme → State) → State → Type 0
-OptionalKind kinds.Name p some none =
-    (starts none kinds.String ≡ true) × (starts none kinds.Integer ≡ false) × (starts none (keyword keywords.Return) ≡ false) × (p ≡ other)
-OptionalKind (kinds.Punctuation marks.Comma) p some none =
-    (starts none comma ≡ false) × ((t : Lexeme) → (starts (some t) (keyword keywords.Struct) ≡ false) × (Goes (opening_brace ∷ []) (some t) → ⊥))
-OptionalKind (kinds.Punctuation marks.Semicolon) p some none = starts none closing_brace ≡ false
-OptionalKind _ p some none = Unit {0}
+abbrev pub OptionalKind : (ed : Edition) → TokenKind → Last → (Lexeme → State) → State → Type 0
+OptionalKind ed kinds.Name p some none =
+    (starts ed none kinds.String ≡ true) × (starts ed none kinds.Integer ≡ false) × (starts ed none (keyword keywords.Return) ≡ false) × (p ≡ other)
+OptionalKind ed (kinds.Punctuation marks.Comma) p some none =
+    (starts ed none comma ≡ false) × ((t : Lexeme) → (starts ed (some t) (keyword keywords.Struct) ≡ false) × (Goes ed (opening_brace ∷ []) (some t) → ⊥))
+OptionalKind ed (kinds.Punctuation marks.Semicolon) p some none = starts ed none closing_brace ≡ false
+OptionalKind ed (kinds.Punctuation marks.CloseBracket) p some none = ((t : Lexeme) → starts ed (some t) period ≡ true) × (label none colon ≡ an_index) × (p ≡ other)
+OptionalKind ed _ p some none = Unit {0}
 
-abbrev pub OptionalOk : Last → TokenKind → (Lexeme → State) → State → Type 0
-OptionalOk p kind some none = (is_end p ≡ true) × (is_optional kind ≡ true) × OptionalKind kind p some none
+abbrev pub OptionalOk : (ed : Edition) → Last → TokenKind → (Lexeme → State) → State → Type 0
+OptionalOk ed p kind some none = (is_end p ≡ true) × (is_optional kind ≡ true) × OptionalKind ed kind p some none
 
-abbrev pub CommaIs : Bool → (TypeExpr → State) → Type 0
-CommaIs b next = (a : TypeExpr) → starts (next a) comma ≡ b
+abbrev pub CommaIs : (ed : Edition) → Bool → (TypeExpr → State) → Type 0
+CommaIs ed b next = (a : TypeExpr) → starts ed (next a) comma ≡ b
 
-abbrev pub TypeOk : Last → Expected → (TypeExpr → State) → Type 0
-TypeOk other a_type next = Unit {0}
-TypeOk names a_type next = CommaIs false next
-TypeOk names a_parameter_type next = CommaIs true next
-TypeOk name_last a_declared_type next = CommaIs false next
-TypeOk _ _ _ = ⊥
+abbrev pub TypeOk : (ed : Edition) → Last → Expected → (TypeExpr → State) → Type 0
+TypeOk ed other a_type next = Unit {0}
+TypeOk ed names a_type next = CommaIs ed false next
+TypeOk ed names a_parameter_type next = CommaIs ed true next
+TypeOk ed name_last a_declared_type next = CommaIs ed false next
+TypeOk ed _ _ _ = ⊥
 
-abbrev pub OptionalTypeOk : Last → Expected → (TypeExpr → State) → State → Type 0
-OptionalTypeOk other a_type some none = starts none (keyword keywords.Return) ≡ false
-OptionalTypeOk names a_type some none =
-    CommaIs false some × (starts none assign ≡ true) × (starts none (keyword keywords.Return) ≡ false) × (starts none (keyword keywords.Struct) ≡ false)
-OptionalTypeOk _ _ _ _ = ⊥
+abbrev pub OptionalTypeOk : (ed : Edition) → Last → Expected → (TypeExpr → State) → State → Type 0
+OptionalTypeOk ed other a_type some none = starts ed none (keyword keywords.Return) ≡ false
+OptionalTypeOk ed names a_type some none =
+    CommaIs ed false some × (starts ed none assign ≡ true) × (starts ed none (keyword keywords.Return) ≡ false) × (starts ed none (keyword keywords.Struct) ≡ false)
+OptionalTypeOk ed _ _ _ _ = ⊥
 
 -- a length and an index differ in what may be behind their bracket
 abbrev pub index_tail : List TokenKind
 index_tail = kinds.Integer ∷ closing_bracket ∷ period ∷ []
 
-abbrev pub ExprOk : Last → Expected → State → Type 0
-ExprOk other an_operand s = Unit {0}
-ExprOk equals a_value s = Unit {0}
-ExprOk bracket a_length s = Goes index_tail s → ⊥
-ExprOk bracket an_index s = Goes index_tail s
-ExprOk _ _ _ = ⊥
+abbrev pub ExprOk : (ed : Edition) → Last → Expected → State → Type 0
+ExprOk ed other an_operand s = Unit {0}
+ExprOk ed equals a_value s = Unit {0}
+ExprOk ed bracket a_length s = Goes ed index_tail s → ⊥
+ExprOk ed bracket an_index s = Goes ed index_tail s
+ExprOk ed bounded an_index s = Unit {0}
+ExprOk ed _ _ _ = ⊥
+
+-- a token that came with slices, in its three places; what is expected otherwise is refused alike, and no comma comes there
+abbrev pub NewerOk : (ed : Edition) → Last → TokenKind → Expected → (Lexeme → State) → Type 0
+NewerOk ed p kind a_length some = (p ≡ bracket) × (kind ≡ closing_bracket) × ((t : Lexeme) → starts ed (some t) period ≡ false)
+NewerOk ed p kind an_index some = (p ≡ bracket) × (kind ≡ colon)
+NewerOk ed p kind an_index_end some = (is_end p ≡ true) × (kind ≡ colon)
+NewerOk ed _ _ _ _ = ⊥
 
 abbrev pub EndOk : ListKind → Expected → Last → Type 0
 EndOk (fields l) a_field_end p = is_end p ≡ true
@@ -323,37 +352,40 @@ ClauseOk another p = is_end p ≡ true
 ClauseOk _ _ = ⊥
 
 -- the labels in a state, and in all that may come behind it, are right
-abbrev pub Right : State → Last → Type 0
-Right (ended f) p = is_end p ≡ true
-Right (token kind need x next) p = TokenOk p kind x next × ((t : Lexeme) → Right (next t) (after kind x))
-Right (package_name next) p = (p ≡ other) × ((t : Lexeme) → Right (next t) name_last)
-Right (import_path x next) p = ImportOk p x × ((t : Lexeme) → Right (next t) other)
-Right (optional kind need some none) p =
-    OptionalOk p kind some none × ((t : Lexeme) → Right (some t) (behind_optional kind)) × Right none (under kind p)
-Right (type l x next) p = TypeOk p x next × ((a : TypeExpr) (q : Last) → is_end q ≡ true → Right (next a) q)
-Right (optional_type l x some none) p = OptionalTypeOk p x some none × ((a : TypeExpr) (q : Last) → is_end q ≡ true → Right (some a) q) × Right none p
-Right (expr n h l x next) p = ExprOk p x (expr n h l x next) × ((e : Expr) (q : Last) → is_end q ≡ true → Right (next e) q)
-Right (optional_expr h l x some none) p =
-    (p ≡ other) × (x ≡ an_operand) × (starts none (keyword keywords.Return) ≡ false) × ((e : Expr) (q : Last) → is_end q ≡ true → Right (some e) q) × Right none p
-    × (starts none kinds.String ≡ false)
-Right (suffixes h l e next) p = Right (next e) p × ((a : Expr) (q : Last) → is_end q ≡ true → is_lone a ≡ false → Right (next a) q)
-Right (operators n h l e next) p = Right (next e) p × ((a : Expr) (q : Last) → is_end q ≡ true → is_lone a ≡ false → Right (next a) q)
-Right (more_names front next) p =
-    (p ≡ name_last) × ((ns : List Name) → Right (next ns) names) × ((ns : List Name) → starts (next ns) comma ≡ false)
-Right (more_exprs h l front next) p =
-    (is_end p ≡ true) × ((es : List Expr) (q : Last) → is_end q ≡ true → Right (next es) q) × ((es : List Expr) → starts (next es) comma ≡ false)
-Right (list_start k front next) p = (p ≡ other) × ((is : List (Item k)) (c : Lexeme) → Right (next is c) other)
-Right (list_end k x front next) p = EndOk k x p × ((is : List (Item k)) (c : Lexeme) → Right (next is c) other)
-Right (lefts m h l front next alone range) p =
-    LeftsOk (is_alone m front) p × ((s : Simple) (q : Last) → is_end q ≡ true → Right (next s) q)
-    × (is_header m ≡ true → (e : Expr) (q : Last) → is_end q ≡ true → Right (alone e) q)
-    × (is_for m ≡ true → (n : Name) (e : Expr) (q : Last) → is_end q ≡ true → Right (range n e) q)
-    × ((s : Simple) → starts (next s) comma ≡ false)
-Right (else_part l p i c b next) q = (q ≡ other) × ((x : If) → Right (next x) other)
-Right (clause_start l done p values front next) q = (q ≡ other) × ((cs : Clauses) (c : Lexeme) → Right (next cs c) other)
-Right (clause_end l x done p values front next) q = ClauseOk x q × ((cs : Clauses) (c : Lexeme) → Right (next cs c) other)
-Right (import_end p iss) q = is_end q ≡ true
-Right (decl_end p is ds) q = is_end q ≡ true
+abbrev pub Right : (ed : Edition) → State → Last → Type 0
+Right ed (ended f) p = is_end p ≡ true
+Right ed (token kind need x next) p = TokenOk ed p kind x next × ((t : Lexeme) → Right ed (next t) (after kind x))
+Right ed (package_name next) p = (p ≡ other) × ((t : Lexeme) → Right ed (next t) name_last)
+Right ed (import_path x next) p = ImportOk p x × ((t : Lexeme) → Right ed (next t) other)
+Right ed (optional kind need some none) p =
+    OptionalOk ed p kind some none × ((t : Lexeme) → Right ed (some t) (behind_optional kind)) × Right ed none (under kind p)
+Right ed (newer kind need x some none) p =
+    NewerOk ed p kind x some × ((t : Lexeme) → Right ed (some t) other) × Right ed none p × ((k : TokenKind) → label none k ≡ x) × (starts ed none comma ≡ false)
+Right ed (type l x next) p = TypeOk ed p x next × ((a : TypeExpr) (q : Last) → is_end q ≡ true → Right ed (next a) q)
+Right ed (optional_type l x some none) p = OptionalTypeOk ed p x some none × ((a : TypeExpr) (q : Last) → is_end q ≡ true → Right ed (some a) q) × Right ed none p
+Right ed (expr n h l x next) p = ExprOk ed p x (expr n h l x next) × ((e : Expr) (q : Last) → is_end q ≡ true → Right ed (next e) q)
+Right ed (optional_expr h l x some none) p =
+    (p ≡ other) × (x ≡ an_operand) × (starts ed none (keyword keywords.Return) ≡ false) × ((e : Expr) (q : Last) → is_end q ≡ true → Right ed (some e) q) × Right ed none p
+    × (starts ed none kinds.String ≡ false)
+Right ed (suffixes h l e next) p = Right ed (next e) p × ((a : Expr) (q : Last) → is_end q ≡ true → is_lone a ≡ false → Right ed (next a) q)
+Right ed (operators n h l e next) p = Right ed (next e) p × ((a : Expr) (q : Last) → is_end q ≡ true → is_lone a ≡ false → Right ed (next a) q)
+Right ed (more_names front next) p =
+    (p ≡ name_last) × ((ns : List Name) → Right ed (next ns) names) × ((ns : List Name) → starts ed (next ns) comma ≡ false)
+Right ed (more_exprs h l front next) p =
+    (is_end p ≡ true) × ((es : List Expr) (q : Last) → is_end q ≡ true → Right ed (next es) q) × ((es : List Expr) → starts ed (next es) comma ≡ false)
+Right ed (list_start k front next) p = (p ≡ other) × ((is : List (Item k)) (c : Lexeme) → Right ed (next is c) other)
+Right ed (list_end k x front next) p = EndOk k x p × ((is : List (Item k)) (c : Lexeme) → Right ed (next is c) other)
+Right ed (operands l next) p = (p ≡ other) × ((es : List Expr) (c : Lexeme) → Right ed (next es c) other)
+Right ed (lefts m h l front next alone range) p =
+    LeftsOk (is_alone m front) p × ((s : Simple) (q : Last) → is_end q ≡ true → Right ed (next s) q)
+    × (is_header m ≡ true → (e : Expr) (q : Last) → is_end q ≡ true → Right ed (alone e) q)
+    × (is_for m ≡ true → (n : Name) (e : Expr) (q : Last) → is_end q ≡ true → Right ed (range n e) q)
+    × ((s : Simple) → starts ed (next s) comma ≡ false)
+Right ed (else_part l p i c b next) q = (q ≡ other) × ((x : If) → Right ed (next x) other)
+Right ed (clause_start l done p values front next) q = (q ≡ other) × ((cs : Clauses) (c : Lexeme) → Right ed (next cs c) other)
+Right ed (clause_end l x done p values front next) q = ClauseOk x q × ((cs : Clauses) (c : Lexeme) → Right ed (next cs c) other)
+Right ed (import_end p iss) q = is_end q ≡ true
+Right ed (decl_end p is ds) q = is_end q ≡ true
 
 -- what the last token is behind one that is taken, where a `return` could have stood or not
 abbrev pub Tells : Last → Last → Bool → TokenKind → Type 0
@@ -369,6 +401,6 @@ Tells func p b k = k ≡ keyword keywords.Func
 Tells jump p b k = (k ≡ keyword keywords.Break) ⊎ (k ≡ keyword keywords.Continue)
 Tells _ p b k = ⊥
 
-abbrev pub Led : Last → Bool → TokenKind → Move → Type 0
-Led p b k (Take need q) = (r : Last) × Tells r p b k × Right q r
-Led p b k (Fail x) = Unit {0}
+abbrev pub Led : (ed : Edition) → Last → Bool → TokenKind → Move → Type 0
+Led ed p b k (Take need q) = (r : Last) × Tells r p b k × Right ed q r
+Led ed p b k (Fail x) = Unit {0}

@@ -3,6 +3,8 @@
 -- optional part never begins as the part does.
 use Rattle.std.proofs.Common.{◌≡◌, ◌≢◌, ℕ, suc, ◌+◌, ◌<◌, ◌≤◌, ◌⊎◌, Bool, true, false, ◌&&◌, ◌||◌, List, [], ◌∷◌, ◌++◌, Option, Some, None}
 use Rattle.std.specs.Prelude.{not, codes, nat_eq}
+use Rattle.go_text.specs.declared.edition.Edition.{Edition}
+use Rattle.go_text.specs.Editions.{has_slices}
 use Rattle.go_scan.specs.declared.token.TokenKind.{TokenKind}
 use Rattle.go_scan.specs.declared.token.TokenKind.TheVariants as kinds
 use Rattle.go_scan.specs.declared.keyword.Keyword.TheVariants as keywords
@@ -11,10 +13,10 @@ use Rattle.go_ast.specs.Kinds.{same}
 use Rattle.go_ast.specs.Literals.{string_value}
 use Rattle.go_ast.specs.Operators.{binary_of, assignment_of, tighter}
 use Rattle.go_ast.specs.Expected.{is_left_out_at}
-use Rattle.go_ast.specs.Trees.{Name, BinaryOperator, TypeExpr, Expr, composite_lit, selector, index, call, binary, Simple, call_statement, increment, decrement, assignment, operator_assignment, short_var_decl, Stmt, conditional, Else, no_else, Clauses, TopLevel, ImportSpec, File, place_of, pack, pack_stmts}
+use Rattle.go_ast.specs.Trees.{Name, BinaryOperator, TypeExpr, Expr, composite_lit, selector, index, cut, call, binary, Simple, call_statement, increment, decrement, assignment, operator_assignment, short_var_decl, Stmt, conditional, Else, no_else, Clauses, TopLevel, ImportSpec, File, place_of, pack, pack_stmts}
 use Rattle.go_ast.specs.Heights.{height, type_height, element_height, simple_height, const_height, var_height, type_spec_height, parameter_height, stmt_height, if_height, clauses_height, top_height}
-use Rattle.go_ast.specs.Grammar.{Lexeme, Token, name_of, assign, opening, closing, opening_bracket, closing_bracket, opening_brace, closing_brace, comma, period, semicolon, define, Behind, AreItems, AreMoreNames, AreNames, IsType, IsExpr, AreArguments, AreElements, IsKey, IsElement, AreMoreExprs, AreExprs, is_call, is_short_var_decl, type_place, IsConstSpec, IsVarSpec, IsTypeSpec, IsStmt, IsElse, AreStmts, AreClauses, is_last, IsParameter, IsImportSpec, AreImports, AreTopLevels, concat}
-use Rattle.go_ast.specs.Machine.{ListKind, fields, arguments, elements, const_specs, var_specs, type_specs, import_specs, statements, parameters, results, Item, separator, closer, Position, Clause, pack_clauses, State, ended, token, package_name, import_path, optional, type, optional_type, expr, optional_expr, suffixes, operators, more_names, more_exprs, list_start, list_end, lefts, else_part, clause_start, clause_end, import_end, decl_end, Move, Take, Fail, keyword, begins_type, begins_expr, literal_type, is_some, names_if, may_define, is_header, is_for, with_clause, file_of}
+use Rattle.go_ast.specs.Grammar.{Lexeme, Token, name_of, assign, opening, closing, opening_bracket, closing_bracket, opening_brace, closing_brace, comma, period, semicolon, colon, define, Behind, AreItems, AreMoreNames, AreNames, IsType, IsExpr, IsBound, AreOperands, AreArguments, AreElements, IsKey, IsElement, AreMoreExprs, AreExprs, is_call, is_short_var_decl, type_place, IsConstSpec, IsVarSpec, IsTypeSpec, IsStmt, IsElse, AreStmts, AreClauses, is_last, IsParameter, IsImportSpec, AreImports, AreTopLevels, concat}
+use Rattle.go_ast.specs.Machine.{ListKind, fields, arguments, elements, const_specs, var_specs, type_specs, import_specs, statements, parameters, results, Item, separator, closer, Position, Clause, pack_clauses, State, ended, token, package_name, import_path, optional, newer, operands, type, optional_type, expr, optional_expr, suffixes, operators, more_names, more_exprs, list_start, list_end, lefts, else_part, clause_start, clause_end, import_end, decl_end, Move, Take, Fail, keyword, begins_type, begins_expr, literal_type, is_some, names_if, may_define, is_header, is_for, with_clause, file_of}
 
 -- the expression is a itself, and takes no tokens
 abbrev pub Itself : Expr → Expr → List Lexeme → List Lexeme → Type 0
@@ -27,44 +29,48 @@ IsTypeName a x us ws =
     ⊎ ((d t : Lexeme) × (vs : List Lexeme) × Token period d us vs × Token kinds.Name t vs ws × (x ≡ selector (place_of a) a (name_of t)))
 
 -- the expression a, which grows by suffixes to e: the tokens of the suffixes, and then others
-abbrev pub Suffixed : Bool → Expr → Expr → List Lexeme → List Lexeme → Type 0
-Suffixed h a (selector p e f) us ws =
+abbrev pub Suffixed : (ed : Edition) → Bool → Expr → Expr → List Lexeme → List Lexeme → Type 0
+Suffixed ed h a (selector p e f) us ws =
     Itself a (selector p e f) us ws
-    ⊎ ((d t : Lexeme) × (vs xs : List Lexeme) × (p ≡ place_of e) × Suffixed h a e us vs × Token period d vs xs × Token kinds.Name t xs ws × (f ≡ name_of t))
-Suffixed h a (index p e i) us ws =
+    ⊎ ((d t : Lexeme) × (vs xs : List Lexeme) × (p ≡ place_of e) × Suffixed ed h a e us vs × Token period d vs xs × Token kinds.Name t xs ws × (f ≡ name_of t))
+Suffixed ed h a (index p e i) us ws =
     Itself a (index p e i) us ws
-    ⊎ ((o c : Lexeme) × (vs xs ys : List Lexeme) × (p ≡ place_of e) × Suffixed h a e us vs × Token opening_bracket o vs xs × IsExpr 5 false i xs ys
+    ⊎ ((o c : Lexeme) × (vs xs ys : List Lexeme) × (p ≡ place_of e) × Suffixed ed h a e us vs × Token opening_bracket o vs xs × IsExpr ed 5 false i xs ys
     × Token closing_bracket c ys ws)
-Suffixed h a (call p e es) us ws =
+Suffixed ed h a (cut p e i j) us ws =
+    Itself a (cut p e i j) us ws
+    ⊎ ((o m c : Lexeme) × (vs xs ys zs zs' : List Lexeme) × (has_slices ed ≡ true) × (p ≡ place_of e) × Suffixed ed h a e us vs × Token opening_bracket o vs xs
+    × IsBound ed i xs ys × Token colon m ys zs × IsBound ed j zs zs' × Token closing_bracket c zs' ws)
+Suffixed ed h a (call p e es) us ws =
     Itself a (call p e es) us ws
-    ⊎ ((o c : Lexeme) × (vs xs ys : List Lexeme) × (p ≡ place_of e) × Suffixed h a e us vs × Token opening o vs xs × AreArguments es xs ys
+    ⊎ ((o c : Lexeme) × (vs xs ys : List Lexeme) × (p ≡ place_of e) × Suffixed ed h a e us vs × Token opening o vs xs × AreOperands ed es xs ys
     × Token closing c ys ws)
-Suffixed h a (composite_lit p b q es) us ws =
+Suffixed ed h a (composite_lit p b q es) us ws =
     Itself a (composite_lit p b q es) us ws
     ⊎ ((o c : Lexeme) × (vs xs ys : List Lexeme) × (x : Expr) × (h ≡ false) × IsTypeName a x us vs × (literal_type x ≡ Some b) × (p ≡ type_place b)
-    × Token opening_brace o vs xs × (q ≡ o.place) × AreElements es xs ys × Token closing_brace c ys ws)
-Suffixed h a e us ws = Itself a e us ws
+    × Token opening_brace o vs xs × (q ≡ o.place) × AreElements ed es xs ys × Token closing_brace c ys ws)
+Suffixed ed h a e us ws = Itself a e us ws
 
 -- the expression a, which grows by operators of a level to e
-abbrev pub Joined : ℕ → Bool → Expr → Expr → List Lexeme → List Lexeme → Type 0
-Joined n h a (binary p op e b) us ws =
+abbrev pub Joined : (ed : Edition) → ℕ → Bool → Expr → Expr → List Lexeme → List Lexeme → Type 0
+Joined ed n h a (binary p op e b) us ws =
     Itself a (binary p op e b) us ws
-    ⊎ ((t : Lexeme) × (vs xs : List Lexeme) × (tighter op ≡ n) × (p ≡ place_of e) × Joined n h a e us vs × (vs ≡ t ∷ xs) × (binary_of t.kind ≡ Some op)
-    × IsExpr n h b xs ws)
-Joined n h a e us ws = Itself a e us ws
+    ⊎ ((t : Lexeme) × (vs xs : List Lexeme) × (tighter op ≡ n) × (p ≡ place_of e) × Joined ed n h a e us vs × (vs ≡ t ∷ xs) × (binary_of t.kind ≡ Some op)
+    × IsExpr ed n h b xs ws)
+Joined ed n h a e us ws = Itself a e us ws
 
 -- an item of a list, its height and its level
-abbrev pub IsItem : (k : ListKind) → Item k → List Lexeme → List Lexeme → Type 0
-IsItem (fields l) i us ws = (vs : List Lexeme) × AreNames i.0 us vs × IsType i.1 vs ws
-IsItem (arguments l) e us ws = IsExpr 5 false e us ws
-IsItem (elements l) i us ws = (vs : List Lexeme) × IsKey i.0 us vs × IsElement i.1 vs ws
-IsItem (const_specs l) s us ws = IsConstSpec s us ws
-IsItem (var_specs l) s us ws = IsVarSpec s us ws
-IsItem (type_specs l) s us ws = IsTypeSpec s us ws
-IsItem import_specs i us ws = IsImportSpec i us ws
-IsItem (statements l) s us ws = IsStmt s us ws
-IsItem parameters p us ws = IsParameter p us ws
-IsItem results a us ws = IsType a us ws
+abbrev pub IsItem : (ed : Edition) → (k : ListKind) → Item k → List Lexeme → List Lexeme → Type 0
+IsItem ed (fields l) i us ws = (vs : List Lexeme) × AreNames i.0 us vs × IsType ed i.1 vs ws
+IsItem ed (arguments l) e us ws = IsExpr ed 5 false e us ws
+IsItem ed (elements l) i us ws = (vs : List Lexeme) × IsKey i.0 us vs × IsElement ed i.1 vs ws
+IsItem ed (const_specs l) s us ws = IsConstSpec ed s us ws
+IsItem ed (var_specs l) s us ws = IsVarSpec ed s us ws
+IsItem ed (type_specs l) s us ws = IsTypeSpec ed s us ws
+IsItem ed import_specs i us ws = IsImportSpec i us ws
+IsItem ed (statements l) s us ws = IsStmt ed s us ws
+IsItem ed parameters p us ws = IsParameter ed p us ws
+IsItem ed results a us ws = IsType ed a us ws
 
 abbrev pub item_height : (k : ListKind) → Item k → ℕ
 item_height (fields l) i = type_height i.1
@@ -91,18 +97,18 @@ item_level parameters = 1
 item_level results = 1
 
 -- a simple statement that begins with these left sides: the tokens behind them
-abbrev pub Continues : Bool → List Expr → Simple → List Lexeme → List Lexeme → Type 0
-Continues h front (call_statement e) us ws = (front ≡ e ∷ []) × (is_call e ≡ true) × (us ≡ ws)
-Continues h front (increment e) us ws = (t : Lexeme) × (front ≡ e ∷ []) × Token (kinds.Punctuation marks.Increment) t us ws
-Continues h front (decrement e) us ws = (t : Lexeme) × (front ≡ e ∷ []) × Token (kinds.Punctuation marks.Decrement) t us ws
-Continues h front (assignment ls rs) us ws =
-    (es : List Expr) × (t : Lexeme) × (vs xs : List Lexeme) × AreMoreExprs h (pack es) us vs × (ls ≡ pack (front ++ es)) × Token assign t vs xs
-    × AreExprs h rs xs ws
-Continues h front (operator_assignment op l r) us ws =
-    (t : Lexeme) × (vs : List Lexeme) × (front ≡ l ∷ []) × (us ≡ t ∷ vs) × (assignment_of t.kind ≡ Some op) × IsExpr 5 h r vs ws
-Continues h front (short_var_decl ns rs) us ws =
-    (es : List Expr) × (t : Lexeme) × (vs xs : List Lexeme) × AreMoreExprs h (pack es) us vs × (names_if (front ++ es) ≡ Some ns) × Token define t vs xs
-    × AreExprs h rs xs ws
+abbrev pub Continues : (ed : Edition) → Bool → List Expr → Simple → List Lexeme → List Lexeme → Type 0
+Continues ed h front (call_statement e) us ws = (front ≡ e ∷ []) × (is_call e ≡ true) × (us ≡ ws)
+Continues ed h front (increment e) us ws = (t : Lexeme) × (front ≡ e ∷ []) × Token (kinds.Punctuation marks.Increment) t us ws
+Continues ed h front (decrement e) us ws = (t : Lexeme) × (front ≡ e ∷ []) × Token (kinds.Punctuation marks.Decrement) t us ws
+Continues ed h front (assignment ls rs) us ws =
+    (es : List Expr) × (t : Lexeme) × (vs xs : List Lexeme) × AreMoreExprs ed h (pack es) us vs × (ls ≡ pack (front ++ es)) × Token assign t vs xs
+    × AreExprs ed h rs xs ws
+Continues ed h front (operator_assignment op l r) us ws =
+    (t : Lexeme) × (vs : List Lexeme) × (front ≡ l ∷ []) × (us ≡ t ∷ vs) × (assignment_of t.kind ≡ Some op) × IsExpr ed 5 h r vs ws
+Continues ed h front (short_var_decl ns rs) us ws =
+    (es : List Expr) × (t : Lexeme) × (vs xs : List Lexeme) × AreMoreExprs ed h (pack es) us vs × (names_if (front ++ es) ≡ Some ns) × Token define t vs xs
+    × AreExprs ed h rs xs ws
 
 -- there is a first token, of a kind
 abbrev pub IsFirst : TokenKind → List Lexeme → Type 0
@@ -156,6 +162,7 @@ begins (token kind need x next) k = same kind k
 begins (package_name next) k = same kinds.Name k
 begins (import_path x next) k = same kinds.String k
 begins (optional kind need some none) k = same kind k || begins none k
+begins (newer kind need x some none) k = same kind k || begins none k
 begins (type l x next) k = begins_type k
 begins (optional_type l x some none) k = begins_type k || begins none k
 begins (expr n h l x next) k = begins_expr k
@@ -166,6 +173,7 @@ begins (more_names front next) k = same comma k || begins (next front) k
 begins (more_exprs h l front next) k = same comma k || begins (next front) k
 begins (list_start s front next) k = same (closer s) k || begins_item s k
 begins (list_end s x front next) k = same (separator s) k || same (closer s) k
+begins (operands l next) k = same closing k || begins_expr k
 begins (lefts m h l [] next alone range) k = continues k
 begins (lefts m h l (e ∷ []) next alone range) k = continues k || begins_behind m (is_call e) k (begins (next (call_statement e)) k) (begins (alone e) k)
 begins (lefts m h l (e ∷ f ∷ es) next alone range) k = continues k
@@ -180,7 +188,7 @@ begins (decl_end p is ds) k = same semicolon k
 abbrev pub Closes : Bool → TokenKind → Type 0
 Closes h k = (is_tail h k ≡ false) × (binary_of k ≡ None)
 
-module _ (B : ℕ) where
+module _ (ed : Edition) (B : ℕ) where
   -- each fits at a level
   abbrev pub AllFit : {A : Type 0} → (A → ℕ) → ℕ → List A → Type 0
   AllFit tall l [] = Unit {0}
@@ -197,51 +205,56 @@ module _ (B : ℕ) where
   Means (import_path x next) us f = (t : Lexeme) × (ws : List Lexeme) × Token kinds.String t us ws × (string_value t.text ≢ codes "C") × Means (next t) ws f
   Means (optional kind need some none) us f =
       ((t : Lexeme) × (ws : List Lexeme) × Token kind t us ws × (need ≤ B) × Means (some t) ws f) ⊎ Means none us f
-  Means (type l x next) us f = (a : TypeExpr) × (ws : List Lexeme) × IsType a us ws × (l + type_height a ≤ B + 1) × Means (next a) ws f
+  Means (newer kind need x some none) us f =
+      ((t : Lexeme) × (ws : List Lexeme) × Token kind t us ws × (need ≤ B) × Means (some t) ws f × (has_slices ed ≡ true)) ⊎ Means none us f
+  Means (type l x next) us f = (a : TypeExpr) × (ws : List Lexeme) × IsType ed a us ws × (l + type_height a ≤ B + 1) × Means (next a) ws f
   Means (optional_type l x some none) us f =
-      ((a : TypeExpr) × (ws : List Lexeme) × IsType a us ws × (l + type_height a ≤ B + 1) × Means (some a) ws f) ⊎ Means none us f
-  Means (expr n h l x next) us f = (e : Expr) × (ws : List Lexeme) × IsExpr n h e us ws × (l + height e ≤ B + 1) × Means (next e) ws f
+      ((a : TypeExpr) × (ws : List Lexeme) × IsType ed a us ws × (l + type_height a ≤ B + 1) × Means (some a) ws f) ⊎ Means none us f
+  Means (expr n h l x next) us f = (e : Expr) × (ws : List Lexeme) × IsExpr ed n h e us ws × (l + height e ≤ B + 1) × Means (next e) ws f
   Means (optional_expr h l x some none) us f =
-      ((e : Expr) × (ws : List Lexeme) × IsExpr 5 h e us ws × (l + height e ≤ B + 1) × Means (some e) ws f) ⊎ Means none us f
-  Means (suffixes h l a next) us f = (e : Expr) × (ws : List Lexeme) × Suffixed h a e us ws × (l + height e ≤ B + 1) × Means (next e) ws f
-  Means (operators n h l a next) us f = (e : Expr) × (ws : List Lexeme) × Joined n h a e us ws × (l + height e ≤ B + 1) × Means (next e) ws f
+      ((e : Expr) × (ws : List Lexeme) × IsExpr ed 5 h e us ws × (l + height e ≤ B + 1) × Means (some e) ws f) ⊎ Means none us f
+  Means (suffixes h l a next) us f = (e : Expr) × (ws : List Lexeme) × Suffixed ed h a e us ws × (l + height e ≤ B + 1) × Means (next e) ws f
+  Means (operators n h l a next) us f = (e : Expr) × (ws : List Lexeme) × Joined ed n h a e us ws × (l + height e ≤ B + 1) × Means (next e) ws f
   Means (more_names front next) us f = (ns : List Name) × (ws : List Lexeme) × AreMoreNames ns us ws × Means (next (front ++ ns)) ws f
   Means (more_exprs h l front next) us f =
-      (es : List Expr) × (ws : List Lexeme) × AreMoreExprs h (pack es) us ws × AllFit height l es × Means (next (front ++ es)) ws f
+      (es : List Expr) × (ws : List Lexeme) × AreMoreExprs ed h (pack es) us ws × AllFit height l es × Means (next (front ++ es)) ws f
   Means (list_start k front next) us f =
-      (is : List (Item k)) × (c : Lexeme) × (vs ws : List Lexeme) × AreItems (IsItem k) (separator k) is us vs × FitItems k is
+      (is : List (Item k)) × (c : Lexeme) × (vs ws : List Lexeme) × AreItems (IsItem ed k) (separator k) is us vs × FitItems k is
       × Token (closer k) c vs ws × Means (next (front ++ is) c) ws f
   Means (list_end k x front next) us f =
-      (is : List (Item k)) × (c : Lexeme) × (vs ws : List Lexeme) × Behind (separator k) (AreItems (IsItem k) (separator k) is) (is ≡ []) us vs
+      (is : List (Item k)) × (c : Lexeme) × (vs ws : List Lexeme) × Behind (separator k) (AreItems (IsItem ed k) (separator k) is) (is ≡ []) us vs
       × FitItems k is × Token (closer k) c vs ws × Means (next (front ++ is) c) ws f
+  Means (operands l next) us f =
+      (es : List Expr) × (c : Lexeme) × (vs ws : List Lexeme) × AreOperands ed (pack es) us vs × AllFit height l es × Token closing c vs ws × Means (next es c) ws f
   Means (lefts m h l front next alone range) us f =
-      ((s : Simple) × (ws : List Lexeme) × Continues h front s us ws × (l + simple_height s ≤ B + 1) × (may_define m ≡ false → is_short_var_decl s ≡ false)
+      ((s : Simple) × (ws : List Lexeme) × Continues ed h front s us ws × (l + simple_height s ≤ B + 1) × (may_define m ≡ false → is_short_var_decl s ≡ false)
       × Means (next s) ws f)
       ⊎ ((e : Expr) × (front ≡ e ∷ []) × (is_header m ≡ true) × IsFirst opening_brace us × Means (alone e) us f)
       ⊎ ((n : Name) × (e : Expr) × (d r : Lexeme) × (vs xs ws : List Lexeme) × (is_for m ≡ true) × (names_if front ≡ Some (n ∷ [])) × Token define d us vs
-      × Token (keyword keywords.Range) r vs xs × IsExpr 5 h e xs ws × (l + height e ≤ B + 1) × Means (range n e) ws f)
+      × Token (keyword keywords.Range) r vs xs × IsExpr ed 5 h e xs ws × (l + height e ≤ B + 1) × Means (range n e) ws f)
   Means (else_part l p i c b next) us f =
-      (r : Else) × (ws : List Lexeme) × IsElse r us ws × (l + if_height (conditional p i c b r) ≤ B + 1) × Means (next (conditional p i c b r)) ws f
+      (r : Else) × (ws : List Lexeme) × IsElse ed r us ws × (l + if_height (conditional p i c b r) ≤ B + 1) × Means (next (conditional p i c b r)) ws f
   Means (clause_start l done p values front next) us f =
-      (ss : List Stmt) × (cs : List Clause) × (c : Lexeme) × (vs xs ws : List Lexeme) × AreStmts (is_last (pack_clauses cs)) (pack_stmts ss) us vs
-      × AreClauses (pack_clauses cs) vs xs × AllFit stmt_height (l + 1) ss × (l + 1 + clauses_height (pack_clauses cs) ≤ B + 1)
+      (ss : List Stmt) × (cs : List Clause) × (c : Lexeme) × (vs xs ws : List Lexeme) × AreStmts ed (is_last (pack_clauses cs)) (pack_stmts ss) us vs
+      × AreClauses ed (pack_clauses cs) vs xs × AllFit stmt_height (l + 1) ss × (l + 1 + clauses_height (pack_clauses cs) ≤ B + 1)
       × Token closing_brace c xs ws × Means (next (pack_clauses (with_clause done p values (front ++ ss) ++ cs)) c) ws f
   Means (clause_end l x done p values front next) us f =
       (ss : List Stmt) × (cs : List Clause) × (c : Lexeme) × (vs xs ws : List Lexeme)
-      × Behind semicolon (AreStmts (is_last (pack_clauses cs)) (pack_stmts ss)) ((ss ≡ []) × (is_last (pack_clauses cs) ≡ true)) us vs
-      × AreClauses (pack_clauses cs) vs xs × AllFit stmt_height (l + 1) ss × (l + 1 + clauses_height (pack_clauses cs) ≤ B + 1)
+      × Behind semicolon (AreStmts ed (is_last (pack_clauses cs)) (pack_stmts ss)) ((ss ≡ []) × (is_last (pack_clauses cs) ≡ true)) us vs
+      × AreClauses ed (pack_clauses cs) vs xs × AllFit stmt_height (l + 1) ss × (l + 1 + clauses_height (pack_clauses cs) ≤ B + 1)
       × Token closing_brace c xs ws × Means (next (pack_clauses (with_clause done p values (front ++ ss) ++ cs)) c) ws f
   Means (import_end p iss) us f =
       (t : Lexeme) × (vs xs : List Lexeme) × (more : List (List ImportSpec)) × (ds : List TopLevel) × Token semicolon t us vs × AreImports more vs xs
-      × AreTopLevels ds xs [] × AllFit top_height 1 ds × (f ≡ file_of p (concat (iss ++ more)) ds)
+      × AreTopLevels ed ds xs [] × AllFit top_height 1 ds × (f ≡ file_of p (concat (iss ++ more)) ds)
   Means (decl_end p is ds) us f =
-      (t : Lexeme) × (vs : List Lexeme) × (more : List TopLevel) × Token semicolon t us vs × AreTopLevels more vs [] × AllFit top_height 1 more
+      (t : Lexeme) × (vs : List Lexeme) × (more : List TopLevel) × Token semicolon t us vs × AreTopLevels ed more vs [] × AllFit top_height 1 more
       × (f ≡ file_of p is (ds ++ more))
 
   -- a state in which some token may be taken, or the file ended, within the bound
   abbrev pub Can : State → Type 0
   Can (token kind need x next) = need ≤ B
   Can (optional kind need some none) = (need ≤ B) ⊎ Can none
+  Can (newer kind need x some none) = Can none
   Can (type l x next) = l ≤ B
   Can (optional_type l x some none) = (l ≤ B) ⊎ Can none
   Can (expr n h l x next) = l ≤ B
@@ -274,6 +287,8 @@ module _ (B : ℕ) where
   Okay (import_path x next) = (t : Lexeme) → Can (next t) × Okay (next t)
   Okay (optional kind need some none) =
       ((t : Lexeme) → t.kind ≡ kind → need ≤ B → Can (some t) × Okay (some t)) × Okay none × (begins none kind ≡ false)
+  Okay (newer kind need x some none) =
+      ((t : Lexeme) → t.kind ≡ kind → need ≤ B → Can (some t) × Okay (some t)) × Okay none × (begins none kind ≡ false)
   Okay (type l x next) = ((a : TypeExpr) → l + type_height a ≤ B + 1 → Can (next a) × Okay (next a)) × NoPeriod next
   Okay (optional_type l x some none) =
       ((a : TypeExpr) → l + type_height a ≤ B + 1 → Can (some a) × Okay (some a)) × NoPeriod some × Okay none
@@ -294,6 +309,8 @@ module _ (B : ℕ) where
       (item_level k ≤ B + 1) × FitItems k front × ((is : List (Item k)) (c : Lexeme) → FitItems k is → Can (next is c) × Okay (next is c))
   Okay (list_end k x front next) =
       (item_level k ≤ B + 1) × FitItems k front × ((is : List (Item k)) (c : Lexeme) → FitItems k is → Can (next is c) × Okay (next is c))
+  Okay (operands l next) =
+      (l ≤ B + 1) × ((es : List Expr) (c : Lexeme) → AllFit height l es → Can (next es c) × Okay (next es c))
   Okay (lefts m h l front next alone range) =
       (l ≤ B) × AllFit height l front × (front ≢ []) × ((s : Simple) → l + simple_height s ≤ B + 1 → Can (next s) × Okay (next s)) × EndsSimple m h next
       × (is_header m ≡ true → (e : Expr) → l + height e ≤ B + 1 → Can (alone e) × Okay (alone e))

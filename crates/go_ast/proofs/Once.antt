@@ -1,6 +1,7 @@
 -- A text has one parse.
 use Rattle.std.proofs.Common.{◌≡◌, ℕ, List, ◌⊎◌, inl, inr, refl, sym, ap, ◌∙◌, subst}
 use Rattle.std.specs.Prelude.{nat_eq, if◌then◌else◌}
+use Rattle.go_text.specs.declared.edition.Edition.{Edition}
 use Rattle.go_text.specs.declared.fault.FaultKind.{FaultKind}
 use Rattle.go_text.specs.declared.fault.FaultKind.TheVariants as faults
 use Rattle.go_text.specs.declared.place.Place.{Place}
@@ -81,28 +82,28 @@ same_lexemes : (text : List ℕ) (a b : List Token) → Lexes text a → Lexes t
 same_lexemes text a b x y = ap (lexemes text) (one_list text b a y x)
 
 -- a text isn't a file and stops being one
-file_and_stop : (text : List ℕ) (f : File) (kind : FaultKind) (place : Place) → IsParse text (Derived f) → IsParse text (Stopped kind place) → ⊥
+file_and_stop : (ed : Edition) → (text : List ℕ) (f : File) (kind : FaultKind) (place : Place) → IsParse ed text (Derived f) → IsParse ed text (Stopped kind place) → ⊥
 unfolding IsParse
-file_and_stop text f kind place p (inl r) = rows.not_both text p.0 r.0 place p.1 r.1
-file_and_stop text f kind place p (inr s) =
-    not_both most_levels (lexemes text p.0) f (fault_number kind) s.1 p.2
-    (subst (λ us. StopsAt most_levels us (fault_number kind) s.1) (same_lexemes text p.0 s.0 p.1 s.2) s.3)
+file_and_stop ed text f kind place p (inl r) = rows.not_both text p.0 r.0 place p.1 r.1
+file_and_stop ed text f kind place p (inr s) =
+    not_both ed most_levels (lexemes text p.0) f (fault_number kind) s.1 p.2
+    (subst (λ us. StopsAt ed most_levels us (fault_number kind) s.1) (same_lexemes text p.0 s.0 p.1 s.2) s.3)
 
 -- a text stops at one place for one fault
-one_stop : (text : List ℕ) (k l : FaultKind) (p q : Place) → IsRefused text k p ⊎ StopsBeing text k p → IsRefused text l q ⊎ StopsBeing text l q → (k ≡ l) × (p ≡ q)
-one_stop text k l p q (inl r) (inl s) =
+one_stop : (ed : Edition) → (text : List ℕ) (k l : FaultKind) (p q : Place) → IsRefused text k p ⊎ StopsBeing ed text k p → IsRefused text l q ⊎ StopsBeing ed text l q → (k ≡ l) × (p ≡ q)
+one_stop ed text k l p q (inl r) (inl s) =
     let same = one_refusal text r.0 s.0 p q r.1 s.1 in (r.2 ∙ ap scan_kind same.0 ∙ sym s.2, same.1)
-one_stop text k l p q (inl r) (inr s) = absurd (rows.not_both text s.0 r.0 p s.2 r.1)
-one_stop text k l p q (inr r) (inl s) = absurd (rows.not_both text r.0 s.0 q r.2 s.1)
-one_stop text k l p q (inr r) (inr s) =
-    let same = only_stop most_levels (lexemes text r.0) (fault_number k) (fault_number l) r.1 s.1 r.3 (subst (λ us. StopsAt most_levels us (fault_number l) s.1) (same_lexemes text r.0 s.0 r.2 s.2) s.3) in
+one_stop ed text k l p q (inl r) (inr s) = absurd (rows.not_both text s.0 r.0 p s.2 r.1)
+one_stop ed text k l p q (inr r) (inl s) = absurd (rows.not_both text r.0 s.0 q r.2 s.1)
+one_stop ed text k l p q (inr r) (inr s) =
+    let same = only_stop ed most_levels (lexemes text r.0) (fault_number k) (fault_number l) r.1 s.1 r.3 (subst (λ us. StopsAt ed most_levels us (fault_number l) s.1) (same_lexemes text r.0 s.0 r.2 s.2) s.3) in
     (one_kind k l same.0, r.4 ∙ ap (place_before text) same.1 ∙ sym s.4)
 
-pub one_parse : (text : List ℕ) (a b : Parse) → IsParse text a → IsParse text b → a ≡ b
+pub one_parse : (ed : Edition) → (text : List ℕ) (a b : Parse) → IsParse ed text a → IsParse ed text b → a ≡ b
 unfolding IsParse
-one_parse text (Derived f) (Derived g) p q =
-    ap Derived (one_file most_levels most_levels (lexemes text p.0) f g p.2 (subst (λ us. Derives most_levels us g) (same_lexemes text p.0 q.0 p.1 q.1) q.2))
-one_parse text (Derived f) (Stopped l y) p q = absurd (file_and_stop text f l y p q)
-one_parse text (Stopped k x) (Derived g) p q = absurd (file_and_stop text g k x q p)
-one_parse text (Stopped k x) (Stopped l y) p q =
-    let same = one_stop text k l x y p q in ap (λ z. Stopped z x) same.0 ∙ ap (Stopped l) same.1
+one_parse ed text (Derived f) (Derived g) p q =
+    ap Derived (one_file ed most_levels most_levels (lexemes text p.0) f g p.2 (subst (λ us. Derives ed most_levels us g) (same_lexemes text p.0 q.0 p.1 q.1) q.2))
+one_parse ed text (Derived f) (Stopped l y) p q = absurd (file_and_stop ed text f l y p q)
+one_parse ed text (Stopped k x) (Derived g) p q = absurd (file_and_stop ed text g k x q p)
+one_parse ed text (Stopped k x) (Stopped l y) p q =
+    let same = one_stop ed text k l x y p q in ap (λ z. Stopped z x) same.0 ∙ ap (Stopped l) same.1

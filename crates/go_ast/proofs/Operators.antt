@@ -2,6 +2,7 @@
 use Rattle.std.proofs.Common.{◌≡◌, ℕ, zero, suc, ◌+◌, ◌<◌, ◌≤◌, max, ◌⊎◌, inl, inr, Bool, true, false, ◌||◌, ◌&&◌, List, ◌∷◌, Option, Some, None, refl, sym, ap, ◌∙◌, subst, arith}
 use Rattle.std.specs.Prelude.{nat_eq, not}
 use Rattle.std.proofs.lemmas.Bool.Decides.{nat_tests}
+use Rattle.go_text.specs.declared.edition.Edition.{Edition}
 use Rattle.go_scan.specs.declared.token.TokenKind.{TokenKind}
 use Rattle.go_ast.specs.Kinds.{same}
 use Rattle.go_ast.specs.Operators.{binary_of, tighter}
@@ -17,43 +18,43 @@ use Rattle.go_ast.proofs.Chains.{Chain, moved, joined_height}
 use Rattle.go_ast.proofs.Levels.{height_positive}
 
 -- one operator of a level, and its right operand
-abbrev pub Link : ℕ → Bool → Expr → Expr → List Lexeme → List Lexeme → Type 0
-Link n h a b us ws =
+abbrev pub Link : (ed : Edition) → ℕ → Bool → Expr → Expr → List Lexeme → List Lexeme → Type 0
+Link ed n h a b us ws =
     (t : Lexeme) × (xs : List Lexeme) × (op : BinaryOperator) × (r : Expr) × (us ≡ t ∷ xs) × (binary_of t.kind ≡ Some op) × (tighter op ≡ n)
-    × IsExpr n h r xs ws
+    × IsExpr ed n h r xs ws
     × (b ≡ binary (place_of a) op a r)
 
-pub joined_itself : (n : ℕ) (h : Bool) (a e : Expr) (us ws : List Lexeme) → Itself a e us ws → Joined n h a e us ws
-joined_itself n h a (binary p op e b) us ws i = inl i
-joined_itself n h a _ us ws i = i
+pub joined_itself : (ed : Edition) → (n : ℕ) (h : Bool) (a e : Expr) (us ws : List Lexeme) → Itself a e us ws → Joined ed n h a e us ws
+joined_itself ed n h a (binary p op e b) us ws i = inl i
+joined_itself ed n h a _ us ws i = i
 
 -- the first operator, and the others
-pub first_link : (n : ℕ) (h : Bool) (a e : Expr) (us ws : List Lexeme) → Joined n h a e us ws →
-    Itself a e us ws ⊎ ((b : Expr) × (vs : List Lexeme) × Link n h a b us vs × Joined n h b e vs ws)
-first_link n h a (binary p op e b) us ws j = elim j [
+pub first_link : (ed : Edition) → (n : ℕ) (h : Bool) (a e : Expr) (us ws : List Lexeme) → Joined ed n h a e us ws →
+    Itself a e us ws ⊎ ((b : Expr) × (vs : List Lexeme) × Link ed n h a b us vs × Joined ed n h b e vs ws)
+first_link ed n h a (binary p op e b) us ws j = elim j [
   | inl i ↦ inl i
-  | inr r ↦ elim (first_link n h a e us r.1 r.5) [
+  | inr r ↦ elim (first_link ed n h a e us r.1 r.5) [
     | inl i ↦ (let here : us ≡ r.0 ∷ r.2 = i.1 ∙ r.6 in
         let same_place : p ≡ place_of a = r.4 ∙ ap place_of i.0 in
         inr (binary p op e b, ws, (r.0, r.2, op, b, here, r.7, r.3, r.8, cc (same_place, i.0)), inl (refl, refl)))
     | inr q ↦ inr (q.0, q.1, q.2, inr (r.0, r.1, r.2, r.3, r.4, q.3, r.6, r.7, r.8))
   ]
 ]
-first_link n h a e us ws j = inl j
+first_link ed n h a e us ws j = inl j
 
-link_joined : (n : ℕ) (h : Bool) (a b : Expr) (us ws : List Lexeme) → Link n h a b us ws → Joined n h a b us ws
-link_joined n h a b us ws k =
-    subst (λ x. Joined n h a x us ws) (sym k.8) (inr (k.0, us, k.1, k.6, refl, joined_itself n h a a us us (refl, refl), k.4, k.5, k.7))
+link_joined : (ed : Edition) → (n : ℕ) (h : Bool) (a b : Expr) (us ws : List Lexeme) → Link ed n h a b us ws → Joined ed n h a b us ws
+link_joined ed n h a b us ws k =
+    subst (λ x. Joined ed n h a x us ws) (sym k.8) (inr (k.0, us, k.1, k.6, refl, joined_itself ed n h a a us us (refl, refl), k.4, k.5, k.7))
 
-pub then_links : (n : ℕ) (h : Bool) (a b e : Expr) (us vs ws : List Lexeme) → Link n h a b us vs → Joined n h b e vs ws → Joined n h a e us ws
-then_links n h a b (binary p op e r) us vs ws k j = elim j [
-  | inl i ↦ moved (λ x xs. Joined n h a x us xs) b (binary p op e r) vs ws i (link_joined n h a b us vs k)
-  | inr s ↦ inr (s.0, s.1, s.2, s.3, s.4, then_links n h a b e us vs s.1 k s.5, s.6, s.7, s.8)
+pub then_links : (ed : Edition) → (n : ℕ) (h : Bool) (a b e : Expr) (us vs ws : List Lexeme) → Link ed n h a b us vs → Joined ed n h b e vs ws → Joined ed n h a e us ws
+then_links ed n h a b (binary p op e r) us vs ws k j = elim j [
+  | inl i ↦ moved (λ x xs. Joined ed n h a x us xs) b (binary p op e r) vs ws i (link_joined ed n h a b us vs k)
+  | inr s ↦ inr (s.0, s.1, s.2, s.3, s.4, then_links ed n h a b e us vs s.1 k s.5, s.6, s.7, s.8)
 ]
-then_links n h a b e us vs ws k j = moved (λ x xs. Joined n h a x us xs) b e vs ws j (link_joined n h a b us vs k)
+then_links ed n h a b e us vs ws k j = moved (λ x xs. Joined ed n h a x us xs) b e vs ws j (link_joined ed n h a b us vs k)
 
-link_height : (n : ℕ) (h : Bool) (a b : Expr) (us ws : List Lexeme) (k : Link n h a b us ws) → height b ≡ max (height a) (height k.3) + 1
-link_height n h a b us ws k = ap height k.8
+link_height : (ed : Edition) → (n : ℕ) (h : Bool) (a b : Expr) (us ws : List Lexeme) (k : Link ed n h a b us ws) → height b ≡ max (height a) (height k.3) + 1
+link_height ed n h a b us ws k = ap height k.8
 
 -- what begins a suffix is no operator
 tail_none : (h : Bool) (j k : TokenKind) → same j k ≡ true → binary_of j ≡ None → binary_of k ≡ None
@@ -90,18 +91,18 @@ level_op : (n : ℕ) (o : Option BinaryOperator) → is_level n o ≡ true → (
 level_op n None e = absurd (false_true e)
 level_op n (Some op) e = (op, refl, grind (arith, nat_tests))
 
-module _ (B : ℕ) where
+module _ (ed : Edition) (B : ℕ) where
   more_links : (n : ℕ) (h : Bool) (l : ℕ) (a b : Expr) (next : Expr → State) (us vs : List Lexeme) (f : File) →
-      Link n h a b us vs → Means B (operators n h l b next) vs f → Means B (operators n h l a next) us f
-  more_links n h l a b next us vs f k m = (m.0, m.1, then_links n h a b m.0 us vs m.1 k m.2, m.3, m.4)
+      Link ed n h a b us vs → Means ed B (operators n h l b next) vs f → Means ed B (operators n h l a next) us f
+  more_links n h l a b next us vs f k m = (m.0, m.1, then_links ed n h a b m.0 us vs m.1 k m.2, m.3, m.4)
 
   -- the state, as it leads on
   operator_back : (n : ℕ) (h : Bool) (l : ℕ) (a : Expr) (next : Expr → State) (t : Lexeme) (us : List Lexeme) (f : File) (o : Option BinaryOperator) →
       binary_of t.kind ≡ o →
-      (After B (step (next a) t) us f → Means B (operators n h l a next) (t ∷ us) f) →
-      After B (on_operator n h l a (λ x. operators n h l x next) (step (next a) t) o) us f → Means B (operators n h l a next) (t ∷ us) f
+      (After ed B (step ed (next a) t) us f → Means ed B (operators n h l a next) (t ∷ us) f) →
+      After ed B (on_operator n h l a (λ x. operators n h l x next) (step ed (next a) t) o) us f → Means ed B (operators n h l a next) (t ∷ us) f
   operator_back n h l a next t us f None e other after = other after
-  operator_back n h l a next t us f (Some op) e other after = elim (after_cond B (nat_eq (tighter op) n) _ _ us f after) [
+  operator_back n h l a next t us f (Some op) e other after = elim (after_cond ed B (nat_eq (tighter op) n) _ _ us f after) [
     | inl g ↦ (let m = g.1.1 in
         let at : tighter op ≡ n = let test = g.0 in grind (arith, nat_tests) in
         more_links n h l a (binary (place_of a) op a m.0) next (t ∷ us) m.1 f (t, us, op, m.0, refl, e, at, m.2, refl) m.4)
@@ -109,29 +110,29 @@ module _ (B : ℕ) where
   ]
 
   pub operators_back : (n : ℕ) (h : Bool) (l : ℕ) (a : Expr) (next : Expr → State) (t : Lexeme) (us : List Lexeme) (f : File) → l + height a ≤ B + 1 →
-      (After B (step (next a) t) us f → Means B (next a) (t ∷ us) f) → After B (step (operators n h l a next) t) us f →
-      Means B (operators n h l a next) (t ∷ us) f
+      (After ed B (step ed (next a) t) us f → Means ed B (next a) (t ∷ us) f) → After ed B (step ed (operators n h l a next) t) us f →
+      Means ed B (operators n h l a next) (t ∷ us) f
   operators_back n h l a next t us f fits back after =
-      operator_back n h l a next t us f (binary_of t.kind) refl (λ x. (a, t ∷ us, joined_itself n h a a (t ∷ us) (t ∷ us) (refl, refl), fits, back x)) after
+      operator_back n h l a next t us f (binary_of t.kind) refl (λ x. (a, t ∷ us, joined_itself ed n h a a (t ∷ us) (t ∷ us) (refl, refl), fits, back x)) after
 
   -- an operator of this level is taken
   taken : (n : ℕ) (h : Bool) (l : ℕ) (a : Expr) (next : Expr → State) (us : List Lexeme) (f : File) (other : Move) (o : Option BinaryOperator)
       (op : BinaryOperator) → o ≡ Some op → tighter op ≡ n →
-      After B (Take (l + height a) (expr n h (l + 1) an_operand (λ r. operators n h l (binary (place_of a) op a r) next))) us f →
-      After B (on_operator n h l a (λ x. operators n h l x next) other o) us f
+      After ed B (Take (l + height a) (expr n h (l + 1) an_operand (λ r. operators n h l (binary (place_of a) op a r) next))) us f →
+      After ed B (on_operator n h l a (λ x. operators n h l x next) other o) us f
   taken n h l a next us f other o op e at after =
       let test : nat_eq (tighter op) n ≡ true = grind (arith, nat_tests) in
-      subst (λ x. After B (on_operator n h l a (λ x. operators n h l x next) other x) us f) (sym e)
-      (subst (λ c. After B (cond c (Take (l + height a) (expr n h (l + 1) an_operand (λ r. operators n h l (binary (place_of a) op a r) next))) other) us f)
+      subst (λ x. After ed B (on_operator n h l a (λ x. operators n h l x next) other x) us f) (sym e)
+      (subst (λ c. After ed B (cond c (Take (l + height a) (expr n h (l + 1) an_operand (λ r. operators n h l (binary (place_of a) op a r) next))) other) us f)
       (sym test) after)
 
   -- any other is passed on
   passed : (n : ℕ) (h : Bool) (l : ℕ) (a : Expr) (behind : Expr → State) (us : List Lexeme) (f : File) (other : Move) (o : Option BinaryOperator) →
       is_level n o ≡ false →
-      After B other us f → After B (on_operator n h l a behind other o) us f
+      After ed B other us f → After ed B (on_operator n h l a behind other o) us f
   passed n h l a behind us f other None e after = after
   passed n h l a behind us f other (Some op) e after =
-      subst (λ c. After B (cond c (Take (l + height a) (expr n h (l + 1) an_operand (λ r. behind (binary (place_of a) op a r)))) other) us f) (sym e) after
+      subst (λ c. After ed B (cond c (Take (l + height a) (expr n h (l + 1) an_operand (λ r. behind (binary (place_of a) op a r)))) other) us f) (sym e) after
 
   no_level : (n : ℕ) (k : TokenKind) (o : Option BinaryOperator) (b : Bool) → binary_of k ≡ o →
       ((op : BinaryOperator) → binary_of k ≡ Some op → tighter op < suc n → b ≡ false) → b ≡ true → is_level n o ≡ false
@@ -145,32 +146,32 @@ module _ (B : ℕ) where
           absurd (false_true (sym (no_operator op e less) ∙ here))
 
   pub operators_forth : (n : ℕ) (h : Bool) (l : ℕ) (a : Expr) (next : Expr → State) (t : Lexeme) (us : List Lexeme) (f : File) →
-      Okay B (operators n h l a next) →
-      (Means B (next a) (t ∷ us) f → begins (next a) t.kind ≡ true) → (Means B (next a) (t ∷ us) f → After B (step (next a) t) us f) →
-      Means B (operators n h l a next) (t ∷ us) f → After B (step (operators n h l a next) t) us f
-  operators_forth n h l a next t us f okay first forth m = elim (first_link n h a m.0 (t ∷ us) m.1 m.2) [
-    | inl i ↦ (let on : Means B (next a) (t ∷ us) f = subst (λ xs. Means B (next a) xs f) (sym i.1) (subst (λ x. Means B (next x) m.1 f) i.0 m.4) in
-        passed n h l a (λ x. operators n h l x next) us f (step (next a) t) (binary_of t.kind)
+      Okay ed B (operators n h l a next) →
+      (Means ed B (next a) (t ∷ us) f → begins (next a) t.kind ≡ true) → (Means ed B (next a) (t ∷ us) f → After ed B (step ed (next a) t) us f) →
+      Means ed B (operators n h l a next) (t ∷ us) f → After ed B (step ed (operators n h l a next) t) us f
+  operators_forth n h l a next t us f okay first forth m = elim (first_link ed n h a m.0 (t ∷ us) m.1 m.2) [
+    | inl i ↦ (let on : Means ed B (next a) (t ∷ us) f = subst (λ xs. Means ed B (next a) xs f) (sym i.1) (subst (λ x. Means ed B (next x) m.1 f) i.0 m.4) in
+        passed n h l a (λ x. operators n h l x next) us f (step ed (next a) t) (binary_of t.kind)
         (no_level n t.kind (binary_of t.kind) (begins (next a) t.kind) refl (λ op. okay.2.no_operator a t.kind op) (first on)) (forth on))
     | inr q ↦ (let k = q.2 in
         let first_token : t ≡ k.0 = let whole : t ∷ us ≡ k.0 ∷ k.1 = k.4 in cc (whole) in
         let others : us ≡ k.1 = let whole : t ∷ us ≡ k.0 ∷ k.1 = k.4 in cc (whole) in
-        let less = joined_height n h q.0 m.0 q.1 m.1 q.3 in
+        let less = joined_height ed n h q.0 m.0 q.1 m.1 q.3 in
         let same_height : height q.0 ≡ max (height a) (height k.3) + 1 = ap height k.8 in
-        taken n h l a next us f (step (next a) t) (binary_of t.kind) k.2 (ap (λ (x : Lexeme). binary_of x.kind) first_token ∙ k.5) k.6 (
+        taken n h l a next us f (step ed (next a) t) (binary_of t.kind) k.2 (ap (λ (x : Lexeme). binary_of x.kind) first_token ∙ k.5) k.6 (
           omega (arith, m.3, less, same_height),
           (
             k.3,
             q.1,
-            subst (λ xs. IsExpr n h k.3 xs q.1) (sym others) k.7,
+            subst (λ xs. IsExpr ed n h k.3 xs q.1) (sym others) k.7,
             omega (arith, m.3, less, same_height),
-            (m.0, m.1, subst (λ x. Joined n h x m.0 q.1 m.1) k.8 q.3, m.3, m.4),
+            (m.0, m.1, subst (λ x. Joined ed n h x m.0 q.1 m.1) k.8 q.3, m.3, m.4),
           ),
         ))
   ]
 
   -- what a level's operators leave is good
-  level_ends : (n : ℕ) (h : Bool) (l : ℕ) (next : Expr → State) → Ends B (suc n) h next → Ends B n h (λ a. operators n h l a next)
+  level_ends : (n : ℕ) (h : Bool) (l : ℕ) (next : Expr → State) → Ends ed B (suc n) h next → Ends ed B n h (λ a. operators n h l a next)
   level_ends n h l next e =
       record {
         no_suffix = λ a k s. neither (is_level n (binary_of k)) (begins (next a) k) (level_none n (binary_of k) (tail_no_operator h k s)) (e.no_suffix a k s);
@@ -180,12 +181,12 @@ module _ (B : ℕ) where
       }
 
   operator_kept : (n : ℕ) (h : Bool) (l : ℕ) (a : Expr) (next : Expr → State) (other : Move) (o : Option BinaryOperator) →
-      Okay B (operators n h l a next) → Kept B other →
-      Kept B (on_operator n h l a (λ x. operators n h l x next) other o)
+      Okay ed B (operators n h l a next) → Kept ed B other →
+      Kept ed B (on_operator n h l a (λ x. operators n h l x next) other o)
   operator_kept n h l a next other None okay kept = kept
   operator_kept n h l a next other (Some op) okay kept =
       let ends = level_ends n h l next okay.2 in
-      kept_cond B (nat_eq (tighter op) n) _ _ (λ _ need. (
+      kept_cond ed B (nat_eq (tighter op) n) _ _ (λ _ need. (
         omega (arith, need, height_positive a),
         (
           (λ r fits. (tt, (omega (arith, need, fits), okay.1, okay.2))),
@@ -197,16 +198,16 @@ module _ (B : ℕ) where
         ),
       )) (λ _. kept)
 
-  pub operators_kept : (n : ℕ) (h : Bool) (l : ℕ) (a : Expr) (next : Expr → State) (t : Lexeme) → Okay B (operators n h l a next) →
-      Kept B (step (next a) t) →
-      Kept B (step (operators n h l a next) t)
-  operators_kept n h l a next t okay kept = operator_kept n h l a next (step (next a) t) (binary_of t.kind) okay kept
+  pub operators_kept : (n : ℕ) (h : Bool) (l : ℕ) (a : Expr) (next : Expr → State) (t : Lexeme) → Okay ed B (operators n h l a next) →
+      Kept ed B (step ed (next a) t) →
+      Kept ed B (step ed (operators n h l a next) t)
+  operators_kept n h l a next t okay kept = operator_kept n h l a next (step ed (next a) t) (binary_of t.kind) okay kept
 
   pub operators_first : (n : ℕ) (h : Bool) (l : ℕ) (a : Expr) (next : Expr → State) (t : Lexeme) (us : List Lexeme) (f : File) →
-      (Means B (next a) (t ∷ us) f → begins (next a) t.kind ≡ true) → Means B (operators n h l a next) (t ∷ us) f →
+      (Means ed B (next a) (t ∷ us) f → begins (next a) t.kind ≡ true) → Means ed B (operators n h l a next) (t ∷ us) f →
       begins (operators n h l a next) t.kind ≡ true
-  operators_first n h l a next t us f first m = elim (first_link n h a m.0 (t ∷ us) m.1 m.2) [
-    | inl i ↦ (let on : Means B (next a) (t ∷ us) f = subst (λ xs. Means B (next a) xs f) (sym i.1) (subst (λ x. Means B (next x) m.1 f) i.0 m.4) in
+  operators_first n h l a next t us f first m = elim (first_link ed n h a m.0 (t ∷ us) m.1 m.2) [
+    | inl i ↦ (let on : Means ed B (next a) (t ∷ us) f = subst (λ xs. Means ed B (next a) xs f) (sym i.1) (subst (λ x. Means ed B (next x) m.1 f) i.0 m.4) in
         right_true (is_level n (binary_of t.kind)) (begins (next a) t.kind) (first on))
     | inr q ↦ (let k = q.2 in
         let first_token : t ≡ k.0 = let whole : t ∷ us ≡ k.0 ∷ k.1 = k.4 in cc (whole) in
@@ -215,35 +216,35 @@ module _ (B : ℕ) where
   ]
 
   pub operators_comes : (n : ℕ) (h : Bool) (l : ℕ) (a : Expr) (next : Expr → State) → l + height a ≤ B + 1 →
-      (us : List Lexeme) × (f : File) × Means B (next a) us f →
-      (us : List Lexeme) × (f : File) × Means B (operators n h l a next) us f
-  operators_comes n h l a next fits c = (c.0, c.1, (a, c.0, joined_itself n h a a c.0 c.0 (refl, refl), fits, c.2))
+      (us : List Lexeme) × (f : File) × Means ed B (next a) us f →
+      (us : List Lexeme) × (f : File) × Means ed B (operators n h l a next) us f
+  operators_comes n h l a next fits c = (c.0, c.1, (a, c.0, joined_itself ed n h a a c.0 c.0 (refl, refl), fits, c.2))
 
   -- several levels
   pub tails_back : (n : ℕ) (h : Bool) (l : ℕ) (next : Expr → State) (e : Expr) (us : List Lexeme) (f : File) → l + height e ≤ B + 1 →
-      Means B (tails n h l next e) us f →
-      (g : Expr) × (ws : List Lexeme) × Chain n h e g us ws × (l + height g ≤ B + 1) × Means B (next g) ws f
+      Means ed B (tails n h l next e) us f →
+      (g : Expr) × (ws : List Lexeme) × Chain ed n h e g us ws × (l + height g ≤ B + 1) × Means ed B (next g) ws f
   tails_back zero h l next e us f fits m = (e, us, (refl, refl), fits, m)
   tails_back (suc n) h l next e us f fits m =
       let r = tails_back n h l (λ a. operators n h l a next) e us f fits m in
       let o = r.4 in
       (o.0, o.1, (r.0, r.1, r.2, o.2), o.3, o.4)
 
-  pub tails_forth : (n : ℕ) (h : Bool) (l : ℕ) (next : Expr → State) (e g : Expr) (us ws : List Lexeme) (f : File) → Chain n h e g us ws →
-      l + height g ≤ B + 1 → Means B (next g) ws f →
-      Means B (tails n h l next e) us f
-  tails_forth zero h l next e g us ws f c fits m = subst (λ xs. Means B (next e) xs f) (sym c.1) (subst (λ x. Means B (next x) ws f) c.0 m)
+  pub tails_forth : (n : ℕ) (h : Bool) (l : ℕ) (next : Expr → State) (e g : Expr) (us ws : List Lexeme) (f : File) → Chain ed n h e g us ws →
+      l + height g ≤ B + 1 → Means ed B (next g) ws f →
+      Means ed B (tails n h l next e) us f
+  tails_forth zero h l next e g us ws f c fits m = subst (λ xs. Means ed B (next e) xs f) (sym c.1) (subst (λ x. Means ed B (next x) ws f) c.0 m)
   tails_forth (suc n) h l next e g us ws f c fits m =
-      tails_forth n h l (λ a. operators n h l a next) e c.0 us c.1 f c.2 (omega (arith, fits, joined_height n h c.0 g c.1 ws c.3)) (g, ws, c.3, fits, m)
+      tails_forth n h l (λ a. operators n h l a next) e c.0 us c.1 f c.2 (omega (arith, fits, joined_height ed n h c.0 g c.1 ws c.3)) (g, ws, c.3, fits, m)
 
-  pub tails_good : (n : ℕ) (h : Bool) (l : ℕ) (next : Expr → State) → ((e : Expr) → l + height e ≤ B + 1 → Good B (next e)) → Ends B n h next →
-      (e : Expr) → l + height e ≤ B + 1 → Good B (tails n h l next e)
+  pub tails_good : (n : ℕ) (h : Bool) (l : ℕ) (next : Expr → State) → ((e : Expr) → l + height e ≤ B + 1 → Good ed B (next e)) → Ends ed B n h next →
+      (e : Expr) → l + height e ≤ B + 1 → Good ed B (tails n h l next e)
   tails_good zero h l next good ends e fits = good e fits
   tails_good (suc n) h l next good ends e fits =
       tails_good n h l (λ a. operators n h l a next) (λ a fits. (tt, (fits, good, ends))) (level_ends n h l next ends) e fits
 
   -- what may be behind an expression, in front of the operators too
-  pub tails_ends : (n : ℕ) (h : Bool) (l : ℕ) (next : Expr → State) → Ends B n h next → Ends B 0 h (tails n h l next)
+  pub tails_ends : (n : ℕ) (h : Bool) (l : ℕ) (next : Expr → State) → Ends ed B n h next → Ends ed B 0 h (tails n h l next)
   tails_ends zero h l next ends = ends
   tails_ends (suc n) h l next ends = tails_ends n h l (λ a. operators n h l a next) (level_ends n h l next ends)
 

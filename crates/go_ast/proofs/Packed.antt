@@ -1,5 +1,6 @@
 -- Lists of fields and of elements, and the trees that stand for them: the same tokens, and the same heights.
 use Rattle.std.proofs.Common.{◌≡◌, ℕ, ◌+◌, ◌≤◌, inl, inr, List, [], ◌∷◌, Option, refl, ap, arith}
+use Rattle.go_text.specs.declared.edition.Edition.{Edition}
 use Rattle.go_scan.specs.declared.token.TokenKind.{TokenKind}
 use Rattle.go_ast.specs.Trees.{Name, TypeExpr, Fields, no_fields, field, Elements, no_elements, element, Element, pack_fields, pack_elements}
 use Rattle.go_ast.specs.Heights.{fields_height, elements_height}
@@ -32,26 +33,26 @@ field_last : (fs : Fields) → fs ≡ no_fields → unpack_fields fs ≡ []
 unfolding unpack_fields
 field_last fs e = ap unpack_fields e
 
-pub fields_from : (l : ℕ) (fs : List (List Name × TypeExpr)) (us ws : List Lexeme) → AreItems (IsItem (fields l)) semicolon fs us ws →
-    AreFields (pack_fields fs) us ws
-fields_from l [] us ws h = h
-fields_from l (f ∷ fs) us ws h = (
+pub fields_from : (ed : Edition) → (l : ℕ) (fs : List (List Name × TypeExpr)) (us ws : List Lexeme) → AreItems (IsItem ed (fields l)) semicolon fs us ws →
+    AreFields ed (pack_fields fs) us ws
+fields_from ed l [] us ws h = h
+fields_from ed l (f ∷ fs) us ws h = (
   h.1.0,
   h.0,
   h.1.1,
   h.1.2,
-  behind_as semicolon (AreItems (IsItem (fields l)) semicolon fs) (AreFields (pack_fields fs)) (fs ≡ []) (pack_fields fs ≡ no_fields) h.0 ws
-      (λ vs x. fields_from l fs vs ws x) (last_field fs) h.2,
+  behind_as semicolon (AreItems (IsItem ed (fields l)) semicolon fs) (AreFields ed (pack_fields fs)) (fs ≡ []) (pack_fields fs ≡ no_fields) h.0 ws
+      (λ vs x. fields_from ed l fs vs ws x) (last_field fs) h.2,
 )
 
-pub fields_to : (l : ℕ) (fs : Fields) (us ws : List Lexeme) → AreFields fs us ws → AreItems (IsItem (fields l)) semicolon (unpack_fields fs) us ws
+pub fields_to : (ed : Edition) → (l : ℕ) (fs : Fields) (us ws : List Lexeme) → AreFields ed fs us ws → AreItems (IsItem ed (fields l)) semicolon (unpack_fields fs) us ws
 unfolding unpack_fields
-fields_to l no_fields us ws h = h
-fields_to l (field ns a fs) us ws h = (
+fields_to ed l no_fields us ws h = h
+fields_to ed l (field ns a fs) us ws h = (
   h.1,
   (h.0, h.2, h.3),
-  behind_as semicolon (AreFields fs) (AreItems (IsItem (fields l)) semicolon (unpack_fields fs)) (fs ≡ no_fields) (unpack_fields fs ≡ []) h.1 ws
-      (λ vs x. fields_to l fs vs ws x) (field_last fs) h.4,
+  behind_as semicolon (AreFields ed fs) (AreItems (IsItem ed (fields l)) semicolon (unpack_fields fs)) (fs ≡ no_fields) (unpack_fields fs ≡ []) h.1 ws
+      (λ vs x. fields_to ed l fs vs ws x) (field_last fs) h.4,
 )
 
 -- elements
@@ -71,44 +72,44 @@ element_last : (es : Elements) → es ≡ no_elements → unpack_elements es ≡
 unfolding unpack_elements
 element_last es e = ap unpack_elements e
 
-pub elements_from : (l : ℕ) (es : List (Option Name × Element)) (us ws : List Lexeme) → AreItems (IsItem (elements l)) comma es us ws →
-    AreElements (pack_elements es) us ws
-elements_from l [] us ws h = h
-elements_from l (e ∷ es) us ws h = (
+pub elements_from : (ed : Edition) → (l : ℕ) (es : List (Option Name × Element)) (us ws : List Lexeme) → AreItems (IsItem ed (elements l)) comma es us ws →
+    AreElements ed (pack_elements es) us ws
+elements_from ed l [] us ws h = h
+elements_from ed l (e ∷ es) us ws h = (
   h.1.0,
   h.0,
   h.1.1,
   h.1.2,
-  behind_as comma (AreItems (IsItem (elements l)) comma es) (AreElements (pack_elements es)) (es ≡ []) (pack_elements es ≡ no_elements) h.0 ws
-      (λ vs x. elements_from l es vs ws x) (last_element es) h.2,
+  behind_as comma (AreItems (IsItem ed (elements l)) comma es) (AreElements ed (pack_elements es)) (es ≡ []) (pack_elements es ≡ no_elements) h.0 ws
+      (λ vs x. elements_from ed l es vs ws x) (last_element es) h.2,
 )
 
-pub elements_to : (l : ℕ) (es : Elements) (us ws : List Lexeme) → AreElements es us ws → AreItems (IsItem (elements l)) comma (unpack_elements es) us ws
+pub elements_to : (ed : Edition) → (l : ℕ) (es : Elements) (us ws : List Lexeme) → AreElements ed es us ws → AreItems (IsItem ed (elements l)) comma (unpack_elements es) us ws
 unfolding unpack_elements
-elements_to l no_elements us ws h = h
-elements_to l (element k e es) us ws h = (
+elements_to ed l no_elements us ws h = h
+elements_to ed l (element k e es) us ws h = (
   h.1,
   (h.0, h.2, h.3),
-  behind_as comma (AreElements es) (AreItems (IsItem (elements l)) comma (unpack_elements es)) (es ≡ no_elements) (unpack_elements es ≡ []) h.1 ws
-      (λ vs x. elements_to l es vs ws x) (element_last es) h.4,
+  behind_as comma (AreElements ed es) (AreItems (IsItem ed (elements l)) comma (unpack_elements es)) (es ≡ no_elements) (unpack_elements es ≡ []) h.1 ws
+      (λ vs x. elements_to ed l es vs ws x) (element_last es) h.4,
 )
 
 -- heights
-module _ (B : ℕ) where
-  pub fields_fit : (l : ℕ) (fs : List (List Name × TypeExpr)) → l ≤ B + 1 → FitItems B (fields l) fs → l + fields_height (pack_fields fs) ≤ B + 1
+module _ (ed : Edition) (B : ℕ) where
+  pub fields_fit : (l : ℕ) (fs : List (List Name × TypeExpr)) → l ≤ B + 1 → FitItems ed B (fields l) fs → l + fields_height (pack_fields fs) ≤ B + 1
   fields_fit l [] le h = omega arith
   fields_fit l (f ∷ fs) le h = omega (arith, h.0, fields_fit l fs le h.1)
 
-  pub fit_fields : (l : ℕ) (fs : Fields) → l + fields_height fs ≤ B + 1 → FitItems B (fields l) (unpack_fields fs)
+  pub fit_fields : (l : ℕ) (fs : Fields) → l + fields_height fs ≤ B + 1 → FitItems ed B (fields l) (unpack_fields fs)
   unfolding unpack_fields
   fit_fields l no_fields le = tt
   fit_fields l (field ns a fs) le = (omega arith, fit_fields l fs (omega arith))
 
-  pub elements_fit : (l : ℕ) (es : List (Option Name × Element)) → l ≤ B + 1 → FitItems B (elements l) es → l + elements_height (pack_elements es) ≤ B + 1
+  pub elements_fit : (l : ℕ) (es : List (Option Name × Element)) → l ≤ B + 1 → FitItems ed B (elements l) es → l + elements_height (pack_elements es) ≤ B + 1
   elements_fit l [] le h = omega arith
   elements_fit l (e ∷ es) le h = omega (arith, h.0, elements_fit l es le h.1)
 
-  pub fit_elements : (l : ℕ) (es : Elements) → l + elements_height es ≤ B + 1 → FitItems B (elements l) (unpack_elements es)
+  pub fit_elements : (l : ℕ) (es : Elements) → l + elements_height es ≤ B + 1 → FitItems ed B (elements l) (unpack_elements es)
   unfolding unpack_elements
   fit_elements l no_elements le = tt
   fit_elements l (element k e es) le = (omega arith, fit_elements l es (omega arith))

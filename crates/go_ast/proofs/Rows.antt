@@ -6,13 +6,14 @@ use Rattle.go_ast.specs.Trees as trees
 use Rattle.go_ast.specs.declared.expression.UnaryOperator.{UnaryOperator}
 use Rattle.go_ast.specs.declared.expression.BinaryOperator.{BinaryOperator}
 use Rattle.go_ast.specs.declared.expression.TypeExpr.{TypeExpr}
-use Rattle.go_ast.specs.declared.expression.TypeKind.{TypeKind, Named, Qualified, Array, Struct, Struct', Row_of-Field, end_of-Field, more_of-Field, items-the_row-Field, items_hidden-the_row-Field-2}
+use Rattle.go_ast.specs.declared.expression.TypeKind.{TypeKind, Named, Qualified, Array, Slice, Struct, Struct', Row_of-Field, end_of-Field, more_of-Field, items-the_row-Field, items_hidden-the_row-Field-2}
 use Rattle.go_ast.specs.declared.expression.Field.{Field}
 use Rattle.go_ast.specs.declared.expression.Expr.{Expr}
-use Rattle.go_ast.specs.declared.expression.ExprKind.{ExprKind, Name, Integer, Rune, String, Parenthesized, CompositeLit, Conversion, Selector, Index, Call, Call', Unary, Binary, Row_of-Expr, end_of-Expr, more_of-Expr, items-the_row-Expr, items_hidden-the_row-Expr-1}
+use Rattle.go_ast.specs.declared.expression.ExprKind.{ExprKind, Name, Integer, Rune, String, Parenthesized, CompositeLit, Conversion, Selector, Index, Cut, «Type», Call, Call', Unary, Binary, Row_of-Expr, end_of-Expr, more_of-Expr, items-the_row-Expr, items_hidden-the_row-Expr-1}
+use Rattle.go_ast.specs.declared.expression.Bound.{Bound, Open, At}
 use Rattle.go_ast.specs.declared.expression.Element.{Element}
 use Rattle.go_ast.specs.declared.expression.ElementValue.{ElementValue, Expression, Value, Value', Row_of-Element, end_of-Element, more_of-Element, items-the_row-Element, items_hidden-the_row-Element-0}
-use Rattle.go_ast.specs.Views.{type_at, expr_at, fields_of, exprs_of, elements_of, element_value_of, type_of, expr_of, value_of, element_of, field_of, exprs_in}
+use Rattle.go_ast.specs.Views.{type_at, expr_at, bound_of, fields_of, exprs_of, elements_of, element_value_of, type_of, expr_of, value_of, element_of, field_of, exprs_in}
 
 field_items : (n : _) (row : Row_of-Field n) → fields_of row ≡ trees.pack_fields (map field_of (items-the_row-Field n row))
 unfolding type_of
@@ -55,6 +56,10 @@ pub array_seen : (p : Place) (length : Box Expr Global) (item : Box TypeExpr Glo
     type_of (record { place = p; kind = Array length item }) ≡ trees.array p (expr_of e) (type_of a)
 unfolding type_of expr_of
 array_seen p length item e a l i = ap (λ x. trees.array p (expr_of x) (type_of item.value)) l ∙ ap (λ x. trees.array p (expr_of e) (type_of x)) i
+
+pub slice_seen : (p : Place) (item : Box TypeExpr Global) (a : TypeExpr) → item.value ≡ a → type_of (record { place = p; kind = Slice item }) ≡ trees.slice p (type_of a)
+unfolding type_of
+slice_seen p item a h = ap (λ x. trees.slice p (type_of x)) h
 
 pub struct_seen : (p : Place) (fs : Vec Field Global) →
     type_of (record { place = p; kind = Struct fs }) ≡ trees.struct p (trees.pack_fields (map field_of fs.items))
@@ -109,6 +114,23 @@ pub index_seen : (p : Place) (operand at : Box Expr Global) (e i : Expr) → ope
     expr_of (record { place = p; kind = Index operand at }) ≡ trees.index p (expr_of e) (expr_of i)
 unfolding expr_of
 index_seen p operand at e i o a = ap (λ x. trees.index p (expr_of x) (expr_of at.value)) o ∙ ap (λ x. trees.index p (expr_of e) (expr_of x)) a
+
+pub open_seen : bound_of Open ≡ trees.no_bound
+open_seen = refl
+
+pub bound_seen : (at : Box Expr Global) (e : Expr) → at.value ≡ e → bound_of (At at) ≡ trees.bound (expr_of e)
+unfolding expr_of
+bound_seen at e h = ap (λ x. trees.bound (expr_of x)) h
+
+pub cut_seen : (p : Place) (operand : Box Expr Global) (low high : Bound) (e : Expr) → operand.value ≡ e →
+    expr_of (record { place = p; kind = Cut operand low high }) ≡ trees.cut p (expr_of e) (bound_of low) (bound_of high)
+unfolding expr_of
+cut_seen p operand low high e h = ap (λ x. trees.cut p (expr_of x) (bound_of low) (bound_of high)) h
+
+pub type_operand_seen : (p : Place) (of : Box TypeExpr Global) (a : TypeExpr) → of.value ≡ a →
+    expr_of (record { place = p; kind = «Type» of }) ≡ trees.type_operand p (type_of a)
+unfolding type_of expr_of
+type_operand_seen p of a h = ap (λ x. trees.type_operand p (type_of x)) h
 
 pub call_seen : (p : Place) (function : Box Expr Global) (es : Vec Expr Global) (f : Expr) → function.value ≡ f →
     expr_of (record { place = p; kind = Call function es }) ≡ trees.call p (expr_of f) (exprs_in es.items)

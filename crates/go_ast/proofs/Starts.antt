@@ -1,5 +1,6 @@
 -- What a statement begins with.
 use Rattle.std.proofs.Common.{◌≡◌, ◌⊎◌, inl, inr, Bool, true, false, ◌||◌, List, ◌∷◌, sym, ap, ◌∙◌}
+use Rattle.go_text.specs.declared.edition.Edition.{Edition}
 use Rattle.go_scan.specs.declared.token.TokenKind.{TokenKind}
 use Rattle.go_scan.specs.declared.keyword.Keyword.TheVariants as keywords
 use Rattle.go_ast.specs.Kinds.{same}
@@ -11,8 +12,8 @@ use Rattle.go_ast.proofs.Base.{false_true, right_true, first_is}
 use Rattle.go_ast.proofs.Operands.{expr_first}
 use Rattle.go_ast.proofs.Simple.{simple_forth}
 
-pub simple_first : (h : Bool) (s : Simple) (t : Lexeme) (us ws : List Lexeme) → IsSimple h s (t ∷ us) ws → begins_expr t.kind ≡ true
-simple_first h s t us ws d = let b = simple_forth h s (t ∷ us) ws d in expr_first 5 h b.0 t us b.1 b.2
+pub simple_first : (ed : Edition) → (h : Bool) (s : Simple) (t : Lexeme) (us ws : List Lexeme) → IsSimple ed h s (t ∷ us) ws → begins_expr t.kind ≡ true
+simple_first ed h s t us ws d = let b = simple_forth ed h s (t ∷ us) ws d in expr_first ed 5 h b.0 t us b.1 b.2
 
 abbrev begins_otherwise : TokenKind → Bool
 begins_otherwise k =
@@ -20,25 +21,25 @@ begins_otherwise k =
     || same (keyword keywords.Continue) k || same (keyword keywords.Fallthrough) k || same opening_brace k || same (keyword keywords.If) k
     || same (keyword keywords.For) k || same (keyword keywords.Switch) k
 
-decl_first : (x : Decl) (t : Lexeme) (us ws : List Lexeme) → IsDecl x (t ∷ us) ws → declares_types x ≡ false → begins_stmt t.kind ≡ true
-decl_first (constants p ss) t us ws d e = ap begins_stmt (first_is (keyword keywords.Const) t d.0 us d.1 d.2).2
-decl_first (variables p ss) t us ws d e = ap begins_stmt (first_is (keyword keywords.Var) t d.0 us d.1 d.2).2
-decl_first (types p ss) t us ws d e = absurd (false_true (sym e))
+decl_first : (ed : Edition) → (x : Decl) (t : Lexeme) (us ws : List Lexeme) → IsDecl ed x (t ∷ us) ws → declares_types x ≡ false → begins_stmt t.kind ≡ true
+decl_first ed (constants p ss) t us ws d e = ap begins_stmt (first_is (keyword keywords.Const) t d.0 us d.1 d.2).2
+decl_first ed (variables p ss) t us ws d e = ap begins_stmt (first_is (keyword keywords.Var) t d.0 us d.1 d.2).2
+decl_first ed (types p ss) t us ws d e = absurd (false_true (sym e))
 
 -- it is empty, in front of a semicolon, or begins so
-pub stmt_starts : (s : Stmt) (t : Lexeme) (us ws : List Lexeme) → IsStmt s (t ∷ us) ws →
+pub stmt_starts : (ed : Edition) → (s : Stmt) (t : Lexeme) (us ws : List Lexeme) → IsStmt ed s (t ∷ us) ws →
     ((s ≡ empty t.place) × (t.kind ≡ semicolon) × (t ∷ us ≡ ws)) ⊎ (begins_stmt t.kind ≡ true)
-stmt_starts (empty p) t us ws d =
+stmt_starts ed (empty p) t us ws d =
     let h = first_is semicolon t d.0 us d.1 d.2 in
     inl (ap empty (d.3 ∙ ap (λ (x : Lexeme). x.place) (sym h.0)), h.2, d.4)
-stmt_starts (declaration p x) t us ws d = inr (decl_first x t us ws d.0 d.2)
-stmt_starts (simple p s) t us ws d = inr (right_true (begins_otherwise t.kind) (begins_expr t.kind) (simple_first false s t us ws d.0))
-stmt_starts (return p es) t us ws d = inr (ap begins_stmt (first_is (keyword keywords.Return) t d.0 us d.1 d.2).2)
-stmt_starts (break p) t us ws d = inr (ap begins_stmt (first_is (keyword keywords.Break) t d.0 us ws d.1).2)
-stmt_starts (continue p) t us ws d = inr (ap begins_stmt (first_is (keyword keywords.Continue) t d.0 us ws d.1).2)
-stmt_starts (fallthrough p) t us ws d = inr (ap begins_stmt (first_is (keyword keywords.Fallthrough) t d.0 us ws d.1).2)
-stmt_starts (block_statement (block p ss q)) t us ws d = inr (ap begins_stmt (first_is opening_brace t d.0 us d.2 d.4).2)
-stmt_starts (if_statement (conditional p i e b r)) t us ws d = inr (ap begins_stmt (first_is (keyword keywords.If) t d.0 us d.1 d.5).2)
-stmt_starts (for_statement p i c n b) t us ws d = inr (ap begins_stmt (first_is (keyword keywords.For) t d.0 us d.1 d.3).2)
-stmt_starts (range_statement p n e b) t us ws d = inr (ap begins_stmt (first_is (keyword keywords.For) t d.0 us d.2 d.6).2)
-stmt_starts (switch_statement p i e cs) t us ws d = inr (ap begins_stmt (first_is (keyword keywords.Switch) t d.0 us d.3 d.8).2)
+stmt_starts ed (declaration p x) t us ws d = inr (decl_first ed x t us ws d.0 d.2)
+stmt_starts ed (simple p s) t us ws d = inr (right_true (begins_otherwise t.kind) (begins_expr t.kind) (simple_first ed false s t us ws d.0))
+stmt_starts ed (return p es) t us ws d = inr (ap begins_stmt (first_is (keyword keywords.Return) t d.0 us d.1 d.2).2)
+stmt_starts ed (break p) t us ws d = inr (ap begins_stmt (first_is (keyword keywords.Break) t d.0 us ws d.1).2)
+stmt_starts ed (continue p) t us ws d = inr (ap begins_stmt (first_is (keyword keywords.Continue) t d.0 us ws d.1).2)
+stmt_starts ed (fallthrough p) t us ws d = inr (ap begins_stmt (first_is (keyword keywords.Fallthrough) t d.0 us ws d.1).2)
+stmt_starts ed (block_statement (block p ss q)) t us ws d = inr (ap begins_stmt (first_is opening_brace t d.0 us d.2 d.4).2)
+stmt_starts ed (if_statement (conditional p i e b r)) t us ws d = inr (ap begins_stmt (first_is (keyword keywords.If) t d.0 us d.1 d.5).2)
+stmt_starts ed (for_statement p i c n b) t us ws d = inr (ap begins_stmt (first_is (keyword keywords.For) t d.0 us d.1 d.3).2)
+stmt_starts ed (range_statement p n e b) t us ws d = inr (ap begins_stmt (first_is (keyword keywords.For) t d.0 us d.2 d.6).2)
+stmt_starts ed (switch_statement p i e cs) t us ws d = inr (ap begins_stmt (first_is (keyword keywords.Switch) t d.0 us d.3 d.8).2)

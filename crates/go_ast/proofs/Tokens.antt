@@ -2,6 +2,7 @@
 use Rattle.std.proofs.Common.{◌≡◌, ◌≢◌, ℕ, inl, inr, Bool, true, false, ◌&&◌, List, [], ◌∷◌, refl, sym, ap, ◌∙◌, subst, arith}
 use Rattle.std.specs.Prelude.{not, codes}
 use Rattle.std.specs.Str.{bytes_eq}
+use Rattle.go_text.specs.declared.edition.Edition.{Edition}
 use Rattle.go_scan.specs.declared.token.TokenKind.{TokenKind}
 use Rattle.go_scan.specs.declared.token.TokenKind.TheVariants as kinds
 use Rattle.go_ast.specs.Kinds.{same}
@@ -71,32 +72,32 @@ is_a_string t e ne =
     both_are (same kinds.String t.kind) (not (bytes_eq (string_value t.text) (codes "C"))) (is_same kinds.String t.kind e)
     (no_text (string_value t.text) (codes "C") ne)
 
-module _ (B : ℕ) where
+module _ (ed : Edition) (B : ℕ) where
   -- a token of a kind
   pub token_back : (kind : TokenKind) (need : ℕ) (x : Expected) (next : Lexeme → State) (t : Lexeme) (us : List Lexeme) (f : File) →
-      After B (step (token kind need x next) t) us f → Means B (token kind need x next) (t ∷ us) f
-  token_back kind need x next t us f a = elim (after_cond B (same kind t.kind) (Take need (next t)) (Fail x) us f a) [
+      After ed B (step ed (token kind need x next) t) us f → Means ed B (token kind need x next) (t ∷ us) f
+  token_back kind need x next t us f a = elim (after_cond ed B (same kind t.kind) (Take need (next t)) (Fail x) us f a) [
     | inl h ↦ (t, us, token_here kind t us (are_same kind t.kind h.0), h.1.0, h.1.1)
     | inr h ↦ absurd h.1
   ]
 
   pub token_forth : (kind : TokenKind) (need : ℕ) (x : Expected) (next : Lexeme → State) (t : Lexeme) (us : List Lexeme) (f : File) →
-      Means B (token kind need x next) (t ∷ us) f → After B (step (token kind need x next) t) us f
+      Means ed B (token kind need x next) (t ∷ us) f → After ed B (step ed (token kind need x next) t) us f
   token_forth kind need x next t us f m =
-      after_same B kind t (Take need (next t)) (Fail x) us f (kind_here kind t m.0 us m.1 m.2)
-      (m.3, at_first kind t m.0 us m.1 (λ u xs. Means B (next u) xs f) m.2 m.4)
+      after_same ed B kind t (Take need (next t)) (Fail x) us f (kind_here kind t m.0 us m.1 m.2)
+      (m.3, at_first kind t m.0 us m.1 (λ u xs. Means ed B (next u) xs f) m.2 m.4)
 
-  pub token_kept : (kind : TokenKind) (need : ℕ) (x : Expected) (next : Lexeme → State) (t : Lexeme) → Okay B (token kind need x next) →
-      Kept B (step (token kind need x next) t)
-  token_kept kind need x next t ok = kept_cond B (same kind t.kind) (Take need (next t)) (Fail x) (λ e le. ok t (are_same kind t.kind e) le) (λ e. tt)
+  pub token_kept : (kind : TokenKind) (need : ℕ) (x : Expected) (next : Lexeme → State) (t : Lexeme) → Okay ed B (token kind need x next) →
+      Kept ed B (step ed (token kind need x next) t)
+  token_kept kind need x next t ok = kept_cond ed B (same kind t.kind) (Take need (next t)) (Fail x) (λ e le. ok t (are_same kind t.kind e) le) (λ e. tt)
 
   pub token_first : (kind : TokenKind) (need : ℕ) (x : Expected) (next : Lexeme → State) (t : Lexeme) (us : List Lexeme) (f : File) →
-      Means B (token kind need x next) (t ∷ us) f → begins (token kind need x next) t.kind ≡ true
+      Means ed B (token kind need x next) (t ∷ us) f → begins (token kind need x next) t.kind ≡ true
   token_first kind need x next t us f m = same_here kind t m.0 us m.1 m.2
 
-  pub token_comes : (kind : TokenKind) (need : ℕ) (x : Expected) (next : Lexeme → State) → Good B (token kind need x next) →
-      ((t : Lexeme) → Good B (next t) → (us : List Lexeme) × (f : File) × Means B (next t) us f) →
-      (us : List Lexeme) × (f : File) × Means B (token kind need x next) us f
+  pub token_comes : (kind : TokenKind) (need : ℕ) (x : Expected) (next : Lexeme → State) → Good ed B (token kind need x next) →
+      ((t : Lexeme) → Good ed B (next t) → (us : List Lexeme) × (f : File) × Means ed B (next t) us f) →
+      (us : List Lexeme) × (f : File) × Means ed B (token kind need x next) us f
   token_comes kind need x next ok go =
       let t = a_token kind in
       let r = go t (ok.1 t refl ok.0) in
@@ -104,30 +105,30 @@ module _ (B : ℕ) where
 
   -- the name of a package
   pub package_name_back : (next : Lexeme → State) (t : Lexeme) (us : List Lexeme) (f : File) →
-      After B (step (package_name next) t) us f → Means B (package_name next) (t ∷ us) f
-  package_name_back next t us f a = elim (after_cond B (is_package t) (Take 0 (next t)) (Fail another) us f a) [
+      After ed B (step ed (package_name next) t) us f → Means ed B (package_name next) (t ∷ us) f
+  package_name_back next t us f a = elim (after_cond ed B (is_package t) (Take 0 (next t)) (Fail another) us f a) [
     | inl h ↦ (let p = package_is t h.0 in (t, us, token_here kinds.Name t us p.0, p.1, h.1.1))
     | inr h ↦ absurd h.1
   ]
 
   pub package_name_forth : (next : Lexeme → State) (t : Lexeme) (us : List Lexeme) (f : File) →
-      Means B (package_name next) (t ∷ us) f → After B (step (package_name next) t) us f
+      Means ed B (package_name next) (t ∷ us) f → After ed B (step ed (package_name next) t) us f
   package_name_forth next t us f m =
       let ne : t.text ≢ codes "_" = at_first kinds.Name t m.0 us m.1 (λ u xs. u.text ≢ codes "_") m.2 m.3 in
-      let go : After B (Take 0 (next t)) us f = (omega arith, at_first kinds.Name t m.0 us m.1 (λ u xs. Means B (next u) xs f) m.2 m.4) in
-      subst (λ y. After B y us f)
+      let go : After ed B (Take 0 (next t)) us f = (omega arith, at_first kinds.Name t m.0 us m.1 (λ u xs. Means ed B (next u) xs f) m.2 m.4) in
+      subst (λ y. After ed B y us f)
       (sym (cond_true (is_package t) (Take 0 (next t)) (Fail another) (is_a_package t (kind_here kinds.Name t m.0 us m.1 m.2) ne))) go
 
-  pub package_name_kept : (next : Lexeme → State) (t : Lexeme) → Okay B (package_name next) → Kept B (step (package_name next) t)
-  package_name_kept next t ok = kept_cond B (is_package t) (Take 0 (next t)) (Fail another) (λ e le. ok t) (λ e. tt)
+  pub package_name_kept : (next : Lexeme → State) (t : Lexeme) → Okay ed B (package_name next) → Kept ed B (step ed (package_name next) t)
+  package_name_kept next t ok = kept_cond ed B (is_package t) (Take 0 (next t)) (Fail another) (λ e le. ok t) (λ e. tt)
 
-  pub package_name_first : (next : Lexeme → State) (t : Lexeme) (us : List Lexeme) (f : File) → Means B (package_name next) (t ∷ us) f →
+  pub package_name_first : (next : Lexeme → State) (t : Lexeme) (us : List Lexeme) (f : File) → Means ed B (package_name next) (t ∷ us) f →
       begins (package_name next) t.kind ≡ true
   package_name_first next t us f m = same_here kinds.Name t m.0 us m.1 m.2
 
-  pub package_name_comes : (next : Lexeme → State) → Good B (package_name next) →
-      ((t : Lexeme) → Good B (next t) → (us : List Lexeme) × (f : File) × Means B (next t) us f) →
-      (us : List Lexeme) × (f : File) × Means B (package_name next) us f
+  pub package_name_comes : (next : Lexeme → State) → Good ed B (package_name next) →
+      ((t : Lexeme) → Good ed B (next t) → (us : List Lexeme) × (f : File) × Means ed B (next t) us f) →
+      (us : List Lexeme) × (f : File) × Means ed B (package_name next) us f
   package_name_comes next ok go =
       let t = a_token kinds.Name in
       let r = go t (ok.1 t) in
@@ -135,30 +136,30 @@ module _ (B : ℕ) where
 
   -- the path of an import
   pub import_path_back : (x : Expected) (next : Lexeme → State) (t : Lexeme) (us : List Lexeme) (f : File) →
-      After B (step (import_path x next) t) us f → Means B (import_path x next) (t ∷ us) f
-  import_path_back x next t us f a = elim (after_cond B (is_string (codes "C") t) (Take 0 (next t)) (Fail x) us f a) [
+      After ed B (step ed (import_path x next) t) us f → Means ed B (import_path x next) (t ∷ us) f
+  import_path_back x next t us f a = elim (after_cond ed B (is_string (codes "C") t) (Take 0 (next t)) (Fail x) us f a) [
     | inl h ↦ (let p = string_is t h.0 in (t, us, token_here kinds.String t us p.0, p.1, h.1.1))
     | inr h ↦ absurd h.1
   ]
 
   pub import_path_forth : (x : Expected) (next : Lexeme → State) (t : Lexeme) (us : List Lexeme) (f : File) →
-      Means B (import_path x next) (t ∷ us) f → After B (step (import_path x next) t) us f
+      Means ed B (import_path x next) (t ∷ us) f → After ed B (step ed (import_path x next) t) us f
   import_path_forth x next t us f m =
       let ne : string_value t.text ≢ codes "C" = at_first kinds.String t m.0 us m.1 (λ u xs. string_value u.text ≢ codes "C") m.2 m.3 in
-      let go : After B (Take 0 (next t)) us f = (omega arith, at_first kinds.String t m.0 us m.1 (λ u xs. Means B (next u) xs f) m.2 m.4) in
-      subst (λ y. After B y us f)
+      let go : After ed B (Take 0 (next t)) us f = (omega arith, at_first kinds.String t m.0 us m.1 (λ u xs. Means ed B (next u) xs f) m.2 m.4) in
+      subst (λ y. After ed B y us f)
       (sym (cond_true (is_string (codes "C") t) (Take 0 (next t)) (Fail x) (is_a_string t (kind_here kinds.String t m.0 us m.1 m.2) ne))) go
 
-  pub import_path_kept : (x : Expected) (next : Lexeme → State) (t : Lexeme) → Okay B (import_path x next) → Kept B (step (import_path x next) t)
-  import_path_kept x next t ok = kept_cond B (is_string (codes "C") t) (Take 0 (next t)) (Fail x) (λ e le. ok t) (λ e. tt)
+  pub import_path_kept : (x : Expected) (next : Lexeme → State) (t : Lexeme) → Okay ed B (import_path x next) → Kept ed B (step ed (import_path x next) t)
+  import_path_kept x next t ok = kept_cond ed B (is_string (codes "C") t) (Take 0 (next t)) (Fail x) (λ e le. ok t) (λ e. tt)
 
   pub import_path_first : (x : Expected) (next : Lexeme → State) (t : Lexeme) (us : List Lexeme) (f : File) →
-      Means B (import_path x next) (t ∷ us) f → begins (import_path x next) t.kind ≡ true
+      Means ed B (import_path x next) (t ∷ us) f → begins (import_path x next) t.kind ≡ true
   import_path_first x next t us f m = same_here kinds.String t m.0 us m.1 m.2
 
-  pub import_path_comes : (x : Expected) (next : Lexeme → State) → Good B (import_path x next) →
-      ((t : Lexeme) → Good B (next t) → (us : List Lexeme) × (f : File) × Means B (next t) us f) →
-      (us : List Lexeme) × (f : File) × Means B (import_path x next) us f
+  pub import_path_comes : (x : Expected) (next : Lexeme → State) → Good ed B (import_path x next) →
+      ((t : Lexeme) → Good ed B (next t) → (us : List Lexeme) × (f : File) × Means ed B (next t) us f) →
+      (us : List Lexeme) × (f : File) × Means ed B (import_path x next) us f
   import_path_comes x next ok go =
       let t = a_path in
       let r = go t (ok.1 t) in
@@ -166,40 +167,40 @@ module _ (B : ℕ) where
 
   -- a token that may be missing
   pub optional_back : (kind : TokenKind) (need : ℕ) (some : Lexeme → State) (none : State) (t : Lexeme) (us : List Lexeme) (f : File) →
-      (After B (step none t) us f → Means B none (t ∷ us) f) → After B (step (optional kind need some none) t) us f →
-      Means B (optional kind need some none) (t ∷ us) f
-  optional_back kind need some none t us f behind a = elim (after_cond B (same kind t.kind) (Take need (some t)) (step none t) us f a) [
+      (After ed B (step ed none t) us f → Means ed B none (t ∷ us) f) → After ed B (step ed (optional kind need some none) t) us f →
+      Means ed B (optional kind need some none) (t ∷ us) f
+  optional_back kind need some none t us f behind a = elim (after_cond ed B (same kind t.kind) (Take need (some t)) (step ed none t) us f a) [
     | inl h ↦ inl (t, us, token_here kind t us (are_same kind t.kind h.0), h.1.0, h.1.1)
     | inr h ↦ inr (behind h.1)
   ]
 
   pub optional_forth : (kind : TokenKind) (need : ℕ) (some : Lexeme → State) (none : State) (t : Lexeme) (us : List Lexeme) (f : File) →
-      (Means B none (t ∷ us) f → After B (step none t) us f) → (Means B none (t ∷ us) f → begins none t.kind ≡ true) → begins none kind ≡ false →
-      Means B (optional kind need some none) (t ∷ us) f → After B (step (optional kind need some none) t) us f
+      (Means ed B none (t ∷ us) f → After ed B (step ed none t) us f) → (Means ed B none (t ∷ us) f → begins none t.kind ≡ true) → begins none kind ≡ false →
+      Means ed B (optional kind need some none) (t ∷ us) f → After ed B (step ed (optional kind need some none) t) us f
   optional_forth kind need some none t us f behind first other_kind (inl m) =
-      after_same B kind t (Take need (some t)) (step none t) us f (kind_here kind t m.0 us m.1 m.2)
-      (m.3, at_first kind t m.0 us m.1 (λ u xs. Means B (some u) xs f) m.2 m.4)
+      after_same ed B kind t (Take need (some t)) (step ed none t) us f (kind_here kind t m.0 us m.1 m.2)
+      (m.3, at_first kind t m.0 us m.1 (λ u xs. Means ed B (some u) xs f) m.2 m.4)
   optional_forth kind need some none t us f behind first other_kind (inr m) =
-      after_other B kind t (Take need (some t)) (step none t) us f (by_test (same kind t.kind) refl) (behind m)
+      after_other ed B kind t (Take need (some t)) (step ed none t) us f (by_test (same kind t.kind) refl) (behind m)
     where
       by_test : (c : Bool) → same kind t.kind ≡ c → c ≡ false
       by_test false e = refl
       by_test true e = absurd (false_true (sym other_kind ∙ ap (λ k. begins none k) (sym (are_same kind t.kind e)) ∙ first m))
 
-  pub optional_kept : (kind : TokenKind) (need : ℕ) (some : Lexeme → State) (none : State) (t : Lexeme) → Okay B (optional kind need some none) →
-      Kept B (step none t) → Kept B (step (optional kind need some none) t)
+  pub optional_kept : (kind : TokenKind) (need : ℕ) (some : Lexeme → State) (none : State) (t : Lexeme) → Okay ed B (optional kind need some none) →
+      Kept ed B (step ed none t) → Kept ed B (step ed (optional kind need some none) t)
   optional_kept kind need some none t ok behind =
-      kept_cond B (same kind t.kind) (Take need (some t)) (step none t) (λ e le. ok.0 t (are_same kind t.kind e) le) (λ e. behind)
+      kept_cond ed B (same kind t.kind) (Take need (some t)) (step ed none t) (λ e le. ok.0 t (are_same kind t.kind e) le) (λ e. behind)
 
   pub optional_first : (kind : TokenKind) (need : ℕ) (some : Lexeme → State) (none : State) (t : Lexeme) (us : List Lexeme) (f : File) →
-      (Means B none (t ∷ us) f → begins none t.kind ≡ true) → Means B (optional kind need some none) (t ∷ us) f →
+      (Means ed B none (t ∷ us) f → begins none t.kind ≡ true) → Means ed B (optional kind need some none) (t ∷ us) f →
       begins (optional kind need some none) t.kind ≡ true
   optional_first kind need some none t us f first (inl m) = left_true (same kind t.kind) (begins none t.kind) (same_here kind t m.0 us m.1 m.2)
   optional_first kind need some none t us f first (inr m) = right_true (same kind t.kind) (begins none t.kind) (first m)
 
-  pub optional_comes : (kind : TokenKind) (need : ℕ) (some : Lexeme → State) (none : State) → Good B (optional kind need some none) →
-      ((t : Lexeme) → Good B (some t) → (us : List Lexeme) × (f : File) × Means B (some t) us f) →
-      (Good B none → (us : List Lexeme) × (f : File) × Means B none us f) → (us : List Lexeme) × (f : File) × Means B (optional kind need some none) us f
+  pub optional_comes : (kind : TokenKind) (need : ℕ) (some : Lexeme → State) (none : State) → Good ed B (optional kind need some none) →
+      ((t : Lexeme) → Good ed B (some t) → (us : List Lexeme) × (f : File) × Means ed B (some t) us f) →
+      (Good ed B none → (us : List Lexeme) × (f : File) × Means ed B none us f) → (us : List Lexeme) × (f : File) × Means ed B (optional kind need some none) us f
   optional_comes kind need some none ok go behind = elim ok.0 [
     | inl le ↦ (let t = a_token kind in
         let r = go t (ok.1.0 t refl le) in
@@ -208,8 +209,8 @@ module _ (B : ℕ) where
   ]
 
   -- the end
-  pub ended_forth : (g : File) (t : Lexeme) (us : List Lexeme) (f : File) → Means B (ended g) (t ∷ us) f → ⊥
+  pub ended_forth : (g : File) (t : Lexeme) (us : List Lexeme) (f : File) → Means ed B (ended g) (t ∷ us) f → ⊥
   ended_forth g t us f m = none_left t us m.0
 
-  pub ended_comes : (g : File) → (us : List Lexeme) × (f : File) × Means B (ended g) us f
+  pub ended_comes : (g : File) → (us : List Lexeme) × (f : File) × Means ed B (ended g) us f
   ended_comes g = ([], g, (refl, refl))

@@ -1,5 +1,6 @@
 -- One or more expressions: what is taken for them is what the grammar says, both ways.
 use Rattle.std.proofs.Common.{◌≡◌, ℕ, ◌+◌, ◌≤◌, Bool, true, false, List, [], ◌∷◌, ◌++◌, Some, None, inl, inr, refl, sym, ap, ◌∙◌, subst, arith}
+use Rattle.go_text.specs.declared.edition.Edition.{Edition}
 use Rattle.go_scan.specs.declared.token.TokenKind.{TokenKind}
 use Rattle.go_ast.specs.Kinds.{same}
 use Rattle.go_ast.specs.Operators.{binary_of}
@@ -43,8 +44,8 @@ closes_as false j k e c d = subst (λ x. Closes false x) (sym (are_same j k e)) 
 pub no_operator : (k : TokenKind) (op : BinaryOperator) → binary_of k ≡ None → binary_of k ≡ Some op → ⊥
 no_operator k op a b = let c : None ≡ Some op = sym a ∙ b in cc (c)
 
-module _ (B : ℕ) where
-  pub ends_if : (n : ℕ) (h : Bool) (next : Expr → State) → ((e : Expr) (k : TokenKind) → begins (next e) k ≡ true → Closes h k) → Ends B n h next
+module _ (ed : Edition) (B : ℕ) where
+  pub ends_if : (n : ℕ) (h : Bool) (next : Expr → State) → ((e : Expr) (k : TokenKind) → begins (next e) k ≡ true → Closes h k) → Ends ed B n h next
   ends_if n h next f =
       record {
         no_suffix = λ e k s. by_closing (begins (next e) k) (is_tail h k) (λ b. (f e k b).0) s;
@@ -56,23 +57,23 @@ module _ (B : ℕ) where
       by_none e k op o true q = absurd (no_operator k op (f e k q).1 o)
 
   -- heights of lists
-  pub exprs_fit : (l : ℕ) (es : List Expr) → l ≤ B + 1 → AllFit B height l es → l + exprs_height (pack es) ≤ B + 1
+  pub exprs_fit : (l : ℕ) (es : List Expr) → l ≤ B + 1 → AllFit ed B height l es → l + exprs_height (pack es) ≤ B + 1
   exprs_fit l [] le a = omega (arith, le)
   exprs_fit l (e ∷ es) le a = omega (arith, a.0, exprs_fit l es le a.1)
 
-  pub fit_exprs : (l : ℕ) (es : Exprs) → l + exprs_height es ≤ B + 1 → AllFit B height l (list_of es)
+  pub fit_exprs : (l : ℕ) (es : Exprs) → l + exprs_height es ≤ B + 1 → AllFit ed B height l (list_of es)
   fit_exprs l no_exprs le = tt
   fit_exprs l (some_exprs e es) le = (omega (arith, le), fit_exprs l es (omega (arith, le)))
 
-  pub stmts_fit : (l : ℕ) (ss : List Stmt) → l ≤ B + 1 → AllFit B stmt_height l ss → l + stmts_height (pack_stmts ss) ≤ B + 1
+  pub stmts_fit : (l : ℕ) (ss : List Stmt) → l ≤ B + 1 → AllFit ed B stmt_height l ss → l + stmts_height (pack_stmts ss) ≤ B + 1
   stmts_fit l [] le a = omega (arith, le)
   stmts_fit l (s ∷ ss) le a = omega (arith, a.0, stmts_fit l ss le a.1)
 
-  pub fit_stmts : (l : ℕ) (ss : Stmts) → l + stmts_height ss ≤ B + 1 → AllFit B stmt_height l (stmts_of ss)
+  pub fit_stmts : (l : ℕ) (ss : Stmts) → l + stmts_height ss ≤ B + 1 → AllFit ed B stmt_height l (stmts_of ss)
   fit_stmts l no_stmts le = tt
   fit_stmts l (some_stmts s ss) le = (omega (arith, le), fit_stmts l ss (omega (arith, le)))
 
-  pub all_fit_append : {A : Type 0} (tall : A → ℕ) (l : ℕ) (xs ys : List A) → AllFit B tall l xs → AllFit B tall l ys → AllFit B tall l (xs ++ ys)
+  pub all_fit_append : {A : Type 0} (tall : A → ℕ) (l : ℕ) (xs ys : List A) → AllFit ed B tall l xs → AllFit ed B tall l ys → AllFit ed B tall l (xs ++ ys)
   all_fit_append tall l [] ys a b = b
   all_fit_append tall l (x ∷ xs) ys a b = (a.0, all_fit_append tall l xs ys a.1 b)
 
@@ -80,13 +81,13 @@ module _ (B : ℕ) where
   abbrev pub values : Bool → ℕ → Expected → (Exprs → State) → State
   values h l x next = expr 5 h l x (λ e. more_exprs h l (e ∷ []) (λ es. next (pack es)))
 
-  pub values_back : (h : Bool) (l : ℕ) (x : Expected) (next : Exprs → State) (us : List Lexeme) (f : File) → Means B (values h l x next) us f →
-      (es : Exprs) × (ws : List Lexeme) × AreExprs h es us ws × (l + exprs_height es ≤ B + 1) × Means B (next es) ws f
+  pub values_back : (h : Bool) (l : ℕ) (x : Expected) (next : Exprs → State) (us : List Lexeme) (f : File) → Means ed B (values h l x next) us f →
+      (es : Exprs) × (ws : List Lexeme) × AreExprs ed h es us ws × (l + exprs_height es ≤ B + 1) × Means ed B (next es) ws f
   values_back h l x next us f m =
       (some_exprs m.0 (pack m.4.0), m.4.1, (m.1, m.2, m.4.2), exprs_fit l (m.0 ∷ m.4.0) (omega (arith, m.3)) (m.3, m.4.3), m.4.4)
 
   pub values_forth : (h : Bool) (l : ℕ) (x : Expected) (next : Exprs → State) (es : Exprs) (us ws : List Lexeme) (f : File) →
-      AreExprs h es us ws → l + exprs_height es ≤ B + 1 → Means B (next es) ws f → Means B (values h l x next) us f
+      AreExprs ed h es us ws → l + exprs_height es ≤ B + 1 → Means ed B (next es) ws f → Means ed B (values h l x next) us f
   values_forth h l x next no_exprs us ws f d le m = absurd d
   values_forth h l x next (some_exprs e es) us ws f d le m = (
     e,
@@ -96,14 +97,14 @@ module _ (B : ℕ) where
     (
       list_of es,
       ws,
-      subst (λ y. AreMoreExprs h y d.0 ws) (sym (pack_list es)) d.2,
+      subst (λ y. AreMoreExprs ed h y d.0 ws) (sym (pack_list es)) d.2,
       fit_exprs l es (omega (arith, le)),
-      subst (λ y. Means B (next (some_exprs e y)) ws f) (sym (pack_list es)) m,
+      subst (λ y. Means ed B (next (some_exprs e y)) ws f) (sym (pack_list es)) m,
     ),
   )
 
-  pub values_okay : (h : Bool) (l : ℕ) (x : Expected) (next : Exprs → State) → ((es : Exprs) → l + exprs_height es ≤ B + 1 → Good B (next es)) →
-      ((es : Exprs) → begins (next es) comma ≡ false) → ((es : Exprs) (k : TokenKind) → begins (next es) k ≡ true → Closes h k) → Okay B (values h l x next)
+  pub values_okay : (h : Bool) (l : ℕ) (x : Expected) (next : Exprs → State) → ((es : Exprs) → l + exprs_height es ≤ B + 1 → Good ed B (next es)) →
+      ((es : Exprs) → begins (next es) comma ≡ false) → ((es : Exprs) (k : TokenKind) → begins (next es) k ≡ true → Closes h k) → Okay ed B (values h l x next)
   values_okay h l x next good no_comma closes = (
     (λ e fits. let low : l ≤ B = omega (arith, fits, height_positive e) in (
       tt,
@@ -124,6 +125,6 @@ module _ (B : ℕ) where
         | inr c ↦ closes (some_exprs e no_exprs) k c
       ]
 
-  pub values_good : (h : Bool) (l : ℕ) (x : Expected) (next : Exprs → State) → l ≤ B → ((es : Exprs) → l + exprs_height es ≤ B + 1 → Good B (next es)) →
-      ((es : Exprs) → begins (next es) comma ≡ false) → ((es : Exprs) (k : TokenKind) → begins (next es) k ≡ true → Closes h k) → Good B (values h l x next)
+  pub values_good : (h : Bool) (l : ℕ) (x : Expected) (next : Exprs → State) → l ≤ B → ((es : Exprs) → l + exprs_height es ≤ B + 1 → Good ed B (next es)) →
+      ((es : Exprs) → begins (next es) comma ≡ false) → ((es : Exprs) (k : TokenKind) → begins (next es) k ≡ true → Closes h k) → Good ed B (values h l x next)
   values_good h l x next le good no_comma closes = (le, values_okay h l x next good no_comma closes)

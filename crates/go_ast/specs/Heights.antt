@@ -1,10 +1,11 @@
 -- How many levels of nodes a tree has: statements, blocks, expressions, types and the braces of a literal.
 use Rattle.std.specs.Prelude.{ℕ, ◌+◌, max, List, [], ◌∷◌, Option, Some, None}
-use Rattle.go_ast.specs.Trees.{TypeExpr, array, struct, Fields, no_fields, field, Expr, parenthesized, composite_lit, conversion, selector, index, call, unary, binary, Exprs, no_exprs, some_exprs, Elements, no_elements, element, Element, expression_element, value_element, Simple, call_statement, increment, decrement, assignment, operator_assignment, short_var_decl, ConstSpec, VarSpec, TypeSpec, Decl, constants, variables, types, Stmt, declaration, simple, return, block_statement, if_statement, for_statement, range_statement, switch_statement, Block, block, If, conditional, Else, no_else, else_block, else_if, Stmts, no_stmts, some_stmts, Clauses, no_clauses, clause, Parameter, Function, TopLevel, declared, function, File}
+use Rattle.go_ast.specs.Trees.{TypeExpr, array, slice, struct, Fields, no_fields, field, Expr, parenthesized, composite_lit, conversion, selector, index, cut, Bound, no_bound, bound, call, type_operand, unary, binary, Exprs, no_exprs, some_exprs, Elements, no_elements, element, Element, expression_element, value_element, Simple, call_statement, increment, decrement, assignment, operator_assignment, short_var_decl, ConstSpec, VarSpec, TypeSpec, Decl, constants, variables, types, Stmt, declaration, simple, return, block_statement, if_statement, for_statement, range_statement, switch_statement, Block, block, If, conditional, Else, no_else, else_block, else_if, Stmts, no_stmts, some_stmts, Clauses, no_clauses, clause, Parameter, Function, TopLevel, declared, function, File}
 
 abbrev mutual
   pub type_height : TypeExpr → ℕ
   type_height (array p e a) = max (height e) (type_height a) + 1
+  type_height (slice p a) = type_height a + 1
   type_height (struct p fs) = fields_height fs + 1
   type_height _ = 1
 
@@ -18,10 +19,16 @@ abbrev mutual
   height (conversion p a e) = max (type_height a) (height e) + 1
   height (selector p e n) = height e + 1
   height (index p e i) = max (height e) (height i) + 1
+  height (cut p e a b) = max (height e) (max (bound_height a) (bound_height b)) + 1
+  height (type_operand p t) = type_height t
   height (call p f es) = max (height f) (exprs_height es) + 1
   height (unary p op e) = height e + 1
   height (binary p op a b) = max (height a) (height b) + 1
   height _ = 1
+
+  pub bound_height : Bound → ℕ
+  bound_height no_bound = 0
+  bound_height (bound e) = height e
 
   pub exprs_height : Exprs → ℕ
   exprs_height no_exprs = 0

@@ -1,5 +1,6 @@
--- What is left out of Go, by the tokens that could stand in its place: docs/GRAMMAR.md has the table in words.
+-- What an edition leaves out of Go, by the tokens that could stand in its place: docs/GRAMMAR.md has the table in words.
 use Rattle.std.specs.Prelude.{◌≡◌, ℕ, Bool, true, false, ◌⊎◌, List, [], ◌∷◌, ◌++◌}
+use Rattle.go_text.specs.declared.edition.Edition.{Edition}
 use Rattle.go_scan.specs.declared.token.TokenKind.{TokenKind}
 use Rattle.go_scan.specs.declared.token.TokenKind.TheVariants as kinds
 use Rattle.go_scan.specs.declared.keyword.Keyword.{Keyword}
@@ -35,8 +36,8 @@ AreOf (k ∷ ks) [] = ⊥
 AreOf (k ∷ ks) (t ∷ ts) = (t.kind ≡ k) × AreOf ks ts
 
 -- behind these tokens a file may go on with some of these kinds, however deep
-abbrev pub May : List Lexeme → List TokenKind → Type 0
-May good ks = (ts : List Lexeme) × AreOf ks ts × (levels : ℕ) × Begins levels (good ++ ts)
+abbrev pub May : Edition → List Lexeme → List TokenKind → Type 0
+May e good ks = (ts : List Lexeme) × AreOf ks ts × (levels : ℕ) × Begins e levels (good ++ ts)
 
 -- the last of these tokens are of these kinds, and the others are front
 abbrev pub EndsIn : List Lexeme → List Lexeme → List TokenKind → Type 0
@@ -46,45 +47,45 @@ abbrev pub word : Keyword → TokenKind
 word k = kinds.Keyword k
 
 -- behind the tokens `good` a token of kind k may not come, and belongs to what is left out
-pub data LeftOut (good : List Lexeme) (k : TokenKind) : Type 0 where
+pub data LeftOut (e : Edition) (good : List Lexeme) (k : TokenKind) : Type 0 where
   -- channels, goroutines, maps, .. : wherever they stand
-  anywhere : is_never_read k ≡ true → LeftOut good k
+  anywhere : is_never_read k ≡ true → LeftOut e good k
   -- function values and pointers, where an operand or a type may begin, as `struct` begins both
-  pointer : begins_left_out k ≡ true → May good (word keywords.Struct ∷ []) → LeftOut good k
+  pointer : begins_left_out k ≡ true → May e good (word keywords.Struct ∷ []) → LeftOut e good k
   -- a type in parentheses
-  parenthesized_type : k ≡ opening → May good (word keywords.Struct ∷ []) → LeftOut good k
+  parenthesized_type : k ≡ opening → May e good (word keywords.Struct ∷ []) → LeftOut e good k
   -- methods and type parameters of functions
-  method : (front : List Lexeme) → k ≡ opening → EndsIn good front (word keywords.Func ∷ []) → LeftOut good k
-  generic : (front : List Lexeme) → k ≡ opening_bracket → EndsIn good front (word keywords.Func ∷ []) → LeftOut good k
-  generic_function : (front : List Lexeme) → k ≡ opening_bracket → EndsIn good front (word keywords.Func ∷ kinds.Name ∷ []) → LeftOut good k
-  -- slices
-  slice : (front : List Lexeme) → k ≡ closing_bracket → EndsIn good front (opening_bracket ∷ []) → LeftOut good k
-  -- slice expressions: the bracket of an index closes here, behind which a period may come, or could behind an operand
-  slice_end : k ≡ colon → May good (closing_bracket ∷ period ∷ []) → LeftOut good k
-  slice_start : (front : List Lexeme) → k ≡ colon → EndsIn good front (opening_bracket ∷ []) → May good (kinds.Integer ∷ closing_bracket ∷ period ∷ []) →
-      LeftOut good k
+  method : (front : List Lexeme) → k ≡ opening → EndsIn good front (word keywords.Func ∷ []) → LeftOut e good k
+  generic : (front : List Lexeme) → k ≡ opening_bracket → EndsIn good front (word keywords.Func ∷ []) → LeftOut e good k
+  generic_function : (front : List Lexeme) → k ≡ opening_bracket → EndsIn good front (word keywords.Func ∷ kinds.Name ∷ []) → LeftOut e good k
+  -- slices, and what has no length
+  slice : (front : List Lexeme) → k ≡ closing_bracket → EndsIn good front (opening_bracket ∷ []) → LeftOut e good k
+  -- slice expressions, and a capacity in them: the bracket closes here, behind which a period may come, or could behind an operand
+  slice_end : k ≡ colon → May e good (closing_bracket ∷ period ∷ []) → LeftOut e good k
+  slice_start : (front : List Lexeme) → k ≡ colon → EndsIn good front (opening_bracket ∷ []) → May e good (kinds.Integer ∷ closing_bracket ∷ period ∷ []) →
+      LeftOut e good k
   -- labels: the last token is a name, in whose place a `return` could stand
-  label : (front : List Lexeme) → k ≡ colon → EndsIn good front (kinds.Name ∷ []) → May front (word keywords.Return ∷ []) → LeftOut good k
+  label : (front : List Lexeme) → k ≡ colon → EndsIn good front (kinds.Name ∷ []) → May e front (word keywords.Return ∷ []) → LeftOut e good k
   jump_label : (front : List Lexeme) → k ≡ kinds.Name → (EndsIn good front (word keywords.Break ∷ []) ⊎ EndsIn good front (word keywords.Continue ∷ [])) →
-      LeftOut good k
+      LeftOut e good k
   -- keys of elements: only behind an element a comma and a brace may come
-  key : k ≡ colon → May good (comma ∷ opening_brace ∷ []) → LeftOut good k
+  key : k ≡ colon → May e good (comma ∷ opening_brace ∷ []) → LeftOut e good k
   -- type assertions
-  assertion : (front : List Lexeme) → k ≡ opening → EndsIn good front (period ∷ []) → LeftOut good k
+  assertion : (front : List Lexeme) → k ≡ opening → EndsIn good front (period ∷ []) → LeftOut e good k
   -- aliases: the last token is a name, whose type comes next, and no other name
-  alias : (front : List Lexeme) → k ≡ assign → EndsIn good front (kinds.Name ∷ []) → May good (word keywords.Struct ∷ []) → (May good (comma ∷ []) → ⊥) →
-      LeftOut good k
+  alias : (front : List Lexeme) → k ≡ assign → EndsIn good front (kinds.Name ∷ []) → May e good (word keywords.Struct ∷ []) → (May e good (comma ∷ []) → ⊥) →
+      LeftOut e good k
   -- types that are declared in functions, in the place of a statement
-  local_type : k ≡ word keywords.Type → May good (word keywords.Return ∷ []) → LeftOut good k
+  local_type : k ≡ word keywords.Type → May e good (word keywords.Return ∷ []) → LeftOut e good k
   -- dot imports, and the string "C" where another may come: a name or a string may begin an import, and a number doesn't
-  dot_import : k ≡ period → May good (kinds.Name ∷ []) → May good (kinds.String ∷ []) → (May good (kinds.Integer ∷ []) → ⊥) → LeftOut good k
-  cgo : k ≡ kinds.String → May good (kinds.String ∷ []) → LeftOut good k
+  dot_import : k ≡ period → May e good (kinds.Name ∷ []) → May e good (kinds.String ∷ []) → (May e good (kinds.Integer ∷ []) → ⊥) → LeftOut e good k
+  cgo : k ≡ kinds.String → May e good (kinds.String ∷ []) → LeftOut e good k
   -- the range that assigns
-  range : (front : List Lexeme) → k ≡ word keywords.Range → EndsIn good front (assign ∷ []) → LeftOut good k
+  range : (front : List Lexeme) → k ≡ word keywords.Range → EndsIn good front (assign ∷ []) → LeftOut e good k
   -- parameters without names: the last token is a name, behind which a type and a comma may come
-  unnamed : (front : List Lexeme) → k ≡ closing → EndsIn good front (kinds.Name ∷ []) → May good (kinds.Name ∷ comma ∷ []) → LeftOut good k
+  unnamed : (front : List Lexeme) → k ≡ closing → EndsIn good front (kinds.Name ∷ []) → May e good (kinds.Name ∷ comma ∷ []) → LeftOut e good k
   -- tags of fields: the struct may end, and another field may come
-  tag : k ≡ kinds.String → May good (closing_brace ∷ []) → May good (semicolon ∷ kinds.Name ∷ word keywords.Struct ∷ []) → LeftOut good k
+  tag : k ≡ kinds.String → May e good (closing_brace ∷ []) → May e good (semicolon ∷ kinds.Name ∷ word keywords.Struct ∷ []) → LeftOut e good k
   -- named results: behind a result a comma, an empty struct and a parenthesis may come
   named_result : ((k ≡ kinds.Name) ⊎ (k ≡ opening_bracket) ⊎ (k ≡ word keywords.Struct)) →
-      May good (comma ∷ word keywords.Struct ∷ opening_brace ∷ closing_brace ∷ closing ∷ []) → LeftOut good k
+      May e good (comma ∷ word keywords.Struct ∷ opening_brace ∷ closing_brace ∷ closing ∷ []) → LeftOut e good k

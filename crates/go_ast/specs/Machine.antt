@@ -3,7 +3,9 @@
 -- inner functions speak of it, and that of `parse` doesn't.
 use Rattle.std.specs.Prelude.{ℕ, zero, suc, ◌+◌, nat_le, nat_eq, Bool, true, false, ◌&&◌, ◌||◌, not, List, [], ◌∷◌, ◌++◌, Option, Some, None, codes}
 use Rattle.std.specs.Str.{bytes_eq}
+use Rattle.go_text.specs.declared.edition.Edition.{Edition}
 use Rattle.go_text.specs.declared.place.Place.{Place}
+use Rattle.go_text.specs.Editions.{has_slices}
 use Rattle.go_scan.specs.declared.token.TokenKind.{TokenKind}
 use Rattle.go_scan.specs.declared.token.TokenKind.TheVariants as kinds
 use Rattle.go_scan.specs.declared.keyword.Keyword.{Keyword}
@@ -13,8 +15,8 @@ use Rattle.go_ast.specs.Kinds.{same}
 use Rattle.go_ast.specs.Literals.{string_value, rune_value}
 use Rattle.go_ast.specs.Operators.{unary_of, binary_of, assignment_of, tighter}
 use Rattle.go_ast.specs.Expected.{Expected, an_operand, a_value, a_type, a_declared_type, a_parameter_type, a_length, an_index, an_index_end, a_selected_name, an_element_end, a_field_end, a_result_end, a_statement, behind_a_name, behind_a_jump, a_function_name, a_function_opening, an_import, an_import_path, another, is_left_out_at, fault_at}
-use Rattle.go_ast.specs.Trees.{Name, UnaryOperator, BinaryOperator, TypeExpr, named, qualified, array, struct, Expr, name, integer, rune, string, parenthesized, composite_lit, conversion, selector, index, call, unary, binary, Exprs, no_exprs, Element, expression_element, value_element, Simple, call_statement, increment, decrement, assignment, operator_assignment, short_var_decl, ConstSpec, VarSpec, TypeSpec, Decl, constants, variables, types, Stmt, empty, declaration, simple, return, break, continue, fallthrough, block_statement, if_statement, for_statement, range_statement, switch_statement, Block, block, If, conditional, Else, no_else, else_block, else_if, Clauses, no_clauses, clause, Parameter, Function, TopLevel, declared, function, ImportSpec, File, place_of, pack, pack_elements, pack_fields, pack_stmts}
-use Rattle.go_ast.specs.Heights.{height}
+use Rattle.go_ast.specs.Trees.{Name, UnaryOperator, BinaryOperator, TypeExpr, named, qualified, array, slice, struct, Expr, name, integer, rune, string, parenthesized, composite_lit, conversion, selector, index, cut, Bound, no_bound, bound, call, type_operand, unary, binary, Exprs, no_exprs, Element, expression_element, value_element, Simple, call_statement, increment, decrement, assignment, operator_assignment, short_var_decl, ConstSpec, VarSpec, TypeSpec, Decl, constants, variables, types, Stmt, empty, declaration, simple, return, break, continue, fallthrough, block_statement, if_statement, for_statement, range_statement, switch_statement, Block, block, If, conditional, Else, no_else, else_block, else_if, Clauses, no_clauses, clause, Parameter, Function, TopLevel, declared, function, ImportSpec, File, place_of, pack, pack_elements, pack_fields, pack_stmts}
+use Rattle.go_ast.specs.Heights.{height, type_height}
 use Rattle.go_ast.specs.Grammar.{Lexeme, name_of, assign, opening, closing, opening_bracket, closing_bracket, opening_brace, closing_brace, comma, period, semicolon, colon, define, is_call, simple_place, type_place, concat}
 
 -- lists whose items have a separator between them: for which list, at which level its items stand
@@ -93,6 +95,8 @@ pub data State : Type 0 where
   import_path : (x : Expected) (next : Lexeme → State) → State
   -- a token of a kind, or else something other
   optional : (kind : TokenKind) (need : ℕ) (some : Lexeme → State) (none : State) → State
+  -- a token of a kind that came with slices, which may not come before, or else something other
+  newer : (kind : TokenKind) (need : ℕ) (x : Expected) (some : Lexeme → State) (none : State) → State
   -- a type, which may be missing
   type : (l : ℕ) (x : Expected) (next : TypeExpr → State) → State
   optional_type : (l : ℕ) (x : Expected) (some : TypeExpr → State) (none : State) → State
@@ -107,6 +111,8 @@ pub data State : Type 0 where
   -- an item of a list behind these, or the list's end; what is behind an item, the last of these
   list_start : (k : ListKind) (front : List (Item k)) (next : List (Item k) → Lexeme → State) → State
   list_end : (k : ListKind) (x : Expected) (front : List (Item k)) (next : List (Item k) → Lexeme → State) → State
+  -- a call's operands
+  operands : (l : ℕ) (next : List Expr → Lexeme → State) → State
   -- what is behind these left sides: of a statement, of an expression alone, and of `name := range`
   lefts : (m : Position) (h : Bool) (l : ℕ) (front : List Expr) (next : Simple → State) (alone : Expr → State) (range : Name → Expr → State) → State
   -- what is behind an `if`'s first block, in front of the rest
@@ -145,7 +151,8 @@ behind_name next t =
 
 abbrev pub behind_bracket : ℕ → (TypeExpr → State) → Lexeme → State
 behind_bracket l next t =
-    expr 5 false (l + 1) a_length (λ e. token closing_bracket 0 another (λ _. type (l + 1) a_type (λ a. next (array t.place e a))))
+    newer closing_bracket 0 a_length (λ _. type (l + 1) a_type (λ a. next (slice t.place a)))
+    (expr 5 false (l + 1) a_length (λ e. token closing_bracket 0 another (λ _. type (l + 1) a_type (λ a. next (array t.place e a)))))
 
 abbrev pub behind_struct : ℕ → (TypeExpr → State) → Lexeme → State
 behind_struct l next t =
@@ -175,13 +182,21 @@ abbrev pub behind_opening : ℕ → Bool → ℕ → (Expr → State) → Lexeme
 behind_opening n h l next t =
     expr 5 false (l + 1) an_operand (λ e. token closing 0 another (λ _. behind_operand n h l next (parenthesized t.place e)))
 
--- behind an array or struct type that begins an operand: its elements, or what is converted to it
-abbrev pub behind_literal_type : ℕ → (Expr → State) → TypeExpr → State
-behind_literal_type l next a =
-    optional opening_brace (l + 1) (λ o. list_start (elements (l + 2)) [] (λ es _. next (composite_lit (type_place a) a o.place (pack_elements es))))
-    (token opening (l + 1) another (λ _. expr 5 false (l + 1) an_operand (λ e.
+-- the elements of a literal of a type, and what is converted to one
+abbrev pub literal_elements : ℕ → (Expr → State) → TypeExpr → Lexeme → State
+literal_elements l next a o = list_start (elements (l + 2)) [] (λ es _. next (composite_lit (type_place a) a o.place (pack_elements es)))
+
+abbrev pub converted_operand : ℕ → (Expr → State) → TypeExpr → Lexeme → State
+converted_operand l next a o =
+    expr 5 false (l + 1) an_operand (λ e.
     optional comma 0 (λ _. token closing 0 another (λ _. next (conversion (type_place a) a e)))
-    (token closing 0 another (λ _. next (conversion (type_place a) a e))))))
+    (token closing 0 another (λ _. next (conversion (type_place a) a e))))
+
+-- behind an array, slice or struct type that begins an operand: its elements, or but for a slice what is converted to it
+abbrev pub behind_literal_type : ℕ → (Expr → State) → TypeExpr → State
+behind_literal_type l next (slice p a) = token opening_brace (l + 1) another (literal_elements l next (slice p a))
+behind_literal_type l next a =
+    optional opening_brace (l + 1) (literal_elements l next a) (token opening (l + 1) another (converted_operand l next a))
 
 abbrev pub on_unary : ℕ → Bool → ℕ → (Expr → State) → Lexeme → Move → Option UnaryOperator → Move
 on_unary n h l next t other None = other
@@ -219,12 +234,24 @@ on_brace false l behind t other (Some a) =
     (λ es _. behind (composite_lit (type_place a) a t.place (pack_elements es))))) other
 on_brace h l behind t other a = other
 
+-- behind the colon of a part of an operand
+abbrev pub behind_colon : ℕ → Expr → Bound → (Expr → State) → State
+behind_colon l e low behind =
+    optional closing_bracket 0 (λ _. behind (cut (place_of e) e low no_bound))
+    (expr 5 false (l + 1) an_index (λ j. token closing_bracket 0 an_index_end (λ _. behind (cut (place_of e) e low (bound j)))))
+
+abbrev pub behind_index : ℕ → Expr → (Expr → State) → State
+behind_index l e behind =
+    newer colon 0 an_index (λ _. behind_colon l e no_bound behind)
+    (expr 5 false (l + 1) an_index (λ i.
+    newer colon 0 an_index_end (λ _. behind_colon l e (bound i) behind) (token closing_bracket 0 an_index_end (λ _. behind (index (place_of e) e i)))))
+
 abbrev pub on_suffix : Bool → ℕ → Expr → (Expr → State) → Lexeme → Move → Move
 on_suffix h l e behind t other =
     cond (same period t.kind) (Take (l + height e) (token kinds.Name 0 a_selected_name (λ s. behind (selector (place_of e) e (name_of s)))))
     (cond (same opening_bracket t.kind)
-    (Take (l + height e) (expr 5 false (l + 1) an_index (λ i. token closing_bracket 0 an_index_end (λ _. behind (index (place_of e) e i)))))
-    (cond (same opening t.kind) (Take (l + height e) (list_start (arguments (l + 1)) [] (λ es _. behind (call (place_of e) e (pack es)))))
+    (Take (l + height e) (behind_index l e behind))
+    (cond (same opening t.kind) (Take (l + height e) (operands (l + 1) (λ es _. behind (call (place_of e) e (pack es)))))
     (on_brace h l behind t other (literal_type e))))
 
 abbrev pub on_operator : ℕ → Bool → ℕ → Expr → (Expr → State) → Move → Option BinaryOperator → Move
@@ -459,6 +486,21 @@ import_spec next =
 
 -- lists
 
+-- behind a type that a call's first operand begins with: its elements, what is converted to it, or but for these the type itself
+abbrev pub behind_operand_type : ℕ → (Expr → State) → TypeExpr → State
+behind_operand_type l next (slice p a) =
+    optional opening_brace (l + type_height (slice p a)) (literal_elements l (behind_operand 5 false l next) (slice p a)) (next (type_operand p (slice p a)))
+behind_operand_type l next a =
+    optional opening_brace (l + type_height a) (literal_elements l (behind_operand 5 false l next) a)
+    (optional opening (l + type_height a) (converted_operand l (behind_operand 5 false l next) a) (next (type_operand (type_place a) a)))
+
+-- a call's first operand, which with slices may be a type
+abbrev pub on_operand : Bool → ℕ → (Expr → State) → Lexeme → Move
+on_operand true l next t =
+    cond (same opening_bracket t.kind) (Take (l + 1) (behind_bracket l (behind_operand_type l next) t))
+    (cond (same (keyword keywords.Struct) t.kind) (Take l (behind_struct l (behind_operand_type l next) t)) (on_expr 5 false l an_operand next t))
+on_operand false l next t = on_expr 5 false l an_operand next t
+
 abbrev pub on_item : (k : ListKind) → List (Item k) → (List (Item k) → Lexeme → State) → Lexeme → Move
 on_item (fields l) front next t =
     on_token kinds.Name l another (λ n. more_names (name_of n ∷ []) (λ ns. type l a_type (λ a. list_end (fields l) a_field_end (front ++ (ns, a) ∷ []) next))) t
@@ -528,42 +570,45 @@ on_optional false true x there missing = Fail x
 on_optional false false x there missing = missing
 
 -- what a token does
-abbrev pub step : State → Lexeme → Move
-step (ended f) t = Fail another
-step (token kind need x next) t = on_token kind need x next t
-step (package_name next) t = cond (same kinds.Name t.kind && not (bytes_eq t.text (codes "_"))) (Take 0 (next t)) (Fail another)
-step (import_path x next) t = cond (is_string (codes "C") t) (Take 0 (next t)) (Fail x)
-step (optional kind need some none) t = cond (same kind t.kind) (Take need (some t)) (step none t)
-step (type l x next) t = on_type l x next t
-step (optional_type l x some none) t = on_optional (begins_type t.kind) (is_left_out_at x t.kind) x (on_type l x some t) (step none t)
-step (expr n h l x next) t = on_expr n h l x next t
-step (optional_expr h l x some none) t = on_optional (begins_expr t.kind) (is_left_out_at x t.kind) x (on_expr 5 h l x some t) (step none t)
-step (suffixes h l e next) t = on_suffix h l e (λ a. suffixes h l a next) t (step (next e) t)
-step (operators n h l e next) t = on_operator n h l e (λ a. operators n h l a next) (step (next e) t) (binary_of t.kind)
-step (more_names front next) t =
-    cond (same comma t.kind) (Take 0 (token kinds.Name 0 another (λ n. more_names (front ++ name_of n ∷ []) next))) (step (next front) t)
-step (more_exprs h l front next) t =
-    cond (same comma t.kind) (Take 0 (expr 5 h l an_operand (λ e. more_exprs h l (front ++ e ∷ []) next))) (step (next front) t)
-step (list_start k front next) t = cond (same (closer k) t.kind) (Take 0 (next front t)) (on_item k front next t)
-step (list_end k x front next) t =
+abbrev pub step : Edition → State → Lexeme → Move
+step ed (ended f) t = Fail another
+step ed (token kind need x next) t = on_token kind need x next t
+step ed (package_name next) t = cond (same kinds.Name t.kind && not (bytes_eq t.text (codes "_"))) (Take 0 (next t)) (Fail another)
+step ed (import_path x next) t = cond (is_string (codes "C") t) (Take 0 (next t)) (Fail x)
+step ed (optional kind need some none) t = cond (same kind t.kind) (Take need (some t)) (step ed none t)
+step ed (newer kind need x some none) t = cond (same kind t.kind) (cond (has_slices ed) (Take need (some t)) (Fail x)) (step ed none t)
+step ed (type l x next) t = on_type l x next t
+step ed (optional_type l x some none) t = on_optional (begins_type t.kind) (is_left_out_at x t.kind) x (on_type l x some t) (step ed none t)
+step ed (expr n h l x next) t = on_expr n h l x next t
+step ed (optional_expr h l x some none) t = on_optional (begins_expr t.kind) (is_left_out_at x t.kind) x (on_expr 5 h l x some t) (step ed none t)
+step ed (suffixes h l e next) t = on_suffix h l e (λ a. suffixes h l a next) t (step ed (next e) t)
+step ed (operators n h l e next) t = on_operator n h l e (λ a. operators n h l a next) (step ed (next e) t) (binary_of t.kind)
+step ed (more_names front next) t =
+    cond (same comma t.kind) (Take 0 (token kinds.Name 0 another (λ n. more_names (front ++ name_of n ∷ []) next))) (step ed (next front) t)
+step ed (more_exprs h l front next) t =
+    cond (same comma t.kind) (Take 0 (expr 5 h l an_operand (λ e. more_exprs h l (front ++ e ∷ []) next))) (step ed (next front) t)
+step ed (list_start k front next) t = cond (same (closer k) t.kind) (Take 0 (next front t)) (on_item k front next t)
+step ed (list_end k x front next) t =
     cond (same (separator k) t.kind) (Take 0 (list_start k front next)) (cond (same (closer k) t.kind) (Take 0 (next front t)) (Fail x))
-step (lefts m h l [] next alone range) t = Fail another
-step (lefts m h l (e ∷ []) next alone range) t =
+step ed (operands l next) t =
+    cond (same closing t.kind) (Take 0 (next [] t)) (on_operand (has_slices ed) l (λ e. list_end (arguments l) another (e ∷ []) next) t)
+step ed (lefts m h l [] next alone range) t = Fail another
+step ed (lefts m h l (e ∷ []) next alone range) t =
     on_lefts m h l (e ∷ []) next alone range t (on_left h l e next t
-    (cond (is_header m && same opening_brace t.kind) (step (alone e) t) (cond (is_call e) (step (next (call_statement e)) t) (Fail (behind_left m e)))))
-step (lefts m h l (e ∷ f ∷ es) next alone range) t = on_lefts m h l (e ∷ f ∷ es) next alone range t (Fail another)
-step (else_part l p i c b next) t =
-    cond (same (keyword keywords.Else) t.kind) (Take 0 (behind_else l (λ r. next (conditional p i c b r)))) (step (next (conditional p i c b no_else)) t)
-step (clause_start l done p values front next) t =
+    (cond (is_header m && same opening_brace t.kind) (step ed (alone e) t) (cond (is_call e) (step ed (next (call_statement e)) t) (Fail (behind_left m e)))))
+step ed (lefts m h l (e ∷ f ∷ es) next alone range) t = on_lefts m h l (e ∷ f ∷ es) next alone range t (Fail another)
+step ed (else_part l p i c b next) t =
+    cond (same (keyword keywords.Else) t.kind) (Take 0 (behind_else l (λ r. next (conditional p i c b r)))) (step ed (next (conditional p i c b no_else)) t)
+step ed (clause_start l done p values front next) t =
     on_clause l (with_clause done p values front) next t
     (cond (same closing_brace t.kind) (Take 0 (next (pack_clauses (with_clause done p values front)) t))
     (cond (same semicolon t.kind) (Take (l + 1) (clause_start l done p values (front ++ empty t.place ∷ []) next))
     (on_stmt (l + 1) (λ x s. clause_end l x done p values (front ++ s ∷ []) next) t)))
-step (clause_end l x done p values front next) t =
+step ed (clause_end l x done p values front next) t =
     cond (same semicolon t.kind) (Take 0 (clause_start l done p values front next))
     (cond (same closing_brace t.kind) (Take 0 (next (pack_clauses (with_clause done p values front)) t)) (Fail x))
-step (import_end p iss) t = on_token semicolon 0 another (λ _. imports_at p iss) t
-step (decl_end p is ds) t = on_token semicolon 0 another (λ _. decls_at p is ds) t
+step ed (import_end p iss) t = on_token semicolon 0 another (λ _. imports_at p iss) t
+step ed (decl_end p is ds) t = on_token semicolon 0 another (λ _. decls_at p is ds) t
 
 abbrev pub final_if : Bool → Option File → Option File
 final_if true f = f
@@ -573,6 +618,7 @@ final_if false f = None
 abbrev pub final : State → Option File
 final (ended f) = Some f
 final (optional kind need some none) = final none
+final (newer kind need x some none) = final none
 final (optional_type l x some none) = final none
 final (optional_expr h l x some none) = final none
 final (suffixes h l e next) = final (next e)
@@ -597,9 +643,9 @@ by_level true o ts = o
 by_level false o ts = Refused 4 ts
 
 abbrev pub by_move : ℕ → (State → Outcome) → TokenKind → List Lexeme → Move → Outcome
-by_move bound go k ts (Take need s) = by_level (nat_le need bound) (go s) ts
-by_move bound go k ts (Fail x) = Refused (fault_at x k) ts
+by_move limit go k ts (Take need s) = by_level (nat_le need limit) (go s) ts
+by_move limit go k ts (Fail x) = Refused (fault_at x k) ts
 
-unfoldable pub run : ℕ → State → List Lexeme → Outcome
-run bound s [] = at_end (final s)
-run bound s (t ∷ ts) = by_move bound (λ r. run bound r ts) t.kind (t ∷ ts) (step s t)
+unfoldable pub run : Edition → ℕ → State → List Lexeme → Outcome
+run ed limit s [] = at_end (final s)
+run ed limit s (t ∷ ts) = by_move limit (λ r. run ed limit r ts) t.kind (t ∷ ts) (step ed s t)

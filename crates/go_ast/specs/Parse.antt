@@ -39,33 +39,33 @@ abbrev pub IsRefused : List ℕ → FaultKind → Place → Type 0
 IsRefused text kind place = (fault : ScanFault) × Refuses text fault place × (kind ≡ scan_kind fault)
 
 -- the text's tokens stop being a file by a fault of this kind at this place
-abbrev pub StopsBeing : List ℕ → FaultKind → Place → Type 0
-StopsBeing text kind place =
-    (ts : List Token) × (bad : List Lexeme) × Lexes text ts × StopsAt most_levels (lexemes text ts) (fault_number kind) bad
+abbrev pub StopsBeing : Edition → List ℕ → FaultKind → Place → Type 0
+StopsBeing e text kind place =
+    (ts : List Token) × (bad : List Lexeme) × Lexes text ts × StopsAt e most_levels (lexemes text ts) (fault_number kind) bad
     × (place ≡ place_before text bad)
 
--- a text's tokens are a file; or it has none, or they stop being one
-unfoldable pub IsParse : List ℕ → Parse → Type 0
-IsParse text (Derived file) = (ts : List Token) × Lexes text ts × Derives most_levels (lexemes text ts) file
-IsParse text (Stopped kind place) = IsRefused text kind place ⊎ StopsBeing text kind place
+-- in that edition a text's tokens are a file; or it has none, or they stop being one
+unfoldable pub IsParse : Edition → List ℕ → Parse → Type 0
+IsParse e text (Derived file) = (ts : List Token) × Lexes text ts × Derives e most_levels (lexemes text ts) file
+IsParse e text (Stopped kind place) = IsRefused text kind place ⊎ StopsBeing e text kind place
 
 -- a text that is a file, whose package clause has this name
-abbrev pub IsPackage : List ℕ → Name → Type 0
-IsPackage text name = (file : File) × IsParse text (Derived file) × (name ≡ file.package)
+abbrev pub IsPackage : Edition → List ℕ → Name → Type 0
+IsPackage e text name = (file : File) × IsParse e text (Derived file) × (name ≡ file.package)
 
 -- the file that a text is has a package name that is written so
-pub record IsNamed (name text : List ℕ) : Type 0 where
+pub record IsNamed (e : Edition) (name text : List ℕ) : Type 0 where
   pub clause : Name
-  pub package_is : IsPackage text clause
+  pub package_is : IsPackage e text clause
   pub same : clause.text ≡ name
 
 -- or otherwise
-pub record IsOther (name text : List ℕ) : Type 0 where
+pub record IsOther (e : Edition) (name text : List ℕ) : Type 0 where
   pub clause : Name
-  pub package_is : IsPackage text clause
+  pub package_is : IsPackage e text clause
   pub other : clause.text ≢ name
 
--- a source that is a file: the file's name and the text, which has one tree
+-- a source that is a file: the file's name and the text, which has one tree in that edition
 pub record Parsed : Type 0 where
   pub name : List ℕ
   pub text : List ℕ

@@ -18,6 +18,7 @@ mutual
     named : Place → Name → TypeExpr
     qualified : Place → Name → Name → TypeExpr
     array : Place → Expr → TypeExpr → TypeExpr
+    slice : Place → TypeExpr → TypeExpr
     struct : Place → Fields → TypeExpr
 
   -- names of one type, and others behind them
@@ -37,9 +38,17 @@ mutual
     conversion : Place → TypeExpr → Expr → Expr
     selector : Place → Expr → Name → Expr
     index : Place → Expr → Expr → Expr
+    -- a part of an operand, between two bounds
+    cut : Place → Expr → Bound → Bound → Expr
     call : Place → Expr → Exprs → Expr
+    -- a type as a call's first operand
+    type_operand : Place → TypeExpr → Expr
     unary : Place → UnaryOperator → Expr → Expr
     binary : Place → BinaryOperator → Expr → Expr → Expr
+
+  pub data Bound : Type 0 where
+    no_bound : Bound
+    bound : Expr → Bound
 
   pub data Exprs : Type 0 where
     no_exprs : Exprs
@@ -161,7 +170,9 @@ place_of (composite_lit p type q es) = p
 place_of (conversion p type e) = p
 place_of (selector p e n) = p
 place_of (index p e i) = p
+place_of (cut p e a b) = p
 place_of (call p f es) = p
+place_of (type_operand p t) = p
 place_of (unary p op e) = p
 place_of (binary p op a b) = p
 

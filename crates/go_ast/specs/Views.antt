@@ -4,10 +4,11 @@ use Rattle.std.specs.Global.{Global}
 use Rattle.go_text.specs.declared.place.Place.{Place}
 use Rattle.go_ast.specs.Trees as trees
 use Rattle.go_ast.specs.declared.expression.TypeExpr.{TypeExpr}
-use Rattle.go_ast.specs.declared.expression.TypeKind.{TypeKind, Named, Qualified, Array', Struct', Row_of-Field, end_of-Field, more_of-Field}
+use Rattle.go_ast.specs.declared.expression.TypeKind.{TypeKind, Named, Qualified, Array', Slice', Struct', Row_of-Field, end_of-Field, more_of-Field}
 use Rattle.go_ast.specs.declared.expression.Field.{Field}
 use Rattle.go_ast.specs.declared.expression.Expr.{Expr}
-use Rattle.go_ast.specs.declared.expression.ExprKind.{ExprKind, Name, Integer, Rune, String, Parenthesized', CompositeLit', Conversion', Selector', Index', Call', Unary', Binary', Row_of-Expr, end_of-Expr, more_of-Expr}
+use Rattle.go_ast.specs.declared.expression.ExprKind.{ExprKind, Name, Integer, Rune, String, Parenthesized', CompositeLit', Conversion', Selector', Index', Cut', Type', Call', Unary', Binary', Row_of-Expr, end_of-Expr, more_of-Expr}
+use Rattle.go_ast.specs.declared.expression.Bound.{Bound, Open, At'}
 use Rattle.go_ast.specs.declared.expression.Element.{Element}
 use Rattle.go_ast.specs.declared.expression.ElementValue.{ElementValue, Expression', Value', Row_of-Element, end_of-Element, more_of-Element}
 use Rattle.go_ast.specs.declared.declaration.ConstSpec.{ConstSpec}
@@ -37,6 +38,7 @@ abbrev mutual
   type_at (Named n) p = trees.named p n
   type_at (Qualified m n) p = trees.qualified p m n
   type_at (Array' x q e y r a) p = trees.array p (expr_at e q) (type_at a r)
+  type_at (Slice' x q a) p = trees.slice p (type_at a q)
   type_at (Struct' n row) p = trees.struct p (fields_of row)
 
   pub fields_of : {m : _} → Row_of-Field m → trees.Fields
@@ -53,9 +55,15 @@ abbrev mutual
   expr_at (Conversion' x q a y r e) p = trees.conversion p (type_at a q) (expr_at e r)
   expr_at (Selector' x q e n) p = trees.selector p (expr_at e q) n
   expr_at (Index' x q e y r i) p = trees.index p (expr_at e q) (expr_at i r)
+  expr_at (Cut' x q e a b) p = trees.cut p (expr_at e q) (bound_of a) (bound_of b)
+  expr_at (Type' x q a) p = trees.type_operand p (type_at a q)
   expr_at (Call' x q f n row) p = trees.call p (expr_at f q) (exprs_of row)
   expr_at (Unary' op x q e) p = trees.unary p op (expr_at e q)
   expr_at (Binary' op x q a y r b) p = trees.binary p op (expr_at a q) (expr_at b r)
+
+  pub bound_of : Bound → trees.Bound
+  bound_of Open = trees.no_bound
+  bound_of (At' x q e) = trees.bound (expr_at e q)
 
   pub exprs_of : {m : _} → Row_of-Expr m → trees.Exprs
   exprs_of end_of-Expr = trees.no_exprs

@@ -57,6 +57,8 @@ pub enum TypeKind {
     Qualified(Name, Name),
     /// Arrays of a length, of elements of a type.
     Array(Box<Expr>, Box<TypeExpr>),
+    /// Slices of elements of a type.
+    Slice(Box<TypeExpr>),
     /// Structs of some fields.
     Struct(Vec<Field>),
 }
@@ -95,7 +97,7 @@ pub enum ExprKind {
     String(Vec<u8>),
     /// An expression in parentheses.
     Parenthesized(Box<Expr>),
-    /// An array or a struct of a type: the type, the place of the opening brace, and the elements.
+    /// An array, a slice or a struct of a type: the type, the place of the opening brace, and the elements.
     CompositeLit(Box<TypeExpr>, Place, Vec<Element>),
     /// A conversion of a value to a type.
     Conversion(Box<TypeExpr>, Box<Expr>),
@@ -103,12 +105,26 @@ pub enum ExprKind {
     Selector(Box<Expr>, Name),
     /// What an index selects from an operand.
     Index(Box<Expr>, Box<Expr>),
+    /// A part of an operand, between two bounds.
+    Cut(Box<Expr>, Bound, Bound),
+    /// A type as a call's first argument.
+    Type(Box<TypeExpr>),
     /// A call of an operand with arguments.
     Call(Box<Expr>, Vec<Expr>),
     /// An operator in front of an operand.
     Unary(UnaryOperator, Box<Expr>),
     /// An operator between two operands.
     Binary(BinaryOperator, Box<Expr>, Box<Expr>),
+}
+
+/// A bound of a part of an operand.
+#[cycle(ast)]
+#[derive(Drop)]
+pub enum Bound {
+    /// One that is left out.
+    Open,
+    /// One that is given.
+    At(Box<Expr>),
 }
 
 /// An element of a literal, with a key or none.

@@ -30,13 +30,13 @@ impl Model for Parsed {
 
     ghost view = { λ a. record { name = a.source.name; text = a.source.text; edition = a.edition } };
 
-    ghost invariant = { λ a. parses.IsParse a.source.text (parses.Derived (file_of (arc_value a.file))) };
+    ghost invariant = { λ a. parses.IsParse a.edition a.source.text (parses.Derived (file_of (arc_value a.file))) };
 }
 
 impl Parsed {
     /// A source with a file, which the caller knows to be the one that the source's text is in that edition.
     pub fn of(source: Source, edition: Edition, file: Arc<File>) -> Parsed
-        requires { IsParse source.text (Derived (file_of (arc_value file))) }
+        requires { IsParse edition source.text (Derived (file_of (arc_value file))) }
         ensures name { result.name ≡ source.name }
         ensures text { result.text ≡ source.text }
         ensures edition { result.edition ≡ edition }
@@ -71,14 +71,14 @@ impl Parsed {
 
     /// The file that the text is.
     pub fn file(&self) -> &File
-        ensures { IsParse self.now.text (Derived (file_of result.now)) }
+        ensures { IsParse self.now.edition self.now.text (Derived (file_of result.now)) }
     {
         &self.file
     }
 
     /// The name in the file's package clause.
     pub fn package(&self) -> &Name
-        ensures { IsPackage self.now.text result.now }
+        ensures { IsPackage self.now.edition self.now.text result.now }
     {
         &self.file().package
     }

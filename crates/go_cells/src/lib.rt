@@ -4,5 +4,6 @@
 mod number;
 pub mod operate;
 pub mod part;
+pub mod row;
 pub mod slot;
 pub mod small;

@@ -1,19 +1,20 @@
 //! What operators give of slots.
-ghost use Rattle.std.specs.Prelude.{◌≡◌, ◌∷◌, [], length, true, Some, None, ◌<◌, ◌≤◌, IfOk, MatchOption};
+ghost use Rattle.std.specs.Prelude.{◌≡◌, ◌∷◌, [], ◌+◌, ◌-◌, length, take, drop, true, Some, None, ◌<◌, ◌≤◌, IfOk, MatchOption};
 ghost use Rattle.std.specs.Option.{option_copied};
 ghost use Rattle.std.specs.Cmp.Lexicographic.{pointwise};
 ghost use Rattle.go_code.specs.Lines.{number_fits};
-ghost use Rattle.go_code.specs.Operators.{Gives as Given, byte_of, operands, operate, same_cell, most_bytes};
-ghost use Rattle.go_code.specs.declared.operator.Operator.TheVariants.{Arithmetic, Shift, Negate, Complement, Convert, Not, Compare, Text as On_text};
-ghost use Rattle.go_code.specs.declared.operator.TextOperator.TheVariants.{At, Length, Join};
-ghost use Rattle.go_cells.specs.Slots.{number_in};
+ghost use Rattle.go_code.specs.Operators.{Gives as Given, bounded, byte_of, operands, operate, same_cell, most_bytes};
+ghost use Rattle.go_code.specs.declared.operator.Operator.TheVariants.{Arithmetic, Shift, Negate, Complement, Convert, Not, Compare, Text as On_text, Slice as On_slice};
+ghost use Rattle.go_code.specs.declared.operator.TextOperator.TheVariants.{At, Length, Join, Cut};
+ghost use Rattle.go_code.specs.declared.operator.SliceOperator.TheVariants as slices;
+ghost use Rattle.go_cells.specs.Slots.{number_in, is_slice};
 ghost use Rattle.go_cells.specs.Told.{told};
 
 use crate::number::{calculate, shift, wrap};
-use crate::slot::Slot;
+use crate::slot::{Slice, Slot};
 use go_code::cell::Cell;
 use go_code::ending::PanicKind;
-use go_code::operator::{Operator, TextOperator};
+use go_code::operator::{Operator, SliceOperator, TextOperator};
 use go_const::constant::Text;
 use go_const::kind::IntKind;
 use go_const::operator::{ArithmeticOperator, ComparisonOperator, ShiftOperator};
@@ -197,6 +198,113 @@ fn joined(alloc: Global, s: &Slot, t: &Slot) -> Result<Operated, AllocError>
     Ok(Operated::Gives(Slot::text(Text::from_vec(bytes)?)))
 }
 
+/// The bytes of a text from one bound to another. An `Err` only where memory ran out.
+fn text_between(alloc: Global, text: &Text, low: i128, high: i128) -> Result<Operated, AllocError>
+    ensures { IfOk result (λ came. told came ≡ bounded (length text.now) low high (λ low high. Cell.Text (take (high - low) (drop low text.now)))) }
+{
+    let bytes = text.bytes();
+    let Ok(low) = usize::try_from(low) else {
+        return Ok(Operated::Panics(PanicKind::Slice));
+    };
+    let Ok(high) = usize::try_from(high) else {
+        return Ok(Operated::Panics(PanicKind::Slice));
+    };
+    if low > high || high > bytes.len() {
+        return Ok(Operated::Panics(PanicKind::Slice));
+    }
+    Ok(Operated::Gives(Slot::text(Text::new(alloc, &bytes[low..high])?)))
+}
+
+/// A part of a text, between two bounds. An `Err` only where memory ran out.
+fn cut_text(alloc: Global, text: &Slot, low: &Slot, high: &Slot) -> Result<Operated, AllocError>
+    ensures { IfOk result (λ came. told came ≡ operate (On_text Cut) (text.now ∷ low.now ∷ high.now ∷ [])) }
+{
+    let Some(text) = text.as_text() else {
+        return Ok(Operated::Senseless);
+    };
+    let Some(low) = low.as_number() else {
+        return Ok(Operated::Senseless);
+    };
+    let Some(high) = high.as_number() else {
+        return Ok(Operated::Senseless);
+    };
+    text_between(alloc, text, low, high)
+}
+
+/// The elements of a slice from one bound to another.
+fn slice_between(slice: Slice, low: i128, high: i128) -> Operated
+    requires { is_slice slice ≡ true }
+    ensures { told result ≡ bounded slice.capacity low high (λ low high. Cell.Slice slice.row (slice.start + low) (high - low) (slice.capacity - low)) }
+{
+    let Ok(low) = u32::try_from(low) else {
+        return Operated::Panics(PanicKind::Slice);
+    };
+    let Ok(high) = u32::try_from(high) else {
+        return Operated::Panics(PanicKind::Slice);
+    };
+    if low > high || high > slice.capacity {
+        return Operated::Panics(PanicKind::Slice);
+    }
+    let part = Slice {
+        row: slice.row,
+        start: slice.start + low,
+        length: high - low,
+        capacity: slice.capacity - low,
+    };
+    match Slot::slice(part) {
+        Some(slot) => Operated::Gives(slot),
+        None => Operated::Senseless,
+    }
+}
+
+/// A part of a slice, between two bounds.
+fn cut_slice(slice: &Slot, low: &Slot, high: &Slot) -> Operated
+    ensures { told result ≡ operate (On_slice slices.Cut) (slice.now ∷ low.now ∷ high.now ∷ []) }
+{
+    let Some(slice) = slice.as_slice() else {
+        return Operated::Senseless;
+    };
+    let Some(low) = low.as_number() else {
+        return Operated::Senseless;
+    };
+    let Some(high) = high.as_number() else {
+        return Operated::Senseless;
+    };
+    slice_between(slice, low, high)
+}
+
+/// How many elements a slice has.
+fn slice_length(slice: &Slot) -> Operated
+    ensures { told result ≡ operate (On_slice slices.Length) (slice.now ∷ []) }
+{
+    match slice.as_slice() {
+        Some(slice) => number(i128::from(slice.length)),
+        None => Operated::Senseless,
+    }
+}
+
+/// How many elements a slice has room for.
+fn capacity(slice: &Slot) -> Operated
+    ensures { told result ≡ operate (On_slice slices.Capacity) (slice.now ∷ []) }
+{
+    match slice.as_slice() {
+        Some(slice) => number(i128::from(slice.capacity)),
+        None => Operated::Senseless,
+    }
+}
+
+/// What comes of an operator on a slice.
+fn operate_slice(operator: SliceOperator, cells: &[Slot]) -> Operated
+    requires { length cells.now ≡ operands (On_slice operator) }
+    ensures { told result ≡ operate (On_slice operator) cells.now }
+{
+    match operator {
+        SliceOperator::Length => slice_length(&cells[0]),
+        SliceOperator::Capacity => capacity(&cells[0]),
+        SliceOperator::Cut => cut_slice(&cells[0], &cells[1], &cells[2]),
+    }
+}
+
 /// Whether the cells of two rows of one length are equal.
 fn are_same(xs: &[Slot], ys: &[Slot]) -> bool
     requires { length xs.now ≡ length ys.now }
@@ -223,6 +331,7 @@ fn operate_text(
         TextOperator::At => Ok(byte_at(&cells[0], &cells[1])),
         TextOperator::Length => Ok(length(&cells[0])),
         TextOperator::Join => joined(alloc, &cells[0], &cells[1]),
+        TextOperator::Cut => cut_text(alloc, &cells[0], &cells[1], &cells[2]),
     }
 }
 
@@ -246,6 +355,7 @@ pub fn operate(alloc: Global, operator: Operator, cells: &[Slot]) -> Result<Oper
             &cells[count..],
         )))),
         Operator::Text(operator) => operate_text(alloc, operator, cells),
+        Operator::Slice(operator) => Ok(operate_slice(operator, cells)),
     }
 }
 
@@ -258,6 +368,7 @@ pub fn operand_count(operator: Operator, most: usize) -> Option<usize>
         Operator::Arithmetic(_, _) | Operator::Shift(_, _) | Operator::Compare(_) => 2,
         Operator::Equal(count) => count.checked_add(count)?,
         Operator::Text(TextOperator::At | TextOperator::Join) => 2,
+        Operator::Text(TextOperator::Cut) | Operator::Slice(SliceOperator::Cut) => 3,
         _ => 1,
     };
     if count > most { None } else { Some(count) }

@@ -1,8 +1,8 @@
 //! Parts of arrays and structs.
 ghost use Rattle.std.specs.Prelude.{◌≡◌, ◌∷◌, [], ◌*◌, ◌+ℤ◌, pos, true, ◌+◌, ◌<◌, ◌≤◌, MatchOption};
 ghost use Rattle.go_code.specs.Lines.{number_fits};
-ghost use Rattle.go_code.specs.Parts.{part, index_below, offset_of};
-ghost use Rattle.go_code.specs.declared.instr.PartInstr.TheVariants.{Move, Index};
+ghost use Rattle.go_code.specs.Parts.{part, index_below, offset_of, with_row};
+ghost use Rattle.go_code.specs.declared.instr.PartInstr.TheVariants.{Move, Index, Reach};
 ghost use Rattle.go_cells.specs.Told.{told_index, told_offset};
 
 use crate::operate::Operated;
@@ -72,6 +72,20 @@ pub fn element_offset(count: usize, size: usize, offset: &Slot, index: &Slot) ->
     };
     match index_below(count, index) {
         Indexed::At(index) => offset_of(first, index, size),
+        Indexed::Outside => Operated::Panics(PanicKind::Index),
+        Indexed::Senseless => Operated::Senseless,
+    }
+}
+
+/// A slice and an index above it, as the offset of the element in the slice's row.
+pub fn row_offset(size: usize, slice: &Slot, index: &Slot) -> Operated
+    ensures { with_row (told_offset result) slice.now ≡ part (Reach size) (slice.now ∷ index.now ∷ []) }
+{
+    let Some(part) = slice.as_slice() else {
+        return Operated::Senseless;
+    };
+    match index_below(part.length as usize, index) {
+        Indexed::At(index) => offset_of(0, part.start as usize + index, size),
         Indexed::Outside => Operated::Panics(PanicKind::Index),
         Indexed::Senseless => Operated::Senseless,
     }

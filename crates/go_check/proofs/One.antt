@@ -2,6 +2,7 @@
 use Rattle.std.proofs.Common.{◌≡◌, ℕ, List, [], ◌∷◌, map, Option, Some, None, refl, sym, ap, ◌∙◌, subst}
 use Rattle.std.specs.List.{slice_get}
 use Rattle.go_text.specs.Faults.{Fault}
+use Rattle.go_text.specs.declared.edition.Edition.{Edition}
 use Rattle.go_text.specs.declared.fault.FaultKind.{FaultKind}
 use Rattle.go_text.specs.declared.place.Place.{Place}
 use Rattle.go_ast.specs.Trees.{File}
@@ -22,9 +23,9 @@ tree_in : File → Parse → File
 tree_in other (Derived tree) = tree
 tree_in other (Stopped kind place) = other
 
-one_tree : (text : List ℕ) (a b : File) → IsParse text (Derived a) → IsParse text (Derived b) → a ≡ b
+one_tree : (edition : Edition) (text : List ℕ) (a b : File) → IsParse edition text (Derived a) → IsParse edition text (Derived b) → a ≡ b
 unfolding tree_in
-one_tree text a b p q = ap (tree_in a) (one_parse text (Derived a) (Derived b) p q)
+one_tree edition text a b p q = ap (tree_in a) (one_parse edition text (Derived a) (Derived b) p q)
 
 pub one_trees : (files : List Parsed) (a b : List File) → AreTrees files a → AreTrees files b → a ≡ b
 one_trees [] [] [] h k = refl
@@ -32,7 +33,7 @@ one_trees [] [] (t ∷ b) h k = absurd k
 one_trees [] (s ∷ a) b h k = absurd h
 one_trees (f ∷ fs) [] b h k = absurd h
 one_trees (f ∷ fs) (s ∷ a) [] h k = absurd k
-one_trees (f ∷ fs) (s ∷ a) (t ∷ b) h k = ap (λ x. x ∷ a) (one_tree f.text s t h.0 k.0) ∙ ap (λ xs. t ∷ xs) (one_trees fs a b h.1 k.1)
+one_trees (f ∷ fs) (s ∷ a) (t ∷ b) h k = ap (λ x. x ∷ a) (one_tree f.edition f.text s t h.0 k.0) ∙ ap (λ xs. t ∷ xs) (one_trees fs a b h.1 k.1)
 
 -- ---- faults
 
@@ -65,21 +66,21 @@ module _ (path : List ℕ) (files : List Parsed) (imports : List Importable) whe
   pub one_typed : (a b : Package) → AreTyped path files imports a → AreTyped path files imports b → a ≡ b
   one_typed a b g h =
       let same = one_trees files h.trees g.trees h.parse g.parse in
-      typed_once.one_typed (package_in path g.trees all) g.trees all (edition_of files) names a b g.is
-      (subst (λ trees. IsTypedIn (edition_of files) (package_in path trees all) trees all names b) same h.is)
+      typed_once.one_typed (package_in (edition_of files) path g.trees all) g.trees all (edition_of files) names a b g.is
+      (subst (λ trees. IsTypedIn (edition_of files) (package_in (edition_of files) path trees all) trees all names b) same h.is)
 
   pub not_both : (typed : Package) (fault : Fault) → AreTyped path files imports typed → HaveFault path files imports fault → ⊥
   not_both typed fault h g =
       let same = one_trees files g.trees h.trees g.parse h.parse in
-      typed_or_faulty (package_in path h.trees all) h.trees all (edition_of files) names typed (numbered g.number fault) h.is
-      (subst (λ trees. IsFaultOf path trees all (Some (numbered g.number fault))) same g.is)
+      typed_or_faulty (package_in (edition_of files) path h.trees all) h.trees all (edition_of files) names typed (numbered g.number fault) h.is
+      (subst (λ trees. IsFaultOf (edition_of files) path trees all (Some (numbered g.number fault))) same g.is)
 
   pub one_fault : (a b : Fault) → HaveFault path files imports a → HaveFault path files imports b → a ≡ b
   unfolding told
   one_fault a b g h =
       let same = one_trees files h.trees g.trees h.parse g.parse in
-      let other = subst (λ trees. IsFaultOf path trees all (Some (numbered h.number b))) same h.is in
-      let e = fault_once.one_fault (package_in path g.trees all) g.trees all (Some (numbered g.number a)) (Some (numbered h.number b)) g.is other in
+      let other = subst (λ trees. IsFaultOf (edition_of files) path trees all (Some (numbered h.number b))) same h.is in
+      let e = fault_once.one_fault (package_in (edition_of files) path g.trees all) g.trees all (Some (numbered g.number a)) (Some (numbered h.number b)) g.is other in
       let parts : numbered g.number a ≡ numbered h.number b = ap (told (numbered g.number a)) e in
       let number : g.number ≡ h.number = ap (λ (x : Numbered). x.0) parts in
       let place : a.place ≡ b.place = ap (λ (x : Numbered). (x.1).0) parts in

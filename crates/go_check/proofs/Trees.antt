@@ -15,14 +15,14 @@ use Rattle.go_check.specs.Checked.{AreTrees}
 use Rattle.go_check.specs.Told.{IsFaultIn}
 
 -- one more
-trees_push : (files : List Parsed) (trees : List Tree) (file : Parsed) (tree : Tree) → AreTrees files trees → IsParse file.text (Derived tree) → AreTrees (files ++ file ∷ []) (trees ++ tree ∷ [])
+trees_push : (files : List Parsed) (trees : List Tree) (file : Parsed) (tree : Tree) → AreTrees files trees → IsParse file.edition file.text (Derived tree) → AreTrees (files ++ file ∷ []) (trees ++ tree ∷ [])
 trees_push [] [] file tree h i = (i, tt)
 trees_push [] (t ∷ ts) file tree h i = absurd h
 trees_push (f ∷ fs) [] file tree h i = absurd h
 trees_push (f ∷ fs) (t ∷ ts) file tree h i = (h.0, trees_push fs ts file tree h.1 i)
 
 -- the next of some files
-pub trees_next : (files : List Parsed) (i : ℕ) (d : Parsed) (done pushed : List (Bor File)) (x : Bor File) → i < length files → d ≡ get_or files i d → pushed ≡ done ++ x ∷ [] → AreTrees (take i files) (files_of done) → IsParse d.text (Derived (file_of x.now)) → AreTrees (take (i + 1) files) (files_of pushed)
+pub trees_next : (files : List Parsed) (i : ℕ) (d : Parsed) (done pushed : List (Bor File)) (x : Bor File) → i < length files → d ≡ get_or files i d → pushed ≡ done ++ x ∷ [] → AreTrees (take i files) (files_of done) → IsParse d.edition d.text (Derived (file_of x.now)) → AreTrees (take (i + 1) files) (files_of pushed)
 trees_next files i d done pushed x within e p h is =
     let sources : take (i + 1) files ≡ take i files ++ d ∷ [] = take_more files i d within ∙ ap (λ y. take i files ++ y ∷ []) (sym e) in
     let trees : files_of pushed ≡ files_of done ++ file_of x.now ∷ [] = ap files_of p ∙ map-append (λ (f : Bor File). file_of f.now) done (x ∷ []) in

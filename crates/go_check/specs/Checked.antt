@@ -17,7 +17,7 @@ abbrev pub AreTrees : List Parsed → List File → Type 0
 AreTrees [] [] = Unit {0}
 AreTrees [] (tree ∷ trees) = ⊥
 AreTrees (file ∷ files) [] = ⊥
-AreTrees (file ∷ files) (tree ∷ trees) = IsParse file.text (Derived tree) × AreTrees files trees
+AreTrees (file ∷ files) (tree ∷ trees) = IsParse file.edition file.text (Derived tree) × AreTrees files trees
 
 -- the library, which each package may import
 abbrev pub fmt : Importable
@@ -31,7 +31,7 @@ edition_of files = elim files [ [] ↦ One | file ∷ rest ↦ file.edition ]
 pub record AreTyped (path : List ℕ) (files : List Parsed) (imports : List Importable) (typed : Package) : Type 0 where
   pub trees : List File
   pub parse : AreTrees files trees
-  pub is : IsTypedIn (edition_of files) (package_in path trees (fmt ∷ imports)) trees (fmt ∷ imports) (map (λ f. f.name) files) typed
+  pub is : IsTypedIn (edition_of files) (package_in (edition_of files) path trees (fmt ∷ imports)) trees (fmt ∷ imports) (map (λ f. f.name) files) typed
 
 -- or this is the first fault of their package, in the file of that number
 pub record HaveFault (path : List ℕ) (files : List Parsed) (imports : List Importable) (fault : Fault) : Type 0 where
@@ -39,4 +39,4 @@ pub record HaveFault (path : List ℕ) (files : List Parsed) (imports : List Imp
   pub parse : AreTrees files trees
   pub number : ℕ
   pub name : slice_get (map (λ f. f.name) files) number ≡ Some fault.file
-  pub is : IsFaultOf path trees (fmt ∷ imports) (Some (number, (fault.place, fault.kind)))
+  pub is : IsFaultOf (edition_of files) path trees (fmt ∷ imports) (Some (number, (fault.place, fault.kind)))

@@ -6,6 +6,7 @@ use Rattle.std.proofs.lemmas.Bool.{cases_Bool, eqb-true}
 use Rattle.go_text.specs.declared.place.Place.{Place}
 use Rattle.go_text.specs.Places.{place_at, mark_size}
 use Rattle.go_ast.specs.Trees.{Name, TypeExpr, Expr, Exprs, no_exprs, some_exprs, ConstSpec, VarSpec, TypeSpec, constants, variables, types, TopLevel, declared, function, File}
+use Rattle.go_text.specs.declared.edition.Edition.{Edition}
 use Rattle.go_ast.specs.Parse.{IsParse, Derived}
 use Rattle.go_ast.specs.Tokens.{lexemes}
 use Rattle.go_scope.specs.Specifications.{meant}
@@ -209,19 +210,19 @@ earlier : (text : List ℕ) (file b : ℕ) (next : List ℕ) (at : ℕ) (o : Obj
 earlier text file b next at o (inl lt) = inl (omega (arith, lt))
 earlier text file b next at o (inr h) = inl (let same = h.0 in omega (arith, same))
 
-parsed_placed : (text : List ℕ) (f : File) → IsParse text (Derived f) → Placed text (mark_size text) (flat_map top_names f.declarations)
+parsed_placed : (edition : Edition) (text : List ℕ) (f : File) → IsParse edition text (Derived f) → Placed text (mark_size text) (flat_map top_names f.declarations)
 unfolding IsParse
-parsed_placed text f (ts, lexes, derives) = file_placed text (mark_size text) f (lexemes text ts) derives.derived (lexes_rise text ts lexes)
+parsed_placed edition text f (ts, lexes, derives) = file_placed edition text (mark_size text) f (lexemes text ts) derives.derived (lexes_rise text ts lexes)
 
-files_apart : (number : ℕ) (files : List File) (before : List Object) → AreParsed files → ((text : List ℕ) (at : ℕ) → AllOf (Before text number at) before) → AreApart before (objects_from number files)
-files_apart number [] before h earlier_ones = tt
-files_apart number (f ∷ fs) before h earlier_ones =
+files_apart : (edition : Edition) (number : ℕ) (files : List File) (before : List Object) → AreParsed edition files → ((text : List ℕ) (at : ℕ) → AllOf (Before text number at) before) → AreApart before (objects_from number files)
+files_apart edition number [] before h earlier_ones = tt
+files_apart edition number (f ∷ fs) before h earlier_ones =
     let text = (h.0).0 in
     let own = flat_map (objects_in number) f.declarations in
-    let stand = sub_stand text number (mark_size text) (flat_map top_names f.declarations) own (sub_tops number f.declarations) (parsed_placed text f (h.0).1) in
+    let stand = sub_stand text number (mark_size text) (flat_map top_names f.declarations) own (sub_tops number f.declarations) (parsed_placed edition text f (h.0).1) in
     let one = apart_file text number (mark_size text) (omega arith) before own (earlier_ones text (mark_size text)) stand in
     apart_both before own (objects_from (suc number) fs) one.apart
-    (files_apart (suc number) fs (before ++ own) h.1 (λ next at. all_mapped (Before text number one.last) (Before next (suc number) at) (earlier text number one.last next at) (before ++ own) one.all))
+    (files_apart edition (suc number) fs (before ++ own) h.1 (λ next at. all_mapped (Before text number one.last) (Before next (suc number) at) (earlier text number one.last next at) (before ++ own) one.all))
 
-pub parsed_apart : (files : List File) → AreParsed files → AreApart [] (objects_from 0 files)
-parsed_apart files h = files_apart 0 files [] h (λ text at. tt)
+pub parsed_apart : (edition : Edition) (files : List File) → AreParsed edition files → AreApart [] (objects_from 0 files)
+parsed_apart edition files h = files_apart edition 0 files [] h (λ text at. tt)

@@ -5,6 +5,7 @@ use Rattle.std.specs.List.{slice_get, list_any, filter}
 use Rattle.std.proofs.lemmas.Bool.{cases_Bool}
 use Rattle.std.proofs.lemmas.List.{map-append}
 use Rattle.ws_reach.specs.Worklist.{is_marked}
+use Rattle.go_text.specs.declared.edition.Edition.{Edition}
 use Rattle.go_text.specs.declared.fault.FaultKind.TheVariants.{Redeclared, Recursive}
 use Rattle.go_ast.specs.Trees.{Name, File}
 use Rattle.go_objects.specs.Objects.{Object, firsts, objects_from, objects_of}
@@ -108,8 +109,8 @@ kept t before list (o ∷ os) ns named among apart fine are = elim (cases_Bool (
   ]
 ]
 
-pub nothing_dropped : (path : List ℕ) (files : List File) (ps : List Importable) (t : Facts) → AreParsed files → AreFacts (package_in path files ps) t → package_faults ps t files ≡ []
+pub nothing_dropped : (edition : Edition) (path : List ℕ) (files : List File) (ps : List Importable) (t : Facts) → AreParsed edition files → AreFacts (package_in edition path files ps) t → package_faults ps t files ≡ []
     → objects_of files ≡ declared_by files
-nothing_dropped path files ps t parsed are none =
+nothing_dropped edition path files ps t parsed are none =
     let objects : objects_of files ≡ t.package.objects = sym (ap (λ (p : Package). p.objects) are.package_is) in
-    kept t [] [] (objects_from 0 files) [] refl (λ test h. refl) (parsed_apart files parsed) (fine_files t 0 files (no_faults ps t files none)) objects
+    kept t [] [] (objects_from 0 files) [] refl (λ test h. refl) (parsed_apart edition files parsed) (fine_files t 0 files (no_faults ps t files none)) objects

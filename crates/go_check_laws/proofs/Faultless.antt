@@ -1,19 +1,20 @@
 -- What has no fault is known, where each name in it finds what is told.
-use Rattle.std.proofs.Common.{◌≡◌, ℕ, suc, Bool, true, false, List, [], ◌∷◌, ◌++◌, Option, Some, None, map, refl, sym, subst}
+use Rattle.std.proofs.Common.{◌≡◌, ℕ, suc, inl, inr, Bool, true, false, List, [], ◌∷◌, ◌++◌, Option, Some, None, map, refl, sym, subst}
 use Rattle.std.specs.Prelude.{option_map}
 use Rattle.std.specs.List.{Contains}
+use Rattle.std.proofs.lemmas.Bool.{cases_Bool}
 use Rattle.ws_reach.proofs.Reached.{contains_get, get_contains}
 use Rattle.go_text.specs.declared.place.Place.{Place}
 use Rattle.go_text.specs.declared.fault.FaultKind.{FaultKind}
-use Rattle.go_ast.specs.Trees.{TypeExpr, named, qualified, array, struct, Fields, no_fields, field, Expr, name, integer, rune, string, parenthesized, composite_lit, conversion, selector, index, call, unary, binary, Exprs, no_exprs, some_exprs, Elements, no_elements, element, Element, expression_element, value_element}
+use Rattle.go_ast.specs.Trees.{TypeExpr, named, qualified, array, slice, struct, Fields, no_fields, field, Expr, name, integer, rune, string, parenthesized, composite_lit, conversion, selector, index, cut, Bound, no_bound, bound, call, type_operand, unary, binary, Exprs, no_exprs, some_exprs, Elements, no_elements, element, Element, expression_element, value_element}
 use Rattle.go_types.specs.Types.{Type'}
 use Rattle.go_typed.specs.Trees.{Expr as Typed}
-use Rattle.go_scope.specs.Names.{Used, in_type, in_fields, in_expr, in_exprs, in_elements, in_element}
-use Rattle.go_expr.specs.Known.{Known, Verdict, Fine, Breaks, Passed, Scope, look_up}
-use Rattle.go_expr.specs.Rules.{fine, valued, type_due, array_of, declared_field, struct_of, value_due, literal, literal_of, Due, element_due, due_type, untyped_literal, selected, exported_by, index_of, binary_of, unary_of, converted, called}
-use Rattle.go_expr.specs.Verdicts.{asked, both, asked_both, joined, qualified_known, operand, inside, subject, callee, key_text, verdict, operands, elements, element_verdict, type_verdict, fields_known, broken, bare_place, part_broken, operand_broken, struct_place, faults, operands_faults, elements_faults, element_faults, type_faults, fields_faults}
+use Rattle.go_scope.specs.Names.{Used, in_type, in_fields, in_expr, in_bound, in_exprs, in_elements, in_element}
+use Rattle.go_expr.specs.Known.{type', declared, Known, Verdict, Fine, Breaks, Passed, Scope, look_up}
+use Rattle.go_expr.specs.Rules.{fine, checked, valued, type_due, array_of, slice_of, declared_field, struct_of, value_due, literal, literal_of, Due, element_due, due_type, untyped_literal, selected, exported_by, index_of, cut_of, made, unmade, binary_of, unary_of, converted, called}
+use Rattle.go_expr.specs.Verdicts.{asked, both, asked_both, joined, qualified_known, operand, inside, subject, callee, key_text, is_make, is_name, verdict, bound_known, made_verdict, operands, elements, element_verdict, type_verdict, fields_known, broken, bare_place, part_broken, operand_broken, struct_place, faults, bound_faults, made_faults, call_faults, operands_faults, elements_faults, element_faults, type_faults, fields_faults}
 use Rattle.go_check_laws.specs.Finds.{IsKnown, IsTold, Finds}
-use Rattle.go_check_laws.proofs.Rules.{IsAsked, as_value, literals, types_due, arrays, structs, values_due, unpackaged_told, selectable_told, callable_told, literals_of, untyped, selections, qualifications, indexes, conversions, calls, binaries, unaries}
+use Rattle.go_check_laws.proofs.Rules.{IsAsked, as_value, literals, types_due, arrays, slices, structs, values_due, unpackaged_told, selectable_told, callable_told, literals_of, untyped, selections, qualifications, indexes, cuts, makes, conversions, calls, binaries, unaries}
 
 -- ---- names that a tree uses
 
@@ -143,6 +144,16 @@ operand_known e v h none = known (bare_place e) (asked value_due (fine v)) (by_o
 type_of : (p : Place) (v : Verdict Known) → IsSettled v → broken p (asked type_due (fine v)) ≡ [] → IsKnown (fine (asked type_due (fine v)))
 type_of p v h none = known p (asked type_due (fine v)) (by_one type_due (fine v) (known_of v h) types_due) none
 
+-- a type as what is known
+as_type : (v : Verdict Type') → IsKnown (fine v) → IsSettled (checked (λ t. Fine (declared (type' t))) v)
+as_type (Fine t) k = (declared (type' t), refl, tt)
+as_type (Breaks kind) k = cc
+as_type Passed k = cc
+
+-- a rule over a value and its bounds
+abbrev cut_between : Typed → Option Typed × Option Typed → Verdict Typed
+cut_between e ends = cut_of e ends.0 ends.1
+
 mutual
   pub settle : (s : Scope) (dotted : Bool) (e : Expr) → Tells s (in_expr dotted e) → faults s e ≡ [] → IsSettled (verdict s e)
   settle s dotted (name p x) h none = settled p (look_up x s.names) h.0 none
@@ -175,11 +186,26 @@ mutual
       let at = operand_known i (verdict s i) (settle s false i (second s (in_expr false e) (in_expr false i) h) ns.2) ns.3 in
       let rule = asked_both index_of (operand (verdict s e)) (operand (verdict s i)) in
       settled p (valued rule) (as_value rule (by_two index_of (operand (verdict s e)) (operand (verdict s i)) of at indexes)) ns.4
+  settle s dotted (cut p e a b) h none =
+      let front = first s (in_expr false e ++ in_bound a) (in_bound b) h in
+      let ns = five_none (faults s e) (operand_broken e (verdict s e)) (bound_faults s a) (bound_faults s b) (broken p (verdict s (cut p e a b))) none in
+      let of = operand_known e (verdict s e) (settle s false e (first s (in_expr false e) (in_bound a) front) ns.0) ns.1 in
+      let low = bound_told s a (second s (in_expr false e) (in_bound a) front) ns.2 in
+      let high = bound_told s b (second s (in_expr false e ++ in_bound a) (in_bound b) h) ns.3 in
+      let ends = both (bound_known s a) (bound_known s b) in
+      let rule = asked_both cut_between (operand (verdict s e)) ends in
+      settled p (valued rule) (as_value rule (by_two cut_between (operand (verdict s e)) ends of (both_known (bound_known s a) (bound_known s b) low high) (λ x k. cuts x k.0 k.1))) ns.4
+  settle s dotted (type_operand p t) h none = as_type (type_verdict s t) (type_known s t h none)
   settle s dotted (call p f es) h none =
-      let ns = four_none (faults s f) (part_broken f (callee (verdict s f))) (operands_faults s es) (broken p (verdict s (call p f es))) none in
+      let o = fine (callee (verdict s f)) in
+      let ns = four_none (faults s f) (part_broken f (callee (verdict s f))) (call_faults s o es) (broken p (verdict s (call p f es))) none in
       let of = settled (bare_place f) (callee (verdict s f)) (callee_told (verdict s f) (settle s false f (first s (in_expr false f) (in_exprs es) h) ns.0)) ns.1 in
-      let on = operands_known s es (second s (in_expr false f) (in_exprs es) h) ns.2 in
-      settled p (verdict s (call p f es)) (call_told (fine (callee (verdict s f))) (operands s es) (known_of (callee (verdict s f)) of) on) ns.3
+      let others = second s (in_expr false f) (in_exprs es) h in
+      let told : IsTold (verdict s (call p f es)) = elim (cases_Bool (is_make o)) [
+        | inl make ↦ rw make (as_value (made_verdict s es) (made_asked s es others (rw make at ns.2)))
+        | inr other ↦ rw other (call_told o (operands s es) (known_of (callee (verdict s f)) of) (operands_known s es others (rw other at ns.2)))
+      ] in
+      settled p (verdict s (call p f es)) told ns.3
   settle s dotted (unary p op e) h none =
       let ns = three_none (faults s e) (operand_broken e (verdict s e)) (broken p (verdict s (unary p op e))) none in
       let rule = asked (unary_of op) (operand (verdict s e)) in
@@ -190,6 +216,29 @@ mutual
       let right = operand_known b (verdict s b) (settle s false b (second s (in_expr false a) (in_expr false b) h) ns.2) ns.3 in
       let rule = asked_both (binary_of op) (operand (verdict s a)) (operand (verdict s b)) in
       settled p (valued rule) (as_value rule (by_two (binary_of op) (operand (verdict s a)) (operand (verdict s b)) left right (binaries op))) ns.4
+
+  bound_told : (s : Scope) (b : Bound) → Tells s (in_bound b) → bound_faults s b ≡ [] → IsKnown (bound_known s b)
+  bound_told s no_bound h none = (None, refl)
+  bound_told s (bound e) h none =
+      let ns = two_none (faults s e) (operand_broken e (verdict s e)) none in
+      mapped Some (operand (verdict s e)) (operand_known e (verdict s e) (settle s false e h ns.0) ns.1)
+
+  made_asked : (s : Scope) (es : Exprs) → Tells s (in_exprs es) → made_faults s es ≡ [] → IsAsked (made_verdict s es)
+  made_asked s no_exprs h none = tt
+  made_asked s (some_exprs e es) h none =
+      let front = first s (in_expr false e) (in_exprs es) h in
+      let others = second s (in_expr false e) (in_exprs es) h in
+      elim (cases_Bool (is_name e)) [
+        | inl is ↦ (
+            let due = asked type_due (fine (verdict s e)) in
+            let ns = three_none (faults s e) (part_broken e due) (operands_faults s es) (rw is at none) in
+            let of = type_of (bare_place e) (verdict s e) (settle s false e front ns.0) ns.1 in
+            rw is (by_two made (fine due) (operands s es) of (operands_known s es others ns.2) makes))
+        | inr other ↦ (
+            let ns = three_none (faults s e) [] (operands_faults s es) (rw other at none) in
+            let known = known_of (verdict s e) (settle s false e front ns.0) in
+            rw other (by_two unmade (fine (verdict s e)) (operands s es) known (operands_known s es others ns.2) (λ k xs. tt)))
+      ]
 
   pub operands_known : (s : Scope) (es : Exprs) → Tells s (in_exprs es) → operands_faults s es ≡ [] → IsKnown (operands s es)
   operands_known s no_exprs h none = ([], refl)
@@ -229,6 +278,9 @@ mutual
       let size = operand_known e (verdict s e) (settle s false e (first s (in_expr false e) (in_type t) h) ns.0) ns.1 in
       let of = type_known s t (second s (in_expr false e) (in_type t) h) ns.2 in
       known p (type_verdict s (array p e t)) (by_two array_of (operand (verdict s e)) (fine (type_verdict s t)) size of arrays) ns.3
+  type_known s (slice p t) h none =
+      let ns = two_none (type_faults s t) (broken p (type_verdict s (slice p t))) none in
+      known p (type_verdict s (slice p t)) (by_one slice_of (fine (type_verdict s t)) (type_known s t h ns.0) slices) ns.1
   type_known s (struct p fs) h none =
       let ns = two_none (fields_faults s fs) (broken (struct_place p fs) (type_verdict s (struct p fs))) none in
       known (struct_place p fs) (type_verdict s (struct p fs)) (by_one struct_of (fields_known s fs) (listed_known s fs h ns.0) structs) ns.1

@@ -3,6 +3,7 @@ use Rattle.std.proofs.Common.{◌≡◌, ℕ, zero, suc, ◌<◌, Bool, true, fa
 use Rattle.std.specs.Prelude.{bytes_eq, unwrap_or}
 use Rattle.std.specs.List.{slice_get, flat_map, cons_option, Contains}
 use Rattle.std.proofs.lemmas.Bool.{cases_Bool}
+use Rattle.go_text.specs.declared.edition.Edition.{Edition}
 use Rattle.go_text.specs.declared.place.Place.{Place}
 use Rattle.go_ast.specs.Trees.{Name, TypeExpr, Exprs, no_exprs, some_exprs, ConstSpec, VarSpec, TypeSpec, ImportSpec, constants, variables, types, TopLevel, declared, function, File}
 use Rattle.go_scope.specs.Order.{GroundedIn, Grounded}
@@ -229,8 +230,8 @@ all_known [] (k ∷ ks) e h = absurd cc
 all_known (o ∷ os) [] e h = absurd cc
 all_known (o ∷ os) ((x, v) ∷ ks) e h = (let rest : Named os ks = cc in (entry_is x v ks (h 0 o refl), all_known os ks rest (λ k p at. h (suc k) p at)))
 
-pub given : (path : List ℕ) (files : List File) (ps : List Importable) (t : Facts) → AreWhole (exported ps) → AreFacts (package_in path files ps) t → package_faults ps t files ≡ [] → Given t
-given path files ps t whole are none =
+pub given : (edition : Edition) (path : List ℕ) (files : List File) (ps : List Importable) (t : Facts) → AreWhole (exported ps) → AreFacts (package_in edition path files ps) t → package_faults ps t files ≡ [] → Given t
+given edition path files ps t whole are none =
     let objects : t.package.objects ≡ objects_of files = ap (λ (p : Package). p.objects) are.package_is in
     let declared_none = no_faults ps t files none in
     let rest = front (each_file (file_faults ps t) 0 files) (packages.constants_faults t ++ main_faults t files) none in
@@ -243,9 +244,9 @@ given path files ps t whole are none =
       grounded = faultless_grounded t files objects marks declared_none;
     }
 
-pub objects_known : (path : List ℕ) (files : List File) (ps : List Importable) (t : Facts) → AreWhole (exported ps) → AreFacts (package_in path files ps) t → package_faults ps t files ≡ [] → AreKnown t.known
-objects_known path files ps t whole are none =
-    let h = given path files ps t whole are none in
+pub objects_known : (edition : Edition) (path : List ℕ) (files : List File) (ps : List Importable) (t : Facts) → AreWhole (exported ps) → AreFacts (package_in edition path files ps) t → package_faults ps t files ≡ [] → AreKnown t.known
+objects_known edition path files ps t whole are none =
+    let h = given edition path files ps t whole are none in
     all_known t.package.objects t.known h.table.named (λ k o at. (
     let e = entry_known t h k o at in
     let d = of_form o.form e.0 e.2 in

@@ -2,11 +2,13 @@
 use Rattle.std.proofs.Common.{◌≡◌, ℕ, List, [], ◌∷◌, ◌++◌, Option, Some, None, map, inl, inr}
 use Rattle.std.specs.Prelude.{bytes_eq}
 use Rattle.std.proofs.lemmas.Bool.{cases_Bool}
+use Rattle.go_text.specs.declared.edition.Edition.{Edition}
+use Rattle.go_text.specs.declared.edition.Edition.TheVariants.{One, Two}
 use Rattle.go_text.specs.declared.fault.FaultKind.TheVariants.{LeftOut}
 use Rattle.go_ast.specs.Trees.{Function}
 use Rattle.go_types.specs.declared.types.Basic.{Basic}
 use Rattle.go_types.specs.Types.{basic}
-use Rattle.go_expr.specs.Known.{Names, type', Known, declared, package', Verdict, Fine, Breaks, look_up, named, basic_types, left_out, others, universe}
+use Rattle.go_expr.specs.Known.{Names, type', Known, declared, package', Verdict, Fine, Breaks, look_up, named, basic_types, left_out, slice_functions, others, universe}
 use Rattle.go_expr.specs.Seen.{iota_of}
 use Rattle.go_objects.specs.Table.{imports_at, scope_at}
 use Rattle.go_stmt.specs.Functions.{function_at}
@@ -39,12 +41,16 @@ others_told : (xs : List (List ℕ)) → AllTold (map (λ x. (x, Breaks LeftOut)
 others_told [] = tt
 others_told (x ∷ xs) = (tt, others_told xs)
 
-pub universe_told : AllTold universe
+slices_told : (e : Edition) → AllTold (slice_functions e ++ others)
+slices_told One = (tt, (tt, (tt, (tt, (tt, (tt, (tt, tt)))))))
+slices_told Two = (tt, (tt, (tt, (tt, (tt, (tt, (tt, tt)))))))
+
+pub universe_told : (e : Edition) → AllTold (universe e)
 unfolding universe
-universe_told =
+universe_told e =
     let types : Entries = map (λ (t : List ℕ × Basic). (t.0, Fine (declared (type' (basic t.1))))) basic_types in
     let rest : Entries = map (λ (x : List ℕ). (x, Breaks LeftOut)) left_out in
-    more (types ++ rest) others (more types rest (types_told basic_types) (others_told left_out)) (tt, (tt, (tt, (tt, tt))))
+    more (types ++ rest) (slice_functions e ++ others) (more types rest (types_told basic_types) (others_told left_out)) (slices_told e)
 
 pub iota_told : (iota : Option ℕ) → AllTold (iota_of iota)
 iota_told None = tt
@@ -63,8 +69,9 @@ pub outside_told : (t : Facts) (file : ℕ) → AreWhole (imports_at t.package f
 outside_told t file whole known iota x =
     let imports = map (λ (i : List ℕ × Names). (i.0, Fine (package' i.1))) (imports_at t.package file) in
     let names = map (λ n. (n.0, named n.1)) t.known in
-    let rest = more (iota_of iota) universe (iota_told iota) universe_told in
-    found (imports ++ (names ++ (iota_of iota ++ universe))) (more imports (names ++ (iota_of iota ++ universe)) (imports_told (imports_at t.package file) whole) (more names (iota_of iota ++ universe) (names_told t.known known) rest)) x
+    let predeclared = universe t.package.edition in
+    let rest = more (iota_of iota) predeclared (iota_told iota) (universe_told t.package.edition) in
+    found (imports ++ (names ++ (iota_of iota ++ predeclared))) (more imports (names ++ (iota_of iota ++ predeclared)) (imports_told (imports_at t.package file) whole) (more names (iota_of iota ++ predeclared) (names_told t.known known) rest)) x
 
 pub functions_known : (t : Facts) (file : ℕ) (f : Function) → AreWhole (imports_at t.package file) → AreKnown t.known → IsLocalBlock f.body → function_faults t file f ≡ [] → IsKnown (function_at (context_at t file) f).known
 functions_known t file f whole known l none =

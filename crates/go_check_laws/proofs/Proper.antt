@@ -4,15 +4,17 @@ use Rattle.std.specs.Prelude.{bytes_eq, nat_eq, length}
 use Rattle.std.specs.List.{zip}
 use Rattle.std.specs.Map.{lookup}
 use Rattle.std.proofs.lemmas.Bool.{cases_Bool}
+use Rattle.go_text.specs.declared.edition.Edition.{Edition}
+use Rattle.go_text.specs.declared.edition.Edition.TheVariants.{One, Two}
 use Rattle.go_text.specs.declared.fault.FaultKind.TheVariants.{LeftOut}
-use Rattle.go_ast.specs.Trees.{Expr, name, integer, rune, string, parenthesized, composite_lit, conversion, selector, index, call, unary, binary}
+use Rattle.go_ast.specs.Trees.{Expr, Exprs, name, integer, rune, string, parenthesized, composite_lit, conversion, selector, index, cut, call, type_operand, unary, binary}
 use Rattle.go_types.specs.declared.types.Basic.{Basic}
 use Rattle.go_types.specs.Types.{Type', basic}
 use Rattle.go_typed.specs.Trees as typed
-use Rattle.go_expr.specs.Known.{Declared, value, type', function, println, length', panic', Names, Known, declared, package', results, printed, panicked, Verdict, Fine, Breaks, Passed, Scope, look_up, named, basic_types, left_out, others, universe}
+use Rattle.go_expr.specs.Known.{Declared, value, type', function, println, length', capacity', make', append', panic', Names, Known, declared, package', results, printed, panicked, Verdict, Fine, Breaks, Passed, Scope, look_up, named, basic_types, left_out, slice_functions, others, universe}
 use Rattle.go_expr.specs.Seen.{iota_of}
-use Rattle.go_expr.specs.Rules.{fine, checked, valued, literal, literal_of, exported, selected, field_of, value_due, index_of, converted, called, one, function_call, each_unless, assigned, printable, length_of, unary_of, binary_of, string as string_type, is_exported}
-use Rattle.go_expr.specs.Verdicts.{asked, asked_both, inside, subject, callee, operand, operands, elements, verdict, type_verdict}
+use Rattle.go_expr.specs.Rules.{fine, checked, valued, literal, literal_of, exported, selected, field_of, value_due, index_of, cut_of, converted, called, one, function_call, each_unless, assigned, printable, length_of, capacity_of, appended, unary_of, binary_of, string as string_type, is_exported}
+use Rattle.go_expr.specs.Verdicts.{asked, both, asked_both, inside, subject, callee, operand, is_make, bound_known, made_verdict, call_verdict, operands, elements, verdict, type_verdict}
 use Rattle.go_objects.specs.Table.{Package, imports_at, scope_at}
 use Rattle.go_check_laws.proofs.Packages.{Entries}
 
@@ -80,6 +82,9 @@ calls (declared (function s ts rs)) xs = elim (cases_Bool (nat_eq (length ts) (l
 ]
 calls (declared println) xs = of_library (each_unless [] (map printable xs))
 calls (declared length') xs = as_value (checked length_of (one xs))
+calls (declared capacity') xs = as_value (checked capacity_of (one xs))
+calls (declared make') xs = tt
+calls (declared append') xs = as_value (appended xs)
 calls (declared panic') xs = of_panic (checked (assigned string_type) (one xs))
 calls (package' names) xs = tt
 calls (results ts s es) xs = tt
@@ -90,6 +95,14 @@ called_known : (o : Option Known) (xs : Option (List typed.Expr)) → IsProper (
 called_known None xs = tt
 called_known (Some k) None = tt
 called_known (Some k) (Some xs) = calls k xs
+
+of_call : (s : Scope) (o : Option Known) (es : Exprs) → IsProper (call_verdict s o es)
+of_call s o es = elim (cases_Bool (is_make o)) [ inl make ↦ rw make (as_value (made_verdict s es)) | inr other ↦ rw other (called_known o (operands s es)) ]
+
+as_type : (v : Verdict Type') → IsProper (checked (λ t. Fine (declared (type' t))) v)
+as_type (Fine t) = tt
+as_type (Breaks kind) = tt
+as_type Passed = tt
 
 -- ---- expressions
 
@@ -103,7 +116,9 @@ proper s h (composite_lit p t q es) = as_value (asked_both (literal_of s.path) (
 proper s h (selector p e x) = selections s.path x.text (fine (subject (verdict s e)))
 proper s h (index p e i) = as_value (asked_both index_of (operand (verdict s e)) (operand (verdict s i)))
 proper s h (conversion p t e) = as_value (asked_both converted (fine (type_verdict s t)) (operand (verdict s e)))
-proper s h (call p f es) = called_known (fine (callee (verdict s f))) (operands s es)
+proper s h (cut p e a b) = as_value (asked_both (λ e ends. cut_of e ends.0 ends.1) (operand (verdict s e)) (both (bound_known s a) (bound_known s b)))
+proper s h (call p f es) = of_call s (fine (callee (verdict s f))) es
+proper s h (type_operand p t) = as_type (type_verdict s t)
 proper s h (unary p op e) = as_value (asked (unary_of op) (operand (verdict s e)))
 proper s h (binary p op a b) = as_value (asked_both (binary_of op) (operand (verdict s a)) (operand (verdict s b)))
 
@@ -129,12 +144,16 @@ others_proper : (xs : List (List ℕ)) → AllProper (map (λ x. (x, Breaks Left
 others_proper [] = tt
 others_proper (x ∷ xs) = (tt, others_proper xs)
 
-universe_proper : AllProper universe
+slices_proper : (e : Edition) → AllProper (slice_functions e ++ others)
+slices_proper One = (tt, (tt, (tt, (tt, (tt, (tt, (tt, tt)))))))
+slices_proper Two = (tt, (tt, (tt, (tt, (tt, (tt, (tt, tt)))))))
+
+universe_proper : (e : Edition) → AllProper (universe e)
 unfolding universe
-universe_proper =
+universe_proper e =
     let types : Entries = map (λ (t : List ℕ × Basic). (t.0, Fine (declared (type' (basic t.1))))) basic_types in
     let rest : Entries = map (λ (x : List ℕ). (x, Breaks LeftOut)) left_out in
-    more (types ++ rest) others (more types rest (types_proper basic_types) (others_proper left_out)) (tt, (tt, (tt, (tt, tt))))
+    more (types ++ rest) (slice_functions e ++ others) (more types rest (types_proper basic_types) (others_proper left_out)) (slices_proper e)
 
 iota_proper : (iota : Option ℕ) → AllProper (iota_of iota)
 iota_proper None = tt
@@ -152,6 +171,7 @@ pub scope_proper : (p : Package) (known : Names) (file : ℕ) (iota : Option ℕ
 scope_proper p known file iota x =
     let imports : Entries = map (λ (i : List ℕ × Names). (i.0, Fine (package' i.1))) (imports_at p file) in
     let names : Entries = map (λ n. (n.0, named n.1)) known in
-    let rest = more (iota_of iota) universe (iota_proper iota) universe_proper in
-    found (imports ++ (names ++ (iota_of iota ++ universe)))
-    (more imports (names ++ (iota_of iota ++ universe)) (imports_proper (imports_at p file)) (more names (iota_of iota ++ universe) (names_proper known) rest)) x
+    let predeclared = universe p.edition in
+    let rest = more (iota_of iota) predeclared (iota_proper iota) (universe_proper p.edition) in
+    found (imports ++ (names ++ (iota_of iota ++ predeclared)))
+    (more imports (names ++ (iota_of iota ++ predeclared)) (imports_proper (imports_at p file)) (more names (iota_of iota ++ predeclared) (names_proper known) rest)) x

@@ -1,11 +1,12 @@
 -- Rules over parts that are known pass nothing over.
-use Rattle.std.proofs.Common.{◌≡◌, ℕ, pos, negsuc, not, ◌&&◌, ◌||◌, Option, Some, None, Result, Ok, Err, List, [], ◌∷◌, ◌++◌, map, length, codes, refl, inl, inr}
+use Rattle.std.proofs.Common.{◌≡◌, ℕ, pos, negsuc, not, ◌&&◌, ◌||◌, Option, Some, None, unwrap_or, Result, Ok, Err, List, [], ◌∷◌, ◌++◌, map, length, codes, refl, inl, inr}
 use Rattle.std.specs.Prelude.{nat_le, nat_eq, nat_lt, bytes_eq, is_some}
-use Rattle.std.specs.List.{list_any, flat_map, zip}
+use Rattle.std.specs.List.{list_any, filter_map, flat_map, zip}
 use Rattle.std.specs.Map.{lookup}
 use Rattle.std.proofs.lemmas.Bool.{cases_Bool}
 use Rattle.go_text.specs.declared.fault.FaultKind.{FaultKind}
-use Rattle.go_text.specs.declared.fault.FaultKind.TheVariants.{LeftOut, Index}
+use Rattle.go_text.specs.declared.fault.FaultKind.TheVariants.{LeftOut, Mismatch, Index, Count}
+use Rattle.go_text.specs.Faults.{fault_number}
 use Rattle.go_ast.specs.declared.expression.UnaryOperator as signs
 use Rattle.go_ast.specs.declared.expression.BinaryOperator as source
 use Rattle.go_ast.specs.declared.expression.BinaryOperator.TheVariants as operators
@@ -21,11 +22,11 @@ use Rattle.go_const.specs.declared.operator.ShiftOperator.{ShiftOperator}
 use Rattle.go_const.specs.declared.operator.ShiftOperator.TheVariants.{Left, Right}
 use Rattle.go_types.specs.declared.types.Basic.TheVariants as basics
 use Rattle.go_types.specs.declared.types.Untyped.TheVariants as kinds
-use Rattle.go_types.specs.Types.{Type', basic, array, struct}
+use Rattle.go_types.specs.Types.{Type', basic, array, slice, struct}
 use Rattle.go_types.specs.Relations.{underlying, assignable, convertible}
-use Rattle.go_typed.specs.Trees.{Symbol, Expr, expr_type}
-use Rattle.go_expr.specs.Known.{value, type', function, println, length', panic', Names, Known, declared, package', results, printed, panicked, Verdict, Fine, Breaks, Passed, named}
-use Rattle.go_expr.specs.Rules.{checked, valued, wrong, least, each_unless, constant_in, given, int_kind, is_integer, is_untyped, is_bool, is_string, lies_in, uint, type_due, is_small, array_of, is_exported, FieldList, field_names, packed, differ, listed, struct_of, assigned, default_type, defaulted, condition, constant_due, value_due, unpackaged, selectable, callable, literal, numeral, number_of, ElementList, when, any_keyed, parts_by, struct_faults, struct_slot, array_parts, struct_parts, parts_of, literal_of, Due, taken as due_taken, written as due_written, nothing as due_nothing, untyped_literal, field_named, fields_of, is_visible, field_of, exported, selected, exported_by, indexed_type, is_within, known_length, index_of, converted, holds_call, length_in, length_of, one, function_call, printable, called, common, is_defined, result_type, divides_by_zero, operated, operand_type, combined, shift_of, shifted, binary_of, operator_of, is_operand, unary_of}
+use Rattle.go_typed.specs.Trees.{Symbol, Expr, constant, append, absent, present, literal as typed_literal, expr_type, pack_exprs, pack_parts}
+use Rattle.go_expr.specs.Known.{value, type', function, println, length', capacity', make', append', panic', Names, Known, declared, package', results, printed, panicked, Verdict, Fine, Breaks, Passed, named}
+use Rattle.go_expr.specs.Rules.{fine, checked, valued, wrong, lesser, least, each_unless, constant_in, given, int_kind, is_integer, is_untyped, is_bool, is_string, lies_in, uint, type_due, is_small, array_of, slice_of, slice_element, int, is_exported, FieldList, field_names, packed, differ, listed, struct_of, assigned, default_type, defaulted, condition, constant_due, value_due, unpackaged, selectable, callable, literal, numeral, number_of, ElementList, when, any_keyed, parts_by, struct_faults, struct_slot, array_parts, struct_parts, parts_of, slice_parts, literal_of, Due, taken as due_taken, written as due_written, nothing as due_nothing, untyped_literal, field_named, fields_of, is_visible, field_of, exported, selected, exported_by, indexed_type, is_within, known_length, index_of, is_bound, bound_of, are_ordered, cut_to, given_bounds, cut_of, size_of, made_of, made, appended, converted, holds_call, length_in, length_of, capacity_of, one, function_call, printable, called, common, is_defined, result_type, divides_by_zero, operated, operand_type, combined, shift_of, shifted, binary_of, operator_of, is_operand, unary_of}
 use Rattle.go_check_laws.specs.Finds.{IsTold}
 use Rattle.go_check_laws.proofs.Plain.{IsPlain, represented, one_operand, two_operands, shift_operands}
 
@@ -57,6 +58,42 @@ literals text = constant_given (basic (basics.Untyped kinds.Int)) _ (represented
 pub together : {A : Type 0} (ks : List FaultKind) (vs : List (Verdict A)) → IsAsked (each_unless ks vs)
 together {A} ks vs = elim (least (ks ++ flat_map wrong vs)) as (λ o. least (ks ++ flat_map wrong vs) ≡ o → IsAsked (each_unless ks vs)) [ None ↦ λ at. rw (at, IsAsked) tt | Some k ↦ λ at. rw (at, IsAsked) tt ] refl
 
+-- a rule over each of some, where none breaks its own
+listed_through : {A B : Type 0} (rule : List A → Verdict B) (ks : List FaultKind) (vs : List (Verdict A)) → (least (ks ++ flat_map wrong vs) ≡ None → IsAsked (rule (filter_map fine vs))) → IsAsked (checked rule (each_unless ks vs))
+listed_through {A} {B} rule ks vs h = elim (least (ks ++ flat_map wrong vs)) as (λ o. least (ks ++ flat_map wrong vs) ≡ o → IsAsked (checked rule (each_unless ks vs))) [
+  | None ↦ λ at. rw (at, IsAsked) (h at)
+  | Some k ↦ λ at. rw (at, IsAsked) tt
+] refl
+
+some_lesser : (k : FaultKind) (o : Option FaultKind) → lesser (Some k) o ≡ None → ⊥
+some_lesser k None h = cc
+some_lesser k (Some l) h = elim (cases_Bool (nat_le (fault_number k) (fault_number l))) [
+  | inl is ↦ (let no : Some k ≡ None = rw is at h in cc (no))
+  | inr not_so ↦ (let no : Some l ≡ None = rw not_so at h in cc (no))
+]
+
+some_least : (ks : List FaultKind) (k : FaultKind) (ls : List FaultKind) → least (ks ++ k ∷ ls) ≡ None → ⊥
+some_least [] k ls h = some_lesser k (least ls) h
+some_least (j ∷ ks) k ls h = some_lesser j (least (ks ++ k ∷ ls)) h
+
+counted_least : (ks ls : List FaultKind) (k : FaultKind) → least ((ks ++ k ∷ []) ++ ls) ≡ None → ⊥
+counted_least [] ls k h = some_lesser k (least ls) h
+counted_least (j ∷ ks) ls k h = some_lesser j (least ((ks ++ k ∷ []) ++ ls)) h
+
+one_listed : {A B : Type 0} (rule : List A → Verdict B) (ks : List FaultKind) (v : Verdict A) → IsAsked v → ((x : A) → IsAsked (rule (x ∷ []))) → least (ks ++ flat_map wrong (v ∷ [])) ≡ None →
+    IsAsked (rule (filter_map fine (v ∷ [])))
+one_listed rule ks (Fine x) h each none = each x
+one_listed rule ks (Breaks k) h each none = absurd (some_least ks k [] none)
+one_listed rule ks Passed h each none = absurd h
+
+two_listed : {A B : Type 0} (rule : List A → Verdict B) (ks : List FaultKind) (v w : Verdict A) → IsAsked v → IsAsked w → ((x y : A) → IsAsked (rule (x ∷ y ∷ []))) →
+    least (ks ++ flat_map wrong (v ∷ w ∷ [])) ≡ None → IsAsked (rule (filter_map fine (v ∷ w ∷ [])))
+two_listed rule ks (Fine x) (Fine y) h i each none = each x y
+two_listed rule ks (Fine x) (Breaks k) h i each none = absurd (some_least ks k [] none)
+two_listed rule ks (Fine x) Passed h i each none = absurd i
+two_listed rule ks (Breaks k) w h i each none = absurd (some_least ks k (flat_map wrong (w ∷ [])) none)
+two_listed rule ks Passed w h i each none = absurd h
+
 -- ---- types
 
 pub types_due : (k : Known) → IsAsked (type_due k)
@@ -75,6 +112,9 @@ arrays size of = elim (constant_in size) as (λ o. constant_in size ≡ o → Is
   | Some (Text bytes) ↦ λ at. rw (at, IsAsked) tt
   | Some (Truth b) ↦ λ at. rw (at, IsAsked) tt
 ] refl
+
+pub slices : (of : Type') → IsAsked (slice_of of)
+slices of = elim (cases_Bool (is_small (slice of))) [ inl is ↦ rw is tt | inr not_so ↦ rw not_so tt ]
 
 pub structs : (fs : FieldList) → IsAsked (struct_of fs)
 structs fs = elim (cases_Bool (list_any (bytes_eq (codes "_")) (field_names fs))) [
@@ -138,8 +178,17 @@ parts path t es = elim (underlying t) as (λ u. underlying t ≡ u → IsAsked (
   | _ ↦ λ at. rw (at, IsAsked) tt
 ] refl
 
+abbrev slice_literal : Type' → List Expr → Verdict Expr
+slice_literal t xs = Fine (append t absent (pack_exprs xs))
+
+abbrev parts_literal : Type' → List (ℕ × Expr) → Verdict Expr
+parts_literal t ps = Fine (typed_literal t (pack_parts ps))
+
 pub literals_of : (path : List ℕ) (t : Type') (es : ElementList) → IsAsked (literal_of path t es)
-literals_of path t es = through _ (parts_of path t es) (λ x. tt) (parts path t es)
+literals_of path t es = elim (slice_element t) as (λ o. slice_element t ≡ o → IsAsked (literal_of path t es)) [
+  | Some of ↦ λ at. rw (at, IsAsked) (through (slice_literal t) (slice_parts of es) (λ x. tt) (together (when (any_keyed es) LeftOut) (map (λ e. assigned of e.1) es)))
+  | None ↦ λ at. rw (at, IsAsked) (through (parts_literal t) (parts_of path t es) (λ x. tt) (parts path t es))
+] refl
 
 pub untyped : (path : List ℕ) (due : Due) (es : ElementList) → IsAsked (untyped_literal path due es)
 untyped path (due_taken t) es = literals_of path t es
@@ -181,6 +230,61 @@ indexed t e i at = elim (cases_Bool (not (is_integer (expr_type i)))) [
 pub indexes : (e i : Expr) → IsAsked (index_of e i)
 indexes e i = elim (indexed_type (expr_type e)) as (λ o. indexed_type (expr_type e) ≡ o → IsAsked (index_of e i)) [ None ↦ λ at. rw (at, IsAsked) tt | Some t ↦ indexed t e i ] refl
 
+-- ---- slices
+
+bounds : (n : Option ℕ) (e : Expr) → IsAsked (bound_of n e)
+bounds n e = elim (cases_Bool (not (is_integer (expr_type e)))) [
+  | inl other ↦ rw other tt
+  | inr number ↦ elim (cases_Bool (is_bound n (constant_in e))) [ inl is ↦ rw (number, is) tt | inr not_so ↦ rw (number, not_so) tt ]
+]
+
+ordered : (e low high : Expr) → IsAsked (cut_to e (low ∷ high ∷ []))
+ordered e low high = elim (cases_Bool (are_ordered (constant_in low) (constant_in high))) [ inl is ↦ rw is tt | inr not_so ↦ rw not_so tt ]
+
+between : (e : Expr) (a b : Option Expr) → IsAsked (checked (cut_to e) (each_unless [] (map (bound_of (known_length e)) (given_bounds a b))))
+between e a None =
+    let low = bound_of (known_length e) (unwrap_or a (constant int (Integer (pos 0)))) in
+    listed_through (cut_to e) [] (low ∷ []) (one_listed (cut_to e) [] low (bounds (known_length e) (unwrap_or a (constant int (Integer (pos 0))))) (λ x. tt))
+between e a (Some b) =
+    let low = bound_of (known_length e) (unwrap_or a (constant int (Integer (pos 0)))) in
+    let high = bound_of (known_length e) b in
+    listed_through (cut_to e) [] (low ∷ high ∷ [])
+    (two_listed (cut_to e) [] low high (bounds (known_length e) (unwrap_or a (constant int (Integer (pos 0))))) (bounds (known_length e) b) (ordered e))
+
+pub cuts : (e : Expr) (a b : Option Expr) → IsAsked (cut_of e a b)
+cuts e a b = elim (cases_Bool (not (is_some (slice_element (expr_type e)) || is_string (expr_type e)))) [ inl unfit ↦ rw unfit tt | inr fit ↦ rw fit (between e a b) ]
+
+sizes : (e : Expr) → IsAsked (size_of e)
+sizes e = elim (cases_Bool (not (is_integer (expr_type e)))) [
+  | inl other ↦ rw other tt
+  | inr number ↦ elim (cases_Bool (is_bound None (constant_in e))) [ inl is ↦ rw (number, is) tt | inr not_so ↦ rw (number, not_so) tt ]
+]
+
+abbrev no_slice : Type' → List FaultKind
+no_slice t = when (not (is_some (slice_element t))) Mismatch
+
+pub makes : (t : Type') (xs : List Expr) → IsAsked (made t xs)
+makes t [] = listed_through (made_of t) (no_slice t ++ Count ∷ []) [] (λ at. absurd (counted_least (no_slice t) [] Count at))
+makes t (x ∷ []) = listed_through (made_of t) (no_slice t ++ []) (size_of x ∷ []) (one_listed (made_of t) (no_slice t ++ []) (size_of x) (sizes x) (λ n. tt))
+makes t (x ∷ y ∷ []) =
+    let ks = no_slice t ++ when (not (are_ordered (constant_in x) (constant_in y))) Index in
+    listed_through (made_of t) ks (size_of x ∷ size_of y ∷ []) (two_listed (made_of t) ks (size_of x) (size_of y) (sizes x) (sizes y) (λ n c. tt))
+makes t (x ∷ y ∷ z ∷ xs) =
+    let vs = map size_of (x ∷ y ∷ z ∷ xs) in
+    listed_through (made_of t) (no_slice t ++ Count ∷ []) vs (λ at. absurd (counted_least (no_slice t) (flat_map wrong vs) Count at))
+
+abbrev grown : Expr → List Expr → Verdict Expr
+grown s ys = Fine (append (expr_type s) (present s) (pack_exprs ys))
+
+appends : (xs : List Expr) → IsAsked (appended xs)
+appends [] = tt
+appends (s ∷ xs) = elim (slice_element (expr_type s)) as (λ o. slice_element (expr_type s) ≡ o → IsAsked (appended (s ∷ xs))) [
+  | None ↦ λ at. rw (at, IsAsked) tt
+  | Some of ↦ λ at. rw (at, IsAsked) (through (grown s) (each_unless [] (map (assigned of) xs)) (λ ys. tt) (together [] (map (assigned of) xs)))
+] refl
+
+-- ---- calls
+
 pub conversions : (t : Type') (e : Expr) → IsAsked (converted t e)
 conversions t e = elim (cases_Bool (not (convertible (expr_type e) t))) [
   | inl unfit ↦ rw unfit tt
@@ -190,6 +294,7 @@ conversions t e = elim (cases_Bool (not (convertible (expr_type e) t))) [
 lengths_in : (e : Expr) → IsAsked (length_in e)
 lengths_in e = elim (underlying (expr_type e)) as (λ u. underlying (expr_type e) ≡ u → IsAsked (length_in e)) [
   | array n of ↦ λ at. elim (cases_Bool (holds_call e)) [ inl is ↦ rw (at, IsAsked, is) tt | inr not_so ↦ rw (at, IsAsked, not_so) tt ]
+  | slice of ↦ λ at. rw (at, IsAsked) tt
   | _ ↦ λ at. elim (cases_Bool (is_string (expr_type e))) [ inl is ↦ rw (at, IsAsked, is) tt | inr not_so ↦ rw (at, IsAsked, not_so) tt ]
 ] refl
 
@@ -197,6 +302,12 @@ lengths : (e : Expr) → IsAsked (length_of e)
 lengths e = elim (constant_in e) as (λ o. constant_in e ≡ o → IsAsked (length_of e)) [
   | Some (Text bytes) ↦ λ at. rw (at, IsAsked) tt
   | _ ↦ λ at. rw (at, IsAsked) (lengths_in e)
+] refl
+
+capacities : (e : Expr) → IsAsked (capacity_of e)
+capacities e = elim (underlying (expr_type e)) as (λ u. underlying (expr_type e) ≡ u → IsAsked (capacity_of e)) [
+  | array n of ↦ λ at. rw (at, IsAsked) (lengths_in e)
+  | _ ↦ λ at. rw (at, IsAsked) tt
 ] refl
 
 alone : (xs : List Expr) → IsAsked (one xs)
@@ -227,6 +338,9 @@ calls (declared (function s ts rs)) xs = elim (cases_Bool (nat_eq (length ts) (l
 ]
 calls (declared println) xs = told _ (each_unless [] (map printable xs)) (λ ys. tt) (together [] (map printable xs))
 calls (declared length') xs = as_value (checked length_of (one xs)) (through length_of (one xs) lengths (alone xs))
+calls (declared capacity') xs = as_value (checked capacity_of (one xs)) (through capacity_of (one xs) capacities (alone xs))
+calls (declared make') xs = tt
+calls (declared append') xs = as_value (appended xs) (appends xs)
 calls (declared panic') xs = told panicked _ (λ y. tt) (through _ (one xs) (assignments _) (alone xs))
 calls (package' names) xs = tt
 calls (results ts s es) xs = tt

@@ -54,9 +54,9 @@ in_objects (o ∷ os) ((y, v) ∷ ks) x rest e h k =
 told_name : (p : Package) (known : Names) (file : ℕ) (iota : Option ℕ) → Named p.objects known → AreWhole (imports_at p file) → (x : List ℕ)
     → (is_hidden (imports_at p file) x ≡ false → (n : ℕ) → number_of p.objects x ≡ Some n → KnownAt known n) → IsTold (look_up x (scope_at p known file iota).names)
 told_name p known file iota same whole x h =
-    let rest : Entries = iota_of iota ++ universe in
+    let rest : Entries = iota_of iota ++ universe p.edition in
     behind_imports (imports_at p file) x (map (λ n. (n.0, named n.1)) known ++ rest) whole
-    (λ shows. in_objects p.objects known x rest same (h shows) (found rest (more (iota_of iota) universe (iota_told iota) universe_told) x))
+    (λ shows. in_objects p.objects known x rest same (h shows) (found rest (more (iota_of iota) (universe p.edition) (iota_told iota) (universe_told p.edition)) x))
 
 -- each of some numbers is that of a known object
 abbrev AllAt : Names → List ℕ → Type 0

@@ -75,18 +75,18 @@ tops_named t file whole known (function f ∷ tops) local none =
     ∙ two (names (top_functions t file (function f))) (own_names (f.name ∷ [])) (names (flat_map (top_functions t file) tops)) (flat_map function_names tops)
     (one_function t file f (functions_known t file f whole known local.0 ns.0)) (tops_named t file whole known tops local.1 ns.1)
 
-functions_named : (t : Facts) (number : ℕ) → ((file : ℕ) → AreWhole (imports_at t.package file)) → AreKnown t.known → (files : List File) → AreParsed files → files_faults t number files ≡ []
+functions_named : (edition : Edition) (t : Facts) (number : ℕ) → ((file : ℕ) → AreWhole (imports_at t.package file)) → AreKnown t.known → (files : List File) → AreParsed edition files → files_faults t number files ≡ []
     → names (of_files (top_functions t) number files) ≡ in_files function_names files
-functions_named t number whole known [] are none = refl
-functions_named t number whole known (f ∷ fs) are none =
+functions_named edition t number whole known [] are none = refl
+functions_named edition t number whole known (f ∷ fs) are none =
     let own = flat_map (top_faults t number) f.declarations in
     let ns = parts_none (map (λ x. (number, x)) own) (files_faults t (suc number) fs) none in
     let here = flat_map (top_functions t number) f.declarations in
     let rest = of_files (top_functions t) (suc number) fs in
     map-append (λ (g : typed.Function). g.name) here rest
     ∙ two (names here) (flat_map function_names f.declarations) (names rest) (in_files function_names fs)
-    (tops_named t number (whole number) known f.declarations (parsed_local (are.0).0 f (are.0).1) (unmapped (λ x. (number, x)) own ns.0))
-    (functions_named t (suc number) whole known fs are.1 ns.1)
+    (tops_named t number (whole number) known f.declarations (parsed_local edition (are.0).0 f (are.0).1) (unmapped (λ x. (number, x)) own ns.0))
+    (functions_named edition t (suc number) whole known fs are.1 ns.1)
 
 numbered : (n : ℕ) (fs : List typed.Function) → names (with_numbers n fs) ≡ names_with_numbers n (names fs)
 numbered n [] = refl
@@ -163,20 +163,20 @@ files_initialized t called number tells (f ∷ fs) none =
 
 -- ---- packages
 
-pub typed_whole : (path : List ℕ) (files : List File) (ps : List Importable) (edition : Edition) (file_names : List (List ℕ)) (p : typed.Package) → AreWhole (map (λ (p : Importable). (p.path, p.exports)) ps) → AreParsed files
-    → IsTypedIn edition (package_in path files ps) files ps file_names p → IsWhole files p
+pub typed_whole : (path : List ℕ) (files : List File) (ps : List Importable) (edition : Edition) (file_names : List (List ℕ)) (p : typed.Package) → AreWhole (map (λ (p : Importable). (p.path, p.exports)) ps) → AreParsed edition files
+    → IsTypedIn edition (package_in edition path files ps) files ps file_names p → IsWhole files p
 typed_whole path files ps edition file_names p whole are of =
     let t = of.facts in
-    let h = given path files ps t whole of.are of.none in
-    let known = objects_known path files ps t whole of.are of.none in
+    let h = given edition path files ps t whole of.are of.none in
+    let known = objects_known edition path files ps t whole of.are of.none in
     let objects : t.package.objects ≡ objects_of files = ap (λ (q : Package). q.objects) of.are.package_is in
     let none = no_faults ps t files of.none in
-    let all : t.package.objects ≡ declared_by files = objects ∙ nothing_dropped path files ps t are of.are of.none in
+    let all : t.package.objects ≡ declared_by files = objects ∙ nothing_dropped edition path files ps t are of.are of.none in
     subst (IsWhole files) (sym of.is) (record {
       constants = constants_whole t h ∙ ap (objects_named is_constant) all;
       types = types_whole t h ∙ ap (objects_named is_type) all;
       variables = variables_whole t files file_names h objects ∙ ap (objects_named is_variable) all;
       initializations = files_initialized t file_names 0 (λ file. outside_told t file (h.whole file) known None) files none;
       uses = files_used t 0 files;
-      functions = numbered 1 (of_files (top_functions t) 0 files) ∙ ap (names_with_numbers 1) (functions_named t 0 h.whole known files are none);
+      functions = numbered 1 (of_files (top_functions t) 0 files) ∙ ap (names_with_numbers 1) (functions_named edition t 0 h.whole known files are none);
     })

@@ -2,6 +2,7 @@
 use Rattle.std.specs.Prelude.{◌≡◌, ℕ, suc, Bool, true, false, not, bytes_eq, codes, if◌then◌else◌, List, [], ◌∷◌, ◌++◌, Option, map}
 use Rattle.std.specs.Fmt.{decimal}
 use Rattle.std.specs.List.{filter, flat_map}
+use Rattle.go_text.specs.declared.edition.Edition.{Edition}
 use Rattle.go_ast.specs.Parse.{IsParse, Derived}
 use Rattle.go_ast.specs.Trees.{no_exprs, some_exprs, VarSpec, variables, TopLevel, declared, function, File}
 use Rattle.go_typed.specs.Trees as typed
@@ -9,10 +10,10 @@ use Rattle.go_objects.specs.Objects.{Form, constant, type', typed_variable, valu
 use Rattle.go_objects.specs.Table.{own_names}
 use Rattle.go_package.specs.Typed.{own_name}
 
--- some text is parsed to each file
-abbrev pub AreParsed : List File → Type 0
-AreParsed [] = Unit {0}
-AreParsed (f ∷ fs) = ((text : List ℕ) × IsParse text (Derived f)) × AreParsed fs
+-- in an edition some text is parsed to each file
+abbrev pub AreParsed : Edition → List File → Type 0
+AreParsed edition [] = Unit {0}
+AreParsed edition (f ∷ fs) = ((text : List ℕ) × IsParse edition text (Derived f)) × AreParsed edition fs
 
 -- ---- objects by their forms
 

@@ -47,13 +47,13 @@ pub fn law_known_exports_are_whole()
 
 /// Of a package without fault each object is known that its files declare, where each name is known that the packages export which it may import.
 pub fn law_faultless_package_is_known()
-    ensures { (path : List ℕ) (files : List File) (ps : List Importable) (t : Facts) → AreWhole (map (λ (p : Importable). (p.path, p.exports)) ps)
-        → AreFacts (package_in path files ps) t → package_faults ps t files ≡ [] → AreKnown t.known }
+    ensures { (edition : Edition) (path : List ℕ) (files : List File) (ps : List Importable) (t : Facts) → AreWhole (map (λ (p : Importable). (p.path, p.exports)) ps)
+        → AreFacts (package_in edition path files ps) t → package_faults ps t files ≡ [] → AreKnown t.known }
 {}
 
 /// The objects of a package without fault are all that its files declare, but the blank names, where the files are those of texts.
 pub fn law_faultless_drops_nothing()
-    ensures { (path : List ℕ) (files : List File) (ps : List Importable) (t : Facts) → AreParsed files → AreFacts (package_in path files ps) t
+    ensures { (edition : Edition) (path : List ℕ) (files : List File) (ps : List Importable) (t : Facts) → AreParsed edition files → AreFacts (package_in edition path files ps) t
         → package_faults ps t files ≡ [] → objects_of files ≡ declared_by files }
 {}
 
@@ -61,6 +61,6 @@ pub fn law_faultless_drops_nothing()
 /// declare under a name that isn't blank, and the initialization of each variable that has a value, also of a blank one, in the order of the text.
 pub fn law_typed_package_is_whole()
     ensures { (path : List ℕ) (files : List File) (ps : List Importable) (edition : Edition) (names : List (List ℕ)) (t : Package)
-        → AreWhole (map (λ (p : Importable). (p.path, p.exports)) ps) → AreParsed files → IsTypedIn edition (package_in path files ps) files ps names t
+        → AreWhole (map (λ (p : Importable). (p.path, p.exports)) ps) → AreParsed edition files → IsTypedIn edition (package_in edition path files ps) files ps names t
         → IsWhole files t }
 {}

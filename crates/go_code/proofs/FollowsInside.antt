@@ -9,19 +9,21 @@ use Rattle.go_code.specs.declared.ending.PanicKind.{PanicKind}
 use Rattle.go_code.specs.declared.ending.PanicKind.TheVariants.{User}
 use Rattle.go_code.specs.declared.ending.Ending.TheVariants.{Cut, Panicked}
 use Rattle.go_code.specs.declared.instr.Instr.{Instr}
-use Rattle.go_code.specs.declared.instr.Instr.TheVariants.{Frame as In_frame, Local, Global, Part, Operate, Jump as Go_to, Output as To_output}
+use Rattle.go_code.specs.declared.instr.Instr.TheVariants.{Frame as In_frame, Local, Global, Part, Row as In_row, Operate, Jump as Go_to, Output as To_output}
 use Rattle.go_code.specs.declared.instr.AccessInstr.{AccessInstr}
 use Rattle.go_code.specs.declared.instr.FrameInstr.{FrameInstr}
 use Rattle.go_code.specs.declared.instr.JumpInstr.TheVariants.{Jump, JumpIf, JumpIfNot, LoopIf}
 use Rattle.go_code.specs.declared.instr.OutputInstr.TheVariants.{Panic}
 use Rattle.go_code.specs.declared.instr.PartInstr.{PartInstr}
+use Rattle.go_code.specs.declared.instr.RowInstr.{RowInstr}
 use Rattle.go_code.specs.declared.operator.Operator.{Operator}
 use Rattle.go_code.specs.Accesses.{Reached, access}
 use Rattle.go_code.specs.Finals.{Final, Ends}
 use Rattle.go_code.specs.Images.{Image}
 use Rattle.go_code.specs.Operators.{Operated, Gives, Panics, operands, operate}
 use Rattle.go_code.specs.Parts.{part, part_cells}
-use Rattle.go_code.specs.Machine.{Frame, State, Goes, past, with_stack, with_frames, goes_with, frame_step, local_step, global_step, came, ahead, spend, turn, step, Leads}
+use Rattle.go_code.specs.Rows.{Rowed, row_cells, row_step}
+use Rattle.go_code.specs.Machine.{Frame, State, Goes, past, with_stack, with_frames, goes_with, frame_step, local_step, global_step, came, rowed, ahead, spend, turn, step, Leads}
 use Rattle.go_code.proofs.Follows.{step_at, top_row}
 use Rattle.go_code.proofs.Stands.{Stands}
 use Rattle.go_code.proofs.Steps.{leads_on, leads_stop}
@@ -76,6 +78,24 @@ module _ (image : Image) (s : State) (f : Frame) (callers : List Frame) where
 
   pub part_panics : (i : PartInstr) (below row : List Cell) (kind : PanicKind) → Before s f callers (Part i) → OnTop f.stack below row (part_cells i) → part i row ≡ Panics kind → Leads image s (Ends (Panicked kind) s.output)
   part_panics i below row kind b top e = leads_stop image s _ (parts i below row (Panics kind) b top e)
+
+  -- ---- rows
+
+  rows : (i : RowInstr) (below row : List Cell) (o : Operated Rowed) → Before s f callers (In_row i) → OnTop f.stack below row (row_cells i) → row_step i s.rows row ≡ o → step image s ≡ rowed s (past f) callers below o
+  rows i below row o b top e =
+      step_at image s f callers (In_row i) b.rest b.frames b.stands
+      ∙ top_row f.stack below row (row_cells i) _ top.is top.long
+      ∙ ap (rowed s (past f) callers below) e
+
+  -- the state with other rows, past the instruction
+  abbrev pub with_rows : List Cell → Rowed → State
+  with_rows below r = record s { frames = with_stack (past f) (below ++ r.cells) ∷ callers; rows = r.rows }
+
+  pub row_leads : (i : RowInstr) (below row : List Cell) (r : Rowed) (final : Final) → Before s f callers (In_row i) → OnTop f.stack below row (row_cells i) → row_step i s.rows row ≡ Gives r → Leads image (with_rows below r) final → Leads image s final
+  row_leads i below row r final b top e l = leads_on image s _ final (rows i below row (Gives r) b top e) l
+
+  pub row_panics : (i : RowInstr) (below row : List Cell) (kind : PanicKind) → Before s f callers (In_row i) → OnTop f.stack below row (row_cells i) → row_step i s.rows row ≡ Panics kind → Leads image s (Ends (Panicked kind) s.output)
+  row_panics i below row kind b top e = leads_stop image s _ (rows i below row (Panics kind) b top e)
 
   -- ---- jumps
 

@@ -9,3 +9,4 @@ pub mod Operators
 pub mod Packages
 pub mod Parts
 pub mod Referred
+pub mod Rows

@@ -1,7 +1,7 @@
 -- Instructions, functions and setups with other references.
 use Rattle.std.specs.Prelude.{map}
 use Rattle.go_code.specs.declared.instr.Instr.{Instr}
-use Rattle.go_code.specs.declared.instr.Instr.TheVariants.{Frame, Local, Global, Part, Operate, Jump, Output, Calls as By_call}
+use Rattle.go_code.specs.declared.instr.Instr.TheVariants.{Frame, Local, Global, Part, Row, Operate, Jump, Output, Calls as By_call}
 use Rattle.go_code.specs.declared.instr.AccessInstr.{AccessInstr}
 use Rattle.go_code.specs.declared.instr.AccessInstr.TheVariants.{Load, Store, LoadAt, StoreAt}
 use Rattle.go_code.specs.declared.instr.CallInstr.{CallInstr}
@@ -38,6 +38,7 @@ refer g (Frame i) = Frame i
 refer g (Local i) = Local i
 refer g (Global i) = Global (refer_access g.variables i)
 refer g (Part i) = Part i
+refer g (Row i) = Row i
 refer g (Operate operator) = Operate operator
 refer g (Jump i) = Jump i
 refer g (Output i) = Output i

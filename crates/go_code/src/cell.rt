@@ -4,7 +4,7 @@ ghost use Rattle.std.specs.Prelude.{◌≡◌, ◌++◌, IfOk, OnOk};
 use go_const::constant::Text;
 use std::alloc::AllocError;
 
-/// A value of a basic type, or a part of one that has several.
+/// A value of a basic type, a slice, or a part of a value that has several.
 #[derive(Drop)]
 pub enum Cell {
     /// A whole number. The machine knows those from -2^63 to 2^64-1.
@@ -13,6 +13,17 @@ pub enum Cell {
     Bool(bool),
     /// A text.
     Text(Text),
+    /// A slice.
+    Slice {
+        /// The row that it is a part of, by its number.
+        row: usize,
+        /// The element of the row that it starts with.
+        start: usize,
+        /// How many elements it has.
+        length: usize,
+        /// How many it has room for.
+        capacity: usize,
+    },
 }
 
 impl Cell {
@@ -24,6 +35,17 @@ impl Cell {
             Cell::Int(number) => Ok(Cell::Int(*number)),
             Cell::Bool(truth) => Ok(Cell::Bool(*truth)),
             Cell::Text(text) => Ok(Cell::Text(text.copy()?)),
+            Cell::Slice {
+                row,
+                start,
+                length,
+                capacity,
+            } => Ok(Cell::Slice {
+                row: *row,
+                start: *start,
+                length: *length,
+                capacity: *capacity,
+            }),
         }
     }
 }

@@ -11,11 +11,15 @@ pub enum PanicKind {
     Divide,
     /// An index out of range.
     Index,
+    /// Bounds of a slice expression out of range.
+    Slice,
+    /// A length or a capacity out of range where a slice is made.
+    Make,
     /// A negative shift count.
     Shift,
     /// More open calls than there may be.
     Depth,
-    /// A text longer than texts may be.
+    /// A text or a row longer than they may be.
     Long,
     /// The program's own, with its text.
     User(Text),
@@ -29,6 +33,8 @@ impl PanicKind {
         match self {
             PanicKind::Divide => "divide",
             PanicKind::Index => "index",
+            PanicKind::Slice => "slice",
+            PanicKind::Make => "make",
             PanicKind::Shift => "shift",
             PanicKind::Depth => "depth",
             PanicKind::Long => "long",

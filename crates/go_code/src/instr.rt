@@ -52,7 +52,7 @@ pub enum AccessInstr<P> {
     },
 }
 
-/// What leads to parts of arrays and structs: by offsets, or on the stack.
+/// What leads to parts of arrays, structs and slices: by offsets, or on the stack.
 #[derive(Clone, Copy)]
 pub enum PartInstr {
     /// An offset becomes so much greater.
@@ -64,6 +64,9 @@ pub enum PartInstr {
         /// How many cells an element has.
         size: usize,
     },
+    /// An index leaves the stack, and of the slice below it, which stays, comes the offset of the
+    /// element in its row, whose elements have so many cells.
+    Reach(usize),
     /// An index leaves the stack, and of the array below it the element stays.
     Pick {
         /// How many elements there are.
@@ -78,6 +81,29 @@ pub enum PartInstr {
         /// How many of them are below the part.
         first: usize,
         /// How many cells the part has.
+        count: usize,
+    },
+}
+
+/// What is about the rows that slices are parts of. A row has the cells of its elements side by side;
+/// an offset is counted in cells, from the start of the row.
+#[derive(Clone, Copy)]
+pub enum RowInstr {
+    /// A capacity, a length, and the zero cells of an element, so many, leave the stack, and a slice
+    /// of a new row comes.
+    Make(usize),
+    /// An index and a slice leave the stack, and the cells of the element come, so many.
+    Get(usize),
+    /// An offset and a slice leave the stack, and so many cells come that lie there in the row.
+    GetAt(usize),
+    /// So many cells, an offset and a slice leave the stack, and the cells are stored there in the row.
+    SetAt(usize),
+    /// Elements and the slice below them leave the stack, and a slice comes that has them too: of the
+    /// same row where there is room, else of a new one.
+    Append {
+        /// How many cells an element has.
+        size: usize,
+        /// How many elements.
         count: usize,
     },
 }
@@ -125,8 +151,10 @@ pub enum Instr<R> {
     Local(AccessInstr<usize>),
     /// About the cells of the package variables.
     Global(AccessInstr<R>),
-    /// About parts of arrays and structs.
+    /// About parts of arrays, structs and slices.
     Part(PartInstr),
+    /// About the rows of slices.
+    Row(RowInstr),
     /// An operator; its operands leave the stack, and what it gives comes on top.
     Operate(Operator),
     /// A jump.

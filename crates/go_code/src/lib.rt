@@ -11,13 +11,15 @@
 //! - The cells of the package variables are the image's globals at the start.
 //! - A frame has cells, the parameters first and 0 in the others as it opens, and a stack. A value
 //!   has the cells of its parts side by side; a part is reached by its offset.
+//! - A slice is one cell, which names the row that it is a part of (`specs/Rows.antt`). Rows have
+//!   numbers in the order in which they come, and are given up with the run.
 //! - An operator takes its operands from the stack and leaves what it gives, or it panics
 //!   (`specs/Operators.antt`); integers wrap by their types.
 //! - A call takes a tick, and so does each turn of a loop; without one the program is cut. A call
 //!   then panics if it makes more than 1,000 open calls. A panic and a cut keep what was printed.
 //! - Code that makes no sense is `BadCode`: an instruction that wants more cells than the stack
 //!   has, or others; a number or an offset below -2^63 or above 2^64-1; a place outside the frame or the
-//!   globals; a jump out of the code; a function that the image hasn't or that has more parameter
+//!   globals, or outside its row; a jump out of the code; a function that the image hasn't or that has more parameter
 //!   cells than frame cells; the end of code without a `Return`; zero cells of package variables
 //!   that are no such numbers, at the very start. An instruction that makes no sense is `BadCode`
 //!   also where no tick is left or too many calls are open. What is never reached may make none.

@@ -12,6 +12,21 @@ pub enum TextOperator {
     Length,
     /// Two texts as one. [String concatenation](https://go.dev/ref/spec#String_concatenation)
     Join,
+    /// The bytes of a text from one bound to another.
+    /// [Simple slice expressions](https://go.dev/ref/spec#Simple_slice_expressions)
+    Cut,
+}
+
+/// An operator on slices.
+#[derive(Clone, Copy)]
+pub enum SliceOperator {
+    /// How many elements a slice has. [Length and capacity](https://go.dev/ref/spec#Length_and_capacity)
+    Length,
+    /// How many it has room for.
+    Capacity,
+    /// The elements of a slice from one bound to another.
+    /// [Simple slice expressions](https://go.dev/ref/spec#Simple_slice_expressions)
+    Cut,
 }
 
 /// An operator, which takes cells and gives one.
@@ -38,4 +53,6 @@ pub enum Operator {
     Equal(usize),
     /// On texts.
     Text(TextOperator),
+    /// On slices.
+    Slice(SliceOperator),
 }

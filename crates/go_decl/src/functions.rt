@@ -53,5 +53,12 @@ fn check_inside(
 {
     let package = facts.package();
     let imports = imports_at(package, file);
-    check_body(alloc, package.path, imports, facts.known(), function)
+    check_body(
+        alloc,
+        package.path,
+        package.edition,
+        imports,
+        facts.known(),
+        function,
+    )
 }

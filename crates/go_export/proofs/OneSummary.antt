@@ -5,8 +5,6 @@ use Rattle.std.specs.List.{All, flat_map}
 use Rattle.std.specs.Map.{values_of}
 use Rattle.std.proofs.lemmas.List.{append_assoc}
 use Rattle.std.proofs.lemmas.List.Elements.{All-head, All-tail}
-use Rattle.go_text.specs.declared.edition.Edition.{Edition}
-use Rattle.go_text.specs.declared.edition.Edition.TheVariants.{One}
 use Rattle.go_export.specs.Fields.{be, field}
 use Rattle.go_types.specs.Texts.{type_text, IsWritable}
 use Rattle.go_types.specs.Types.{Type'}
@@ -151,14 +149,11 @@ nested s = five (field (codes "goset summary")) (field s.path) (field s.«packag
 between : (x y u v : List ℕ) → x ≡ u → y ≡ v → x ≡ y → u ≡ v
 between x y u v p q e = sym p ∙ e ∙ q
 
-same_parts : (s t : Summary) → s.path ≡ t.path → s.«package» ≡ t.«package» → s.exports ≡ t.exports → s ≡ t
-same_parts s t p q r = λ i. record { edition = one_edition s.edition t.edition i; path = p i; «package» = q i; exports = r i }
-  where
-    one_edition : (d e : Edition) → d ≡ e
-    one_edition One One = refl
+same_parts : (s t : Summary) → s.edition ≡ t.edition → s.path ≡ t.path → s.«package» ≡ t.«package» → s.exports ≡ t.exports → s ≡ t
+same_parts s t o p q r = λ i. record { edition = o i; path = p i; «package» = q i; exports = r i }
 
-pub one_summary : (s t : Summary) → IsWritten s → IsWritten t → summary_text s ≡ summary_text t → s ≡ t
-one_summary s t p q e =
+pub one_summary : (s t : Summary) → IsWritten s → IsWritten t → s.edition ≡ t.edition → summary_text s ≡ summary_text t → s ≡ t
+one_summary s t p q o e =
     let whole : field (codes "goset summary") ++ behind_tag s ≡ field (codes "goset summary") ++ behind_tag t =
     between (summary_text s) (summary_text t) (field (codes "goset summary") ++ behind_tag s) (field (codes "goset summary") ++ behind_tag t) (nested s) (nested t) e in
     let tags = split_field (codes "goset summary") (codes "goset summary") (behind_tag s) (behind_tag t) (subst Short (nested s) (short (summary_text s) p.sized)) whole in
@@ -166,4 +161,4 @@ one_summary s t p q e =
     let names = split_field s.«package» t.«package» _ _ paths.2 paths.1 in
     let numbers = split_number (length s.exports) (length t.exports) _ _ (counted named_text some_named s.exports []) (counted named_text some_named t.exports []) names.2 names.1 in
     let exports = told_exports s.exports t.exports [] [] p.exports q.exports p.small q.small numbers.0 numbers.2 numbers.1 in
-    same_parts s t paths.0 names.0 exports.0
+    same_parts s t o paths.0 names.0 exports.0

@@ -2,8 +2,8 @@
 use Rattle.std.specs.Prelude.{◌≡◌, ℕ, List, refl}
 use Rattle.std.specs.Coded.{Coded, code_by, coded_list, coded×, coded⊎}
 use mathlib.Core.Logic.{◌⊎◌, inl, inr}
+use Rattle.go_text.specs.contracts.edition.Edition as editions
 use Rattle.go_text.specs.declared.edition.Edition.{Edition}
-use Rattle.go_text.specs.declared.edition.Edition.TheVariants.{One}
 use Rattle.go_const.specs.contracts.constant.Const as constants
 use Rattle.go_const.specs.declared.constant.Const.{Const}
 use Rattle.go_types.specs.Codes.{bytes_code, type_code}
@@ -38,14 +38,7 @@ export_code =
     (coded⊎ (coded× type_code constants.the_row.coded) (coded⊎ type_code (coded⊎ (coded× (coded_list type_code) (coded_list type_code)) type_code)))
     told meant meant_same
 
--- there is one edition
-pub summary_same : (s : Summary) → record { edition = One; path = s.path; «package» = s.«package»; exports = s.exports } ≡ s
-summary_same s = λ i. record { edition = only_one s.edition i; path = s.path; «package» = s.«package»; exports = s.exports }
-  where
-    only_one : (e : Edition) → One ≡ e
-    only_one One = refl
-
 abbrev pub summary_code : Coded Summary
 summary_code =
-    code_by (List ℕ × (List ℕ × Exports)) (coded× bytes_code (coded× bytes_code (coded_list (coded× bytes_code export_code))))
-    (λ s. (s.path, (s.«package», s.exports))) (λ p. record { edition = One; path = p.0; «package» = p.1.0; exports = p.1.1 }) summary_same
+    code_by (Edition × (List ℕ × (List ℕ × Exports))) (coded× editions.the_row.coded (coded× bytes_code (coded× bytes_code (coded_list (coded× bytes_code export_code)))))
+    (λ s. (s.edition, (s.path, (s.«package», s.exports)))) (λ p. record { edition = p.0; path = p.1.0; «package» = p.1.1.0; exports = p.1.1.1 }) (λ _. refl)

@@ -11,9 +11,9 @@ ghost use Rattle.go_export.specs.Exports.{declared_by, exports_of, look_up};
 ghost use Rattle.go_export.specs.Summaries.{Summary as ASummary, summary_text};
 ghost use Rattle.go_export.specs.Writable.{IsShown, IsWritten};
 
-/// Written summaries of one text are equal.
+/// Written summaries of one edition and one text are equal.
 pub fn law_one_summary()
-    ensures { (s t : ASummary) → IsWritten s → IsWritten t → summary_text s ≡ summary_text t → s ≡ t }
+    ensures { (s t : ASummary) → IsWritten s → IsWritten t → s.edition ≡ t.edition → summary_text s ≡ summary_text t → s ≡ t }
 {}
 
 /// What a package exports is in byte order of names, each once, and an exported name has there what

@@ -53,7 +53,7 @@ fn is_value(of: &GoType, value: &Const) -> bool
 {
     match underlying(of) {
         GoType::Basic(basic) => value_kind(*basic) == kind_of(value),
-        GoType::Array(_, _) | GoType::Struct(_) | GoType::Named(_) => false,
+        GoType::Array(_, _) | GoType::Slice(_) | GoType::Struct(_) | GoType::Named(_) => false,
     }
 }
 

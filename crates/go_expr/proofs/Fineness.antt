@@ -1,14 +1,15 @@
 -- What is known has no fault.
-use Rattle.std.proofs.Common.{◌≡◌, ◌≢◌, ℕ, suc, Option, Some, None, List, [], ◌∷◌, ◌++◌, refl, ap, ◌∙◌}
-use Rattle.std.specs.Prelude.{option_map, map}
+use Rattle.std.proofs.Common.{◌≡◌, ◌≢◌, ◌⊎◌, inl, inr, ℕ, suc, true, false, Option, Some, None, List, [], ◌∷◌, ◌++◌, refl, ap, ◌∙◌}
+use Rattle.std.specs.Prelude.{option_map, map, if◌then◌else◌}
+use Rattle.std.proofs.lemmas.Bool.{cases_Bool}
 use Rattle.go_text.specs.declared.place.Place.{Place}
 use Rattle.go_text.specs.declared.fault.FaultKind.{FaultKind}
-use Rattle.go_ast.specs.Trees.{TypeExpr, named, qualified, array, struct, Fields, no_fields, field, Expr, name, integer, rune, string, parenthesized, composite_lit, conversion, selector, index, call, unary, binary, Exprs, no_exprs, some_exprs, Elements, no_elements, element, Element, expression_element, value_element}
-use Rattle.go_expr.specs.Known.{Verdict, Fine, Breaks, Passed, Scope, look_up}
+use Rattle.go_ast.specs.Trees.{TypeExpr, named, qualified, array, slice, struct, Fields, no_fields, field, Expr, name, integer, rune, string, parenthesized, composite_lit, conversion, selector, index, cut, Bound, no_bound, bound, call, type_operand, unary, binary, Exprs, no_exprs, some_exprs, Elements, no_elements, element, Element, expression_element, value_element}
+use Rattle.go_expr.specs.Known.{type', declared, Known, Verdict, Fine, Breaks, Passed, Scope, look_up}
 use Rattle.go_types.specs.Types.{Type'}
 use Rattle.go_typed.specs.Trees.{Expr as Typed}
-use Rattle.go_expr.specs.Rules.{fine, valued, type_due, array_of, declared_field, struct_of, value_due, unpackaged, selectable, callable, literal, literal_of, Due, element_due, due_type, untyped_literal, selected, exported_by, index_of, binary_of, unary_of, converted, called}
-use Rattle.go_expr.specs.Verdicts.{asked, both, asked_both, joined, qualified_known, operand, inside, subject, callee, key_text, verdict, operands, elements, element_verdict, type_verdict, fields_known, broken, bare_place, part_broken, operand_broken, struct_place, faults, operands_faults, elements_faults, element_faults, type_faults, fields_faults}
+use Rattle.go_expr.specs.Rules.{fine, checked, valued, type_due, array_of, slice_of, declared_field, struct_of, value_due, unpackaged, selectable, callable, literal, literal_of, Due, element_due, due_type, untyped_literal, selected, exported_by, index_of, cut_of, made, unmade, binary_of, unary_of, converted, called}
+use Rattle.go_expr.specs.Verdicts.{asked, both, asked_both, joined, qualified_known, operand, inside, subject, callee, key_text, is_make, is_name, verdict, bound_known, made_verdict, operands, elements, element_verdict, type_verdict, fields_known, broken, bare_place, part_broken, operand_broken, struct_place, faults, bound_faults, made_faults, call_faults, operands_faults, elements_faults, element_faults, type_faults, fields_faults}
 
 abbrev IsKnown : {A : Type 0} → Option A → Type 0
 IsKnown {A} o = (x : A) × (o ≡ Some x)
@@ -63,6 +64,29 @@ value_unbroken s e k = own (bare_place e) (asked value_due (fine (verdict s e)))
 valued_in : (s : Scope) (e : Expr) → IsKnown (operand (verdict s e)) → IsKnown (fine (verdict s e))
 valued_in s e k = part value_due (fine (verdict s e)) k
 
+-- a type as what is known
+of_type : (v : Verdict Type') → IsKnown (fine (checked (λ t. Fine (declared (type' t))) v)) → IsKnown (fine v)
+of_type (Fine t) k = (t, refl)
+of_type (Breaks kind) k = cc
+of_type Passed k = cc
+
+-- a call, by what is known of its callee
+maker : (o : Option Known) → is_make o ≡ true → IsKnown o
+maker None h = cc
+maker (Some k) h = (k, refl)
+
+called_parts : (o : Option Known) (v : Verdict Typed) (xs : Option (List Typed)) → IsKnown (fine (if is_make o then valued v else asked_both called o xs)) →
+    IsKnown o × (((is_make o ≡ true) × IsKnown (fine v)) ⊎ ((is_make o ≡ false) × IsKnown xs))
+called_parts o v xs k = elim (cases_Bool (is_make o)) [
+  | inl make ↦ (maker o make, inl (make, plain v (rw make at k)))
+  | inr other ↦ (let ks = two called o xs (rw other at k) in (ks.0, inr (other, ks.1)))
+]
+
+never_made : (o : Option Known) (xs : Option (List Typed)) → IsKnown (fine (asked_both unmade o xs)) → ⊥
+never_made None xs k = cc
+never_made (Some x) None k = cc
+never_made (Some x) (Some xs) k = cc
+
 mutual
   clean : (s : Scope) (e : Expr) → IsKnown (fine (verdict s e)) → faults s e ≡ []
   clean s (name p x) k = own p (look_up x s.names) k
@@ -86,10 +110,20 @@ mutual
       let ks = two index_of (operand (verdict s e)) (operand (verdict s i)) (plain (asked_both index_of (operand (verdict s e)) (operand (verdict s i))) k) in
       none_of_five (faults s e) (operand_broken e (verdict s e)) (faults s i) (operand_broken i (verdict s i)) _
       (clean s e (valued_in s e ks.0)) (value_unbroken s e ks.0) (clean s i (valued_in s i ks.1)) (value_unbroken s i ks.1) (own p (verdict s (index p e i)) k)
+  clean s (cut p e a b) k =
+      let ends = both (bound_known s a) (bound_known s b) in
+      let rule : Typed → Option Typed × Option Typed → Verdict Typed = λ e ends. cut_of e ends.0 ends.1 in
+      let ks = two rule (operand (verdict s e)) ends (plain (asked_both rule (operand (verdict s e)) ends) k) in
+      let bounds = parts (bound_known s a) (bound_known s b) ks.1 in
+      none_of_five (faults s e) (operand_broken e (verdict s e)) (bound_faults s a) (bound_faults s b) _
+      (clean s e (valued_in s e ks.0)) (value_unbroken s e ks.0) (bound_clean s a bounds.0) (bound_clean s b bounds.1) (own p (verdict s (cut p e a b)) k)
+  clean s (type_operand p t) k = type_clean s t (of_type (type_verdict s t) k)
   clean s (call p f es) k =
-      let ks = two called (fine (callee (verdict s f))) (operands s es) k in
-      none_of_four (faults s f) (part_broken f (callee (verdict s f))) (operands_faults s es) _
-      (clean s f (part callable (fine (verdict s f)) ks.0)) (own (bare_place f) (callee (verdict s f)) ks.0) (operands_clean s es ks.1) (own p (verdict s (call p f es)) k)
+      let o = fine (callee (verdict s f)) in
+      let known = called_parts o (made_verdict s es) (operands s es) k in
+      let others : call_faults s o es ≡ [] = elim known.1 [ inl h ↦ rw h.0 (made_clean s es h.1) | inr h ↦ rw h.0 (operands_clean s es h.1) ] in
+      none_of_four (faults s f) (part_broken f (callee (verdict s f))) (call_faults s o es) _
+      (clean s f (part callable (fine (verdict s f)) known.0)) (own (bare_place f) (callee (verdict s f)) known.0) others (own p (verdict s (call p f es)) k)
   clean s (unary p op e) k =
       let known = part (unary_of op) (operand (verdict s e)) (plain (asked (unary_of op) (operand (verdict s e))) k) in
       none_of_three (faults s e) (operand_broken e (verdict s e)) _ (clean s e (valued_in s e known)) (value_unbroken s e known) (own p (verdict s (unary p op e)) k)
@@ -97,6 +131,23 @@ mutual
       let ks = two (binary_of op) (operand (verdict s a)) (operand (verdict s b)) (plain (asked_both (binary_of op) (operand (verdict s a)) (operand (verdict s b))) k) in
       none_of_five (faults s a) (operand_broken a (verdict s a)) (faults s b) (operand_broken b (verdict s b)) _
       (clean s a (valued_in s a ks.0)) (value_unbroken s a ks.0) (clean s b (valued_in s b ks.1)) (value_unbroken s b ks.1) (own p (verdict s (binary p op a b)) k)
+
+  bound_clean : (s : Scope) (b : Bound) → IsKnown (bound_known s b) → bound_faults s b ≡ []
+  bound_clean s no_bound k = refl
+  bound_clean s (bound e) k =
+      let known = mapped Some (operand (verdict s e)) k in
+      none (faults s e) (operand_broken e (verdict s e)) (clean s e (valued_in s e known)) (value_unbroken s e known)
+
+  made_clean : (s : Scope) (es : Exprs) → IsKnown (fine (made_verdict s es)) → made_faults s es ≡ []
+  made_clean s no_exprs k = refl
+  made_clean s (some_exprs e es) k = elim (cases_Bool (is_name e)) [
+    | inl is ↦ (
+        let of = asked type_due (fine (verdict s e)) in
+        let ks = two made (fine of) (operands s es) (rw is at k) in
+        rw is (none_of_three (faults s e) (part_broken e of) (operands_faults s es)
+        (clean s e (part type_due (fine (verdict s e)) ks.0)) (own (bare_place e) of ks.0) (operands_clean s es ks.1)))
+    | inr other ↦ absurd (never_made (fine (verdict s e)) (operands s es) (rw other at k))
+  ]
 
   operands_clean : (s : Scope) (es : Exprs) → IsKnown (operands s es) → operands_faults s es ≡ []
   operands_clean s no_exprs k = refl
@@ -129,6 +180,7 @@ mutual
   type_clean s (array p e t) k =
       let ks = two array_of (operand (verdict s e)) (fine (type_verdict s t)) k in
       none_of_four (faults s e) (operand_broken e (verdict s e)) (type_faults s t) _ (clean s e (valued_in s e ks.0)) (value_unbroken s e ks.0) (type_clean s t ks.1) (own p (type_verdict s (array p e t)) k)
+  type_clean s (slice p t) k = none (type_faults s t) _ (type_clean s t (part slice_of (fine (type_verdict s t)) k)) (own p (type_verdict s (slice p t)) k)
   type_clean s (struct p fs) k =
       none (fields_faults s fs) _ (fields_clean s fs (part struct_of (fields_known s fs) k)) (own (struct_place p fs) (type_verdict s (struct p fs)) k)
 

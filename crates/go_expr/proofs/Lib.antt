@@ -1,3 +1,4 @@
+mod ComputedSlices
 pub mod Digits
 pub mod Elements
 pub mod Fineness
@@ -7,3 +8,4 @@ pub mod Lookups
 pub mod Named
 pub mod Nodes
 pub mod Numbers
+pub mod SliceFunctions

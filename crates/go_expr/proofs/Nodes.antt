@@ -1,13 +1,13 @@
 -- What is answered of a node, by what is known of its parts.
-use Rattle.std.proofs.Common.{◌≡◌, Option, Result, List, [], ◌∷◌, ◌++◌, Box, Vec, Global, sym, ap, ◌∙◌, subst, refl}
+use Rattle.std.proofs.Common.{◌≡◌, Bool, true, false, append-nil, Option, Result, Err, List, [], ◌∷◌, ◌++◌, Box, Vec, Global, sym, ap, ◌∙◌, subst, refl}
 use Rattle.go_text.specs.declared.place.Place.{Place}
 use Rattle.go_text.specs.declared.fault.FaultKind.{FaultKind}
-use Rattle.go_ast.specs.Trees.{TypeExpr, Expr, Exprs, call, composite_lit, Elements}
-use Rattle.std.specs.Prelude.{map, option_map, string_bytes}
+use Rattle.go_ast.specs.Trees.{TypeExpr, Expr, Exprs, some_exprs, call, composite_lit, Elements}
+use Rattle.std.specs.Prelude.{map, option_map, string_bytes, if◌then◌else◌}
 use Rattle.go_types.specs.Types as types
 use Rattle.go_types.specs.Views.{type_of, fields_in}
 use Rattle.go_types.specs.declared.types.Field.{Field}
-use Rattle.go_expr.specs.Rules.{fine, packed, listed, called}
+use Rattle.go_expr.specs.Rules.{fine, valued, type_due, made, unmade, called, packed, listed}
 use Rattle.go_expr.specs.declared.error.ExprError.{ExprError}
 use Rattle.go_ast.specs.declared.expression.Expr.{Expr as Expression}
 use Rattle.go_ast.specs.declared.expression.ExprKind.{ExprKind, CompositeLit}
@@ -15,10 +15,12 @@ use Rattle.go_ast.specs.declared.expression.TypeExpr.{TypeExpr as TypeNode}
 use Rattle.go_ast.specs.declared.expression.Element.{Element as ElementNode}
 use Rattle.go_ast.specs.Views.{expr_of as expr_tree, type_of as type_tree}
 use Rattle.go_ast.proofs.Rows.{literal_seen}
+use Rattle.go_expr.proofs.Lists.{fails_front}
 use Rattle.go_expr.specs.declared.known.Known.{Known as Found}
 use Rattle.go_expr.specs.Known.{Known, Verdict, Scope}
-use Rattle.go_expr.specs.Verdicts.{asked, asked_both, broken, callee, verdict, operands, type_verdict, part_broken, faults, operands_faults, elements_faults, type_faults}
-use Rattle.go_expr.specs.Seen.{known_of, elements_in, field_of, literal_verdict, Answers}
+use Rattle.go_typed.specs.Trees.{Expr as Typed}
+use Rattle.go_expr.specs.Verdicts.{asked, asked_both, broken, callee, is_make, is_name, call_verdict, call_faults, verdict, made_verdict, operands, type_verdict, part_broken, faults, made_faults, operands_faults, elements_faults, type_faults}
+use Rattle.go_expr.specs.Seen.{known_of, elements_in, field_of, literal_verdict, Fails, Answers, Behind}
 
 -- where nothing is found before
 pub later : {X Y : Type 0} (view : X → Y) (r : Result (Option X) ExprError) (xs ys : List (Place × FaultKind)) (known : Option Y) → xs ≡ [] → Answers view r ys known → Answers view r (xs ++ ys) known
@@ -33,10 +35,77 @@ of_part {X} {Y} {A} view r p q rule xs part o none is same h =
     (later view r xs (broken q (asked rule o)) (fine (asked rule o)) none h))
 
 -- a call whose callee has no fault
-pub call_asked : {X : Type 0} (view : X → Known) (r : Result (Option X) ExprError) (s : Scope) (p : Place) (f : Expr) (es : Exprs) (k : Option Known) → faults s f ++ part_broken f (callee (verdict s f)) ≡ [] → fine (callee (verdict s f)) ≡ k → Answers view r (operands_faults s es ++ broken p (asked_both called k (operands s es))) (fine (asked_both called k (operands s es))) → Answers view r (faults s (call p f es)) (fine (verdict s (call p f es)))
+pub call_asked : {X : Type 0} (view : X → Known) (r : Result (Option X) ExprError) (s : Scope) (p : Place) (f : Expr) (es : Exprs) (k : Option Known) → faults s f ++ part_broken f (callee (verdict s f)) ≡ [] → fine (callee (verdict s f)) ≡ k → Answers view r (call_faults s k es ++ broken p (call_verdict s k es)) (fine (call_verdict s k es)) → Answers view r (faults s (call p f es)) (fine (verdict s (call p f es)))
 call_asked view r s p f es k none is h =
-    subst (λ (o : Option Known). Answers view r (faults s f ++ part_broken f (callee (verdict s f)) ++ operands_faults s es ++ broken p (asked_both called o (operands s es))) (fine (asked_both called o (operands s es)))) (sym is)
-    (subst (λ (l : List (Place × FaultKind)). Answers view r (l ++ operands_faults s es ++ broken p (asked_both called k (operands s es))) (fine (asked_both called k (operands s es)))) (sym none) h)
+    subst (λ (o : Option Known). Answers view r (faults s f ++ part_broken f (callee (verdict s f)) ++ call_faults s o es ++ broken p (call_verdict s o es)) (fine (call_verdict s o es))) (sym is)
+    (subst (λ (l : List (Place × FaultKind)). Answers view r (l ++ call_faults s k es ++ broken p (call_verdict s k es)) (fine (call_verdict s k es))) (sym none) h)
+
+-- a call of what takes a type in front of its operands, and of what doesn't
+abbrev call_by : Bool → Scope → Option Known → Exprs → Verdict Known
+call_by b s o es = if b then valued (made_verdict s es) else asked_both called o (operands s es)
+
+abbrev faults_by : Bool → Scope → Exprs → List (Place × FaultKind)
+faults_by b s es = if b then made_faults s es else operands_faults s es
+
+pub make_called : {X : Type 0} (view : X → Known) (r : Result (Option X) ExprError) (s : Scope) (p : Place) (o : Option Known) (es : Exprs) → is_make o ≡ true →
+    Behind view r (made_faults s es) p (valued (made_verdict s es)) → Behind view r (call_faults s o es) p (call_verdict s o es)
+make_called view r s p o es make h = subst (λ (b : Bool). Behind view r (faults_by b s es) p (call_by b s o es)) (sym make) h
+
+pub other_called : {X : Type 0} (view : X → Known) (r : Result (Option X) ExprError) (s : Scope) (p : Place) (o : Option Known) (es : Exprs) → is_make o ≡ false →
+    Behind view r (operands_faults s es) p (asked_both called o (operands s es)) → Behind view r (call_faults s o es) p (call_verdict s o es)
+other_called view r s p o es other h = subst (λ (b : Bool). Behind view r (faults_by b s es) p (call_by b s o es)) (sym other) h
+
+-- what is made, by whether the first operand may be a type
+abbrev made_if : Bool → Scope → Expr → Exprs → Verdict Typed
+made_if b s e es = if b then asked_both made (fine (asked type_due (fine (verdict s e)))) (operands s es) else asked_both unmade (fine (verdict s e)) (operands s es)
+
+abbrev due_if : Bool → Scope → Expr → List (Place × FaultKind)
+due_if b s e = if b then part_broken e (asked type_due (fine (verdict s e))) else []
+
+-- the type that is made
+abbrev pub due_of_name : Scope → Expr → Verdict types.Type'
+due_of_name s e = asked type_due (fine (verdict s e))
+
+by_name : {X : Type 0} (view : X → Known) (r : Result (Option X) ExprError) (s : Scope) (p : Place) (e : Expr) (es : Exprs) → is_name e ≡ true →
+    Behind view r (faults s e ++ part_broken e (due_of_name s e) ++ operands_faults s es) p (valued (asked_both made (fine (due_of_name s e)) (operands s es))) →
+    Behind view r (made_faults s (some_exprs e es)) p (valued (made_verdict s (some_exprs e es)))
+by_name view r s p e es is h = subst (λ (b : Bool). Behind view r (faults s e ++ due_if b s e ++ operands_faults s es) p (valued (made_if b s e es))) (sym is) h
+
+by_other : {X : Type 0} (view : X → Known) (r : Result (Option X) ExprError) (s : Scope) (p : Place) (e : Expr) (es : Exprs) → is_name e ≡ false →
+    Behind view r (faults s e ++ operands_faults s es) p (valued (asked_both unmade (fine (verdict s e)) (operands s es))) →
+    Behind view r (made_faults s (some_exprs e es)) p (valued (made_verdict s (some_exprs e es)))
+by_other view r s p e es other h =
+    subst (λ (b : Bool). Behind view r (faults s e ++ due_if b s e ++ operands_faults s es) p (valued (made_if b s e es))) (sym other)
+    (subst (λ (l : List (Place × FaultKind)). Behind view r (l ++ operands_faults s es) p (valued (asked_both unmade (fine (verdict s e)) (operands s es)))) (sym (append-nil (faults s e))) h)
+
+-- a name whose type has no fault
+pub made_named : {X : Type 0} (view : X → Known) (r : Result (Option X) ExprError) (s : Scope) (p : Place) (e : Expr) (es : Exprs) (k : Option types.Type') → is_name e ≡ true →
+    faults s e ++ part_broken e (due_of_name s e) ≡ [] → fine (due_of_name s e) ≡ k → Behind view r (operands_faults s es) p (valued (asked_both made k (operands s es))) →
+    Behind view r (made_faults s (some_exprs e es)) p (valued (made_verdict s (some_exprs e es)))
+made_named view r s p e es k is none gives h =
+    by_name view r s p e es is
+    (subst (λ (o : Option types.Type'). Behind view r (faults s e ++ part_broken e (due_of_name s e) ++ operands_faults s es) p (valued (asked_both made o (operands s es)))) (sym gives)
+    (subst (λ (l : List (Place × FaultKind)). Behind view r (l ++ operands_faults s es) p (valued (asked_both made k (operands s es)))) (sym none) h))
+
+pub name_fails : {X : Type 0} (view : X → Known) (error : ExprError) (s : Scope) (p : Place) (e : Expr) (es : Exprs) → is_name e ≡ true → Fails error (faults s e ++ part_broken e (due_of_name s e)) →
+    Behind view (Err error) (made_faults s (some_exprs e es)) p (valued (made_verdict s (some_exprs e es)))
+name_fails view error s p e es is h =
+    let own = faults s e ++ part_broken e (due_of_name s e) in
+    by_name view (Err error) s p e es is (fails_front error (own ++ operands_faults s es) _ (fails_front error own (operands_faults s es) h))
+
+-- what can't be a type, without fault
+pub made_unnamed : {X : Type 0} (view : X → Known) (r : Result (Option X) ExprError) (s : Scope) (p : Place) (e : Expr) (es : Exprs) (k : Option Known) → is_name e ≡ false →
+    faults s e ≡ [] → fine (verdict s e) ≡ k → Behind view r (operands_faults s es) p (valued (asked_both unmade k (operands s es))) →
+    Behind view r (made_faults s (some_exprs e es)) p (valued (made_verdict s (some_exprs e es)))
+made_unnamed view r s p e es k other none gives h =
+    by_other view r s p e es other
+    (subst (λ (o : Option Known). Behind view r (faults s e ++ operands_faults s es) p (valued (asked_both unmade o (operands s es)))) (sym gives)
+    (subst (λ (l : List (Place × FaultKind)). Behind view r (l ++ operands_faults s es) p (valued (asked_both unmade k (operands s es)))) (sym none) h))
+
+pub other_fails : {X : Type 0} (view : X → Known) (error : ExprError) (s : Scope) (p : Place) (e : Expr) (es : Exprs) → is_name e ≡ false → Fails error (faults s e) →
+    Behind view (Err error) (made_faults s (some_exprs e es)) p (valued (made_verdict s (some_exprs e es)))
+other_fails view error s p e es other h =
+    by_other view (Err error) s p e es other (fails_front error (faults s e ++ operands_faults s es) _ (fails_front error (faults s e) (operands_faults s es) h))
 
 -- a literal whose type has no fault
 pub literal_asked : {X : Type 0} (view : X → Known) (r : Result (Option X) ExprError) (s : Scope) (p q : Place) (t : TypeExpr) (es : Elements) (k : Option types.Type') → type_faults s t ≡ [] → fine (type_verdict s t) ≡ k → Answers view r (elements_faults s k 0 es ++ broken p (literal_verdict s k es)) (fine (literal_verdict s k es)) → Answers view r (faults s (composite_lit p t q es)) (fine (verdict s (composite_lit p t q es)))

@@ -1,6 +1,8 @@
 -- What is known of expressions, and of names where they stand.
-use Rattle.std.specs.Prelude.{ℕ, Bool, true, false, List, [], ◌∷◌, ◌++◌, map, Option, Some, None, unwrap_or, bytes_eq, codes}
+use Rattle.std.specs.Prelude.{ℕ, Bool, true, false, List, [], ◌∷◌, ◌++◌, map, if◌then◌else◌, Option, Some, None, unwrap_or, bytes_eq, codes}
 use Rattle.std.specs.Map.{lookup}
+use Rattle.go_text.specs.declared.edition.Edition.{Edition}
+use Rattle.go_text.specs.Editions.{has_slices}
 use Rattle.go_text.specs.declared.fault.FaultKind.{FaultKind}
 use Rattle.go_text.specs.declared.fault.FaultKind.TheVariants.{Undeclared, LeftOut}
 use Rattle.go_const.specs.declared.constant.Const.TheVariants.{Bool as Truth}
@@ -13,13 +15,16 @@ use Rattle.go_types.specs.Types.{Type', basic}
 use Rattle.go_typed.specs.Trees.{Symbol, Expr, Exprs, constant}
 
 -- what a name declares, or an expression is: a value, as its typed expression; a type; a function, by its symbol and the types of its parameters and of
--- its results; or the functions Println of the library, len and panic
+-- its results; or the functions Println of the library, len, cap, make, append and panic
 pub data Declared : Type 0 where
   value : Expr → Declared
   type' : Type' → Declared
   function : Symbol → List Type' → List Type' → Declared
   println : Declared
   length' : Declared
+  capacity' : Declared
+  make' : Declared
+  append' : Declared
   panic' : Declared
 
 -- names of a package, each with what it declares where that is known
@@ -67,9 +72,15 @@ basic_types =
 
 abbrev pub left_out : List (List ℕ)
 left_out =
-    codes "any" ∷ codes "append" ∷ codes "cap" ∷ codes "clear" ∷ codes "close" ∷ codes "comparable" ∷ codes "complex" ∷ codes "complex64" ∷ codes "complex128"
-    ∷ codes "copy" ∷ codes "delete" ∷ codes "error" ∷ codes "float32" ∷ codes "float64" ∷ codes "imag" ∷ codes "make" ∷ codes "max" ∷ codes "min" ∷ codes "new"
+    codes "any" ∷ codes "clear" ∷ codes "close" ∷ codes "comparable" ∷ codes "complex" ∷ codes "complex64" ∷ codes "complex128"
+    ∷ codes "copy" ∷ codes "delete" ∷ codes "error" ∷ codes "float32" ∷ codes "float64" ∷ codes "imag" ∷ codes "max" ∷ codes "min" ∷ codes "new"
     ∷ codes "nil" ∷ codes "print" ∷ codes "println" ∷ codes "real" ∷ codes "recover" ∷ codes "uintptr" ∷ []
+
+-- with slices come functions on them
+abbrev pub slice_functions : Edition → List (List ℕ × Verdict Known)
+slice_functions e =
+    let found : Declared → Verdict Known = λ d. if has_slices e then Fine (declared d) else Breaks LeftOut in
+    (codes "append", found append') ∷ (codes "cap", found capacity') ∷ (codes "make", found make') ∷ []
 
 abbrev pub truth : Bool → Verdict Known
 truth b = Fine (declared (value (constant (basic (basics.Untyped kinds.Bool)) (Truth b))))
@@ -77,5 +88,5 @@ truth b = Fine (declared (value (constant (basic (basics.Untyped kinds.Bool)) (T
 abbrev pub others : List (List ℕ × Verdict Known)
 others = (codes "true", truth true) ∷ (codes "false", truth false) ∷ (codes "len", Fine (declared length')) ∷ (codes "panic", Fine (declared panic')) ∷ []
 
-unfoldable pub universe : List (List ℕ × Verdict Known)
-universe = map (λ t. (t.0, Fine (declared (type' (basic t.1))))) basic_types ++ map (λ x. (x, Breaks LeftOut)) left_out ++ others
+unfoldable pub universe : Edition → List (List ℕ × Verdict Known)
+universe e = map (λ t. (t.0, Fine (declared (type' (basic t.1))))) basic_types ++ map (λ x. (x, Breaks LeftOut)) left_out ++ slice_functions e ++ others

@@ -31,15 +31,15 @@ use Rattle.go_const.specs.declared.operator.ShiftOperator.TheVariants.{Left, Rig
 use Rattle.go_const.specs.Constants as constants
 use Rattle.go_types.specs.declared.types.Basic.TheVariants as basics
 use Rattle.go_types.specs.declared.types.Untyped.TheVariants as kinds
-use Rattle.go_types.specs.Types.{Type', basic, array, struct, Fields, no_fields, field}
+use Rattle.go_types.specs.Types.{Type', basic, array, slice, struct, Fields, no_fields, field}
 pub use Rattle.go_types.specs.Names.{is_exported}
-use Rattle.go_types.specs.Relations.{underlying, identical, assignable, convertible}
+use Rattle.go_types.specs.Relations.{underlying, identical, is_comparable, assignable, convertible}
 use Rattle.go_types.specs.Sizes.{cells, nodes}
 pub use Rattle.go_scope.specs.Index.{differ}
 use Rattle.go_typed.specs.declared.expression.Operator.TheVariants as nodes
 use Rattle.go_typed.specs.Trees as typed
 use Rattle.go_typed.specs.Trees.{Symbol, Expr, Exprs, Parts, constant, expr_type, pack_exprs, pack_parts}
-use Rattle.go_expr.specs.Known.{value, type', function, println, length', panic', Names, Known, declared, package', results, printed, panicked, Verdict, Fine, Breaks, Passed, named}
+use Rattle.go_expr.specs.Known.{value, type', function, println, length', capacity', make', append', panic', Names, Known, declared, package', results, printed, panicked, Verdict, Fine, Breaks, Passed, named}
 
 -- ---- what rules say
 
@@ -143,6 +143,13 @@ array_of size of = elim (constant_in size) [
   | Some (Integer (negsuc n)) ↦ Breaks Range
   | _ ↦ Breaks Mismatch
 ]
+
+-- https://go.dev/ref/spec#Slice_types
+abbrev pub slice_of : Type' → Verdict Type'
+slice_of of = if is_small (slice of) then Fine (slice of) else Breaks Size
+
+abbrev pub slice_element : Type' → Option Type'
+slice_element t = elim (underlying t) [ slice of ↦ Some of | _ ↦ None ]
 
 -- fields as a list: the path of the package where the name isn't exported, the name, and the type
 abbrev pub FieldList : Type 0
@@ -300,8 +307,15 @@ struct_parts path fs es = each_unless (struct_faults path fs es) (parts_by (stru
 abbrev pub parts_of : List ℕ → Type' → ElementList → Verdict (List (ℕ × Expr))
 parts_of path t es = elim (underlying t) [ array n of ↦ array_parts n of es | struct fs ↦ struct_parts path (listed fs) es | _ ↦ Breaks Mismatch ]
 
+-- no element has a key
+abbrev pub slice_parts : Type' → ElementList → Verdict (List Expr)
+slice_parts of es = each_unless (when (any_keyed es) LeftOut) (map (λ e. assigned of e.1) es)
+
 abbrev pub literal_of : List ℕ → Type' → ElementList → Verdict Expr
-literal_of path t es = checked (λ parts. Fine (typed.literal t (pack_parts parts))) (parts_of path t es)
+literal_of path t es = elim (slice_element t) [
+  | Some of ↦ checked (λ xs. Fine (typed.append t typed.absent (pack_exprs xs))) (slice_parts of es)
+  | None ↦ checked (λ parts. Fine (typed.literal t (pack_parts parts))) (parts_of path t es)
+]
 
 -- what is due of an element that leaves out its type: it takes this one; it has to write it, though its own elements are those of its field, if it is for
 -- one; or nothing is due, since the literal around it isn't known or has no elements
@@ -313,7 +327,12 @@ pub data Due : Type 0 where
 -- by the type of the literal around it, its number, and its key
 abbrev pub element_due : Option Type' → ℕ → Option (List ℕ) → Due
 element_due None n key = nothing
-element_due (Some t) n key = elim (underlying t) [ array m of ↦ taken of | struct fs ↦ written (option_map (λ p. p.1) (field_slot (listed fs) n key)) | _ ↦ nothing ]
+element_due (Some t) n key = elim (underlying t) [
+  | array m of ↦ taken of
+  | slice of ↦ taken of
+  | struct fs ↦ written (option_map (λ p. p.1) (field_slot (listed fs) n key))
+  | _ ↦ nothing
+]
 
 -- the type that its own elements are of
 abbrev pub due_type : Due → Option Type'
@@ -349,7 +368,7 @@ exported_by x k = elim k [ package' names ↦ exported x names | _ ↦ Breaks Mi
 -- https://go.dev/ref/spec#Index_expressions
 -- a byte of a string, and an element of an array, and how many there are where that is known
 abbrev pub indexed_type : Type' → Option Type'
-indexed_type t = elim (underlying t) [ array n of ↦ Some of | _ ↦ if is_string t then Some (basic (basics.Integer integers.Uint8)) else None ]
+indexed_type t = elim (underlying t) [ array n of ↦ Some of | slice of ↦ Some of | _ ↦ if is_string t then Some (basic (basics.Integer integers.Uint8)) else None ]
 
 abbrev pub known_length : Expr → Option ℕ
 known_length e = elim (constant_in e) [ Some (Text bytes) ↦ Some (length bytes) | _ ↦ elim (underlying (expr_type e)) [ array n of ↦ Some n | _ ↦ None ] ]
@@ -364,6 +383,68 @@ index_of e i = elim (indexed_type (expr_type e)) [
   | None ↦ Breaks Mismatch
   | Some t ↦ if not (is_integer (expr_type i)) then Breaks Mismatch
       else checked (λ i. if is_within (known_length e) (constant_in i) then Fine (typed.index t (settled e) i) else Breaks Index) (defaulted i)
+]
+
+-- https://go.dev/ref/spec#Simple_slice_expressions
+-- a constant bound is an int from 0 on, and not above that many
+abbrev pub is_bound : Option ℕ → Option Const → Bool
+is_bound n (Some (Integer (negsuc i))) = false
+is_bound n (Some (Integer (pos i))) = constants.fits (Some integers.Int) (pos i) && (elim n [ None ↦ true | Some n ↦ nat_le i n ])
+is_bound n c = true
+
+-- what counts elements is an int, unless it has a type
+abbrev pub as_count : Expr → Expr
+as_count e = if is_untyped (expr_type e) then as_type int e else e
+
+abbrev pub bound_of : Option ℕ → Expr → Verdict Expr
+bound_of n e = if not (is_integer (expr_type e)) then Breaks Mismatch else (if is_bound n (constant_in e) then Fine (as_count e) else Breaks Index)
+
+-- of two constants the first isn't above the other
+abbrev pub are_ordered : Option Const → Option Const → Bool
+are_ordered (Some (Integer (pos i))) (Some (Integer (pos j))) = nat_le i j
+are_ordered c d = true
+
+abbrev pub cut_to : Expr → List Expr → Verdict Expr
+cut_to e bounds = elim bounds [
+  | a ∷ [] ↦ Fine (typed.cut (default_type (expr_type e)) (settled e) a typed.absent)
+  | a ∷ b ∷ [] ↦ if are_ordered (constant_in a) (constant_in b) then Fine (typed.cut (default_type (expr_type e)) (settled e) a (typed.present b)) else Breaks Index
+  | _ ↦ Passed
+]
+
+-- the bounds that are given, of which the first may be left out for 0, and the other for the length
+abbrev pub given_bounds : Option Expr → Option Expr → List Expr
+given_bounds a None = unwrap_or a (constant int (Integer (pos 0))) ∷ []
+given_bounds a (Some b) = unwrap_or a (constant int (Integer (pos 0))) ∷ b ∷ []
+
+abbrev pub cut_of : Expr → Option Expr → Option Expr → Verdict Expr
+cut_of e a b =
+    if not (is_some (slice_element (expr_type e)) || is_string (expr_type e)) then Breaks Mismatch
+    else checked (cut_to e) (each_unless [] (map (bound_of (known_length e)) (given_bounds a b)))
+
+-- https://go.dev/ref/spec#Making_slices_maps_and_channels
+-- a constant size is an int from 0 on
+abbrev pub size_of : Expr → Verdict Expr
+size_of e = if not (is_integer (expr_type e)) then Breaks Mismatch else (if is_bound None (constant_in e) then Fine (as_count e) else Breaks Range)
+
+abbrev pub made_of : Type' → List Expr → Verdict Expr
+made_of t sizes = elim sizes [ n ∷ [] ↦ Fine (typed.make t n typed.absent) | n ∷ c ∷ [] ↦ Fine (typed.make t n (typed.present c)) | _ ↦ Passed ]
+
+abbrev pub sizes_faults : List Expr → List FaultKind
+sizes_faults xs = elim xs [ n ∷ [] ↦ [] | n ∷ c ∷ [] ↦ when (not (are_ordered (constant_in n) (constant_in c))) Index | _ ↦ Count ∷ [] ]
+
+abbrev pub made : Type' → List Expr → Verdict Expr
+made t xs = checked (made_of t) (each_unless (when (not (is_some (slice_element t))) Mismatch ++ sizes_faults xs) (map size_of xs))
+
+-- of what can't be a type nothing is made
+abbrev pub unmade : Known → List Expr → Verdict Expr
+unmade k xs = Breaks Mismatch
+
+-- https://go.dev/ref/spec#Appending_and_copying_slices
+abbrev pub appended : List Expr → Verdict Expr
+appended [] = Breaks Count
+appended (s ∷ xs) = elim (slice_element (expr_type s)) [
+  | None ↦ Breaks Mismatch
+  | Some of ↦ checked (λ ys. Fine (typed.append (expr_type s) (typed.present s) (pack_exprs ys))) (each_unless [] (map (assigned of) xs))
 ]
 
 -- https://go.dev/ref/spec#Conversions
@@ -383,6 +464,11 @@ abbrev mutual
   holds_call (typed.field t e n) = holds_call e
   holds_call (typed.index t e i) = holds_call e || holds_call i
   holds_call (typed.length t e) = true
+  holds_call (typed.capacity t e) = true
+  holds_call (typed.cut t e low high) = holds_call e || (holds_call low || perhaps_holds_call high)
+  holds_call (typed.make t e o) = true
+  holds_call (typed.append t typed.absent es) = some_hold_call es
+  holds_call (typed.append t o es) = true
   holds_call (typed.unary t op e) = holds_call e
   holds_call (typed.binary t op a b) = holds_call a || holds_call b
   holds_call (typed.both t a b) = holds_call a || holds_call b
@@ -391,6 +477,14 @@ abbrev mutual
   holds_call (typed.literal t parts) = part_holds_call parts
   holds_call (typed.call t s es) = true
 
+  pub perhaps_holds_call : typed.Perhaps → Bool
+  perhaps_holds_call typed.absent = false
+  perhaps_holds_call (typed.present e) = holds_call e
+
+  pub some_hold_call : Exprs → Bool
+  some_hold_call typed.no_exprs = false
+  some_hold_call (typed.some_exprs e es) = holds_call e || some_hold_call es
+
   pub part_holds_call : Parts → Bool
   part_holds_call typed.no_parts = false
   part_holds_call (typed.part n e parts) = holds_call e || part_holds_call parts
@@ -398,11 +492,15 @@ abbrev mutual
 abbrev pub length_in : Expr → Verdict Expr
 length_in e = elim (underlying (expr_type e)) [
   | array n of ↦ if holds_call e then Breaks Mismatch else Fine (constant int (Integer (pos n)))
+  | slice of ↦ Fine (typed.length int e)
   | _ ↦ if is_string (expr_type e) then Fine (typed.length int e) else Breaks Mismatch
 ]
 
 abbrev pub length_of : Expr → Verdict Expr
 length_of e = elim (constant_in e) [ Some (Text bytes) ↦ Fine (constant int (Integer (pos (length bytes)))) | _ ↦ length_in e ]
+
+abbrev pub capacity_of : Expr → Verdict Expr
+capacity_of e = elim (underlying (expr_type e)) [ array n of ↦ length_in e | slice of ↦ Fine (typed.capacity int e) | _ ↦ Breaks Mismatch ]
 
 -- https://go.dev/ref/spec#Calls
 abbrev pub one : List Expr → Verdict Expr
@@ -422,6 +520,8 @@ called (declared (function s ts rs)) xs =
     if nat_eq (length ts) (length xs) then checked (λ ys. Fine (function_call s rs ys)) (each_unless [] (map (λ k. assigned k.0 k.1) (zip ts xs))) else Breaks Count
 called (declared println) xs = checked (λ ys. Fine (printed (pack_exprs ys))) (each_unless [] (map printable xs))
 called (declared length') xs = valued (checked length_of (one xs))
+called (declared capacity') xs = valued (checked capacity_of (one xs))
+called (declared append') xs = valued (appended xs)
 called (declared panic') xs = checked (λ y. Fine (panicked y)) (checked (assigned string) (one xs))
 called _ xs = Breaks Mismatch
 
@@ -437,7 +537,7 @@ common t u = if takes u t then Some t else (if takes t u then Some u else None)
 
 abbrev pub is_defined : BinaryOperator → Type' → Bool
 is_defined (Arithmetic operator) t = is_integer t || (elim operator [ Add ↦ is_string t | _ ↦ false ])
-is_defined (Comparison operator) t = is_integer t || is_string t || (elim operator [ Equal ↦ true | NotEqual ↦ true | _ ↦ false ])
+is_defined (Comparison operator) t = is_integer t || is_string t || (elim operator [ Equal ↦ is_comparable t | NotEqual ↦ is_comparable t | _ ↦ false ])
 is_defined LogicalAnd t = is_bool t
 is_defined LogicalOr t = is_bool t
 

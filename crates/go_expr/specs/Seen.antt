@@ -4,6 +4,7 @@ use Rattle.indexmap.specs.IndexMap.{IndexMap}
 use Rattle.std.specs.Global.{Global}
 use Rattle.std.specs.List.{filter_map, flat_map}
 use Rattle.std.specs.Option.{option_map}
+use Rattle.go_text.specs.declared.edition.Edition.{Edition}
 use Rattle.go_text.specs.declared.fault.FaultKind.{FaultKind}
 use Rattle.go_text.specs.declared.place.Place.{Place}
 use Rattle.go_ast.specs.declared.expression.Element.{Element as ElementExpr}
@@ -57,6 +58,9 @@ declared_of (declarations.Type t) = known.type' (type_of t)
 declared_of (declarations.Function f) = function_of f.value
 declared_of declarations.Println = known.println
 declared_of declarations.Length = known.length'
+declared_of declarations.Capacity = known.capacity'
+declared_of declarations.Make = known.make'
+declared_of declarations.Append = known.append'
 declared_of declarations.Panic = known.panic'
 
 abbrev pub names_of : {A S : Type 0} → IndexMap (String A) (Option declared.Declared) S → known.Names
@@ -68,6 +72,9 @@ known_of (variants.Type t) = known.declared (known.type' (type_of t))
 known_of (variants.Function f) = known.declared (function_of f.value)
 known_of variants.Println = known.declared known.println
 known_of variants.Length = known.declared known.length'
+known_of variants.Capacity = known.declared known.capacity'
+known_of variants.Make = known.declared known.make'
+known_of variants.Append = known.declared known.append'
 known_of variants.Panic = known.declared known.panic'
 known_of (variants.Package names) = known.package' (names_of names.now)
 known_of (variants.Results ts s es) = known.results (map type_of ts.items) s (exprs_in es.items)
@@ -91,15 +98,15 @@ package_names names = map (λ n. (n.0, known.named n.1)) (names_of names)
 abbrev pub locals_of : Env (Option declared.Declared) → List (List ℕ × Verdict known.Known)
 locals_of env = map (λ e. (e.0, known.named (option_map declared_of e.1))) (flat_map (λ block. block) (env.inner ∷ env.outer))
 
-unfoldable pub names_in : {A S : Type 0} → List imports.Import → IndexMap (String A) (Option declared.Declared) S → Option ℕ → List (List ℕ × Verdict known.Known)
-names_in imports names iota = map import_of imports ++ (package_names names ++ (iota_of iota ++ known.universe))
+unfoldable pub names_in : {A S : Type 0} → Edition → List imports.Import → IndexMap (String A) (Option declared.Declared) S → Option ℕ → List (List ℕ × Verdict known.Known)
+names_in edition imports names iota = map import_of imports ++ (package_names names ++ (iota_of iota ++ known.universe edition))
 
 abbrev pub local_names : Option (Env (Option declared.Declared)) → List (List ℕ × Verdict known.Known)
 local_names None = []
 local_names (Some env) = locals_of env
 
 unfoldable pub scope_of : scopes.Scope → known.Scope
-scope_of s = record { path = s.path.now; names = local_names (option_map (λ e. e.now) s.locals) ++ names_in s.imports.now s.declared.now s.iota }
+scope_of s = record { path = s.path.now; names = local_names (option_map (λ e. e.now) s.locals) ++ names_in s.edition s.imports.now s.declared.now s.iota }
 
 -- each of some values
 abbrev pub all_of : {X Y : Type 0} → (X → Y) → Vec X Global → List Y

@@ -1,16 +1,17 @@
 -- What the rules say of each node, and the faults of nodes in their order: a node behind its parts, from left to right.
-use Rattle.std.specs.Prelude.{ℕ, suc, ◌++◌, pos, bytes_eq, List, [], ◌∷◌, map, codes, Option, Some, None, option_map, unwrap_or}
+use Rattle.std.specs.Prelude.{ℕ, suc, ◌++◌, pos, Bool, true, false, if◌then◌else◌, bytes_eq, List, [], ◌∷◌, map, codes, Option, Some, None, option_map, unwrap_or}
 use Rattle.std.specs.List.{find}
 use Rattle.go_text.specs.declared.place.Place.{Place}
 use Rattle.go_text.specs.declared.fault.FaultKind.{FaultKind}
-use Rattle.go_ast.specs.Trees.{Name, TypeExpr, named, qualified, array, struct, Fields, no_fields, field, Expr, name, integer, rune, string, parenthesized, composite_lit, conversion, selector, index, call, unary, binary, Exprs, no_exprs, some_exprs, Elements, no_elements, element, Element, expression_element, value_element, place_of}
+use Rattle.go_text.specs.declared.fault.FaultKind.TheVariants.{Count}
+use Rattle.go_ast.specs.Trees.{Name, TypeExpr, named, qualified, array, slice, struct, Fields, no_fields, field, Expr, name, integer, rune, string, parenthesized, composite_lit, conversion, selector, index, cut, Bound, no_bound, bound, call, type_operand, unary, binary, Exprs, no_exprs, some_exprs, Elements, no_elements, element, Element, expression_element, value_element, place_of}
 use Rattle.go_const.specs.declared.constant.Const.TheVariants.{Integer, Text}
 use Rattle.go_types.specs.declared.types.Basic.TheVariants as basics
 use Rattle.go_types.specs.declared.types.Untyped.TheVariants as kinds
 use Rattle.go_types.specs.Types.{Type', basic}
 use Rattle.go_typed.specs.Trees.{Expr as Typed, constant}
-use Rattle.go_expr.specs.Known.{Known, Verdict, Fine, Breaks, Passed, Scope, look_up}
-use Rattle.go_expr.specs.Rules.{fine, valued, type_due, array_of, FieldList, declared_field, struct_of, value_due, unpackaged, selectable, callable, literal, ElementList, literal_of, Due, element_due, due_type, untyped_literal, selected, exported_by, index_of, binary_of, unary_of, converted, called}
+use Rattle.go_expr.specs.Known.{type', make', declared, Known, Verdict, Fine, Breaks, Passed, Scope, look_up}
+use Rattle.go_expr.specs.Rules.{fine, checked, valued, type_due, array_of, slice_of, FieldList, declared_field, struct_of, value_due, unpackaged, selectable, callable, literal, ElementList, literal_of, Due, element_due, due_type, untyped_literal, selected, exported_by, index_of, cut_of, made, unmade, binary_of, unary_of, converted, called}
 
 -- a rule over parts, which is asked where they are fine
 abbrev pub asked : {A B : Type 0} → (A → Verdict B) → Option A → Verdict B
@@ -49,6 +50,22 @@ callee v = asked callable (fine v)
 abbrev pub key_text : Option Name → Option (List ℕ)
 key_text key = option_map (λ (n : Name). n.text) key
 
+-- the function that is called takes a type in front of its operands
+abbrev pub is_make : Option Known → Bool
+is_make o = elim o [ Some (declared make') ↦ true | _ ↦ false ]
+
+abbrev pub is_package_name : Expr → Bool
+is_package_name (name p x) = true
+is_package_name e = false
+
+-- a type, or a name of one, or one of a package
+abbrev pub is_name : Expr → Bool
+is_name (name p x) = true
+is_name (selector p e x) = is_package_name e
+is_name (parenthesized p e) = is_name e
+is_name (type_operand p t) = true
+is_name e = false
+
 -- what expressions and types are
 abbrev mutual
   pub verdict : Scope → Expr → Verdict Known
@@ -62,9 +79,25 @@ abbrev mutual
   verdict s (selector p e x) = asked (selected s.path x.text) (fine (subject (verdict s e)))
   verdict s (index p e i) = valued (asked_both index_of (operand (verdict s e)) (operand (verdict s i)))
   verdict s (conversion p t e) = valued (asked_both converted (fine (type_verdict s t)) (operand (verdict s e)))
-  verdict s (call p f es) = asked_both called (fine (callee (verdict s f))) (operands s es)
+  verdict s (cut p e a b) =
+      valued (asked_both (λ e bounds. cut_of e bounds.0 bounds.1) (operand (verdict s e)) (both (bound_known s a) (bound_known s b)))
+  verdict s (call p f es) =
+      if is_make (fine (callee (verdict s f))) then valued (made_verdict s es) else asked_both called (fine (callee (verdict s f))) (operands s es)
+  verdict s (type_operand p t) = checked (λ t. Fine (declared (type' t))) (type_verdict s t)
   verdict s (unary p op e) = valued (asked (unary_of op) (operand (verdict s e)))
   verdict s (binary p op a b) = valued (asked_both (binary_of op) (operand (verdict s a)) (operand (verdict s b)))
+
+  -- one that is left out is known
+  pub bound_known : Scope → Bound → Option (Option Typed)
+  bound_known s no_bound = Some None
+  bound_known s (bound e) = option_map Some (operand (verdict s e))
+
+  -- the type that is made; what can't be one breaks the rule of the call
+  pub made_verdict : Scope → Exprs → Verdict Typed
+  made_verdict s no_exprs = Breaks Count
+  made_verdict s (some_exprs e es) =
+      if is_name e then asked_both made (fine (asked type_due (fine (verdict s e)))) (operands s es)
+      else asked_both unmade (fine (verdict s e)) (operands s es)
 
   pub operands : Scope → Exprs → Option (List Typed)
   operands s no_exprs = Some []
@@ -84,11 +117,16 @@ abbrev mutual
   type_verdict s (named p x) = asked type_due (fine (look_up x.text s.names))
   type_verdict s (qualified p m n) = asked type_due (fine (qualified_known s m n))
   type_verdict s (array p e t) = asked_both array_of (operand (verdict s e)) (fine (type_verdict s t))
+  type_verdict s (slice p t) = asked slice_of (fine (type_verdict s t))
   type_verdict s (struct p fs) = asked struct_of (fields_known s fs)
 
   pub fields_known : Scope → Fields → Option FieldList
   fields_known s no_fields = Some []
   fields_known s (field names t fs) = joined (option_map (λ k. map (declared_field s.path k) names) (fine (type_verdict s t))) (fields_known s fs)
+
+-- a call of what is known
+abbrev pub call_verdict : Scope → Option Known → Exprs → Verdict Known
+call_verdict s o es = if is_make o then valued (made_verdict s es) else asked_both called o (operands s es)
 
 -- the fault of a node at a place, if it breaks a rule
 abbrev pub broken : {A : Type 0} → Place → Verdict A → List (Place × FaultKind)
@@ -122,11 +160,26 @@ abbrev mutual
   faults s (index p e i) =
       faults s e ++ operand_broken e (verdict s e) ++ faults s i ++ operand_broken i (verdict s i) ++ broken p (verdict s (index p e i))
   faults s (conversion p t e) = type_faults s t ++ faults s e ++ operand_broken e (verdict s e) ++ broken p (verdict s (conversion p t e))
-  faults s (call p f es) = faults s f ++ part_broken f (callee (verdict s f)) ++ operands_faults s es ++ broken p (verdict s (call p f es))
+  faults s (cut p e a b) =
+      faults s e ++ operand_broken e (verdict s e) ++ bound_faults s a ++ bound_faults s b ++ broken p (verdict s (cut p e a b))
+  faults s (call p f es) =
+      faults s f ++ part_broken f (callee (verdict s f))
+      ++ (if is_make (fine (callee (verdict s f))) then made_faults s es else operands_faults s es) ++ broken p (verdict s (call p f es))
+  faults s (type_operand p t) = type_faults s t
   faults s (unary p op e) = faults s e ++ operand_broken e (verdict s e) ++ broken p (verdict s (unary p op e))
   faults s (binary p op a b) =
       faults s a ++ operand_broken a (verdict s a) ++ faults s b ++ operand_broken b (verdict s b) ++ broken p (verdict s (binary p op a b))
   faults s e = broken (place_of e) (verdict s e)
+
+  pub bound_faults : Scope → Bound → List (Place × FaultKind)
+  bound_faults s no_bound = []
+  bound_faults s (bound e) = faults s e ++ operand_broken e (verdict s e)
+
+  -- a name that is due to be a type
+  pub made_faults : Scope → Exprs → List (Place × FaultKind)
+  made_faults s no_exprs = []
+  made_faults s (some_exprs e es) =
+      faults s e ++ (if is_name e then part_broken e (asked type_due (fine (verdict s e))) else []) ++ operands_faults s es
 
   pub operands_faults : Scope → Exprs → List (Place × FaultKind)
   operands_faults s no_exprs = []
@@ -145,8 +198,13 @@ abbrev mutual
   type_faults s (named p x) = broken p (look_up x.text s.names) ++ broken p (type_verdict s (named p x))
   type_faults s (qualified p m n) = broken p (look_up m.text s.names) ++ broken p (qualified_known s m n) ++ broken p (type_verdict s (qualified p m n))
   type_faults s (array p e t) = faults s e ++ operand_broken e (verdict s e) ++ type_faults s t ++ broken p (type_verdict s (array p e t))
+  type_faults s (slice p t) = type_faults s t ++ broken p (type_verdict s (slice p t))
   type_faults s (struct p fs) = fields_faults s fs ++ broken (struct_place p fs) (type_verdict s (struct p fs))
 
   pub fields_faults : Scope → Fields → List (Place × FaultKind)
   fields_faults s no_fields = []
   fields_faults s (field names t fs) = type_faults s t ++ fields_faults s fs
+
+-- those of the operands of a call of what is known
+abbrev pub call_faults : Scope → Option Known → Exprs → List (Place × FaultKind)
+call_faults s o es = if is_make o then made_faults s es else operands_faults s es

@@ -5,7 +5,7 @@ ghost use Rattle.std.specs.Option.{option_map};
 ghost use Rattle.go_types.specs.Views.{type_of};
 ghost use Rattle.go_typed.specs.Views.{expr_of};
 ghost use Rattle.go_expr.specs.Known as known;
-ghost use Rattle.go_expr.specs.Rules.{assigned, conversion_to, converted, each_unless, function_call, length_in, length_of, one, printable, called, valued};
+ghost use Rattle.go_expr.specs.Rules.{assigned, conversion_to, converted, each_unless, function_call, length_in, length_of, capacity_of, one, printable, called, valued};
 ghost use Rattle.go_expr.specs.Verdicts.{asked_both};
 ghost use Rattle.go_expr.specs.Seen.{known_of, function_of, all_of, AnswersAt, Gives};
 
@@ -13,8 +13,9 @@ use crate::error::{ExprError, RuleError};
 use crate::evaluation::holds_call;
 use crate::gather::Gathered;
 use crate::known::{Function, Known};
-use crate::node::{call, constant, constant_in, conversion, length, type_in};
+use crate::node::{call, capacity, constant, constant_in, conversion, length, type_in};
 use crate::selector::value_at;
+use crate::slice::{append_called, slice_element};
 use crate::value::{
     assigned, defaulted, int, is_bool, is_integer, is_string, lies_in, string, take_constant,
 };
@@ -69,7 +70,7 @@ pub(crate) fn conversion_at<'a>(
     value_at(place, converted(alloc, of, value))
 }
 
-/// The length of a value that isn't constant, or of an array.
+/// The length of a value that isn't constant, or of an array or a slice.
 fn length_in(alloc: Global, value: TypedExpr) -> Result<TypedExpr, RuleError>
     ensures { Gives expr_of result (length_in (expr_of value)) }
 {
@@ -79,13 +80,13 @@ fn length_in(alloc: Global, value: TypedExpr) -> Result<TypedExpr, RuleError>
         }
         return Ok(constant(int(), Const::Integer(i128::from(*length))));
     }
-    if !is_string(type_in(&value)) {
+    if slice_element(type_in(&value)).is_none() && !is_string(type_in(&value)) {
         return Err(RuleError::Broken(FaultKind::Mismatch));
     }
     Ok(length(alloc, int(), value)?)
 }
 
-/// The length of a value. `Mismatch` where it is no string and no array, or an array that has to be
+/// The length of a value. `Mismatch` where it is no string, slice or array, or an array that has to be
 /// evaluated, since a call stands in it.
 /// [Length and capacity](https://go.dev/ref/spec#Length_and_capacity)
 fn length_of(alloc: Global, value: TypedExpr) -> Result<TypedExpr, RuleError>
@@ -96,6 +97,20 @@ fn length_of(alloc: Global, value: TypedExpr) -> Result<TypedExpr, RuleError>
         return Ok(constant(int(), Const::Integer(length)));
     }
     length_in(alloc, value)
+}
+
+/// The capacity of a value. `Mismatch` where it is no slice and no array, or an array that has to be
+/// evaluated, since a call stands in it.
+fn capacity_of(alloc: Global, value: TypedExpr) -> Result<TypedExpr, RuleError>
+    ensures { Gives expr_of result (capacity_of (expr_of value)) }
+{
+    if let GoType::Array(_, _) = underlying(type_in(&value)) {
+        return length_in(alloc, value);
+    }
+    if slice_element(type_in(&value)).is_none() {
+        return Err(RuleError::Broken(FaultKind::Mismatch));
+    }
+    Ok(capacity(alloc, int(), value)?)
 }
 
 /// The one of some arguments. `Count` where they aren't one.
@@ -214,6 +229,14 @@ fn length_called<'a>(alloc: Global, arguments: Vec<TypedExpr>) -> Result<Known<'
     Ok(Known::Value(length_of(alloc, value)?))
 }
 
+/// The capacity of arguments. `Count` where they aren't one.
+fn capacity_called<'a>(alloc: Global, arguments: Vec<TypedExpr>) -> Result<Known<'a>, RuleError>
+    ensures { Gives known_of result (called (known.declared known.capacity') (map expr_of arguments.items)) }
+{
+    let value = one(arguments)?;
+    Ok(Known::Value(capacity_of(alloc, value)?))
+}
+
 /// A call of panic with arguments. `Count` where they aren't one; else what is wrong with the one as
 /// a string. [Handling panics](https://go.dev/ref/spec#Handling_panics)
 fn panic_called<'a>(alloc: Global, arguments: Vec<TypedExpr>) -> Result<Known<'a>, RuleError>
@@ -236,6 +259,8 @@ fn called<'a>(
         Known::Function(function) => function_called(alloc, &function, arguments),
         Known::Println => Ok(Known::Printed(all_printable(alloc, arguments)?)),
         Known::Length => length_called(alloc, arguments),
+        Known::Capacity => capacity_called(alloc, arguments),
+        Known::Append => append_called(alloc, arguments),
         Known::Panic => panic_called(alloc, arguments),
         _ => Err(RuleError::Broken(FaultKind::Mismatch)),
     }

@@ -8,7 +8,7 @@ ghost use Rattle.go_typed.specs.Trees.{Expr};
 ghost use Rattle.go_typed.specs.Views.{expr_of, part_of};
 ghost use Rattle.go_expr.specs.declared.error.RuleError.TheVariants.{Memory};
 ghost use Rattle.go_expr.specs.Known.{Verdict, Fine};
-ghost use Rattle.go_expr.specs.Rules.{checked, valued, least, differ, keys, key_fault, any_keyed, all_keyed, is_counted, struct_faults, element_part, parts_by, field_slot, struct_slot, each_unless, array_parts, struct_parts, parts_of, literal_of, element_due, due_type, untyped_literal, is_visible};
+ghost use Rattle.go_expr.specs.Rules.{checked, valued, least, differ, keys, key_fault, any_keyed, all_keyed, is_counted, struct_faults, element_part, parts_by, field_slot, struct_slot, each_unless, array_parts, struct_parts, parts_of, slice_parts, literal_of, element_due, due_type, untyped_literal, is_visible};
 ghost use Rattle.go_expr.specs.Verdicts.{asked, asked_both, key_text};
 ghost use Rattle.go_expr.specs.Seen.{known_of, element_of, field_of, fields_seen, slots_of, due_of, all_of, AnswersAt, Gathers, Gives};
 
@@ -16,8 +16,9 @@ use crate::error::{ExprError, RuleError};
 use crate::fields::NamedFields;
 use crate::gather::{Gathered, lesser, when};
 use crate::known::Known;
-use crate::node::{constant, literal};
+use crate::node::{constant, elements as slice_elements, literal};
 use crate::selector::{field_named, is_visible, value_at};
+use crate::slice::slice_element;
 use crate::value::assigned;
 use go_ast::name::Name;
 use go_const::constant::Const;
@@ -308,8 +309,23 @@ fn parts_of(
     }
 }
 
-/// A literal of a type, in the package of a path. `Mismatch` where the type is no struct and no
-/// array. Of an array: `LeftOut` where an element has a key, `Index` where they are too many. Of a
+/// The elements of a slice. `LeftOut` where one has a key.
+fn slice_parts(
+    alloc: Global,
+    of: &GoType,
+    elements: Vec<Element<'_>>,
+) -> Result<Vec<TypedExpr>, RuleError>
+    ensures { Gives (all_of expr_of) result (slice_parts (type_of of.now) (map element_of elements.entry.items)) }
+{
+    let mut all = Gathered::new(alloc, when(any_keyed(&elements), FaultKind::LeftOut));
+    for element in elements {
+        all.add(assigned(alloc, of.copy()?, element.value))?;
+    }
+    all.finish()
+}
+
+/// A literal of a type, in the package of a path. `Mismatch` where the type is no struct, array or
+/// slice. Of an array or a slice: `LeftOut` where an element has a key; of an array `Index` where they are too many. Of a
 /// struct: `Undeclared`, `Unexported` and `Redeclared` of keys, `Count` where not all elements have
 /// one and they aren't one for each field, `Unexported` where one without keys has a field that
 /// isn't seen. Of the elements `Assign` and `Range`.
@@ -321,6 +337,10 @@ pub(crate) fn literal_of(
 ) -> Result<TypedExpr, RuleError>
     ensures { Gives expr_of result (literal_of path.now (type_of of) (map element_of elements.entry.items)) }
 {
+    if let Some(element) = slice_element(&of) {
+        let elements = slice_parts(alloc, element, elements)?;
+        return Ok(slice_elements(of, elements));
+    }
     let parts = parts_of(alloc, path, &of, elements)?;
     Ok(literal(of, parts))
 }
@@ -367,6 +387,7 @@ pub(crate) fn element_due<'a>(of: Option<&'a GoType>, number: usize, key: Option
     };
     match underlying(of) {
         GoType::Array(_, of) => Due::Taken(&of.of),
+        GoType::Slice(of) => Due::Taken(&of.of),
         GoType::Struct(fields) => Due::Written(field_type(&fields.list, number, key)),
         _ => Due::Nothing,
     }

@@ -1,12 +1,12 @@
 //! Operands that have to be evaluated.
 //! [Length and capacity](https://go.dev/ref/spec#Length_and_capacity)
 ghost use Rattle.std.specs.Prelude.{◌≡◌};
-ghost use Rattle.go_typed.specs.Views.{expr_of, parts_in};
-ghost use Rattle.go_expr.specs.Rules.{holds_call, part_holds_call};
+ghost use Rattle.go_typed.specs.Views.{expr_of, exprs_in, parts_in};
+ghost use Rattle.go_expr.specs.Rules.{holds_call, some_hold_call, part_holds_call};
 
 use go_typed::expression::{TypedExpr, TypedExprKind, TypedPart};
 
-/// Whether a call stands in a value, of a function or of len.
+/// Whether a call stands in a value, of a function or of len, cap, make or append.
 #[cycle(evaluation)]
 #[tactic(auto, unfolding(go_typed::specs::Views::expr_of))]
 pub(crate) fn holds_call(value: &TypedExpr) -> bool
@@ -14,7 +14,12 @@ pub(crate) fn holds_call(value: &TypedExpr) -> bool
 {
     match &value.kind {
         TypedExprKind::Constant(_) | TypedExprKind::Local(_) | TypedExprKind::Global(_) => false,
-        TypedExprKind::Length(_) | TypedExprKind::Call(_, _) => true,
+        TypedExprKind::Length(_) | TypedExprKind::Capacity(_) | TypedExprKind::Call(_, _) => true,
+        TypedExprKind::Make(_) | TypedExprKind::MakeWithin(_, _) => true,
+        TypedExprKind::Append(_, _) => true,
+        TypedExprKind::Elements(es) => some_hold_call(es),
+        TypedExprKind::Tail(x, low) => holds_call(x) || holds_call(low),
+        TypedExprKind::Cut(x, low, high) => holds_call(x) || holds_call(low) || holds_call(high),
         TypedExprKind::Field(x, _) => holds_call(x),
         TypedExprKind::Unary(_, x) => holds_call(x),
         TypedExprKind::Conversion(x) => holds_call(x),
@@ -24,6 +29,19 @@ pub(crate) fn holds_call(value: &TypedExpr) -> bool
         TypedExprKind::Either(x, y) => holds_call(x) || holds_call(y),
         TypedExprKind::Literal(parts) => part_holds_call(parts),
     }
+}
+
+/// Whether a call stands in some elements of a slice.
+#[cycle(evaluation)]
+fn some_hold_call(es: &[TypedExpr]) -> bool
+    ensures { result ≡ some_hold_call (exprs_in es.now) }
+{
+    for e in es {
+        if holds_call(e) {
+            return true;
+        }
+    }
+    false
 }
 
 /// Whether a call stands in some parts of a literal.

@@ -1,12 +1,12 @@
 //! The checker of expressions and types.
-ghost use Rattle.std.specs.Prelude.{◌≡◌, ◌++◌, [], ◌∷◌, map, IfOk};
+ghost use Rattle.std.specs.Prelude.{◌≡◌, ◌++◌, [], ◌∷◌, drop, map, IfOk};
 ghost use Rattle.std.specs.Option.{option_map};
 ghost use Rattle.go_ast.specs.Trees.{struct, pack_fields};
-ghost use Rattle.go_ast.specs.Views.{expr_of as expr_tree, exprs_in, value_of as element_tree, type_of as type_tree, field_of as field_tree};
+ghost use Rattle.go_ast.specs.Views.{bound_of, expr_of as expr_tree, exprs_in, value_of as element_tree, type_of as type_tree, field_of as field_tree};
 ghost use Rattle.go_types.specs.Views.{type_of};
 ghost use Rattle.go_typed.specs.Views.{expr_of};
-ghost use Rattle.go_expr.specs.Rules.{fine, called, element_due};
-ghost use Rattle.go_expr.specs.Verdicts.{asked_both, joined, broken, operand, inside, subject, callee, key_text, verdict, operands, elements as elements_known, element_verdict, type_verdict, fields_known, part_broken, operand_broken, faults, operands_faults, elements_faults, element_faults, type_faults, fields_faults};
+ghost use Rattle.go_expr.specs.Rules.{fine, called, made, unmade, type_due, element_due, valued};
+ghost use Rattle.go_expr.specs.Verdicts.{asked, asked_both, joined, broken, operand, inside, subject, callee, key_text, is_make, is_name, verdict, bound_known, call_verdict, made_verdict, operands, elements as elements_known, element_verdict, type_verdict, fields_known, part_broken, operand_broken, faults, bound_faults, call_faults, made_faults, operands_faults, elements_faults, element_faults, type_faults, fields_faults};
 ghost use Rattle.go_expr.specs.Seen.{known_of, element_of, elements_in, literal_verdict, field_of, scope_of, all_of, Answers, Behind};
 
 use crate::call::{call_at, conversion_at};
@@ -18,11 +18,14 @@ use crate::literal::{literal, rune, text_constant};
 use crate::operator::{binary_at, unary_at};
 use crate::scope::Scope;
 use crate::selector::{exported_at, index_at, selected, value_at};
+use crate::slice::{cut_at, made_at, no_type_at, slice_type};
 use crate::type_expr::{array_type, struct_place, struct_type, type_at, with_fields};
 use go_ast::expression::{
-    Element as ElementExpr, ElementValue, Expr, ExprKind, Field as FieldExpr, TypeExpr, TypeKind,
+    Bound, Element as ElementExpr, ElementValue, Expr, ExprKind, Field as FieldExpr, TypeExpr,
+    TypeKind,
 };
 use go_ast::name::Name;
+use go_text::fault::FaultKind;
 use go_text::place::Place;
 use go_typed::expression::TypedExpr;
 use go_types::types::{Field, GoType};
@@ -62,6 +65,16 @@ pub fn check_expr<'a>(
             let operand = check_operand(alloc, scope, operand)?;
             conversion_at(alloc, e.place, of, operand)
         }
+        ExprKind::Cut(operand, low, high) => {
+            let operand = check_operand(alloc, scope, operand)?;
+            let low = check_bound(alloc, scope, low)?;
+            let high = check_bound(alloc, scope, high)?;
+            cut_at(alloc, e.place, operand, low, high)
+        }
+        ExprKind::Type(of) => match check_type(alloc, scope, of)? {
+            Some(of) => Ok(Some(Known::Type(of))),
+            None => Ok(None),
+        },
         ExprKind::Call(callee, arguments) => {
             let callee = check_callee(alloc, scope, callee)?;
             check_call(alloc, scope, e.place, callee, arguments)
@@ -159,6 +172,16 @@ fn with_element<'e>(
     Ok(Some(all))
 }
 
+/// Whether a callee takes a type in front of its operands.
+fn is_make(callee: &Option<Known<'_>>) -> bool
+    ensures { result ≡ is_make (option_map known_of callee.now) }
+{
+    let Some(known) = callee else {
+        return false;
+    };
+    matches!(known, Known::Make)
+}
+
 /// What is known of a call at a place of a callee with some arguments, or the first fault in the
 /// arguments or of the call.
 #[cycle(check)]
@@ -170,10 +193,149 @@ fn check_call<'a>(
     arguments: &[Expr],
 ) -> Result<Option<Known<'a>>, ExprError>
     ensures { let s = scope_of scope.now in let es = exprs_in arguments.now in
+        Behind known_of result (call_faults s (option_map known_of callee.entry) es) place (call_verdict s (option_map known_of callee.entry) es) }
+{
+    if is_make(&callee) {
+        return check_make(alloc, scope, place, arguments);
+    }
+    check_called(alloc, scope, place, callee, arguments)
+}
+
+/// The same of a callee that takes values alone.
+#[cycle(check)]
+fn check_called<'a>(
+    alloc: Global,
+    scope: &Scope<'a>,
+    place: Place,
+    callee: Option<Known<'a>>,
+    arguments: &[Expr],
+) -> Result<Option<Known<'a>>, ExprError>
+    ensures { let s = scope_of scope.now in let es = exprs_in arguments.now in
         Behind known_of result (operands_faults s es) place (asked_both called (option_map known_of callee.entry) (operands s es)) }
 {
     let arguments = check_operands(alloc, scope, arguments)?;
     call_at(alloc, place, callee, arguments)
+}
+
+/// What is known of a call of make at a place with some arguments, or the first fault in these or of
+/// the call.
+#[cycle(check)]
+fn check_make<'a>(
+    alloc: Global,
+    scope: &Scope<'a>,
+    place: Place,
+    arguments: &[Expr],
+) -> Result<Option<Known<'a>>, ExprError>
+    ensures { let s = scope_of scope.now in let es = exprs_in arguments.now in
+        Behind known_of result (made_faults s es) place (valued (made_verdict s es)) }
+{
+    let [first, ..] = arguments else {
+        return Err(ExprError::Faulty(place, FaultKind::Count));
+    };
+    if is_name(first) {
+        let of = check_type_operand(alloc, scope, first)?;
+        return check_sizes(alloc, scope, place, of, arguments);
+    }
+    let known = check_expr(alloc, scope, first)?;
+    check_no_type(alloc, scope, place, known, arguments)
+}
+
+/// What is known of a call of make at a place with a type, where that is known, and the arguments behind
+/// the first, or the first fault in these or of the call.
+#[cycle(check)]
+fn check_sizes<'a>(
+    alloc: Global,
+    scope: &Scope<'a>,
+    place: Place,
+    of: Option<GoType>,
+    arguments: &[Expr],
+) -> Result<Option<Known<'a>>, ExprError>
+    ensures { let s = scope_of scope.now in let es = exprs_in (drop 1 arguments.now) in
+        Behind known_of result (operands_faults s es) place (valued (asked_both made (option_map type_of of) (operands s es))) }
+{
+    let sizes = check_behind(alloc, scope, arguments)?;
+    made_at(alloc, place, of, sizes)
+}
+
+/// The same where the first argument can't be a type.
+#[cycle(check)]
+fn check_no_type<'a>(
+    alloc: Global,
+    scope: &Scope<'a>,
+    place: Place,
+    first: Option<Known<'a>>,
+    arguments: &[Expr],
+) -> Result<Option<Known<'a>>, ExprError>
+    ensures { let s = scope_of scope.now in let es = exprs_in (drop 1 arguments.now) in
+        Behind known_of result (operands_faults s es) place (valued (asked_both unmade (option_map known_of first.entry) (operands s es))) }
+{
+    let sizes = check_behind(alloc, scope, arguments)?;
+    no_type_at(place, first, sizes)
+}
+
+/// The values of the operands behind the first, in their order, where all are known, or the first fault
+/// in them.
+#[cycle(check)]
+fn check_behind(
+    alloc: Global,
+    scope: &Scope<'_>,
+    expressions: &[Expr],
+) -> Result<Option<Vec<TypedExpr>>, ExprError>
+    ensures { let s = scope_of scope.now in let es = exprs_in (drop 1 expressions.now) in
+        Answers (all_of expr_of) result (operands_faults s es) (operands s es) }
+{
+    let mut all = Some(Vec::new(alloc));
+    for i in 1..expressions.len() {
+        let value = check_operand(alloc, scope, &expressions[i])?;
+        all = with_value(all, value)?;
+    }
+    Ok(all)
+}
+
+/// Whether an expression is a type, or a name of one, or one of a package.
+#[tactic(auto, unfolding(go_ast::specs::Views::expr_of, go_ast::specs::Views::type_of))]
+fn is_name(e: &Expr) -> bool
+    ensures { result ≡ is_name (expr_tree e.now) }
+{
+    match &e.kind {
+        ExprKind::Name(_) | ExprKind::Type(_) => true,
+        ExprKind::Selector(operand, _) => matches!(operand.kind, ExprKind::Name(_)),
+        ExprKind::Parenthesized(inside) => is_name(inside),
+        _ => false,
+    }
+}
+
+/// The type that an argument is, or the first fault in it.
+#[cycle(check)]
+fn check_type_operand(
+    alloc: Global,
+    scope: &Scope<'_>,
+    e: &Expr,
+) -> Result<Option<GoType>, ExprError>
+    ensures { let s = scope_of scope.now in let t = asked type_due (fine (verdict s (expr_tree e.now))) in
+        Answers type_of result (faults s (expr_tree e.now) ++ part_broken (expr_tree e.now) t) (fine t) }
+{
+    let known = check_expr(alloc, scope, e)?;
+    type_at(bare_place(e), known)
+}
+
+/// The value of a bound, or the first fault in it; one that is left out is known.
+#[cycle(check)]
+#[tactic(auto, unfolding(go_ast::specs::Views::expr_of))]
+fn check_bound(
+    alloc: Global,
+    scope: &Scope<'_>,
+    bound: &Bound,
+) -> Result<Option<Option<TypedExpr>>, ExprError>
+    ensures { let s = scope_of scope.now in Answers (option_map expr_of) result (bound_faults s (bound_of bound.now)) (bound_known s (bound_of bound.now)) }
+{
+    match bound {
+        Bound::Open => Ok(Some(None)),
+        Bound::At(e) => match check_operand(alloc, scope, e)? {
+            Some(value) => Ok(Some(Some(value))),
+            None => Ok(None),
+        },
+    }
 }
 
 /// What is known of an expression in parentheses, or the first fault in it.
@@ -291,6 +453,10 @@ pub fn check_type(
             let length = check_operand(alloc, scope, length)?;
             let element = check_type(alloc, scope, element)?;
             array_type(alloc, of.place, length, element)
+        }
+        TypeKind::Slice(element) => {
+            let element = check_type(alloc, scope, element)?;
+            slice_type(alloc, of.place, element)
         }
         TypeKind::Struct(fields) => check_struct(alloc, scope, of.place, fields),
     }

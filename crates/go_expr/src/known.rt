@@ -45,6 +45,12 @@ pub enum Declared {
     Println,
     /// The function len.
     Length,
+    /// The function cap.
+    Capacity,
+    /// The function make.
+    Make,
+    /// The function append.
+    Append,
     /// The function panic.
     Panic,
 }
@@ -62,6 +68,9 @@ impl Declared {
             Declared::Function(function) => Declared::Function(Arc::try_clone(function)?),
             Declared::Println => Declared::Println,
             Declared::Length => Declared::Length,
+            Declared::Capacity => Declared::Capacity,
+            Declared::Make => Declared::Make,
+            Declared::Append => Declared::Append,
             Declared::Panic => Declared::Panic,
         })
     }
@@ -78,6 +87,9 @@ impl Declared {
             Declared::Function(function) => Known::Function(Arc::try_clone(function)?),
             Declared::Println => Known::Println,
             Declared::Length => Known::Length,
+            Declared::Capacity => Known::Capacity,
+            Declared::Make => Known::Make,
+            Declared::Append => Known::Append,
             Declared::Panic => Known::Panic,
         })
     }
@@ -109,6 +121,12 @@ pub enum Known<'a> {
     Println,
     /// The function len.
     Length,
+    /// The function cap.
+    Capacity,
+    /// The function make.
+    Make,
+    /// The function append.
+    Append,
     /// The function panic.
     Panic,
     /// An imported package, by the names that it exports.

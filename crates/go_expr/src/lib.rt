@@ -16,6 +16,7 @@ pub mod node;
 pub mod operator;
 pub mod scope;
 pub mod selector;
+pub mod slice;
 mod type_expr;
 mod universe;
 pub mod value;

@@ -79,7 +79,7 @@ pub(crate) fn field(
     Ok(TypedExpr { of, kind })
 }
 
-/// An element of an array, or a byte of a string.
+/// An element of an array or a slice, or a byte of a string.
 #[tactic(auto, using(go_typed::proofs::Rows::index_seen))]
 pub(crate) fn index(
     alloc: Global,
@@ -93,7 +93,7 @@ pub(crate) fn index(
     Ok(TypedExpr { of, kind })
 }
 
-/// The length of a string.
+/// The length of a slice or a string.
 #[tactic(auto, using(go_typed::proofs::Rows::length_seen))]
 pub(crate) fn length(alloc: Global, of: GoType, x: TypedExpr) -> Result<TypedExpr, AllocError>
     ensures { IfOk result (λ e. expr_of e ≡ typed.length (type_of of) (expr_of x)) }
@@ -177,6 +177,93 @@ pub(crate) fn literal(of: GoType, parts: Vec<TypedPart>) -> TypedExpr
         of,
         kind: TypedExprKind::Literal(parts),
     }
+}
+
+/// The capacity of a slice.
+#[tactic(auto, using(go_typed::proofs::Rows::capacity_seen))]
+pub(crate) fn capacity(alloc: Global, of: GoType, x: TypedExpr) -> Result<TypedExpr, AllocError>
+    ensures { IfOk result (λ e. expr_of e ≡ typed.capacity (type_of of) (expr_of x)) }
+{
+    let kind = TypedExprKind::Capacity(Box::new(alloc, x)?);
+    Ok(TypedExpr { of, kind })
+}
+
+/// A part of a slice or a string, from a bound to its end.
+#[tactic(auto, using(go_typed::proofs::Rows::tail_seen))]
+pub(crate) fn tail(
+    alloc: Global,
+    of: GoType,
+    x: TypedExpr,
+    low: TypedExpr,
+) -> Result<TypedExpr, AllocError>
+    ensures { IfOk result (λ e. expr_of e ≡ typed.cut (type_of of) (expr_of x) (expr_of low) typed.absent) }
+{
+    let kind = TypedExprKind::Tail(Box::new(alloc, x)?, Box::new(alloc, low)?);
+    Ok(TypedExpr { of, kind })
+}
+
+/// A part of a slice or a string, from one bound to another.
+#[tactic(auto, using(go_typed::proofs::Rows::cut_seen))]
+pub(crate) fn cut(
+    alloc: Global,
+    of: GoType,
+    x: TypedExpr,
+    low: TypedExpr,
+    high: TypedExpr,
+) -> Result<TypedExpr, AllocError>
+    ensures { IfOk result (λ e. expr_of e ≡ typed.cut (type_of of) (expr_of x) (expr_of low) (typed.present (expr_of high))) }
+{
+    let x = Box::new(alloc, x)?;
+    let kind = TypedExprKind::Cut(x, Box::new(alloc, low)?, Box::new(alloc, high)?);
+    Ok(TypedExpr { of, kind })
+}
+
+/// A slice that is made with a length.
+#[tactic(auto, using(go_typed::proofs::Rows::make_seen))]
+pub(crate) fn make(alloc: Global, of: GoType, length: TypedExpr) -> Result<TypedExpr, AllocError>
+    ensures { IfOk result (λ e. expr_of e ≡ typed.make (type_of of) (expr_of length) typed.absent) }
+{
+    let kind = TypedExprKind::Make(Box::new(alloc, length)?);
+    Ok(TypedExpr { of, kind })
+}
+
+/// A slice that is made with a length and a capacity.
+#[tactic(auto, using(go_typed::proofs::Rows::make_within_seen))]
+pub(crate) fn make_within(
+    alloc: Global,
+    of: GoType,
+    length: TypedExpr,
+    room: TypedExpr,
+) -> Result<TypedExpr, AllocError>
+    ensures { IfOk result (λ e. expr_of e ≡ typed.make (type_of of) (expr_of length) (typed.present (expr_of room))) }
+{
+    let kind = TypedExprKind::MakeWithin(Box::new(alloc, length)?, Box::new(alloc, room)?);
+    Ok(TypedExpr { of, kind })
+}
+
+/// A slice of some elements.
+#[tactic(auto, using(go_typed::proofs::Rows::elements_seen))]
+pub(crate) fn elements(of: GoType, elements: Vec<TypedExpr>) -> TypedExpr
+    ensures { expr_of result ≡ typed.append (type_of of) typed.absent (exprs_in elements.items) }
+{
+    TypedExpr {
+        of,
+        kind: TypedExprKind::Elements(elements),
+    }
+}
+
+/// A slice with elements appended.
+#[tactic(auto, using(go_typed::proofs::Rows::append_seen))]
+pub(crate) fn append(
+    alloc: Global,
+    of: GoType,
+    slice: TypedExpr,
+    elements: Vec<TypedExpr>,
+) -> Result<TypedExpr, AllocError>
+    ensures { IfOk result (λ e. expr_of e ≡ typed.append (type_of of) (typed.present (expr_of slice)) (exprs_in elements.items)) }
+{
+    let kind = TypedExprKind::Append(Box::new(alloc, slice)?, elements);
+    Ok(TypedExpr { of, kind })
 }
 
 /// A call that has one result.

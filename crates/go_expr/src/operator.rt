@@ -29,7 +29,7 @@ use go_const::unary::unary;
 use go_text::fault::FaultKind;
 use go_text::place::Place;
 use go_typed::expression::{Operator, TypedExpr};
-use go_types::relations::assignable;
+use go_types::relations::{assignable, is_comparable};
 use go_types::types::{Basic, GoType, Untyped};
 use std::alloc::{AllocError, Global};
 
@@ -81,8 +81,9 @@ fn is_defined(operator: BinaryOperator, of: &GoType) -> bool
     match operator {
         BinaryOperator::Arithmetic(ArithmeticOperator::Add) => is_integer(of) || is_string(of),
         BinaryOperator::Arithmetic(_) => is_integer(of),
-        BinaryOperator::Comparison(ComparisonOperator::Equal | ComparisonOperator::NotEqual) =>
-            true,
+        BinaryOperator::Comparison(ComparisonOperator::Equal | ComparisonOperator::NotEqual) => {
+            is_integer(of) || is_string(of) || is_comparable(of)
+        }
         BinaryOperator::Comparison(_) => is_integer(of) || is_string(of),
         BinaryOperator::LogicalAnd | BinaryOperator::LogicalOr => is_bool(of),
     }

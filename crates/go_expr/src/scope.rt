@@ -11,6 +11,7 @@ use crate::node::constant;
 use crate::universe::predeclared;
 use go_const::constant::Const;
 use go_scope::scopes::Scopes;
+use go_text::edition::Edition;
 use go_text::place::Place;
 use go_types::types::{Basic, GoType, Untyped};
 
@@ -28,6 +29,7 @@ pub struct Import<'a> {
 #[derive(Drop)]
 pub struct Scope<'a> {
     path: &'a str,
+    edition: Edition,
     imports: &'a [Import<'a>],
     declared: &'a Names,
     iota: Option<u64>,
@@ -47,19 +49,21 @@ fn imported<'a>(imports: &'a [Import<'a>], name: &str) -> Option<Known<'a>>
 }
 
 impl<'a> Scope<'a> {
-    /// The scope of a file of the package at a path, by what its imports declare and what the
+    /// The scope of a file of an edition of the package at a path, by what its imports declare and what the
     /// package declares; in a group of constants with the value of iota.
     #[tactic(auto, unfolding(crate::specs::Seen::scope_of))]
     pub fn new(
         path: &'a str,
+        edition: Edition,
         imports: &'a [Import<'a>],
         declared: &'a Names,
         iota: Option<u64>,
     ) -> Scope<'a>
-        ensures { scope_of result ≡ record { path = path.now; names = names_in imports.now declared.now iota } }
+        ensures { scope_of result ≡ record { path = path.now; names = names_in edition imports.now declared.now iota } }
     {
         Scope {
             path,
+            edition,
             imports,
             declared,
             iota,
@@ -71,15 +75,17 @@ impl<'a> Scope<'a> {
     #[tactic(auto, unfolding(crate::specs::Seen::scope_of))]
     pub fn in_blocks(
         path: &'a str,
+        edition: Edition,
         imports: &'a [Import<'a>],
         declared: &'a Names,
         iota: Option<u64>,
         locals: &'a Scopes<Option<Declared>>,
     ) -> Scope<'a>
-        ensures { scope_of result ≡ record { path = path.now; names = locals_of locals.now ++ names_in imports.now declared.now iota } }
+        ensures { scope_of result ≡ record { path = path.now; names = locals_of locals.now ++ names_in edition imports.now declared.now iota } }
     {
         Scope {
             path,
+            edition,
             imports,
             declared,
             iota,
@@ -110,11 +116,11 @@ impl<'a> Scope<'a> {
     /// What a name at a place finds that no block declares, or its fault.
     #[tactic(auto, unfolding(crate::specs::Seen::names_in))]
     fn look_up_outside(&self, place: Place, name: &str) -> Result<Option<Known<'a>>, ExprError>
-        ensures { AnswersAt known_of result place (look_up name.now (names_in self.now.imports.now self.now.declared.now self.now.iota)) }
+        ensures { AnswersAt known_of result place (look_up name.now (names_in self.now.edition self.now.imports.now self.now.declared.now self.now.iota)) }
     {
         match imported(self.imports, name) {
             Some(known) => Ok(Some(known)),
-            None => declared_or_other(place, self.declared, self.iota, name),
+            None => declared_or_other(place, self.edition, self.declared, self.iota, name),
         }
     }
 }
@@ -143,15 +149,16 @@ fn number<'a>(number: u64) -> Known<'a>
 /// What a name at a place finds that no import declares, or its fault.
 fn declared_or_other<'a>(
     place: Place,
+    edition: Edition,
     declared: &Names,
     iota: Option<u64>,
     name: &str,
 ) -> Result<Option<Known<'a>>, ExprError>
-    ensures { AnswersAt known_of result place (look_up name.now (package_names declared.now ++ (iota_of iota ++ universe))) }
+    ensures { AnswersAt known_of result place (look_up name.now (package_names declared.now ++ (iota_of iota ++ universe edition))) }
 {
     match declared.get(name) {
         Some(declared) => named(place, declared),
-        None => iota_or_other(place, iota, name),
+        None => iota_or_other(place, edition, iota, name),
     }
 }
 
@@ -159,16 +166,17 @@ fn declared_or_other<'a>(
 /// [Iota](https://go.dev/ref/spec#Iota)
 fn iota_or_other<'a>(
     place: Place,
+    edition: Edition,
     iota: Option<u64>,
     name: &str,
 ) -> Result<Option<Known<'a>>, ExprError>
-    ensures { AnswersAt known_of result place (look_up name.now (iota_of iota ++ universe)) }
+    ensures { AnswersAt known_of result place (look_up name.now (iota_of iota ++ universe edition)) }
 {
     let Some(iota) = iota else {
-        return predeclared(place, name);
+        return predeclared(place, edition, name);
     };
     if name != "iota" {
-        return predeclared(place, name);
+        return predeclared(place, edition, name);
     }
     Ok(Some(number(iota)))
 }

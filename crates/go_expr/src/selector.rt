@@ -103,6 +103,22 @@ fn field_in(alloc: Global, path: &str, name: &str, known: Known<'_>) -> Result<T
     field_of(alloc, path, name, value)
 }
 
+/// What a name at a place selects from what is known.
+fn selected_from<'a>(
+    alloc: Global,
+    place: Place,
+    path: &str,
+    name: &str,
+    known: Known<'a>,
+) -> Result<Option<Known<'a>>, ExprError>
+    ensures { AnswersAt known_of result place (selected path.now name.now (known_of known.entry)) }
+{
+    match known {
+        Known::Package(names) => exported(place, names, name),
+        known => value_at(place, field_in(alloc, path, name, known)),
+    }
+}
+
 /// What a name at a place selects from an operand, where that is known.
 pub(crate) fn selected<'a>(
     alloc: Global,
@@ -115,8 +131,7 @@ pub(crate) fn selected<'a>(
 {
     match operand {
         None => Ok(None),
-        Some(Known::Package(names)) => exported(place, names, name),
-        Some(known) => value_at(place, field_in(alloc, path, name, known)),
+        Some(known) => selected_from(alloc, place, path, name, known),
     }
 }
 
@@ -161,11 +176,14 @@ pub(crate) fn value_at<'a>(
     }
 }
 
-/// The type of what an index selects from values of a type. An `Err` only where memory ran out.
+/// The type of what an index selects from values of a type: of arrays, slices and strings. An `Err` only where memory ran out.
 fn indexed_type(of: &GoType) -> Result<Option<GoType>, AllocError>
     ensures { IfOk result (λ t. option_map type_of t ≡ indexed_type (type_of of.now)) }
 {
     if let GoType::Array(_, element) = underlying(of) {
+        return Ok(Some(element.of.copy()?));
+    }
+    if let GoType::Slice(element) = underlying(of) {
         return Ok(Some(element.of.copy()?));
     }
     if is_string(of) {
@@ -175,7 +193,7 @@ fn indexed_type(of: &GoType) -> Result<Option<GoType>, AllocError>
 }
 
 /// How many bytes or elements a value has, where that is known.
-fn known_length(value: &TypedExpr) -> Option<usize>
+pub(crate) fn known_length(value: &TypedExpr) -> Option<usize>
     ensures { result ≡ known_length (expr_of value.now) }
 {
     if let Some(Const::Text(text)) = constant_in(value) {
@@ -198,7 +216,7 @@ fn is_within(length: Option<usize>, index: Option<&Const>) -> bool
     }
 }
 
-/// What an index selects from a value. `Mismatch` where the value is no array and no string or the
+/// What an index selects from a value. `Mismatch` where the value is no array, slice or string or the
 /// index no integer; `Range` where a constant that has no type is no int; `Index` where a constant
 /// is negative or past the end.
 /// [Index expressions](https://go.dev/ref/spec#Index_expressions)

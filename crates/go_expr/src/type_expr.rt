@@ -51,7 +51,7 @@ pub(crate) fn type_at(place: Place, known: Option<Known<'_>>) -> Result<Option<G
 }
 
 /// Whether a type and its values have no more parts than they may.
-fn is_small(of: &GoType) -> bool
+pub(crate) fn is_small(of: &GoType) -> bool
     ensures { result ≡ is_small (type_of of.now) }
 {
     nodes(of).is_ok() && cells(of).is_ok()

@@ -5,13 +5,14 @@ ghost use Rattle.std.specs.List.{list_any};
 ghost use Rattle.std.specs.Map.{lookup};
 ghost use Rattle.std.specs.Option.{option_map};
 ghost use Rattle.go_text.specs.declared.fault.FaultKind.TheVariants.{LeftOut};
-ghost use Rattle.go_expr.specs.Known.{Fine, Breaks, look_up, basic_types, left_out, truth, others, universe};
+ghost use Rattle.go_expr.specs.Known.{Fine, Breaks, look_up, basic_types, left_out, slice_functions, truth, others, universe};
 ghost use Rattle.go_expr.specs.Seen.{known_of, AnswersAt};
 
 use crate::error::ExprError;
 use crate::known::Known;
 use crate::node::constant;
 use go_const::constant::Const;
+use go_text::edition::Edition;
 use go_text::fault::FaultKind;
 use go_text::place::Place;
 use go_types::types::{Basic, GoType, IntKind, Untyped};
@@ -46,8 +47,6 @@ fn is_left_out(name: &str) -> bool
     matches!(
         name,
         "any"
-            | "append"
-            | "cap"
             | "clear"
             | "close"
             | "comparable"
@@ -60,7 +59,6 @@ fn is_left_out(name: &str) -> bool
             | "float32"
             | "float64"
             | "imag"
-            | "make"
             | "max"
             | "min"
             | "new"
@@ -94,12 +92,31 @@ fn other_named<'a>(name: &str) -> Option<Known<'a>>
     }
 }
 
-/// What a name at a place finds that is no type, or its fault.
-fn left_out_or_other<'a>(place: Place, name: &str) -> Result<Option<Known<'a>>, ExprError>
-    ensures { AnswersAt known_of result place (look_up name.now (map (λ x. (x, Breaks LeftOut)) left_out ++ others)) }
+/// The function on slices of a name.
+fn slice_function<'a>(name: &str) -> Option<Known<'a>>
+    ensures { option_map (λ k. Fine (known_of k)) result ≡ lookup (bytes_eq name.now) (slice_functions Edition.Two) }
 {
-    if is_left_out(name) {
-        return Err(ExprError::Faulty(place, FaultKind::LeftOut));
+    match name {
+        "append" => Some(Known::Append),
+        "cap" => Some(Known::Capacity),
+        "make" => Some(Known::Make),
+        _ => None,
+    }
+}
+
+/// What a name at a place finds that is a function on slices or of values, or its fault.
+fn slice_function_or_other<'a>(
+    place: Place,
+    edition: Edition,
+    name: &str,
+) -> Result<Option<Known<'a>>, ExprError>
+    ensures { AnswersAt known_of result place (look_up name.now (slice_functions edition ++ others)) }
+{
+    if let Some(known) = slice_function(name) {
+        if !edition.has_slices() {
+            return Err(ExprError::Faulty(place, FaultKind::LeftOut));
+        }
+        return Ok(Some(known));
     }
     match other_named(name) {
         Some(known) => Ok(Some(known)),
@@ -107,12 +124,30 @@ fn left_out_or_other<'a>(place: Place, name: &str) -> Result<Option<Known<'a>>, 
     }
 }
 
-/// What a name at a place finds that nothing else declares, or its fault.
-pub(crate) fn predeclared<'a>(place: Place, name: &str) -> Result<Option<Known<'a>>, ExprError>
-    ensures { AnswersAt known_of result place (look_up name.now universe) }
+/// What a name at a place finds that is no type, or its fault.
+fn left_out_or_other<'a>(
+    place: Place,
+    edition: Edition,
+    name: &str,
+) -> Result<Option<Known<'a>>, ExprError>
+    ensures { AnswersAt known_of result place (look_up name.now (map (λ x. (x, Breaks LeftOut)) left_out ++ (slice_functions edition ++ others))) }
+{
+    if is_left_out(name) {
+        return Err(ExprError::Faulty(place, FaultKind::LeftOut));
+    }
+    slice_function_or_other(place, edition, name)
+}
+
+/// What a name at a place finds in an edition that nothing else declares, or its fault.
+pub(crate) fn predeclared<'a>(
+    place: Place,
+    edition: Edition,
+    name: &str,
+) -> Result<Option<Known<'a>>, ExprError>
+    ensures { AnswersAt known_of result place (look_up name.now (universe edition)) }
 {
     match basic_named(name) {
         Some(basic) => Ok(Some(Known::Type(GoType::Basic(basic)))),
-        None => left_out_or_other(place, name),
+        None => left_out_or_other(place, edition, name),
     }
 }

@@ -6,4 +6,5 @@ pub mod Found
 pub mod Listed
 pub mod Made
 pub mod Reversed
+pub mod Sliced
 pub mod Totals

@@ -3,29 +3,30 @@ use Rattle.std.specs.Prelude.{ℕ, zero, suc, ◌+◌, ◌*◌, Bool, true, fals
 use Rattle.std.specs.List.{flat_map}
 use Rattle.go_const.specs.declared.operator.ArithmeticOperator.TheVariants.{Add}
 use Rattle.go_const.specs.declared.operator.ComparisonOperator.TheVariants.{Equal as Is_equal, Less}
-use Rattle.go_types.specs.Types.{Type', basic, array, struct, named, Fields, no_fields, field}
+use Rattle.go_types.specs.Types.{Type', basic, array, slice, struct, named, Fields, no_fields, field}
 use Rattle.go_types.specs.Relations.{underlying}
 use Rattle.go_types.specs.Sizes.{cells}
-use Rattle.go_code.specs.declared.cell.Cell.TheVariants.{Int, Bool as Truth}
+use Rattle.go_code.specs.declared.cell.Cell.TheVariants.{Int, Bool as Truth, Slice}
 use Rattle.go_code.specs.declared.instr.Instr.{Instr}
-use Rattle.go_code.specs.declared.instr.Instr.TheVariants.{Frame as In_frame, Local as On_cells, Global as On_globals, Part as On_part, Operate, Jump as Go_to, Output as To_output, Calls as By_call}
+use Rattle.go_code.specs.declared.instr.Instr.TheVariants.{Frame as In_frame, Local as On_cells, Global as On_globals, Part as On_part, Row as On_rows, Operate, Jump as Go_to, Output as To_output, Calls as By_call}
 use Rattle.go_code.specs.declared.instr.FrameInstr.TheVariants.{Push, Pop, Repeat}
 use Rattle.go_code.specs.declared.instr.AccessInstr.TheVariants.{Load, Store, LoadAt, StoreAt}
-use Rattle.go_code.specs.declared.instr.PartInstr.TheVariants.{Move, Index, Pick, Part}
+use Rattle.go_code.specs.declared.instr.PartInstr.TheVariants.{Move, Index, Reach, Pick, Part}
+use Rattle.go_code.specs.declared.instr.RowInstr.TheVariants.{Make, Get, GetAt, SetAt, Append}
 use Rattle.go_code.specs.declared.instr.JumpInstr.TheVariants.{Jump, JumpIf, JumpIfNot, LoopIf}
 use Rattle.go_code.specs.declared.instr.OutputInstr.TheVariants.{Print, Panic}
 use Rattle.go_code.specs.declared.instr.CallInstr.TheVariants.{Call, Return}
 use Rattle.go_code.specs.declared.operator.Operator.TheVariants.{Compare, Text as On_text}
 use Rattle.go_code.specs.declared.operator.Operator as operators
-use Rattle.go_code.specs.declared.operator.TextOperator.TheVariants.{At, Length}
+use Rattle.go_code.specs.declared.operator.TextOperator.TheVariants.{At}
 use Rattle.go_code.specs.Functions.{Function, Setup}
 use Rattle.go_code.specs.Packages.{PackageVariable, PackageFunction, Object}
 use Rattle.go_typed.specs.declared.expression.Operator.TheVariants.{Arithmetic as arithmetic, Comparison as comparison}
 use Rattle.go_typed.specs.Trees as trees
-use Rattle.go_typed.specs.Trees.{Symbol, Expr, Exprs, no_exprs, some_exprs, Parts, no_parts, part, Steps, here, to_field, to_element, Left, blank, of_local, of_global, Source, each, results, zeros, Initialization, Stmt, Stmts, no_stmts, some_stmts, Clauses, no_clauses, clause, expr_type, Package}
+use Rattle.go_typed.specs.Trees.{Symbol, Expr, Exprs, no_exprs, some_exprs, Perhaps, absent, present, Parts, no_parts, part, Steps, here, to_field, to_element, Left, blank, of_local, of_global, of_slice, Source, each, results, zeros, Initialization, Stmt, Stmts, no_stmts, some_stmts, Clauses, no_clauses, clause, expr_type, Package}
 use Rattle.go_init.specs.Variables.{variable_order}
 use Rattle.go_meaning.specs.Values.{flat, zero_cell, zero_of}
-use Rattle.go_meaning.specs.Choices.{cell_of, unary_operators, binary_operators, conversion_operators, field_type, element_type}
+use Rattle.go_meaning.specs.Choices.{cell_of, unary_operators, binary_operators, conversion_operators, length_operators, cut_operators, capacity_operators, field_type, element_type}
 
 -- Where local variables lie, by the number of their first cell, and what code refers to package variables and functions by.
 pub record Places (R : Type 0) : Type 0 where
@@ -66,6 +67,10 @@ abbrev mutual
   expr_temps (trees.field t e n) = expr_temps e
   expr_temps (trees.index t e i) = expr_temps e + expr_temps i
   expr_temps (trees.length t e) = expr_temps e
+  expr_temps (trees.capacity t e) = expr_temps e
+  expr_temps (trees.cut t e low high) = expr_temps e + 1 + expr_temps low + perhaps_temps high
+  expr_temps (trees.make t e o) = expr_temps e + 1 + perhaps_temps o
+  expr_temps (trees.append t o es) = perhaps_temps o + exprs_temps es
   expr_temps (trees.unary t op e) = expr_temps e
   expr_temps (trees.binary t op a b) = expr_temps a + expr_temps b
   expr_temps (trees.both t a b) = expr_temps a + expr_temps b
@@ -73,6 +78,10 @@ abbrev mutual
   expr_temps (trees.conversion t e) = expr_temps e
   expr_temps (trees.literal t ps) = cells t + parts_temps ps
   expr_temps (trees.call t s es) = exprs_temps es
+
+  pub perhaps_temps : Perhaps → ℕ
+  perhaps_temps absent = 0
+  perhaps_temps (present e) = expr_temps e
 
   pub exprs_temps : Exprs → ℕ
   exprs_temps no_exprs = 0
@@ -89,6 +98,7 @@ abbrev mutual
   pub zero_code : {R : Type 0} → Type' → List (Instr R)
   zero_code {R} (basic b) = In_frame (Push (zero_cell b)) ∷ []
   zero_code {R} (array n t) = zero_code t ++ In_frame (Repeat (cells t) n) ∷ []
+  zero_code {R} (slice t) = In_frame (Push (Slice 0 0 0 0)) ∷ []
   zero_code {R} (struct fs) = zeros_code fs
   zero_code {R} (named path name t) = zero_code t
 
@@ -99,9 +109,16 @@ abbrev mutual
 abbrev pub operators_code : {R : Type 0} → List operators.Operator → List (Instr R)
 operators_code {R} ops = map Operate ops
 
--- an element of an array; else a byte of a string
+-- how many cells an element has
+abbrev pub element_cells : Type' → ℕ
+element_cells (array n t) = cells t
+element_cells (slice t) = cells t
+element_cells s = 0
+
+-- an element of an array or a slice; else a byte of a string
 abbrev pub index_code : {R : Type 0} → Type' → List (Instr R)
 index_code {R} (array n t) = On_part (Pick n (cells t)) ∷ []
+index_code {R} (slice t) = On_rows (Get (cells t)) ∷ []
 index_code {R} s = Operate (On_text At) ∷ []
 
 abbrev pub load : {R : Type 0} → ℕ → ℕ → Instr R
@@ -109,6 +126,15 @@ load {R} first count = On_cells (Load first count)
 
 abbrev pub store : {R : Type 0} → ℕ → ℕ → Instr R
 store {R} first count = On_cells (Store first count)
+
+-- the type of a field or an element; any where there is no such part
+abbrev pub or_type : Type' → Option Type' → Type'
+or_type s None = s
+or_type s (Some t) = t
+
+abbrev pub exprs_count : Exprs → ℕ
+exprs_count no_exprs = 0
+exprs_count (some_exprs e es) = suc (exprs_count es)
 
 -- the right side is passed where the left side decides: `jump` passes it, and the answer is pushed
 abbrev pub decided_code : {R : Type 0} → (ℕ → Instr R) → Bool → List (Instr R) → List (Instr R) → List (Instr R)
@@ -122,7 +148,21 @@ abbrev mutual
   expr_code {R} p k (trees.field t e n) =
       expr_code p k e ++ On_part (Part (cells (expr_type e)) (offset (underlying (expr_type e)) n) (cells t)) ∷ []
   expr_code {R} p k (trees.index t e i) = expr_code p k e ++ expr_code p (k + expr_temps e) i ++ index_code (underlying (expr_type e))
-  expr_code {R} p k (trees.length t e) = expr_code p k e ++ Operate (On_text Length) ∷ []
+  expr_code {R} p k (trees.length t e) = expr_code p k e ++ operators_code (length_operators (underlying (expr_type e)))
+  expr_code {R} p k (trees.capacity t e) = expr_code p k e ++ operators_code capacity_operators
+  -- the operand lies in a temporary, for its length
+  expr_code {R} p k (trees.cut t e low high) =
+      let s : Type' = underlying (expr_type e) in
+      let at : ℕ = k + expr_temps e in
+      expr_code p k e ++ store at 1 ∷ load at 1 ∷ expr_code p (at + 1) low
+      ++ perhaps_code p (at + 1 + expr_temps low) (load at 1 ∷ operators_code (length_operators s)) high ++ operators_code (cut_operators s)
+  -- so does the length, for the capacity
+  expr_code {R} p k (trees.make t e o) =
+      let at : ℕ = k + expr_temps e in
+      zero_code (or_type t (element_type (underlying t))) ++ expr_code p k e ++ store at 1 ∷ load at 1 ∷ perhaps_code p (at + 1) (load at 1 ∷ []) o
+      ++ On_rows (Make (element_cells (underlying t))) ∷ []
+  expr_code {R} p k (trees.append t o es) =
+      perhaps_code p k (zero_code t) o ++ exprs_code p (k + perhaps_temps o) es ++ On_rows (Append (element_cells (underlying t)) (exprs_count es)) ∷ []
   expr_code {R} p k (trees.unary t op e) = expr_code p k e ++ operators_code (unary_operators (underlying t) op)
   expr_code {R} p k (trees.binary t op a b) =
       expr_code p k a ++ expr_code p (k + expr_temps a) b ++ operators_code (binary_operators (underlying (expr_type a)) op)
@@ -132,6 +172,11 @@ abbrev mutual
   expr_code {R} p k (trees.literal t ps) =
       zero_code t ++ store k (cells t) ∷ parts_code p (underlying t) k (k + cells t) ps ++ load k (cells t) ∷ []
   expr_code {R} p k (trees.call t s es) = exprs_code p k es ++ By_call (Call (p.functions s)) ∷ []
+
+  -- other code where it is left out
+  pub perhaps_code : {R : Type 0} → Places R → ℕ → List (Instr R) → Perhaps → List (Instr R)
+  perhaps_code {R} p k other absent = other
+  perhaps_code {R} p k other (present e) = expr_code p k e
 
   pub exprs_code : {R : Type 0} → Places R → ℕ → Exprs → List (Instr R)
   exprs_code {R} p k no_exprs = []
@@ -179,11 +224,6 @@ operands_code {R} p k here = []
 operands_code {R} p k (to_field n ss) = operands_code p k ss
 operands_code {R} p k (to_element e ss) = expr_code p k e ++ store (k + expr_temps e) 1 ∷ operands_code p (k + expr_temps e + 1) ss
 
--- the type of a field or an element; any where there is no such part
-abbrev pub or_type : Type' → Option Type' → Type'
-or_type s None = s
-or_type s (Some t) = t
-
 abbrev pub elements_count : Type' → ℕ
 elements_count (array n t) = n
 elements_count s = 0
@@ -200,27 +240,37 @@ steps_code {R} t k (to_element e ss) =
 abbrev pub address_code : {R : Type 0} → Type' → ℕ → Steps → List (Instr R)
 address_code {R} t k ss = In_frame (Push (Int (pos 0))) ∷ steps_code t k ss
 
+-- from a slice, which lies in a temporary, to an offset in its row: that of the element, and from there on to the part
+abbrev pub row_code : {R : Type 0} → Type' → ℕ → ℕ → Steps → List (Instr R)
+row_code {R} t at k (to_element e ss) =
+    load at 1 ∷ load (k + expr_temps e) 1 ∷ On_part (Reach (element_cells (underlying t))) ∷ steps_code (or_type t (element_type (underlying t))) (k + expr_temps e + 1) ss
+row_code {R} t at k ss = []
+
 abbrev pub left_temps : Left → ℕ
 left_temps blank = 0
 left_temps (of_local t n ss) = steps_temps ss
 left_temps (of_global t s ss) = steps_temps ss
+left_temps (of_slice t e ss) = expr_temps e + 1 + steps_temps ss
 
 abbrev pub left_operands : {R : Type 0} → Places R → ℕ → Left → List (Instr R)
 left_operands {R} p k blank = []
 left_operands {R} p k (of_local t n ss) = operands_code p k ss
 left_operands {R} p k (of_global t s ss) = operands_code p k ss
+left_operands {R} p k (of_slice t e ss) = expr_code p k e ++ store (k + expr_temps e) 1 ∷ operands_code p (k + expr_temps e + 1) ss
 
 -- so many cells of the part that a left side names
 abbrev pub take_code : {R : Type 0} → Places R → ℕ → Left → ℕ → List (Instr R)
 take_code {R} p k blank n = []
 take_code {R} p k (of_local t v ss) n = address_code t k ss ++ On_cells (LoadAt (p.locals v) n) ∷ []
 take_code {R} p k (of_global t s ss) n = address_code t k ss ++ On_globals (LoadAt (p.globals s) n) ∷ []
+take_code {R} p k (of_slice t e ss) n = row_code t (k + expr_temps e) (k + expr_temps e + 1) ss ++ On_rows (GetAt n) ∷ []
 
 -- so many cells, which lie in a temporary, into the part that a left side names
 abbrev pub give_code : {R : Type 0} → Places R → ℕ → Left → ℕ → ℕ → List (Instr R)
 give_code {R} p k blank temp n = []
 give_code {R} p k (of_local t v ss) temp n = load temp n ∷ address_code t k ss ++ On_cells (StoreAt (p.locals v) n) ∷ []
 give_code {R} p k (of_global t s ss) temp n = load temp n ∷ address_code t k ss ++ On_globals (StoreAt (p.globals s) n) ∷ []
+give_code {R} p k (of_slice t e ss) temp n = load temp n ∷ row_code t (k + expr_temps e) (k + expr_temps e + 1) ss ++ On_rows (SetAt n) ∷ []
 
 abbrev pub lefts_temps : List Left → ℕ
 lefts_temps [] = 0
@@ -235,6 +285,7 @@ abbrev pub value_temps : Left → ℕ → ℕ
 value_temps blank n = 0
 value_temps (of_local t v ss) n = n
 value_temps (of_global t s ss) n = n
+value_temps (of_slice t e ss) n = n
 
 abbrev pub values_temps : List Left → List ℕ → ℕ
 values_temps [] counts = 0
@@ -245,6 +296,7 @@ abbrev pub keep_code : {R : Type 0} → Left → ℕ → ℕ → Instr R
 keep_code {R} blank n temp = In_frame (Pop n)
 keep_code {R} (of_local t v ss) n temp = store temp n
 keep_code {R} (of_global t s ss) n temp = store temp n
+keep_code {R} (of_slice t e ss) n temp = store temp n
 
 -- values of so many cells, from the last to the first, into their temporaries
 abbrev pub keeps_code : {R : Type 0} → List Left → List ℕ → ℕ → List (Instr R)

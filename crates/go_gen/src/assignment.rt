@@ -5,7 +5,7 @@ ghost use Rattle.go_types.specs.Views.{type_of, fields_in};
 ghost use Rattle.go_typed.specs.Trees as trees;
 ghost use Rattle.go_typed.specs.Views.{expr_of, steps_in, left_of, source_of};
 ghost use Rattle.go_meaning.specs.Choices as choices;
-ghost use Rattle.go_gen.specs.Translation.{steps_temps, operands_code, or_type, elements_count, steps_code, address_code, left_temps, left_operands, take_code, give_code, lefts_temps, lefts_operands, value_temps, values_temps, keep_code, keeps_code, gives_code, define_code, defines_code, stmt_code};
+ghost use Rattle.go_gen.specs.Translation.{steps_temps, operands_code, or_type, elements_count, steps_code, address_code, row_code, left_temps, left_operands, take_code, give_code, lefts_temps, lefts_operands, value_temps, values_temps, keep_code, keeps_code, gives_code, define_code, defines_code, stmt_code};
 ghost use Rattle.go_gen.specs.Views.{places_of};
 
 use crate::code::Code;
@@ -13,11 +13,11 @@ use crate::expression::emit_expr;
 use crate::instr::{load, store};
 use crate::layout::Layout;
 use crate::operator::put_binary;
-use crate::size::{cells, difference, offset, sum};
+use crate::size::{cells, difference, element_cells, offset, sum};
 use crate::source::{emit_source, source_counts, source_temps};
 use crate::temps::expr_temps;
 use go_code::cell::Cell;
-use go_code::instr::{AccessInstr, FrameInstr, Instr, PartInstr};
+use go_code::instr::{AccessInstr, FrameInstr, Instr, PartInstr, RowInstr};
 use go_symbol::Symbol;
 use go_typed::expression::{Operator, TypedExpr};
 use go_typed::statement::{TypedLeft, TypedSource, TypedStep};
@@ -82,14 +82,15 @@ fn field_type(of: &GoType, number: usize) -> &GoType
     }
 }
 
-/// How many elements values of a type have, and the type of these; 0 and the type itself where it
-/// is no array.
-fn element_type(of: &GoType) -> (usize, &GoType)
+/// How many elements values of a type have, and the type of these; 0 where it is no array, and the
+/// type itself where it has no elements.
+pub(crate) fn element_type(of: &GoType) -> (usize, &GoType)
     ensures count { result.0 ≡ elements_count (underlying (type_of of.now)) }
     ensures of { type_of result.1.now ≡ or_type (type_of of.now) (choices.element_type (underlying (type_of of.now))) }
 {
     match underlying(of) {
         GoType::Array(length, element) => (*length as usize, &element.of),
+        GoType::Slice(element) => (0, &element.of),
         _ => (0, of),
     }
 }
@@ -128,6 +129,49 @@ fn emit_address(
     code.put(Instr::Frame(FrameInstr::Push(Cell::Int(0))))
 }
 
+/// From a slice, which lies in a temporary, to the offset of a part in its row.
+fn emit_row(
+    code: &mut Code,
+    of: &GoType,
+    temp: usize,
+    k: usize,
+    steps: &[TypedStep],
+) -> Result<(), AllocError>
+    ensures { OnOk result (code.new ≡ row_code (type_of of.now) temp k (steps_in steps.now) ++ code.old) }
+{
+    match steps {
+        [TypedStep::Element(e), rest @ ..] => {
+            let index = sum(k, expr_temps(e)?)?;
+            let (_, element) = element_type(of);
+            let size = element_cells(of)?;
+            emit_steps(code, rest, element, sum(index, 1)?)?;
+            code.put(Instr::Part(PartInstr::Reach(size)))?;
+            code.put(load(index, 1))?;
+            code.put(load(temp, 1))
+        }
+        _ => Ok(()),
+    }
+}
+
+/// A slice into its temporary, and then the index operands of steps in it.
+fn emit_slice_operands(
+    alloc: Global,
+    code: &mut Code,
+    layout: &Layout<'_>,
+    k: usize,
+    e: &TypedExpr,
+    steps: &[TypedStep],
+    of: &GoType,
+) -> Result<(), AllocError>
+    ensures { OnOk result (code.new ≡ left_operands (places_of layout.now) k (trees.of_slice (type_of of.now) (expr_of e.now) (steps_in steps.now)) ++ code.old) }
+{
+    let _of = of;
+    let temp = sum(k, expr_temps(e)?)?;
+    emit_operands(alloc, code, layout, sum(temp, 1)?, steps)?;
+    code.put(store(temp, 1))?;
+    emit_expr(alloc, code, layout, k, e)
+}
+
 /// How many cells the temporaries of a left side's index operands take.
 pub(crate) fn left_temps(left: &TypedLeft) -> Result<usize, AllocError>
     ensures { IfOk result (λ n. n ≡ left_temps (left_of left.now)) }
@@ -136,6 +180,7 @@ pub(crate) fn left_temps(left: &TypedLeft) -> Result<usize, AllocError>
         TypedLeft::Blank => Ok(0),
         TypedLeft::Local(_, _, steps) => steps_temps(steps),
         TypedLeft::Global(_, _, steps) => steps_temps(steps),
+        TypedLeft::Slice(_, e, steps) => sum(sum(expr_temps(e)?, 1)?, steps_temps(steps)?),
     }
 }
 
@@ -153,6 +198,9 @@ fn emit_left_operands(
         TypedLeft::Blank => Ok(()),
         TypedLeft::Local(_, _, steps) => emit_operands(alloc, code, layout, k, steps),
         TypedLeft::Global(_, _, steps) => emit_operands(alloc, code, layout, k, steps),
+        TypedLeft::Slice(of, e, steps) => {
+            emit_slice_operands(alloc, code, layout, k, e, steps, of)
+        }
     }
 }
 
@@ -177,6 +225,11 @@ fn emit_take(
             let first = symbol.copy()?;
             code.put(Instr::Global(AccessInstr::LoadAt { first, count }))?;
             emit_address(code, of, k, steps)
+        }
+        TypedLeft::Slice(of, e, steps) => {
+            let slice = sum(k, expr_temps(e)?)?;
+            code.put(Instr::Row(RowInstr::GetAt(count)))?;
+            emit_row(code, of, slice, sum(slice, 1)?, steps)
         }
     }
 }
@@ -204,6 +257,12 @@ fn emit_give(
             let first = symbol.copy()?;
             code.put(Instr::Global(AccessInstr::StoreAt { first, count }))?;
             emit_address(code, of, k, steps)?;
+            code.put(load(temp, count))
+        }
+        TypedLeft::Slice(of, e, steps) => {
+            let slice = sum(k, expr_temps(e)?)?;
+            code.put(Instr::Row(RowInstr::SetAt(count)))?;
+            emit_row(code, of, slice, sum(slice, 1)?, steps)?;
             code.put(load(temp, count))
         }
     }

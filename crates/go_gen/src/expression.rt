@@ -1,27 +1,31 @@
 //! The code of expressions, which is put before a code.
-ghost use Rattle.std.specs.Prelude.{◌≡◌, ◌+◌, ◌++◌, ◌∷◌, OnOk};
+ghost use Rattle.std.specs.Prelude.{◌≡◌, ◌+◌, ◌++◌, ◌∷◌, OnOk, length};
+ghost use Rattle.go_meaning.specs.Choices as choices;
+ghost use Rattle.go_meaning.specs.Choices.{length_operators, cut_operators};
 ghost use Rattle.go_code.specs.declared.cell.Cell.TheVariants.{Bool as Truth};
-ghost use Rattle.go_code.specs.declared.instr.Instr.TheVariants.{Frame as In_frame, Part as On_part, Jump as Go_to};
+ghost use Rattle.go_code.specs.declared.instr.Instr.TheVariants.{Frame as In_frame, Part as On_part, Row as On_rows, Jump as Go_to};
 ghost use Rattle.go_code.specs.declared.instr.FrameInstr.TheVariants.{Push};
 ghost use Rattle.go_types.specs.Sizes.{cells};
 ghost use Rattle.go_code.specs.declared.instr.PartInstr.TheVariants.{Part};
+ghost use Rattle.go_code.specs.declared.instr.RowInstr.TheVariants.{Make, Append};
 ghost use Rattle.go_code.specs.declared.instr.JumpInstr.TheVariants.{Jump};
 ghost use Rattle.go_types.specs.Views.{type_of, fields_in};
 ghost use Rattle.go_types.specs.Relations.{underlying};
 ghost use Rattle.go_typed.specs.Trees as trees;
 ghost use Rattle.go_typed.specs.Views.{expr_of, exprs_in, parts_in};
-ghost use Rattle.go_gen.specs.Translation.{zero_code, zeros_code, index_code, offset, expr_code, exprs_code, parts_code};
+ghost use Rattle.go_gen.specs.Translation.{zero_code, zeros_code, index_code, operators_code, load, store, or_type, element_cells, offset, expr_code, exprs_code, parts_code};
 ghost use Rattle.go_gen.specs.Views.{places_of};
 
+use crate::assignment::element_type;
 use crate::code::Code;
-use crate::instr::{call, constant_cell, load, store, zero_cell};
+use crate::instr::{call, constant_cell, load, no_slice, store, zero_cell};
 use crate::layout::Layout;
 use crate::operator::{put_binary, put_conversion, put_operator, put_unary};
-use crate::size::{cells, difference, offset, sum};
+use crate::size::{cells, difference, element_cells, offset, sum};
 use crate::temps::{expr_temps, exprs_temps, parts_temps};
 use go_code::cell::Cell;
-use go_code::instr::{AccessInstr, FrameInstr, Instr, JumpInstr, PartInstr};
-use go_code::operator::{Operator as CellOperator, TextOperator};
+use go_code::instr::{AccessInstr, FrameInstr, Instr, JumpInstr, PartInstr, RowInstr};
+use go_code::operator::{Operator as CellOperator, SliceOperator, TextOperator};
 use go_symbol::Symbol;
 use go_typed::expression::{TypedExpr, TypedExprKind, TypedPart};
 use go_types::relations::underlying;
@@ -41,6 +45,7 @@ pub(crate) fn emit_zero(alloc: Global, code: &mut Code, of: &GoType) -> Result<(
             code.put(Instr::Frame(FrameInstr::Repeat { count, times }))?;
             emit_zero(alloc, code, &element.of)
         }
+        GoType::Slice(_) => code.put(Instr::Frame(FrameInstr::Push(no_slice()))),
         GoType::Struct(fields) => emit_zeros(alloc, code, &fields.list),
         GoType::Named(named) => emit_zero(alloc, code, &named.underlying),
     }
@@ -57,7 +62,7 @@ fn emit_zeros(alloc: Global, code: &mut Code, fields: &[Field]) -> Result<(), Al
     Ok(())
 }
 
-/// What leaves an element of an array, or a byte of a string, of a type in the end.
+/// What leaves an element of an array or a slice, or a byte of a string, of a type in the end.
 fn put_index(code: &mut Code, of: &GoType) -> Result<(), AllocError>
     ensures { OnOk result (code.new ≡ index_code (type_of of.now) ++ code.old) }
 {
@@ -66,8 +71,72 @@ fn put_index(code: &mut Code, of: &GoType) -> Result<(), AllocError>
             let (count, size) = (*length as usize, cells(&element.of)?);
             code.put(Instr::Part(PartInstr::Pick { count, size }))
         }
+        GoType::Slice(element) => code.put(Instr::Row(RowInstr::Get(cells(&element.of)?))),
         _ => put_operator(code, CellOperator::Text(TextOperator::At)),
     }
+}
+
+/// What leaves the length of a slice or a string of a type.
+fn put_length(code: &mut Code, of: &GoType) -> Result<(), AllocError>
+    ensures { OnOk result (code.new ≡ operators_code (length_operators (type_of of.now)) ++ code.old) }
+{
+    match of {
+        GoType::Slice(_) => put_operator(code, CellOperator::Slice(SliceOperator::Length)),
+        _ => put_operator(code, CellOperator::Text(TextOperator::Length)),
+    }
+}
+
+/// What leaves a part of a slice or a string of a type.
+fn put_cut(code: &mut Code, of: &GoType) -> Result<(), AllocError>
+    ensures { OnOk result (code.new ≡ operators_code (cut_operators (type_of of.now)) ++ code.old) }
+{
+    match of {
+        GoType::Slice(_) => put_operator(code, CellOperator::Slice(SliceOperator::Cut)),
+        _ => put_operator(code, CellOperator::Text(TextOperator::Cut)),
+    }
+}
+
+/// What leaves the part from a bound, which is pushed, to the end of what a temporary holds.
+/// [Slice expressions](https://go.dev/ref/spec#Slice_expressions)
+fn put_tail(code: &mut Code, of: &GoType, temp: usize) -> Result<(), AllocError>
+    ensures { OnOk result (code.new
+        ≡ load temp 1 ∷ (operators_code (length_operators (type_of of.now)) ++ (operators_code (cut_operators (type_of of.now)) ++ code.old))) }
+{
+    put_cut(code, of)?;
+    put_length(code, of)?;
+    code.put(load(temp, 1))
+}
+
+/// What keeps a cell in a temporary.
+fn put_kept(code: &mut Code, temp: usize) -> Result<(), AllocError>
+    ensures { OnOk result (code.new ≡ store temp 1 ∷ load temp 1 ∷ code.old) }
+{
+    code.put(load(temp, 1))?;
+    code.put(store(temp, 1))
+}
+
+/// What makes a slice of a type.
+fn put_make(code: &mut Code, of: &GoType) -> Result<(), AllocError>
+    ensures { OnOk result (code.new ≡ On_rows (Make (element_cells (underlying (type_of of.now)))) ∷ code.old) }
+{
+    code.put(Instr::Row(RowInstr::Make(element_cells(of)?)))
+}
+
+/// The zero value of the elements of a type.
+fn emit_element_zero(alloc: Global, code: &mut Code, of: &GoType) -> Result<(), AllocError>
+    ensures { OnOk result (code.new ≡ zero_code (or_type (type_of of.now) (choices.element_type (underlying (type_of of.now)))) ++ code.old) }
+{
+    let (_, element) = element_type(of);
+    emit_zero(alloc, code, element)
+}
+
+/// What appends as many elements as there are expressions to a slice of a type.
+/// [Appending](https://go.dev/ref/spec#Appending_and_copying_slices)
+fn put_append(code: &mut Code, of: &GoType, es: &[TypedExpr]) -> Result<(), AllocError>
+    ensures { OnOk result (code.new ≡ On_rows (Append (element_cells (underlying (type_of of.now))) (length es.now)) ∷ code.old) }
+{
+    let (size, count) = (element_cells(of)?, es.len());
+    code.put(Instr::Row(RowInstr::Append { size, count }))
 }
 
 /// A package's variable.
@@ -151,6 +220,62 @@ pub(crate) fn emit_exprs(
     Ok(())
 }
 
+/// The length of a slice or a string.
+#[cycle(expressions)]
+fn emit_length(
+    alloc: Global,
+    code: &mut Code,
+    layout: &Layout<'_>,
+    k: usize,
+    operand: &TypedExpr,
+    of: &GoType,
+) -> Result<(), AllocError>
+    ensures { OnOk result (code.new ≡ expr_code (places_of layout.now) k (trees.length (type_of of.now) (expr_of operand.now)) ++ code.old) }
+{
+    put_length(code, underlying(&operand.of))?;
+    emit_expr(alloc, code, layout, k, operand)
+}
+
+/// A slice that is made with a length.
+/// [Making slices](https://go.dev/ref/spec#Making_slices_maps_and_channels)
+#[cycle(expressions)]
+fn emit_make(
+    alloc: Global,
+    code: &mut Code,
+    layout: &Layout<'_>,
+    k: usize,
+    length: &TypedExpr,
+    of: &GoType,
+) -> Result<(), AllocError>
+    ensures { OnOk result (code.new ≡ expr_code (places_of layout.now) k (trees.make (type_of of.now) (expr_of length.now) trees.absent) ++ code.old) }
+{
+    let temp = sum(k, expr_temps(length)?)?;
+    let (_, element) = element_type(of);
+    put_make(code, of)?;
+    code.put(load(temp, 1))?;
+    put_kept(code, temp)?;
+    emit_expr(alloc, code, layout, k, length)?;
+    emit_zero(alloc, code, element)
+}
+
+/// A slice of some elements.
+/// [Composite literals](https://go.dev/ref/spec#Composite_literals)
+#[cycle(expressions)]
+fn emit_elements(
+    alloc: Global,
+    code: &mut Code,
+    layout: &Layout<'_>,
+    k: usize,
+    es: &[TypedExpr],
+    of: &GoType,
+) -> Result<(), AllocError>
+    ensures { OnOk result (code.new ≡ expr_code (places_of layout.now) k (trees.append (type_of of.now) trees.absent (exprs_in es.now)) ++ code.old) }
+{
+    put_append(code, of, es)?;
+    emit_exprs(alloc, code, layout, k, es)?;
+    emit_zero(alloc, code, of)
+}
+
 /// An expression; `k` is the number of the first cell for its temporaries.
 #[cycle(expressions)]
 #[tactic(auto, unfolding(go_typed::specs::Views::expr_of))]
@@ -179,10 +304,13 @@ pub(crate) fn emit_expr(
             emit_expr(alloc, code, layout, behind, index)?;
             emit_expr(alloc, code, layout, k, operand)
         }
-        TypedExprKind::Length(operand) => {
-            put_operator(code, CellOperator::Text(TextOperator::Length))?;
+        TypedExprKind::Length(operand) => emit_length(alloc, code, layout, k, operand, &e.of),
+        TypedExprKind::Capacity(operand) => {
+            put_operator(code, CellOperator::Slice(SliceOperator::Capacity))?;
             emit_expr(alloc, code, layout, k, operand)
         }
+        TypedExprKind::Make(length) => emit_make(alloc, code, layout, k, length, &e.of),
+        TypedExprKind::Elements(es) => emit_elements(alloc, code, layout, k, es, &e.of),
         TypedExprKind::Unary(operator, operand) => {
             put_unary(code, &e.of, *operator)?;
             emit_expr(alloc, code, layout, k, operand)
@@ -231,6 +359,39 @@ pub(crate) fn emit_expr(
         TypedExprKind::Call(function, arguments) => {
             code.put(call(function)?)?;
             emit_exprs(alloc, code, layout, k, arguments)
+        }
+        TypedExprKind::Tail(operand, low) => {
+            let temp = sum(k, expr_temps(operand)?)?;
+            let behind = sum(temp, 1)?;
+            put_tail(code, underlying(&operand.of), temp)?;
+            emit_expr(alloc, code, layout, behind, low)?;
+            put_kept(code, temp)?;
+            emit_expr(alloc, code, layout, k, operand)
+        }
+        TypedExprKind::Cut(operand, low, high) => {
+            let temp = sum(k, expr_temps(operand)?)?;
+            let behind = sum(temp, 1)?;
+            let last = sum(behind, expr_temps(low)?)?;
+            put_cut(code, underlying(&operand.of))?;
+            emit_expr(alloc, code, layout, last, high)?;
+            emit_expr(alloc, code, layout, behind, low)?;
+            put_kept(code, temp)?;
+            emit_expr(alloc, code, layout, k, operand)
+        }
+        TypedExprKind::MakeWithin(length, room) => {
+            let temp = sum(k, expr_temps(length)?)?;
+            let behind = sum(temp, 1)?;
+            put_make(code, &e.of)?;
+            emit_expr(alloc, code, layout, behind, room)?;
+            put_kept(code, temp)?;
+            emit_expr(alloc, code, layout, k, length)?;
+            emit_element_zero(alloc, code, &e.of)
+        }
+        TypedExprKind::Append(slice, es) => {
+            let behind = sum(k, expr_temps(slice)?)?;
+            put_append(code, &e.of, es)?;
+            emit_exprs(alloc, code, layout, behind, es)?;
+            emit_expr(alloc, code, layout, k, slice)
         }
     }
 }

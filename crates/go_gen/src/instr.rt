@@ -1,5 +1,6 @@
 //! Single instructions.
 ghost use Rattle.std.specs.Prelude.{◌≡◌, IfOk};
+ghost use Rattle.go_code.specs.declared.cell.Cell.TheVariants.{Slice};
 ghost use Rattle.go_code.specs.declared.instr.Instr.TheVariants.{Calls as By_call};
 ghost use Rattle.go_code.specs.declared.instr.CallInstr.TheVariants.{Call};
 ghost use Rattle.go_meaning.specs.Values as values;
@@ -50,6 +51,18 @@ pub(crate) fn zero_cell(alloc: Global, of: Basic) -> Result<Cell, AllocError>
         Basic::Untyped(Untyped::Bool) => Ok(Cell::Bool(false)),
         Basic::Untyped(Untyped::String) => Ok(Cell::Text(Text::new(alloc, &[])?)),
         Basic::Untyped(_) => Ok(Cell::Int(0)),
+    }
+}
+
+/// The cell of the slice without elements.
+pub(crate) fn no_slice() -> Cell
+    ensures { result ≡ Slice 0 0 0 0 }
+{
+    Cell::Slice {
+        row: 0,
+        start: 0,
+        length: 0,
+        capacity: 0,
     }
 }
 

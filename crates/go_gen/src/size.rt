@@ -3,8 +3,10 @@
 ghost use Rattle.std.specs.Prelude.{◌≡◌, ◌+◌, ◌*◌, ◌++◌, IfOk, map, OnOk};
 ghost use Rattle.go_types.specs.Views.{type_of, fields_in};
 ghost use Rattle.go_types.specs.Sizes as sizes;
-ghost use Rattle.go_gen.specs.Translation.{total, field_offset, offset, slots};
+ghost use Rattle.go_types.specs.Relations.{underlying};
+ghost use Rattle.go_gen.specs.Translation.{total, field_offset, element_cells, offset, slots};
 
+use go_types::relations::underlying;
 use go_types::types::{Field, GoType};
 use std::alloc::{AllocError, Global};
 
@@ -65,6 +67,17 @@ pub(crate) fn push_slots(
         at = sum(at, cells(of)?)?;
     }
     Ok(at)
+}
+
+/// How many cells an element of an array or a slice has. Of another value none.
+pub(crate) fn element_cells(of: &GoType) -> Result<usize, AllocError>
+    ensures { IfOk result (λ n. n ≡ element_cells (underlying (type_of of.now))) }
+{
+    match underlying(of) {
+        GoType::Array(_, element) => cells(&element.of),
+        GoType::Slice(element) => cells(&element.of),
+        _ => Ok(0),
+    }
 }
 
 /// How many cells of a struct lie before a field.

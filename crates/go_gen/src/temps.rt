@@ -20,6 +20,20 @@ pub(crate) fn expr_temps(e: &TypedExpr) -> Result<usize, AllocError>
         TypedExprKind::Field(operand, _) => expr_temps(operand),
         TypedExprKind::Index(operand, index) => sum(expr_temps(operand)?, expr_temps(index)?),
         TypedExprKind::Length(operand) => expr_temps(operand),
+        TypedExprKind::Capacity(operand) => expr_temps(operand),
+        TypedExprKind::Tail(operand, low) => {
+            sum(sum(expr_temps(operand)?, 1)?, expr_temps(low)?)
+        }
+        TypedExprKind::Cut(operand, low, high) => {
+            let behind = sum(sum(expr_temps(operand)?, 1)?, expr_temps(low)?)?;
+            sum(behind, expr_temps(high)?)
+        }
+        TypedExprKind::Make(length) => sum(expr_temps(length)?, 1),
+        TypedExprKind::MakeWithin(length, room) => {
+            sum(sum(expr_temps(length)?, 1)?, expr_temps(room)?)
+        }
+        TypedExprKind::Elements(es) => exprs_temps(es),
+        TypedExprKind::Append(slice, es) => sum(expr_temps(slice)?, exprs_temps(es)?),
         TypedExprKind::Unary(_, operand) => expr_temps(operand),
         TypedExprKind::Binary(_, a, b) => sum(expr_temps(a)?, expr_temps(b)?),
         TypedExprKind::Both(a, b) => sum(expr_temps(a)?, expr_temps(b)?),

@@ -3,7 +3,7 @@ ghost use Rattle.std.specs.Prelude.{◌≡◌, ◌++◌, OnOk};
 ghost use Rattle.go_types.specs.Views.{type_of, fields_in};
 ghost use Rattle.go_meaning.specs.Values.{flat, flat_all, zero_of, zeros_of};
 
-use crate::instr::zero_cell;
+use crate::instr::{no_slice, zero_cell};
 use go_code::cell::Cell;
 use go_types::types::{Field, GoType};
 use std::alloc::{AllocError, Global};
@@ -22,6 +22,10 @@ pub(crate) fn push_zero(alloc: Global, found: &mut Vec<Cell>, of: &GoType) -> Re
             for _ in 0..*length {
                 push_zero(alloc, found, &element.of)?;
             }
+            Ok(())
+        }
+        GoType::Slice(_) => {
+            found.push(no_slice())?;
             Ok(())
         }
         GoType::Struct(fields) => push_zeros(alloc, found, &fields.list),

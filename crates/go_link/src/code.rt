@@ -86,6 +86,7 @@ fn link_instr<'a>(
         Instr::Local(instr) => Ok(Instr::Local(access_at(instr, *place_of(instr)))),
         Instr::Global(instr) => Ok(Instr::Global(link_access(places, instr))),
         Instr::Part(instr) => Ok(Instr::Part(*instr)),
+        Instr::Row(instr) => Ok(Instr::Row(*instr)),
         Instr::Operate(operator) => Ok(Instr::Operate(*operator)),
         Instr::Jump(instr) => Ok(Instr::Jump(*instr)),
         Instr::Output(instr) => Ok(Instr::Output(*instr)),

@@ -22,7 +22,7 @@ use Rattle.go_meaning.specs.Values.{Value}
 use Rattle.go_meaning.specs.Meaning.{Outcome, Gives, Ends, World}
 use Rattle.go_meaning.specs.Programs.{call_at, run, first_arrays, first_world}
 
-abbrev int : Type'
+abbrev pub int : Type'
 int = types.basic (basics.Integer integers.Int)
 
 abbrev int8 : Type'
@@ -31,13 +31,13 @@ int8 = types.basic (basics.Integer integers.Int8)
 abbrev bool : Type'
 bool = types.basic basics.Bool
 
-abbrev string : Type'
+abbrev pub string : Type'
 string = types.basic basics.String
 
 abbrev three : Type'
 three = types.array 3 int
 
-abbrev n : ℕ → Expr
+abbrev pub n : ℕ → Expr
 n k = constant int (consts.Integer (pos k))
 
 abbrev x : Expr
@@ -47,7 +47,7 @@ abbrev i : Expr
 i = local int 0
 
 -- a package main with one function main
-abbrev main_of : List Type' → List Stmt → List Package
+abbrev pub main_of : List Type' → List Stmt → List Package
 main_of locals body = record {
   path = codes "app";
   name = codes "main";
@@ -60,11 +60,11 @@ main_of locals body = record {
   functions = record { name = codes "main"; parameters = []; results = []; locals = locals; body = pack_stmts body } ∷ [];
 } ∷ []
 
-abbrev out : List ℕ → List (List Cell) → List ℕ
+abbrev pub out : List ℕ → List (List Cell) → List ℕ
 out before [] = before
 out before (row ∷ rows) = out (before ++ line_text row) rows
 
-abbrev ints : List ℕ → List Cell
+abbrev pub ints : List ℕ → List Cell
 ints [] = []
 ints (k ∷ ks) = Int (pos k) ∷ ints ks
 

@@ -1,2 +1,3 @@
-mod Computed
+pub mod Computed
+pub mod ComputedSlices
 mod ComputedStarts

@@ -8,13 +8,14 @@ use Rattle.go_const.specs.declared.operator.UnaryOperator.TheVariants.{Negative,
 use Rattle.go_const.specs.declared.operator.ArithmeticOperator.TheVariants.{Add}
 use Rattle.go_const.specs.declared.operator.ComparisonOperator.TheVariants.{Equal, NotEqual}
 use Rattle.go_types.specs.declared.types.Basic.TheVariants as basics
-use Rattle.go_types.specs.Types.{Type', basic, array, struct, Fields, no_fields, field}
+use Rattle.go_types.specs.Types.{Type', basic, array, slice, struct, Fields, no_fields, field}
 use Rattle.go_types.specs.Sizes.{cells}
 use Rattle.go_code.specs.declared.cell.Cell.{Cell}
 use Rattle.go_code.specs.declared.cell.Cell.TheVariants.{Int, Bool as Truth, Text}
 use Rattle.go_code.specs.declared.operator.Operator as code
 use Rattle.go_code.specs.declared.operator.Operator.TheVariants as on_cells
-use Rattle.go_code.specs.declared.operator.TextOperator.TheVariants.{Join}
+use Rattle.go_code.specs.declared.operator.TextOperator.TheVariants.{Join, Length, Cut}
+use Rattle.go_code.specs.declared.operator.SliceOperator.TheVariants as on_slices
 use Rattle.go_code.specs.Operators.{Operated, Gives, Senseless, operands, operate}
 use Rattle.go_typed.specs.declared.expression.Operator.{Operator}
 use Rattle.go_typed.specs.declared.expression.Operator.TheVariants.{Arithmetic as arithmetic, Shift as shift, Comparison as comparison}
@@ -49,6 +50,19 @@ abbrev pub conversion_operators : Type' → List code.Operator
 conversion_operators (basic (basics.Integer i)) = on_cells.Convert i ∷ []
 conversion_operators s = []
 
+-- https://go.dev/ref/spec#Length_and_capacity, Slice_expressions
+-- of a slice; else of a string
+abbrev pub length_operators : Type' → List code.Operator
+length_operators (slice t) = on_cells.Slice on_slices.Length ∷ []
+length_operators s = on_cells.Text Length ∷ []
+
+abbrev pub cut_operators : Type' → List code.Operator
+cut_operators (slice t) = on_cells.Slice on_slices.Cut ∷ []
+cut_operators s = on_cells.Text Cut ∷ []
+
+abbrev pub capacity_operators : List code.Operator
+capacity_operators = on_cells.Slice on_slices.Capacity ∷ []
+
 -- an operator of cells takes as many as it has operands
 abbrev pub applied : code.Operator → List Cell → Operated Cell
 applied operator row = if nat_eq (length row) (operands operator) then operate operator row else Senseless
@@ -73,4 +87,5 @@ field_type s n = None
 
 abbrev pub element_type : Type' → Option Type'
 element_type (array n t) = Some t
+element_type (slice t) = Some t
 element_type s = None

@@ -1,25 +1,26 @@
 -- What expressions, statements and calls come to.
-use Rattle.std.specs.Prelude.{ℕ, zero, suc, ◌+◌, nat_lt, nat_le, nat_eq, Bool, true, false, List, [], ◌∷◌, ◌++◌, length, map, slice_get, slice_set, pos, negsuc, Option, Some, None, if◌then◌else◌}
-use Rattle.std.specs.List.{find, flat_map}
+use Rattle.std.specs.Prelude.{ℕ, zero, suc, ◌+◌, nat_lt, nat_le, nat_eq, Bool, true, false, ◌-◌, ◌&&◌, List, [], ◌∷◌, ◌++◌, length, map, take, drop, replicate, slice_get, slice_set, pos, negsuc, Option, Some, None, if◌then◌else◌}
+use Rattle.std.specs.List.{find, flat_map, list_all}
 use Rattle.std.specs.Option.{option_map, option_and_then}
-use Rattle.go_types.specs.Types.{Type', array}
+use Rattle.go_types.specs.Types.{Type', array, slice}
 use Rattle.go_types.specs.Relations.{underlying}
 use Rattle.go_types.specs.Sizes.{cells}
 use Rattle.go_const.specs.declared.operator.ComparisonOperator.TheVariants.{Equal}
-use Rattle.go_code.specs.declared.cell.Cell.TheVariants.{Int, Bool as Truth, Text}
+use Rattle.go_code.specs.declared.cell.Cell.TheVariants.{Int, Bool as Truth, Text, Slice}
 use Rattle.go_code.specs.declared.ending.Ending.{Ending}
 use Rattle.go_code.specs.declared.ending.Ending.TheVariants.{Cut, Panicked}
 use Rattle.go_code.specs.declared.ending.PanicKind.TheVariants.{User}
 use Rattle.go_code.specs.declared.operator.Operator.TheVariants.{Text as On_text}
-use Rattle.go_code.specs.declared.operator.TextOperator.TheVariants.{At, Length}
+use Rattle.go_code.specs.declared.operator.TextOperator.TheVariants.{At}
 use Rattle.go_code.specs.Lines.{line_text}
 use Rattle.go_code.specs.Operators as operators
 use Rattle.go_code.specs.Operators.{Operated}
+use Rattle.go_code.specs.Rows.{row_of, has_room, asked, grown}
 use Rattle.go_typed.specs.declared.expression.Operator.TheVariants.{Comparison as comparison}
 use Rattle.go_symbol.specs.Symbols.{same_symbol}
-use Rattle.go_typed.specs.Trees.{Symbol, Expr, constant, local, global, field, index, length as length_of, unary, binary, both, either, conversion, literal, call, Exprs, no_exprs, some_exprs, Parts, no_parts, part, Steps, here, to_field as then_field, to_element as then_element, Left, blank, of_local, of_global, Source, each, results, zeros, Stmt, define, assign, update, run, print, panic, if_statement, for_statement, range_statement, switch_statement, block, break, continue, return, Stmts, no_stmts, some_stmts, Clauses, no_clauses, clause, expr_type}
-use Rattle.go_meaning.specs.Values.{Value, single, parts, flat, is_of, are_of, zero_of, Step, to_field, to_element, part_of, read, updated, or_else}
-use Rattle.go_meaning.specs.Choices.{cell_of, unary_operators, binary_operators, conversion_operators, operated, field_type, element_type}
+use Rattle.go_typed.specs.Trees.{Symbol, Expr, constant, local, global, field, index, length as length_of, capacity, cut, make, append, Perhaps, absent, present, unary, binary, both, either, conversion, literal, call, Exprs, no_exprs, some_exprs, Parts, no_parts, part, Steps, here, to_field as then_field, to_element as then_element, Left, blank, of_local, of_global, of_slice, Source, each, results, zeros, Stmt, define, assign, update, run, print, panic, if_statement, for_statement, range_statement, switch_statement, block, break, continue, return, Stmts, no_stmts, some_stmts, Clauses, no_clauses, clause, expr_type}
+use Rattle.go_meaning.specs.Values.{Value, single, parts, pack, unpack, flat, is_of, are_of, zero_of, Step, to_field, to_element, part_of, read, updated, or_else}
+use Rattle.go_meaning.specs.Choices.{cell_of, unary_operators, binary_operators, conversion_operators, length_operators, cut_operators, capacity_operators, operated, field_type, element_type}
 
 -- ---- outcomes
 
@@ -98,7 +99,69 @@ if_true (single (Truth true)) a b = a
 if_true (single (Truth false)) a b = b
 if_true (single (Int z)) a b = Stuck
 if_true (single (Text t)) a b = Stuck
+if_true (single (Slice row start n c)) a b = Stuck
 if_true (parts vs) a b = Stuck
+
+-- what is given, or a panic
+abbrev pub changed : {A : Type 0} → Operated A → World → Outcome A
+changed {A} (operators.Gives v) w = Gives v w
+changed {A} (operators.Panics kind) w = Ends (Panicked kind) w.output
+changed {A} operators.Senseless w = Stuck
+
+abbrev pub with_type : {A : Type 0} → Option Type' → (Type' → Outcome A) → Outcome A
+with_type None next = Stuck
+with_type (Some t) next = next t
+
+-- what is done behind a value of one cell
+abbrev pub with_cell : {A : Type 0} → Value → Outcome A → Outcome A
+with_cell (single c) next = next
+with_cell (parts vs) next = Stuck
+
+-- ---- slices: https://go.dev/ref/spec#Slice_types
+
+-- the array of elements of that type that a slice is a part of, by its number, start, length and capacity
+abbrev pub array_of : Type' → ℕ → ℕ → ℕ → ℕ → World → Outcome (List Value)
+array_of t row start n c w =
+    let all : List Value = row_of w.arrays row in
+    if list_all (is_of t) all && (nat_le n c && (nat_le (start + c) (length all) && has_room (cells t) (length all))) then Gives all w else Stuck
+
+-- the elements of a slice, as parts of a value
+abbrev pub elements : Type' → Value → World → Outcome Value
+elements t (single (Slice row start n c)) w = and_then (array_of t row start n c w) (λ all. Gives (parts (pack (take n (drop start all)))))
+elements t v w = Stuck
+
+-- the array with other elements from a place on
+abbrev pub overwritten : List Value → ℕ → List Value → List Value
+overwritten all place vs = take place all ++ vs ++ drop (place + length vs) all
+
+abbrev pub with_array : World → ℕ → List Value → World
+with_array w row all = record w { arrays = slice_set w.arrays row all }
+
+-- the slice gets other elements
+abbrev pub with_elements : Type' → Value → List Value → World → Outcome World
+with_elements t (single (Slice row start n c)) vs w =
+    if list_all (is_of t) vs && nat_eq (length vs) n then Gives (with_array w row (overwritten (row_of w.arrays row) start vs)) w else Stuck
+with_elements t v vs w = Stuck
+
+-- a slice of so many elements and a capacity, of a whole new array
+abbrev pub new_array : List Value → ℕ → ℕ → World → Outcome Value
+new_array all n c w = Gives (single (Slice (length w.arrays) 0 n c)) (record w { arrays = w.arrays ++ all ∷ [] })
+
+-- https://go.dev/ref/spec#Making_slices_maps_and_channels
+abbrev pub made : Type' → Value → Value → World → Outcome Value
+made t (single n) (single c) w = and_then (changed (asked (cells t) n c) w) (λ sizes. new_array (replicate sizes.1 (zero_of t)) sizes.0 sizes.1)
+made t n c w = Stuck
+
+-- https://go.dev/ref/spec#Appending_and_copying_slices
+-- in place where there is room, else in a new array; what is behind the elements there is zero
+abbrev pub appended : Type' → Value → List Value → World → Outcome Value
+appended t (single (Slice row start n c)) vs w =
+    if list_all (is_of t) vs then and_then (array_of t row start n c w) (λ all w1.
+    let count : ℕ = n + length vs in
+    if nat_le count c then Gives (single (Slice row start count c)) (with_array w1 row (overwritten all (start + n) vs))
+    else and_then (changed (grown (cells t) count c) w1) (λ room. new_array (take n (drop start all) ++ vs ++ replicate (room - count) (zero_of t)) count room))
+    else Stuck
+appended t v vs w = Stuck
 
 -- ---- variables
 
@@ -126,11 +189,18 @@ with_global (x ∷ xs) s v =
 abbrev pub selected : Type' → Value → ℕ → Operated Value
 selected s v n = elim (field_type s n) [ None ↦ operators.Senseless | Some t ↦ part_of v (to_field n) ]
 
--- of an array; else of a string
+-- of an array, or of the elements of a slice; else of a string
 abbrev pub indexed : Type' → Value → Value → Operated Value
 indexed (array n t) v (single (Int z)) = part_of v (to_element z)
 indexed (array n t) v j = operators.Senseless
+indexed (slice t) v (single (Int z)) = part_of v (to_element z)
+indexed (slice t) v j = operators.Senseless
 indexed s v j = operated (On_text At ∷ []) (v ∷ j ∷ [])
+
+-- the elements of a slice are read behind the index
+abbrev pub found : Type' → Type' → Value → Value → World → Outcome Value
+found t (slice u) v j w = and_then (elements u v w) (λ whole. given t (indexed (slice u) whole j))
+found t s v j w = given t (indexed s v j) w
 
 -- https://go.dev/ref/spec#Order_of_evaluation: from left to right
 abbrev mutual
@@ -140,8 +210,20 @@ abbrev mutual
   eval calls (global t s) ls w = given t (global_value w.variables s) w
   eval calls (field t e n) ls w = and_then (eval calls e ls w) (λ v. given t (selected (underlying (expr_type e)) v n))
   eval calls (index t e i) ls w =
-      and_then (eval calls e ls w) (λ v w1. and_then (eval calls i ls w1) (λ j. given t (indexed (underlying (expr_type e)) v j)))
-  eval calls (length_of t e) ls w = and_then (eval calls e ls w) (λ v. given t (operated (On_text Length ∷ []) (v ∷ [])))
+      and_then (eval calls e ls w) (λ v w1. and_then (eval calls i ls w1) (λ j. found t (underlying (expr_type e)) v j))
+  eval calls (length_of t e) ls w = and_then (eval calls e ls w) (λ v. given t (operated (length_operators (underlying (expr_type e))) (v ∷ [])))
+  eval calls (capacity t e) ls w = and_then (eval calls e ls w) (λ v. given t (operated capacity_operators (v ∷ [])))
+  -- https://go.dev/ref/spec#Slice_expressions
+  eval calls (cut t e low high) ls w =
+      let s : Type' = underlying (expr_type e) in
+      and_then (eval calls e ls w) (λ v w1. with_cell v (and_then (eval calls low ls w1) (λ i w2.
+      and_then (eval_perhaps calls (operated (length_operators s) (v ∷ [])) high ls w2) (λ j. given t (operated (cut_operators s) (v ∷ i ∷ j ∷ []))))))
+  eval calls (make t e o) ls w =
+      with_type (element_type (underlying t)) (λ u. and_then (eval calls e ls w) (λ n w1. with_cell n (
+      and_then (eval_perhaps calls (operators.Gives n) o ls w1) (λ c w2. and_then (made u n c w2) (λ v. given t (operators.Gives v))))))
+  eval calls (append t o es) ls w =
+      with_type (element_type (underlying t)) (λ u. and_then (eval_perhaps calls (operators.Gives (zero_of t)) o ls w) (λ v w1.
+      and_then (eval_all calls es ls w1) (λ vs w2. and_then (appended u v vs w2) (λ r. given t (operators.Gives r)))))
   eval calls (unary t op e) ls w = and_then (eval calls e ls w) (λ v. given t (operated (unary_operators (underlying t) op) (v ∷ [])))
   eval calls (binary t op a b) ls w =
       and_then (eval calls a ls w) (λ x w1. and_then (eval calls b ls w1) (λ y.
@@ -156,6 +238,11 @@ abbrev mutual
   eval calls (literal t ps) ls w = and_then (given t (operators.Gives (zero_of t)) w) (eval_parts calls t ps ls)
   eval calls (call t s es) ls w =
       and_then (eval_all calls es ls w) (λ vs w1. and_then (calls s vs w1) (λ rs w2. and_then (all_given (t ∷ []) rs w2) one_value))
+
+  -- another where it is left out
+  pub eval_perhaps : Calls → Operated Value → Perhaps → Locals → World → Outcome Value
+  eval_perhaps calls other absent ls w = changed other w
+  eval_perhaps calls other (present e) ls w = eval calls e ls w
 
   pub eval_all : Calls → Exprs → Locals → World → Outcome (List Value)
   eval_all calls no_exprs ls w = Gives [] w
@@ -181,10 +268,6 @@ abbrev pub with_index : Value → World → (Step → Outcome (List Step)) → O
 with_index (single (Int z)) w next = next (to_element z)
 with_index v w next = Stuck
 
-abbrev pub with_type : {A : Type 0} → Option Type' → (Type' → Outcome A) → Outcome A
-with_type None next = Stuck
-with_type (Some t) next = next t
-
 abbrev pub steps : Calls → Type' → Steps → Locals → World → Outcome (List Step)
 steps calls t here ls w = Gives [] w
 steps calls t (then_field n p) ls w =
@@ -193,15 +276,21 @@ steps calls t (then_element e p) ls w =
     with_type (element_type (underlying t)) (λ u. and_then (eval calls e ls w) (λ v w1. with_index v w1 (λ s.
     and_then (steps calls u p ls w1) (λ ss w2. Gives (s ∷ ss) w2))))
 
--- what is assigned: nothing, or the part of a variable that the steps lead to
+-- what is assigned: nothing, or the part of a variable or of a slice's elements that the steps lead to
 pub data Target : Type 0 where
   nowhere : Target
   in_local : Type' → ℕ → List Step → Target
   in_global : Type' → Symbol → List Step → Target
+  in_slice : Type' → Value → List Step → Target
 
 -- no type has more cells
 unfoldable pub most_cells : ℕ
 most_cells = 65536
+
+-- an index comes first into the elements of a slice
+abbrev pub in_elements : Type' → Value → List Step → World → Outcome Target
+in_elements t v [] w = Stuck
+in_elements t v (s ∷ ss) w = Gives (in_slice t v (s ∷ ss)) w
 
 abbrev pub aim : Calls → Left → Locals → World → Outcome Target
 aim calls blank ls w = Gives nowhere w
@@ -209,36 +298,38 @@ aim calls (of_local t n p) ls w =
     if nat_le (cells t) most_cells then and_then (steps calls t p ls w) (λ ss w1. Gives (in_local t n ss) w1) else Stuck
 aim calls (of_global t s p) ls w =
     if nat_le (cells t) most_cells then and_then (steps calls t p ls w) (λ ss w1. Gives (in_global t s ss) w1) else Stuck
+-- the slice is evaluated as a value
+aim calls (of_slice t e p) ls w =
+    with_type (element_type (underlying t)) (λ u. if nat_le (cells u) most_cells
+    then and_then (eval calls e ls w) (λ v w1. with_cell v (and_then (steps calls t p ls w1) (in_elements u v))) else Stuck)
 
 abbrev pub aim_all : Calls → List Left → Locals → World → Outcome (List Target)
 aim_all calls [] ls w = Gives [] w
 aim_all calls (l ∷ lefts) ls w = and_then (aim calls l ls w) (λ t w1. and_then (aim_all calls lefts ls w1) (λ ts w2. Gives (t ∷ ts) w2))
 
--- the whole variable that is aimed at
+-- the whole variable, or the elements, that are aimed at
 abbrev pub aimed : Target → Locals → World → Outcome Value
 aimed nowhere ls w = Stuck
 aimed (in_local t n ss) ls w = given t (local_value ls n) w
 aimed (in_global t s ss) ls w = given t (global_value w.variables s) w
+aimed (in_slice t v ss) ls w = elements t v w
 
 abbrev pub steps_in : Target → List Step
 steps_in nowhere = []
 steps_in (in_local t n ss) = ss
 steps_in (in_global t s ss) = ss
+steps_in (in_slice t v ss) = ss
 
 -- the value of the part, of that type
 abbrev pub taken : Type' → Target → Locals → World → Outcome Value
 taken t target ls w = and_then (aimed target ls w) (λ v. given t (read (steps_in target) v))
 
--- what is updated, or a panic
-abbrev pub changed : Operated Value → World → Outcome Value
-changed (operators.Gives v) w = Gives v w
-changed (operators.Panics kind) w = Ends (Panicked kind) w.output
-changed operators.Senseless w = Stuck
-
 abbrev pub put : Target → Value → Locals → World → Outcome Locals
 put nowhere v ls w = Gives ls w
 put (in_local t n ss) v ls w = if_known (with_local ls n v) w
 put (in_global t s ss) v ls w = and_then (if_known (with_global w.variables s v) w) (λ variables w1. Gives ls (record w1 { variables = variables }))
+put (in_slice t v ss) (parts xs) ls w = and_then (with_elements t v (unpack xs) w) (λ later w1. Gives ls later)
+put (in_slice t v ss) (single c) ls w = Stuck
 
 -- then each is assigned, from left to right; the bounds are tested here
 abbrev pub give : Target → Value → Locals → World → Outcome Locals

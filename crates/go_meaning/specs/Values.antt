@@ -5,14 +5,14 @@ use Rattle.go_const.specs.Constants.{fits}
 use Rattle.go_types.specs.declared.types.Basic.{Basic}
 use Rattle.go_types.specs.declared.types.Basic.TheVariants as basics
 use Rattle.go_types.specs.declared.types.Untyped.TheVariants as kinds
-use Rattle.go_types.specs.Types.{Type', basic, array, struct, named, Fields, no_fields, field}
+use Rattle.go_types.specs.Types.{Type', basic, array, slice, struct, named, Fields, no_fields, field}
 use Rattle.go_code.specs.declared.cell.Cell.{Cell}
-use Rattle.go_code.specs.declared.cell.Cell.TheVariants.{Int, Bool as Truth, Text}
+use Rattle.go_code.specs.declared.cell.Cell.TheVariants.{Int, Bool as Truth, Text, Slice}
 use Rattle.go_code.specs.declared.ending.PanicKind.TheVariants.{Index}
 use Rattle.go_code.specs.Operators.{Operated, Gives, Panics, Senseless}
 
 mutual
-  -- a value of a basic type is one cell; an array has its elements, a struct its fields
+  -- a value of a basic type is one cell, and so is a slice: the number of the array that it is a part of, where it starts there, its length and its capacity; an array has its elements, a struct its fields
   pub data Value : Type 0 where
     single : Cell → Value
     parts : Values → Value
@@ -57,6 +57,9 @@ abbrev mutual
   is_of (basic b) (parts vs) = false
   is_of (array n t) (single c) = false
   is_of (array n t) (parts vs) = nat_eq (length (unpack vs)) n && list_all (is_of t) (unpack vs)
+  -- https://go.dev/ref/spec#Slice_types
+  is_of (slice t) (single (Slice row start length capacity)) = true
+  is_of (slice t) v = false
   is_of (struct fs) (single c) = false
   is_of (struct fs) (parts vs) = are_of_fields fs (unpack vs)
   is_of (named path name t) v = is_of t v
@@ -87,6 +90,7 @@ abbrev mutual
   pub zero_of : Type' → Value
   zero_of (basic b) = single (zero_cell b)
   zero_of (array n t) = parts (pack (replicate n (zero_of t)))
+  zero_of (slice t) = single (Slice 0 0 0 0)
   zero_of (struct fs) = parts (zeros_of fs)
   zero_of (named path name t) = zero_of t
 

@@ -13,7 +13,8 @@ use Rattle.go_meaning.specs.Meaning.{World, Outcome, Ends, Locals, Flow, Normal,
 use Rattle.go_meaning_laws.specs.WellTyped.{Setting, AreNew, numbers, in_loop, in_post, IsCounter}
 use Rattle.go_meaning_laws.proofs.Values.{Of, AllOf, by_underlying}
 use Rattle.go_meaning_laws.proofs.Operators.{IsTruth}
-use Rattle.go_meaning_laws.proofs.Worlds.{Shelf, grows_not, Sound, sound_then, Keeps, Within, fits_before, within_more, defined_is}
+use Rattle.go_meaning_laws.proofs.Shelf.{Shelf, grows_not}
+use Rattle.go_meaning_laws.proofs.Worlds.{Sound, sound_then, Keeps, Within, fits_before, fits_grow, within_more, defined_is}
 use Rattle.go_meaning_laws.proofs.Targets.{Fitting}
 
 -- ---- how a statement leaves off
@@ -24,10 +25,10 @@ abbrev pub Leaves : Setting → List ℕ → List ℕ → Bool → Bool → Flow
 Leaves g d e ends breaks (Normal ls) σ w = Fitting g e ls σ w × (ends ≡ false)
 Leaves g d e ends breaks (Breaks ls) σ w = Fitting g d ls σ w × (g.breaks ≡ true) × (breaks ≡ true)
 Leaves g d e ends breaks (Continues ls) σ w = Fitting g d ls σ w × (g.continues ≡ true)
-Leaves g d e ends breaks (Returns vs) σ w = AllOf g.results vs × Keeps g.variables σ w
+Leaves g d e ends breaks (Returns vs) σ w = AllOf σ g.results vs × Keeps g.variables σ w
 
 pub before : (g : Setting) (d e : List ℕ) (ls : Locals) (σ : Shelf) (w : World) → Within d e → Fitting g e ls σ w → Fitting g d ls σ w
-before g d e ls σ w h k = (fits_before g.locals d e ls h k.0, k.1)
+before g d e ls σ w h k = (fits_before σ g.locals d e ls h k.0, k.1)
 
 pub not_true : (p q : Bool) → (q ≡ true → p ≡ true) → p ≡ false → q ≡ false
 not_true p true h e = (let k = h refl in cc)
@@ -93,16 +94,16 @@ module _ (g : Setting) (d e x : List ℕ) (ends breaks ends1 ends2 breaks2 : Boo
     pub turns_leave : (n : ℕ) (ls : Locals) (σ : Shelf) (w : World) → Fitting g d ls σ w → Sound σ Turning (turns n test body post ls w)
     turns_leave zero ls σ w fits =
         sound_then σ Tests Turning (test ls w) (λ c w1. if_true c (Ends Cut w1.output) (normal ls w1)) (tests ls σ w fits)
-        (λ c σ1 w1 grown1 h. decided_by σ1 Turning c (Ends Cut w1.output) (normal ls w1) h.0 (λ is. tt) (λ is. (σ1, grows_not σ1, ((fits.0, h.2), over c h.1 is))))
+        (λ c σ1 w1 grown1 h. decided_by σ1 Turning c (Ends Cut w1.output) (normal ls w1) h.0 (λ is. tt) (λ is. (σ1, grows_not σ1, ((fits_grow grown1 fits.0, h.2), over c h.1 is))))
     turns_leave (suc n) ls σ w fits =
         let next : Locals → World → Outcome Flow = λ ls1 w3. and_then (post ls1 w3) (if_normal (turns n test body post)) in
         let turn : World → Outcome Flow = λ w2. and_then (body ls w2) (turned next) in
         sound_then σ Tests Turning (test ls w) (λ c w1. if_true c (with_tick w1 turn) (normal ls w1)) (tests ls σ w fits)
         (λ c σ1 w1 grown1 h. decided_by σ1 Turning c (with_tick w1 turn) (normal ls w1) h.0
         (λ is. ticked Turning σ1 w1 turn (λ m.
-        sound_then σ1 (Leaves (in_loop g) d e ends1 breaks) Turning (body ls (record w1 { ticks = m })) (turned next) (bodies ls σ1 (record w1 { ticks = m }) (fits.0, h.2))
+        sound_then σ1 (Leaves (in_loop g) d e ends1 breaks) Turning (body ls (record w1 { ticks = m })) (turned next) (bodies ls σ1 (record w1 { ticks = m }) (fits_grow grown1 fits.0, h.2))
         (λ f σ2 w2 grown2. after_body next (again (turns n test body post) (turns_leave n)) f σ2 w2)))
-        (λ is. (σ1, grows_not σ1, ((fits.0, h.2), over c h.1 is))))
+        (λ is. (σ1, grows_not σ1, ((fits_grow grown1 fits.0, h.2), over c h.1 is))))
 
 -- ---- range
 
@@ -120,8 +121,8 @@ module _ (g : Setting) (d e : List ℕ) (ends breaks : Bool) (o : Option ℕ) (t
   new None k = tt
   new (Some n) k = ((t, k, refl), tt)
 
-  counted : (c : ℕ) → nat_lt c h ≡ true → Of t (single (Int (pos c)))
-  counted c l = by_underlying t (single (Int (pos c))) (subst (λ s. Of s (single (Int (pos c)))) (sym is) (below i c h l fit, refl))
+  counted : (σ : Shelf) (c : ℕ) → nat_lt c h ≡ true → Of σ t (single (Int (pos c)))
+  counted σ c l = by_underlying σ t (single (Int (pos c))) (subst (λ s. Of σ s (single (Int (pos c)))) (sym is) (below i c h l fit, refl, tt))
 
   enough : Within d e
   enough n k = grown n (within_more (numbers (o ∷ [])) d n k)
@@ -145,7 +146,7 @@ module _ (g : Setting) (d e : List ℕ) (ends breaks : Bool) (o : Option ℕ) (t
 
       by_test : (b : Bool) → nat_lt c h ≡ b → ((ls : Locals) (σ : Shelf) (w : World) → Fitting g d ls σ w → Sound σ Walking (walk n (c + 1) h o body ls w)) → Sound σ Walking (if b then with_tick w go else normal ls w)
       by_test true l turn =
-          let r = defined_is g.locals d (o ∷ []) (t ∷ []) (single (Int (pos c)) ∷ []) ls (new o counts) (counted c l, tt) k.0 in
+          let r = defined_is σ g.locals d (o ∷ []) (t ∷ []) (single (Int (pos c)) ∷ []) ls (new o counts) (counted σ c l, tt) k.0 in
           ticked Walking σ w go (λ m. rw (r.1)
           (sound_then σ (Leaves (in_loop g) (numbers (o ∷ []) ++ d) e ends breaks) Walking (body r.0 (record w { ticks = m })) (turned (walk n (c + 1) h o body)) (bodies r.0 σ (record w { ticks = m }) (r.2, k.1))
           (λ f σ1 w1 grown1. walked (walk n (c + 1) h o body) turn f σ1 w1)))

@@ -1,3 +1,4 @@
+pub mod Arrays
 pub mod Binary
 pub mod Computed
 pub mod ComputedStarts
@@ -6,6 +7,8 @@ pub mod Flows
 pub mod Operators
 pub mod Parts
 pub mod Programs
+pub mod Shelf
+pub mod Slices
 pub mod Statements
 pub mod Switches
 pub mod Targets

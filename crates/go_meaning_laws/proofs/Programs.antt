@@ -16,8 +16,9 @@ use Rattle.go_symbol.specs.Symbols.{same_symbol}
 use Rattle.go_meaning.specs.Meaning.{Stored, World, Outcome, Gives, Ends, Stuck, Local, Flow, Normal, Breaks, Continues, Returns, and_then, with_tick, source, exec_all}
 use Rattle.go_meaning.specs.Programs.{results_of, enter, with_arguments, first_locals, Declared, package_functions, function_at, call_at, Step, sets, calls, start_steps, step, stored, step_all, first_variables, first_world, most_open, run, IsOver, IsProgram, SourceMeaning}
 use Rattle.go_meaning_laws.specs.WellTyped.{has, first, signature_at, variable_at, setting, are_none, source_types, outside, IsWhole, after_all, IsFunction, IsStart, IsWellTyped}
+use Rattle.go_meaning_laws.proofs.Shelf.{Shelf, grows_not}
 use Rattle.go_meaning_laws.proofs.Values.{Of, AllOf, all_are, zero_is}
-use Rattle.go_meaning_laws.proofs.Worlds.{Shelf, grows_not, Sound, sound_then, Stores, Keeps, Held, Fits, stored_is}
+use Rattle.go_meaning_laws.proofs.Worlds.{Sound, sound_then, Stores, Keeps, Held, Fits, stored_is}
 use Rattle.go_meaning_laws.proofs.Targets.{source_evals}
 use Rattle.go_meaning_laws.proofs.Exprs.{AllValued, Answers}
 use Rattle.go_meaning_laws.proofs.Flows.{Leaves, ticked}
@@ -50,40 +51,40 @@ past_first (suc k) n l =
     rw apart (past_first k n (omega (arith, l)))
 
 -- an argument, or none behind the parameters
-abbrev Row : List Type' → Type' → ℕ → Option Value → Type 0
-Row ps t n None = length ps ≤ n
-Row ps t n (Some v) = Of t v
+abbrev Row : Shelf → List Type' → Type' → ℕ → Option Value → Type 0
+Row σ ps t n None = length ps ≤ n
+Row σ ps t n (Some v) = Of σ t v
 
 abbrev no_value : Type' → Local
 no_value t = record { of = t; value = None }
 
-abbrev Rows : List Type' → List Type' → List Value → Type 0
-Rows ps ts vs = (n : ℕ) (t : Type') → slice_get (ps ++ ts) n ≡ Some t → (o : Option Value) × (slice_get (with_arguments ps vs ++ map no_value ts) n ≡ Some (record { of = t; value = o })) × Row ps t n o
+abbrev Rows : Shelf → List Type' → List Type' → List Value → Type 0
+Rows σ ps ts vs = (n : ℕ) (t : Type') → slice_get (ps ++ ts) n ≡ Some t → (o : Option Value) × (slice_get (with_arguments ps vs ++ map no_value ts) n ≡ Some (record { of = t; value = o })) × Row σ ps t n o
 
 no_values : (ts : List Type') (n : ℕ) (t : Type') → slice_get ts n ≡ Some t → slice_get (map no_value ts) n ≡ Some (no_value t)
 no_values [] n t e = cc
 no_values (u ∷ ts) zero t e = (let same : u ≡ t = cc in ap (λ s. Some (no_value s)) same)
 no_values (u ∷ ts) (suc n) t e = no_values ts n t e
 
-further : (p : Type') (ps : List Type') (t : Type') (n : ℕ) (o : Option Value) → Row ps t n o → Row (p ∷ ps) t (suc n) o
-further p ps t n None h = omega (arith, h)
-further p ps t n (Some v) h = h
+further : (σ : Shelf) (p : Type') (ps : List Type') (t : Type') (n : ℕ) (o : Option Value) → Row σ ps t n o → Row σ (p ∷ ps) t (suc n) o
+further σ p ps t n None h = omega (arith, h)
+further σ p ps t n (Some v) h = h
 
-rows : (ps ts : List Type') (vs : List Value) → AllOf ps vs → Rows ps ts vs
-rows [] ts [] h n t e = (None, no_values ts n t e, omega arith)
-rows [] ts (v ∷ vs) h n t e = absurd h
-rows (p ∷ ps) ts [] h n t e = absurd h
-rows (p ∷ ps) ts (v ∷ vs) h zero t e =
+rows : (σ : Shelf) (ps ts : List Type') (vs : List Value) → AllOf σ ps vs → Rows σ ps ts vs
+rows σ [] ts [] h n t e = (None, no_values ts n t e, omega arith)
+rows σ [] ts (v ∷ vs) h n t e = absurd h
+rows σ (p ∷ ps) ts [] h n t e = absurd h
+rows σ (p ∷ ps) ts (v ∷ vs) h zero t e =
     let same : p ≡ t = cc in
-    (Some v, ap (λ s. Some (record { of = s; value = Some v })) same, subst (λ s. Of s v) same h.0)
-rows (p ∷ ps) ts (v ∷ vs) h (suc n) t e = (let r = rows ps ts vs h.1 n t e in (r.0, r.1, further p ps t n r.0 r.2))
+    (Some v, ap (λ s. Some (record { of = s; value = Some v })) same, subst (λ s. Of σ s v) same h.0)
+rows σ (p ∷ ps) ts (v ∷ vs) h (suc n) t e = (let r = rows σ ps ts vs h.1 n t e in (r.0, r.1, further σ p ps t n r.0 r.2))
 
-held : (ps : List Type') (t : Type') (n : ℕ) (o : Option Value) → Row ps t n o → Held t (first (length ps)) n o
-held ps t n None h = past_first (length ps) n h
-held ps t n (Some v) h = h
+held : (σ : Shelf) (ps : List Type') (t : Type') (n : ℕ) (o : Option Value) → Row σ ps t n o → Held σ t (first (length ps)) n o
+held σ ps t n None h = past_first (length ps) n h
+held σ ps t n (Some v) h = h
 
-locals_fit : (f : Function) (vs : List Value) → AllOf f.parameters vs → Fits (f.parameters ++ f.locals) (first (length f.parameters)) (first_locals f vs)
-locals_fit f vs h = record { each = λ n t e. (let r = rows f.parameters f.locals vs h n t e in (r.0, r.1, held f.parameters t n r.0 r.2)) }
+locals_fit : (σ : Shelf) (f : Function) (vs : List Value) → AllOf σ f.parameters vs → Fits σ (f.parameters ++ f.locals) (first (length f.parameters)) (first_locals f vs)
+locals_fit σ f vs h = record { each = λ n t e. (let r = rows σ f.parameters f.locals vs h n t e in (r.0, r.1, held σ f.parameters t n r.0 r.2)) }
 
 -- ---- calls
 
@@ -97,28 +98,28 @@ module _ (packages : List Package) (typed : IsWellTyped packages) where
       let m = mapped (λ d. d.function) (find (λ d. same_symbol s d.symbol) (flat_map package_functions packages)) f e in
       subst (IsFunction packages) m.2 (found_all (λ (d : Declared). IsFunction packages d.function) (λ d. same_symbol s d.symbol) (flat_map package_functions packages) m.0 typed.functions m.1)
 
-  no_results : (ts : List Type') (ends : Bool) → (are_none ts || ends) ≡ true → ends ≡ false → AllOf ts []
-  no_results [] ends e n = tt
-  no_results (t ∷ ts) true e n = absurd (cc)
-  no_results (t ∷ ts) false e n = absurd (cc)
+  no_results : (σ : Shelf) (ts : List Type') (ends : Bool) → (are_none ts || ends) ≡ true → ends ≡ false → AllOf σ ts []
+  no_results σ [] ends e n = tt
+  no_results σ (t ∷ ts) true e n = absurd (cc)
+  no_results σ (t ∷ ts) false e n = absurd (cc)
 
   left_body : (f : Function) → IsFunction packages f → (d : List ℕ) (breaks : Bool) (flow : Flow) (σ : Shelf) (w : World) → Leaves (setting packages f) (first (length f.parameters)) d (list_terminates f.body) breaks flow σ w → Sound σ (Answer f.results) (results_of flow w)
-  left_body f is d breaks (Normal ls) σ w l = (σ, grows_not σ, (no_results f.results (list_terminates f.body) is.ended l.1, (l.0).1))
+  left_body f is d breaks (Normal ls) σ w l = (σ, grows_not σ, (no_results σ f.results (list_terminates f.body) is.ended l.1, (l.0).1))
   left_body f is d breaks (Breaks ls) σ w l = (let k = l.1 in absurd (cc))
   left_body f is d breaks (Continues ls) σ w l = (let k = l.1 in absurd (cc))
   left_body f is d breaks (Returns vs) σ w l = (σ, grows_not σ, l)
 
   -- what is called is found, takes such arguments and gives such results
-  entered : (s : Symbol) (ps rs : List Type') (vs : List Value) (σ : Shelf) (w : World) (next : Function → World → Outcome (List Value)) → signature_at packages s ≡ Some (record { parameters = ps; results = rs }) → AllOf ps vs → ((f : Function) → IsFunction packages f → AllOf f.parameters vs → (n : ℕ) → Sound σ (Answer f.results) (next f (record w { ticks = n }))) → Sound σ (Answer rs) (enter (function_at packages s) vs w next)
+  entered : (s : Symbol) (ps rs : List Type') (vs : List Value) (σ : Shelf) (w : World) (next : Function → World → Outcome (List Value)) → signature_at packages s ≡ Some (record { parameters = ps; results = rs }) → AllOf σ ps vs → ((f : Function) → IsFunction packages f → AllOf σ f.parameters vs → (n : ℕ) → Sound σ (Answer f.results) (next f (record w { ticks = n }))) → Sound σ (Answer rs) (enter (function_at packages s) vs w next)
   entered s ps rs vs σ w next e h goes =
       let m = mapped (λ f. record { parameters = f.parameters; results = f.results }) (function_at packages s) (record { parameters = ps; results = rs }) e in
       let f : Function = m.0 in
       let takes : f.parameters ≡ ps = ap (λ q. q.parameters) m.2 in
       let gives : f.results ≡ rs = ap (λ q. q.results) m.2 in
-      let arguments : AllOf f.parameters vs = subst (λ q. AllOf q vs) (sym takes) h in
+      let arguments : AllOf σ f.parameters vs = subst (λ q. AllOf σ q vs) (sym takes) h in
       let body : Sound σ (Answer f.results) (with_tick w (next f)) = ticked (Answer f.results) σ w (next f) (goes f (found_function s f m.1) arguments) in
       subst (λ o. Sound σ (Answer rs) (enter o vs w next)) (sym m.1)
-      (subst (λ b. Sound σ (Answer rs) (if b then with_tick w (next f) else Stuck)) (sym (all_are f.parameters vs arguments)) (subst (λ q. Sound σ (Answer q) (with_tick w (next f))) gives body))
+      (subst (λ b. Sound σ (Answer rs) (if b then with_tick w (next f) else Stuck)) (sym (all_are σ f.parameters vs arguments)) (subst (λ q. Sound σ (Answer q) (with_tick w (next f))) gives body))
 
   pub calls_answer : (left : ℕ) → Answers (signature_at packages) (variable_at packages) (call_at packages left)
   calls_answer zero = record { each = λ s ps rs vs σ w e h good. entered s ps rs vs σ w (λ f w1. Ends (Panicked Depth) w1.output) e h (λ f is k n. tt) }
@@ -128,7 +129,7 @@ module _ (packages : List Package) (typed : IsWellTyped packages) where
         (λ f is k n.
         sound_then σ (Leaves (setting packages f) (first (length f.parameters)) (after_all (first (length f.parameters)) f.body) (list_terminates f.body) (breaks_any f.body)) (Answer f.results)
         (exec_all (call_at packages left) f.body (first_locals f vs) (record w { ticks = n })) results_of
-        (stmts_leave (call_at packages left) (setting packages f) (first (length f.parameters)) (calls_answer left) f.body is.body (first_locals f vs) σ (record w { ticks = n }) (locals_fit f vs k, good))
+        (stmts_leave (call_at packages left) (setting packages f) (first (length f.parameters)) (calls_answer left) f.body is.body (first_locals f vs) σ (record w { ticks = n }) (locals_fit σ f vs k, good))
         (λ flow σ1 w1 grown1. left_body f is (after_all (first (length f.parameters)) f.body) (breaks_any f.body) flow σ1 w1));
   }
 
@@ -137,15 +138,15 @@ module _ (packages : List Package) (typed : IsWellTyped packages) where
   abbrev Starting : ⊤ → Shelf → World → Type 0
   Starting done σ w = Keeps (variable_at packages) σ w
 
-  none_fit : Fits [] [] []
-  none_fit = record { each = λ n t e. absurd (cc) }
+  none_fit : (σ : Shelf) → Fits σ [] [] []
+  none_fit σ = record { each = λ n t e. absurd (cc) }
 
   -- variables of a package get values of their types
   set_goes : (left : ℕ) (path : List ℕ) (i : Initialization) (σ : Shelf) (w : World) → IsStart packages (sets path i) → Keeps (variable_at packages) σ w → Sound σ Starting (step (call_at packages left) (sets path i) w)
   set_goes left path i σ w is good =
       sound_then σ (AllValued (variable_at packages) (source_types i.source)) Starting (source (call_at packages left) i.source [] w) (stored path i.variables)
-      (source_evals (call_at packages left) (outside packages) [] (calls_answer left) i.source [] σ w is.0 (none_fit, good))
-      (λ vs σ1 w1 grown1 l. (let r = stored_is (variable_at packages) path i.variables (source_types i.source) vs w1.variables is.1 l.0 (l.1).0 in rw (r.1) (σ1, grows_not σ1, (r.2, (l.1).1))))
+      (source_evals (call_at packages left) (outside packages) [] (calls_answer left) i.source [] σ w is.0 (none_fit σ, good))
+      (λ vs σ1 w1 grown1 l. (let r = stored_is σ1 (variable_at packages) path i.variables (source_types i.source) vs w1.variables is.1 l.0 (l.1).0 in rw (r.1) (σ1, grows_not σ1, (r.2, (l.1).1))))
 
   steps_go : (left : ℕ) (ss : List Step) (σ : Shelf) (w : World) → All (IsStart packages) ss → Keeps (variable_at packages) σ w → Sound σ Starting (step_all (call_at packages left) ss w)
   steps_go left [] σ w all good = (σ, grows_not σ, good)
@@ -165,7 +166,7 @@ module _ (packages : List Package) (typed : IsWellTyped packages) where
       All-append (λ (x : Stored). x.value ≡ zero_of x.of) (first_variables p) (flat_map first_variables ps)
       (All-map (λ (x : Stored). x.value ≡ zero_of x.of) (λ v. record { symbol = record { path = p.path; name = v.name }; of = v.of; value = zero_of v.of }) p.variables (λ k d l. refl)) (zeros_first ps)
 
-  first_stores : Stores (variable_at packages) (flat_map first_variables packages)
+  first_stores : Stores [] (variable_at packages) (flat_map first_variables packages)
   first_stores = record {
     each = λ s t e.
         (let variables = flat_map first_variables packages in
@@ -173,7 +174,7 @@ module _ (packages : List Package) (typed : IsWellTyped packages) where
         let x : Stored = m.0 in
         let whole : IsWhole x.of = found_all (λ (v : Stored). IsWhole v.of) (λ v. same_symbol s v.symbol) variables x typed.variables m.1 in
         let value : x.value ≡ zero_of x.of = found_all (λ (v : Stored). v.value ≡ zero_of v.of) (λ v. same_symbol s v.symbol) variables x (zeros_first packages) m.1 in
-        (x, m.1, m.2, subst (λ u. Of u x.value) m.2 (subst (λ v. Of x.of v) (sym value) (zero_is x.of whole))));
+        (x, m.1, m.2, subst (λ u. Of [] u x.value) m.2 (subst (λ v. Of [] x.of v) (sym value) (zero_is [] x.of whole))));
   }
 
   -- nothing stands there yet but array 0

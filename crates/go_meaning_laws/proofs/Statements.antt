@@ -13,12 +13,13 @@ use Rattle.go_meaning.specs.Values.{Value, single, flat}
 use Rattle.go_meaning.specs.Choices.{binary_operators, operated}
 use Rattle.go_meaning.specs.Meaning.{World, Gives, Stuck, Locals, Calls, Flow, Normal, Breaks, Continues, Returns, and_then, given, if_known, if_true, eval, eval_all, source, aim, aim_all, taken, give, give_all, defined, normal, if_normal, tested, walk, walk_to, panicked, exec, exec_all}
 use Rattle.go_meaning_laws.specs.WellTyped.{Setting, is_integer, is_string, IsOperation, exprs_types, IsExpr, AreExprs, source_types, IsSource, AllSuit, AreNew, IsPart, AreLefts, numbers, after, after_all, in_loop, in_post, in_clause, IsCondition, IsConditionOrNone, IsCounter, IsStmt, AreStmts, AreClauses}
-use Rattle.go_meaning_laws.proofs.Values.{Of, both_true, all_long, all_suit, number_same, zero_fits, of_underlying}
+use Rattle.go_meaning_laws.proofs.Shelf.{Shelf, grows_not}
+use Rattle.go_meaning_laws.proofs.Values.{Of, of_grow, both_true, all_long, all_suit, number_same, zero_fits, of_underlying}
 use Rattle.go_meaning_laws.proofs.Operators.{IsTruth, IsNumber, number, integer_value, IsString, text, string_value}
 use Rattle.go_meaning_laws.proofs.Binary.{operation_is}
-use Rattle.go_meaning_laws.proofs.Worlds.{Shelf, grows_not, Sound, sound_then, sound_map, Keeps, Valued, sound_given, Within, within_more, defined_is}
+use Rattle.go_meaning_laws.proofs.Worlds.{Sound, sound_then, sound_map, Keeps, Valued, sound_given, Fits, fits_grow, Within, within_more, defined_is}
 use Rattle.go_meaning_laws.proofs.Exprs.{AllValued, Answers, expr_evals, exprs_evals, truth_in, decided}
-use Rattle.go_meaning_laws.proofs.Targets.{Fitting, PartAt, taken_is, given_to, all_given_to, targets_long, may_be, source_evals, AllAimed, all_aimed, part_aimed}
+use Rattle.go_meaning_laws.proofs.Targets.{Fitting, PartAt, part_grow, all_may_grow, taken_is, given_to, all_given_to, targets_long, may_be, source_evals, AllAimed, all_aimed, part_aimed}
 use Rattle.go_meaning_laws.proofs.Flows.{Leaves, leaves_as, within_same, turns_leave, walk_leaves}
 use Rattle.go_meaning_laws.proofs.Switches.{ClauseLeaves, clause_parts, none_leave, some_leave, switch_leaves}
 
@@ -94,7 +95,7 @@ module _ (calls : Calls) where
     define_leaves os s hs new ls σ w k =
         sound_then σ (AllValued g.variables (source_types s)) (Leaves g d (numbers os ++ d) false false) (source calls s ls w) (λ vs w1. and_then (if_known (defined os vs ls) w1) normal)
         (source_evals calls g d answers s ls σ w hs k)
-        (λ vs σ1 w1 grown1 l. (let r = defined_is g.locals d os (source_types s) vs ls new l.0 k.0 in rw (r.1) (σ1, grows_not σ1, ((r.2, l.1), refl))))
+        (λ vs σ1 w1 grown1 l. (let r = defined_is σ1 g.locals d os (source_types s) vs ls new l.0 (fits_grow grown1 k.0) in rw (r.1) (σ1, grows_not σ1, ((r.2, l.1), refl))))
 
     assign_leaves : (lefts : List Left) (s : Source) → AreLefts g d lefts (source_types s) → IsSource g d s → StmtLeaves g d (assign lefts s)
     assign_leaves lefts s hl hs ls σ w k =
@@ -104,42 +105,44 @@ module _ (calls : Calls) where
         (λ ts σ1 w1 grown1 l.
         sound_then σ1 (AllValued g.variables (source_types s)) (Leaves g d d false false) (source calls s ls w1)
         (λ vs w2. if nat_eq (length ts) (length vs) then and_then (give_all ts vs ls w2) normal else Stuck)
-        (source_evals calls g d answers s ls σ1 w1 hs (k.0, l.1))
+        (source_evals calls g d answers s ls σ1 w1 hs (fits_grow grown1 k.0, l.1))
         (λ vs σ2 w2 grown2 m.
-        let same : nat_eq (length ts) (length vs) ≡ true = number_same (length ts) (length vs) (targets_long g d (source_types s) ts l.0 ∙ sym (all_long (source_types s) vs m.0)) in
+        let same : nat_eq (length ts) (length vs) ≡ true = number_same (length ts) (length vs) (targets_long g d (source_types s) ts σ1 l.0 ∙ sym (all_long σ2 (source_types s) vs m.0)) in
         rw same
-        (sound_then σ2 (Fitting g d) (Leaves g d d false false) (give_all ts vs ls w2) normal (all_given_to g d (source_types s) ts vs ls σ2 w2 l.0 m.0 (k.0, m.1))
+        (sound_then σ2 (Fitting g d) (Leaves g d d false false) (give_all ts vs ls w2) normal (all_given_to g d (source_types s) ts vs ls σ2 w2 (all_may_grow g d (source_types s) ts grown2 l.0) m.0 (fits_grow grown2 (fits_grow grown1 k.0), m.1))
         (λ ls1 σ3 w3 grown3 n. (σ3, grows_not σ3, (n, refl))))))
 
     update_leaves : (t : Type') (left : Left) (op : Operator) (e : Expr) → IsPart g d left t → IsExpr g d e → IsOperation op t t (expr_type e) → StmtLeaves g d (update t left op e)
     update_leaves t left op e hl he ho ls σ w k =
-        sound_then σ (λ target σ1 w1. PartAt g d t target × Keeps g.variables σ1 w1) (Leaves g d d false false) (aim calls left ls w)
+        sound_then σ (λ target σ1 w1. PartAt g d t target σ1 × Keeps g.variables σ1 w1) (Leaves g d d false false) (aim calls left ls w)
         (λ target w1. and_then (taken t target ls w1) (λ x w2. and_then (eval calls e ls w2) (λ y w3. and_then (given t (operated (binary_operators (underlying t) op) (x ∷ y ∷ [])) w3) (λ z w4. and_then (give target z ls w4) normal))))
         (part_aimed calls g d answers left t ls σ w hl k)
         (λ target σ1 w1 grown1 l.
         sound_then σ1 (Valued g.variables t) (Leaves g d d false false) (taken t target ls w1)
         (λ x w2. and_then (eval calls e ls w2) (λ y w3. and_then (given t (operated (binary_operators (underlying t) op) (x ∷ y ∷ [])) w3) (λ z w4. and_then (give target z ls w4) normal)))
-        (taken_is g d t target ls σ1 w1 l.0 (k.0, l.1))
+        (taken_is g d t target ls σ1 w1 l.0 (fits_grow grown1 k.0, l.1))
         (λ x σ2 w2 grown2 m.
         sound_then σ2 (Valued g.variables (expr_type e)) (Leaves g d d false false) (eval calls e ls w2)
         (λ y w3. and_then (given t (operated (binary_operators (underlying t) op) (x ∷ y ∷ [])) w3) (λ z w4. and_then (give target z ls w4) normal))
-        (expr_evals calls g d answers e he ls σ2 w2 k.0 m.1)
+        (expr_evals calls g d answers e he ls σ2 w2 (fits_grow grown2 (fits_grow grown1 k.0)) m.1)
         (λ y σ3 w3 grown3 n.
         sound_then σ3 (Valued g.variables t) (Leaves g d d false false) (given t (operated (binary_operators (underlying t) op) (x ∷ y ∷ [])) w3) (λ z w4. and_then (give target z ls w4) normal)
-        (sound_given g.variables t (operated (binary_operators (underlying t) op) (x ∷ y ∷ [])) σ3 w3 n.1 (operation_is op t t (expr_type e) x y ho m.0 n.0))
+        (sound_given g.variables t (operated (binary_operators (underlying t) op) (x ∷ y ∷ [])) σ3 w3 n.1 (operation_is σ3 op t t (expr_type e) x y ho (of_grow t x grown3 m.0) n.0))
         (λ z σ4 w4 grown4 q.
-        sound_then σ4 (Fitting g d) (Leaves g d d false false) (give target z ls w4) normal (given_to g d t target z ls σ4 w4 (may_be g d t target l.0) q.0 (k.0, q.1))
+        sound_then σ4 (Fitting g d) (Leaves g d d false false) (give target z ls w4) normal
+        (given_to g d t target z ls σ4 w4 (may_be g d t target σ4 (part_grow g d t target grown4 (part_grow g d t target grown3 (part_grow g d t target grown2 l.0)))) q.0
+        (fits_grow grown4 (fits_grow grown3 (fits_grow grown2 (fits_grow grown1 k.0))), q.1))
         (λ ls1 σ5 w5 grown5 r. (σ5, grows_not σ5, (r, refl)))))))
 
     run_leaves : (ts : List Type') (s : Symbol) (es : Exprs) → IsSource g d (results ts s es) → StmtLeaves g d (run ts s es)
     run_leaves ts s es h ls σ w k =
         sound_then σ (AllValued g.variables ts) (Leaves g d d false false) (source calls (results ts s es) ls w) (λ vs. normal ls) (source_evals calls g d answers (results ts s es) ls σ w h k)
-        (λ vs σ1 w1 grown1 l. (σ1, grows_not σ1, ((k.0, l.1), refl)))
+        (λ vs σ1 w1 grown1 l. (σ1, grows_not σ1, ((fits_grow grown1 k.0, l.1), refl)))
 
     print_leaves : (es : Exprs) → AreExprs g d es → StmtLeaves g d (print es)
     print_leaves es h ls σ w k =
         sound_then σ (AllValued g.variables (exprs_types es)) (Leaves g d d false false) (eval_all calls es ls w) (λ vs w1. normal ls (record w1 { output = w1.output ++ line_text (flat_map flat vs) }))
-        (exprs_evals calls g d answers es h ls σ w k.0 k.1) (λ vs σ1 w1 grown1 l. (σ1, grows_not σ1, ((k.0, l.1), refl)))
+        (exprs_evals calls g d answers es h ls σ w k.0 k.1) (λ vs σ1 w1 grown1 l. (σ1, grows_not σ1, ((fits_grow grown1 k.0, l.1), refl)))
 
     panics : (v : Value) (s : Type') (σ : Shelf) (w : World) → IsString s v → Sound σ (Leaves g d d true false) (panicked v w)
     panics v s σ w (text bytes es ev f) = subst (λ u. Sound σ (Leaves g d d true false) (panicked u w)) (sym ev) tt
@@ -147,12 +150,12 @@ module _ (calls : Calls) where
     panic_leaves : (e : Expr) → IsExpr g d e → is_string (underlying (expr_type e)) ≡ true → StmtLeaves g d (panic e)
     panic_leaves e h string ls σ w k =
         sound_then σ (Valued g.variables (expr_type e)) (Leaves g d d true false) (eval calls e ls w) panicked (expr_evals calls g d answers e h ls σ w k.0 k.1)
-        (λ v σ1 w1 grown1 l. panics v (underlying (expr_type e)) σ1 w1 (string_value (underlying (expr_type e)) v string (of_underlying (expr_type e) v l.0)))
+        (λ v σ1 w1 grown1 l. panics v (underlying (expr_type e)) σ1 w1 (string_value σ1 (underlying (expr_type e)) v string (of_underlying σ1 (expr_type e) v l.0)))
 
     return_leaves : (s : Source) → IsSource g d s → AllSuit (source_types s) g.results → StmtLeaves g d (return s)
     return_leaves s hs suit ls σ w k =
         sound_then σ (AllValued g.variables (source_types s)) (Leaves g d d true false) (source calls s ls w) (λ vs w1. Gives (Returns vs) w1) (source_evals calls g d answers s ls σ w hs k)
-        (λ vs σ1 w1 grown1 l. (σ1, grows_not σ1, (all_suit (source_types s) g.results vs suit l.0, l.1)))
+        (λ vs σ1 w1 grown1 l. (σ1, grows_not σ1, (all_suit σ1 (source_types s) g.results vs suit l.0, l.1)))
 
     -- ---- statements of statements
 
@@ -163,22 +166,22 @@ module _ (calls : Calls) where
     if_leaves e a b h first second ls σ w k =
         sound_then σ (Valued g.variables (expr_type e)) (Both a b) (eval calls e ls w) (λ c w1. if_true c (exec_all calls a ls w1) (exec_all calls b ls w1)) (expr_evals calls g d answers e h.0 ls σ w k.0 k.1)
         (λ c σ1 w1 grown1 l.
-        decided σ1 (Both a b) c (exec_all calls a ls w1) (exec_all calls b ls w1) (truth_in (expr_type e) c h.1 l.0)
+        decided σ1 (Both a b) c (exec_all calls a ls w1) (exec_all calls b ls w1) (truth_in σ1 (expr_type e) c h.1 l.0)
         (sound_map σ1 (Leaves g d (after_all d a) (list_terminates a) (breaks_any a)) (Both a b) (exec_all calls a ls w1)
         (λ f later w2 grown. leaves_as g d (after_all d a) d d (list_terminates a) (breaks_any a) (list_terminates a && list_terminates b) (breaks_any a || breaks_any b) (within_same d) (all_grow d a)
         (λ x. (both_true (list_terminates a) (list_terminates b) x).0) (or_left (breaks_any a) (breaks_any b)) f later w2)
-        (first ls σ1 w1 (k.0, l.1)))
+        (first ls σ1 w1 (fits_grow grown1 k.0, l.1)))
         (sound_map σ1 (Leaves g d (after_all d b) (list_terminates b) (breaks_any b)) (Both a b) (exec_all calls b ls w1)
         (λ f later w2 grown. leaves_as g d (after_all d b) d d (list_terminates b) (breaks_any b) (list_terminates a && list_terminates b) (breaks_any a || breaks_any b) (within_same d) (all_grow d b)
         (λ x. (both_true (list_terminates a) (list_terminates b) x).1) (or_right (breaks_any a) (breaks_any b)) f later w2)
-        (second ls σ1 w1 (k.0, l.1))))
+        (second ls σ1 w1 (fits_grow grown1 k.0, l.1))))
 
     -- the condition of a loop; without one it is true
     tests_are : (o : Option Expr) (quiet : Bool) → IsConditionOrNone g d o → (ls : Locals) (σ : Shelf) (w : World) → Fitting g d ls σ w → Sound σ (λ v σ1 w1. IsTruth v × ((not (is_some o) && quiet) ≡ true → v ≡ single (Truth true)) × Keeps g.variables σ1 w1) (tested calls o ls w)
     tests_are None quiet h ls σ w k = (σ, grows_not σ, ((true, refl), (λ e. refl), k.1))
     tests_are (Some e) quiet h ls σ w k =
         sound_map σ (Valued g.variables (expr_type e)) (λ v σ1 w1. IsTruth v × (false ≡ true → v ≡ single (Truth true)) × Keeps g.variables σ1 w1) (eval calls e ls w)
-        (λ v σ1 w1 grown1 l. (truth_in (expr_type e) v h.1 l.0, (λ x. absurd (cc)), l.1)) (expr_evals calls g d answers e h.0 ls σ w k.0 k.1)
+        (λ v σ1 w1 grown1 l. (truth_in σ1 (expr_type e) v h.1 l.0, (λ x. absurd (cc)), l.1)) (expr_evals calls g d answers e h.0 ls σ w k.0 k.1)
 
     for_leaves : (o : Option Expr) (post ss : Stmts) → IsConditionOrNone g d o → StmtsLeave (in_post g) d post → StmtsLeave (in_loop g) d ss → StmtLeaves g d (for_statement o post ss)
     for_leaves o post ss h posts bodies ls σ w k =
@@ -193,16 +196,16 @@ module _ (calls : Calls) where
         (expr_evals calls g d answers e he ls σ w k.0 k.1)
         (λ v σ1 w1 grown1 l.
         sound_then σ1 (Valued g.variables t) (Leaves g d d false false) (given t (operators.Gives v) w1) (λ v1 w2. walk_to v1 (λ h. walk w2.ticks 0 h o (exec_all calls ss) ls w2))
-        (sound_given g.variables t (operators.Gives v) σ1 w1 l.1 (subst (λ u. Of u v) same l.0))
-        (λ v1 σ2 w2 grown2 m. walks v1 σ2 w2 m.1 (integer_value (underlying t) v1 integer (of_underlying t v1 m.0))))
+        (sound_given g.variables t (operators.Gives v) σ1 w1 l.1 (subst (λ u. Of σ1 u v) same l.0))
+        (λ v1 σ2 w2 grown2 m. walks v1 σ2 w2 (fits_grow grown2 (fits_grow grown1 k.0)) m.1 (integer_value σ2 (underlying t) v1 integer (of_underlying σ2 t v1 m.0))))
       where
-        walks : (v : Value) (σ2 : Shelf) (w2 : World) → Keeps g.variables σ2 w2 → IsNumber (underlying t) v → Sound σ2 (Leaves g d d false false) (walk_to v (λ h. walk w2.ticks 0 h o (exec_all calls ss) ls w2))
-        walks v σ2 w2 good (number i (pos n) is ev fit) =
+        walks : (v : Value) (σ2 : Shelf) (w2 : World) → Fits σ2 g.locals d ls → Keeps g.variables σ2 w2 → IsNumber (underlying t) v → Sound σ2 (Leaves g d d false false) (walk_to v (λ h. walk w2.ticks 0 h o (exec_all calls ss) ls w2))
+        walks v σ2 w2 fits good (number i (pos n) is ev fit) =
             subst (λ u. Sound σ2 (Leaves g d d false false) (walk_to u (λ h. walk w2.ticks 0 h o (exec_all calls ss) ls w2))) (sym ev)
-            (walk_leaves g d (after_all (numbers (o ∷ []) ++ d) ss) (list_terminates ss) (breaks_any ss) o t i is counts n fit (exec_all calls ss) (all_grow (numbers (o ∷ []) ++ d) ss) bodies w2.ticks 0 ls σ2 w2 (k.0, good))
-        walks v σ2 w2 good (number i (negsuc n) is ev fit) =
+            (walk_leaves g d (after_all (numbers (o ∷ []) ++ d) ss) (list_terminates ss) (breaks_any ss) o t i is counts n fit (exec_all calls ss) (all_grow (numbers (o ∷ []) ++ d) ss) bodies w2.ticks 0 ls σ2 w2 (fits, good))
+        walks v σ2 w2 fits good (number i (negsuc n) is ev fit) =
             subst (λ u. Sound σ2 (Leaves g d d false false) (walk_to u (λ h. walk w2.ticks 0 h o (exec_all calls ss) ls w2))) (sym ev)
-            (walk_leaves g d (after_all (numbers (o ∷ []) ++ d) ss) (list_terminates ss) (breaks_any ss) o t i is counts 0 (zero_fits i) (exec_all calls ss) (all_grow (numbers (o ∷ []) ++ d) ss) bodies w2.ticks 0 ls σ2 w2 (k.0, good))
+            (walk_leaves g d (after_all (numbers (o ∷ []) ++ d) ss) (list_terminates ss) (breaks_any ss) o t i is counts 0 (zero_fits i) (exec_all calls ss) (all_grow (numbers (o ∷ []) ++ d) ss) bodies w2.ticks 0 ls σ2 w2 (fits, good))
 
   -- ---- all statements
 

@@ -10,12 +10,13 @@ use Rattle.go_meaning.specs.Values.{Value}
 use Rattle.go_meaning.specs.Choices.{binary_operators, operated}
 use Rattle.go_meaning.specs.Meaning.{World, Gives, Locals, Calls, Flow, Normal, Breaks, Continues, Returns, and_then, changed, eval, if_true, if_normal, is_case, chosen, switched, exec, exec_all, from_clause}
 use Rattle.go_meaning_laws.specs.WellTyped.{Setting, in_clause, exprs_types, IsExpr, AreExprs, AreCases, AreStmts, AreClauses, after_all, is_last}
-use Rattle.go_meaning_laws.proofs.Values.{Of, both_true, suits, of_underlying}
+use Rattle.go_meaning_laws.proofs.Shelf.{Shelf, grows_not}
+use Rattle.go_meaning_laws.proofs.Values.{Of, both_true, suits, of_underlying, of_grow}
 use Rattle.go_meaning_laws.proofs.Operators.{IsTruth}
-use Rattle.go_meaning_laws.proofs.Binary.{compared_is}
-use Rattle.go_meaning_laws.proofs.Worlds.{Shelf, grows_not, Sound, sound_then, sound_map, Keeps, Valued, Within}
+use Rattle.go_meaning_laws.proofs.Binary.{equal_is}
+use Rattle.go_meaning_laws.proofs.Worlds.{Sound, sound_then, sound_map, sound_changed, Keeps, Valued, fits_grow, Within}
 use Rattle.go_meaning_laws.proofs.Exprs.{Answers, decided, expr_evals}
-use Rattle.go_meaning_laws.proofs.Targets.{Fitting, sound_changed}
+use Rattle.go_meaning_laws.proofs.Targets.{Fitting}
 use Rattle.go_meaning_laws.proofs.Flows.{Leaves, before}
 
 -- there is a clause of that number
@@ -51,7 +52,7 @@ clause_parts g d t None ss falls cs h = h
 clause_parts g d t (Some es) ss falls cs h = (h.2, h.3, h.4)
 
 module _ (calls : Calls) (g : Setting) (d : List ℕ) (answers : Answers g.functions g.variables calls) where
-  case_is : (t : Type') (tag : Value) (es : Exprs) (ls : Locals) (σ : Shelf) (w : World) → Of t tag → AreExprs g d es → AreCases t (exprs_types es) → Fitting g d ls σ w → Sound σ (λ (b : Bool) σ1 w1. Keeps g.variables σ1 w1) (is_case calls t tag es ls w)
+  case_is : (t : Type') (tag : Value) (es : Exprs) (ls : Locals) (σ : Shelf) (w : World) → Of σ t tag → AreExprs g d es → AreCases t (exprs_types es) → Fitting g d ls σ w → Sound σ (λ (b : Bool) σ1 w1. Keeps g.variables σ1 w1) (is_case calls t tag es ls w)
   case_is t tag no_exprs ls σ w of h c k = (σ, grows_not σ, k.1)
   case_is t tag (some_exprs e es) ls σ w of h c k =
       sound_then σ (Valued g.variables (expr_type e)) (λ b σ1 w1. Keeps g.variables σ1 w1) (eval calls e ls w)
@@ -60,14 +61,14 @@ module _ (calls : Calls) (g : Setting) (d : List ℕ) (answers : Answers g.funct
       (λ v σ1 w1 grown1 l.
       sound_then σ1 (λ b σ2 w2. IsTruth b × Keeps g.variables σ2 w2) (λ b σ2 w2. Keeps g.variables σ2 w2) (changed (operated (binary_operators (underlying t) (comparison Equal)) (tag ∷ v ∷ [])) w1)
       (λ b w2. if_true b (Gives true w2) (is_case calls t tag es ls w2))
-      (sound_changed g.variables IsTruth (operated (binary_operators (underlying t) (comparison Equal)) (tag ∷ v ∷ [])) σ1 w1 l.1
-      (compared_is Equal (underlying t) tag v refl (of_underlying t tag of) (of_underlying t v (suits (expr_type e) t v c.0 l.0))))
-      (λ b σ2 w2 grown2 m. decided σ2 (λ (b : Bool) σ3 w3. Keeps g.variables σ3 w3) b (Gives true w2) (is_case calls t tag es ls w2) m.0 (σ2, grows_not σ2, m.1) (case_is t tag es ls σ2 w2 of h.1 c.1 (k.0, m.1))))
+      (sound_changed g.variables (λ b σ2. IsTruth b) (operated (binary_operators (underlying t) (comparison Equal)) (tag ∷ v ∷ [])) σ1 w1 l.1
+      (equal_is σ1 (underlying t) tag v (of_underlying σ1 t tag (of_grow t tag grown1 of)) (of_underlying σ1 t v (suits σ1 (expr_type e) t v c.0 l.0))))
+      (λ b σ2 w2 grown2 m. decided σ2 (λ (b : Bool) σ3 w3. Keeps g.variables σ3 w3) b (Gives true w2) (is_case calls t tag es ls w2) m.0 (σ2, grows_not σ2, m.1) (case_is t tag es ls σ2 w2 (of_grow t tag grown2 (of_grow t tag grown1 of)) h.1 c.1 (fits_grow grown2 (fits_grow grown1 k.0), m.1))))
 
   abbrev Choosing : Clauses → ℕ → Option ℕ → Option ℕ → Shelf → World → Type 0
   Choosing cs n other o σ w = Chosen cs n other o × Keeps g.variables σ w
 
-  pub chosen_is : (t : Type') (tag : Value) (cs : Clauses) (n : ℕ) (other : Option ℕ) (ls : Locals) (σ : Shelf) (w : World) → Of t tag → AreClauses g d t cs → Fitting g d ls σ w → Sound σ (Choosing cs n other) (chosen calls t tag cs n other ls w)
+  pub chosen_is : (t : Type') (tag : Value) (cs : Clauses) (n : ℕ) (other : Option ℕ) (ls : Locals) (σ : Shelf) (w : World) → Of σ t tag → AreClauses g d t cs → Fitting g d ls σ w → Sound σ (Choosing cs n other) (chosen calls t tag cs n other ls w)
   chosen_is t tag no_clauses n other ls σ w of h k = (σ, grows_not σ, (inr (refl, refl), k.1))
   chosen_is t tag (clause None ss falls cs) n other ls σ w of h k =
       sound_map σ (Choosing cs (n + 1) (Some n)) (Choosing (clause None ss falls cs) n other) (chosen calls t tag cs (n + 1) (Some n) ls w) (λ o σ1 w1 grown1 l. (chosen_default ss falls cs n other o l.0, l.1))
@@ -75,7 +76,7 @@ module _ (calls : Calls) (g : Setting) (d : List ℕ) (answers : Answers g.funct
   chosen_is t tag (clause (Some es) ss falls cs) n other ls σ w of h k =
       sound_then σ (λ (b : Bool) σ1 w1. Keeps g.variables σ1 w1) (Choosing (clause (Some es) ss falls cs) n other) (is_case calls t tag es ls w)
       (λ b w1. if b then Gives (Some n) w1 else chosen calls t tag cs (n + 1) other ls w1) (case_is t tag es ls σ w of h.0 h.1 k)
-      (λ b σ1 w1 grown1 l. by_case b σ1 w1 l (chosen_is t tag cs (n + 1) other ls σ1 w1 of h.4 (k.0, l)))
+      (λ b σ1 w1 grown1 l. by_case b σ1 w1 l (chosen_is t tag cs (n + 1) other ls σ1 w1 (of_grow t tag grown1 of) h.4 (fits_grow grown1 k.0, l)))
     where
       by_case : (b : Bool) (σ1 : Shelf) (w1 : World) → Keeps g.variables σ1 w1 → Sound σ1 (Choosing cs (n + 1) other) (chosen calls t tag cs (n + 1) other ls w1) → Sound σ1 (Choosing (clause (Some es) ss falls cs) n other) (if b then Gives (Some n) w1 else chosen calls t tag cs (n + 1) other ls w1)
       by_case true σ1 w1 good rest = (σ1, grows_not σ1, (inl (0, ap Some (let same : n ≡ n + 0 = omega arith in same), tt), good))
@@ -166,7 +167,7 @@ module _ (calls : Calls) (g : Setting) (d : List ℕ) (answers : Answers g.funct
       (expr_evals calls g d answers e he ls σ w k.0 k.1)
       (λ tag σ1 w1 grown1 l.
       sound_then σ1 (Choosing cs 0 None) (Leaves g d d (is_ended cs) false) (chosen calls (expr_type e) tag cs 0 None ls w1) (λ o w2. and_then (from_clause calls cs o ls w2) switched)
-      (chosen_is (expr_type e) tag cs 0 None ls σ1 w1 l.0 hc (k.0, l.1))
+      (chosen_is (expr_type e) tag cs 0 None ls σ1 w1 l.0 hc (fits_grow grown1 k.0, l.1))
       (λ o σ2 w2 grown2 m.
       sound_then σ2 (Leaves (in_clause g) d d (is_ended cs) (breaks_clause cs)) (Leaves g d d (is_ended cs) false) (from_clause calls cs o ls w2) switched
-      (clauses o (is_ended cs) (breaks_clause cs) (λ x. ended cs o m.0 x) (λ x. x) ls σ2 w2 (k.0, m.1)) (λ f σ3 w3 grown3. left cs f σ3 w3)))
+      (clauses o (is_ended cs) (breaks_clause cs) (λ x. ended cs o m.0 x) (λ x. x) ls σ2 w2 (fits_grow grown2 (fits_grow grown1 k.0), m.1)) (λ f σ3 w3 grown3. left cs f σ3 w3)))

@@ -1,48 +1,20 @@
 -- Outcomes that are sound, variables that hold values of their types, and arrays that stand on a shelf.
-use Rattle.std.proofs.Common.{◌≡◌, ℕ, zero, suc, Bool, true, false, ◌||◌, List, [], ◌∷◌, ◌++◌, append_assoc, append-nil, length, replicate, Option, Some, None, ◌⊎◌, inl, inr, refl, sym, ap, ◌∙◌, subst, nat_eq, slice_get, slice_set}
+use Rattle.std.proofs.Common.{◌≡◌, ℕ, zero, suc, Bool, true, false, ◌||◌, List, [], ◌∷◌, ◌++◌, Option, Some, None, ◌⊎◌, inl, inr, refl, sym, ap, ◌∙◌, subst, nat_eq, slice_get, slice_set}
 use Rattle.std.specs.List.{find}
 use Rattle.std.proofs.lemmas.Bool.{eqb-true, eqb-false, cases_Bool}
 use Rattle.go_types.specs.Types.{Type'}
+use Rattle.go_code.specs.declared.cell.Cell.{Cell}
 use Rattle.go_code.specs.Operators as operators
 use Rattle.go_code.specs.Operators.{Operated}
 use Rattle.go_typed.specs.Trees.{Symbol}
-use Rattle.go_meaning.specs.Values.{Value, is_of, or_else}
+use Rattle.go_meaning.specs.Values.{Value, single, is_of, or_else}
 use Rattle.go_symbol.specs.Symbols.{same_symbol}
-use Rattle.go_meaning.specs.Meaning.{Stored, World, Outcome, Gives, Ends, Stuck, Local, Locals, and_then, given, local_value, global_value, with_local, with_global, all_put, defined}
+use Rattle.go_meaning.specs.Meaning.{Stored, World, Outcome, Gives, Ends, Stuck, Local, Locals, and_then, with_cell, given, changed, local_value, global_value, with_local, with_global, all_put, defined}
 use Rattle.go_meaning_laws.specs.WellTyped.{has, AreGiven, AreNew, numbers}
-use Rattle.go_meaning_laws.proofs.Values.{Of, Proper, AllOf, suits}
+use Rattle.go_meaning_laws.proofs.Shelf.{Shelf, Grows, grows_not, grows_then}
+use Rattle.go_meaning_laws.proofs.Values.{Of, AllOf, suits, of_grow}
 use Rattle.go_meaning_laws.proofs.Parts.{Fine}
-
--- ---- arrays
-
--- The arrays that slices are parts of stand on a shelf: it says, for each behind array 0, which type its elements have and how many there are.
-abbrev pub Shelf : Type 0
-Shelf = List (Type' × ℕ)
-
--- an array has so many elements, values of that type
-abbrev pub StandsOne : Type' × ℕ → List Value → Type 0
-StandsOne a vs = (length vs ≡ a.1) × AllOf (replicate (length vs) a.0) vs
-
-abbrev pub StandAt : Shelf → List (List Value) → Type 0
-StandAt [] [] = Unit {0}
-StandAt [] (vs ∷ arrays) = ⊥
-StandAt (a ∷ σ) [] = ⊥
-StandAt (a ∷ σ) (vs ∷ arrays) = StandsOne a vs × StandAt σ arrays
-
--- array 0 has nothing
-abbrev pub Stands : Shelf → List (List Value) → Type 0
-Stands σ [] = ⊥
-Stands σ (vs ∷ arrays) = (vs ≡ []) × StandAt σ arrays
-
--- a shelf grows at its end: an array stays, with its type and its number of elements
-abbrev pub Grows : Shelf → Shelf → Type 0
-Grows σ later = (more : Shelf) × (later ≡ σ ++ more)
-
-pub grows_not : (σ : Shelf) → Grows σ σ
-grows_not σ = ([], sym (append-nil σ))
-
-pub grows_then : (σ later last : Shelf) → Grows σ later → Grows later last → Grows σ last
-grows_then σ later last h k = (h.0 ++ k.0, k.1 ∙ ap (λ s. s ++ k.0) h.1 ∙ append_assoc σ h.0 k.0)
+use Rattle.go_meaning_laws.proofs.Arrays.{Stands}
 
 -- ---- outcomes
 
@@ -73,52 +45,62 @@ sound_map σ P Q (Gives a w) f h = (h.0, h.1, f a h.0 w h.1 h.2)
 sound_map σ P Q (Ends ending output) f h = tt
 sound_map σ P Q Stuck f h = absurd h
 
+-- behind a value of one cell
+pub sound_cell : {A : Type 0} (σ : Shelf) (P : A → Shelf → World → Type 0) (v : Value) (o : Outcome A) → (c : Cell) × (v ≡ single c) → Sound σ P o → Sound σ P (with_cell v o)
+sound_cell σ P v o e h = subst (λ u. Sound σ P (with_cell u o)) (sym e.1) h
+
 -- ---- package variables
 
 -- each has its type and a value of it
-pub record Stores (types : Symbol → Option Type') (variables : List Stored) : Type 0 where
-  pub each : (s : Symbol) (t : Type') → types s ≡ Some t → (x : Stored) × (find (λ v. same_symbol s v.symbol) variables ≡ Some x) × (x.of ≡ t) × Of t x.value
+pub record Stores (σ : Shelf) (types : Symbol → Option Type') (variables : List Stored) : Type 0 where
+  pub each : (s : Symbol) (t : Type') → types s ≡ Some t → (x : Stored) × (find (λ v. same_symbol s v.symbol) variables ≡ Some x) × (x.of ≡ t) × Of σ t x.value
 
 -- so it is in the world, whose arrays stand on the shelf
 abbrev pub Keeps : (Symbol → Option Type') → Shelf → World → Type 0
-Keeps types σ w = Stores types w.variables × Stands σ w.arrays
+Keeps types σ w = Stores σ types w.variables × Stands σ w.arrays
 
 -- a value of that type, in such a world
 abbrev pub Valued : (Symbol → Option Type') → Type' → Value → Shelf → World → Type 0
-Valued types t v σ w = Of t v × Keeps types σ w
+Valued types t v σ w = Of σ t v × Keeps types σ w
 
-pub sound_given : (types : Symbol → Option Type') (t : Type') (o : Operated Value) (σ : Shelf) (w : World) → Keeps types σ w → Fine (Of t) o → Sound σ (Valued types t) (given t o w)
+pub sound_given : (types : Symbol → Option Type') (t : Type') (o : Operated Value) (σ : Shelf) (w : World) → Keeps types σ w → Fine (Of σ t) o → Sound σ (Valued types t) (given t o w)
 sound_given types t (operators.Gives v) σ w good h = rw (h.0) (σ, grows_not σ, (h, good))
 sound_given types t (operators.Panics kind) σ w good h = tt
 sound_given types t operators.Senseless σ w good h = absurd h
 
-pub global_is : (types : Symbol → Option Type') (variables : List Stored) (s : Symbol) (t : Type') → Stores types variables → types s ≡ Some t → Fine (Of t) (global_value variables s)
-global_is types variables s t good e = (let r = good.each s t e in rw (r.1) (r.3))
+-- what is given, or a panic, by a rule
+pub sound_changed : {A : Type 0} (types : Symbol → Option Type') (P : A → Shelf → Type 0) (o : Operated A) (σ : Shelf) (w : World) → Keeps types σ w → Fine (λ a. P a σ) o → Sound σ (λ a σ1 w1. P a σ1 × Keeps types σ1 w1) (changed o w)
+sound_changed types P (operators.Gives a) σ w good h = (σ, grows_not σ, (h, good))
+sound_changed types P (operators.Panics kind) σ w good h = tt
+sound_changed types P operators.Senseless σ w good h = absurd h
 
--- what is found there after a value was given to another or the same
-abbrev Renewed : Value → Stored → Stored → Type 0
-Renewed v x y = (y.of ≡ x.of) × ((y.value ≡ x.value) ⊎ ((y.value ≡ v) × (is_of x.of v ≡ true)))
+pub global_is : (σ : Shelf) (types : Symbol → Option Type') (variables : List Stored) (s : Symbol) (t : Type') → Stores σ types variables → types s ≡ Some t → Fine (Of σ t) (global_value variables s)
+global_is σ types variables s t good e = (let r = good.each s t e in rw (r.1) (r.3))
+
+-- what is found there after a value was given to another, or to the same of that type
+abbrev Renewed : Type' → Value → Stored → Stored → Type 0
+Renewed t v x y = (y.of ≡ x.of) × ((y.value ≡ x.value) ⊎ ((y.value ≡ v) × (x.of ≡ t)))
 
 abbrev among : Symbol → List Stored → Option Stored
 among r variables = find (λ z. same_symbol r z.symbol) variables
 
-abbrev StillThere : Symbol → Value → List Stored → Stored → Type 0
-StillThere r v later x = (y : Stored) × (among r later ≡ Some y) × Renewed v x y
+abbrev StillThere : Symbol → Type' → Value → List Stored → Stored → Type 0
+StillThere r t v later x = (y : Stored) × (among r later ≡ Some y) × Renewed t v x y
 
-renewed_here : (r : Symbol) (v : Value) (z x : Stored) (zs : List Stored) → is_of z.of v ≡ true → among r (z ∷ zs) ≡ Some x → StillThere r v (record z { value = v } ∷ zs) x
-renewed_here r v z x zs e f = by_test (same_symbol r z.symbol) refl
+renewed_here : (r : Symbol) (t : Type') (v : Value) (z x : Stored) (zs : List Stored) → z.of ≡ t → among r (z ∷ zs) ≡ Some x → StillThere r t v (record z { value = v } ∷ zs) x
+renewed_here r t v z x zs e f = by_test (same_symbol r z.symbol) refl
   where
-    by_test : (b : Bool) → same_symbol r z.symbol ≡ b → StillThere r v (record z { value = v } ∷ zs) x
+    by_test : (b : Bool) → same_symbol r z.symbol ≡ b → StillThere r t v (record z { value = v } ∷ zs) x
     by_test true k =
         let found : Some z ≡ Some x = rw k at f in
         let same : z ≡ x = cc in
-        (record z { value = v }, rw k refl, (ap (λ q. q.of) same, inr (refl, subst (λ q. is_of q.of v ≡ true) same e)))
+        (record z { value = v }, rw k refl, (ap (λ q. q.of) same, inr (refl, ap (λ q. q.of) (sym same) ∙ e)))
     by_test false k = (let found : among r zs ≡ Some x = rw k at f in (x, rw k found, (refl, inl refl)))
 
-renewed_later : (r : Symbol) (v : Value) (z x : Stored) (zs ys : List Stored) → ((x : Stored) → among r zs ≡ Some x → StillThere r v ys x) → among r (z ∷ zs) ≡ Some x → StillThere r v (z ∷ ys) x
-renewed_later r v z x zs ys rest f = by_test (same_symbol r z.symbol) refl
+renewed_later : (r : Symbol) (t : Type') (v : Value) (z x : Stored) (zs ys : List Stored) → ((x : Stored) → among r zs ≡ Some x → StillThere r t v ys x) → among r (z ∷ zs) ≡ Some x → StillThere r t v (z ∷ ys) x
+renewed_later r t v z x zs ys rest f = by_test (same_symbol r z.symbol) refl
   where
-    by_test : (b : Bool) → same_symbol r z.symbol ≡ b → StillThere r v (z ∷ ys) x
+    by_test : (b : Bool) → same_symbol r z.symbol ≡ b → StillThere r t v (z ∷ ys) x
     by_test true k =
         let found : Some z ≡ Some x = rw k at f in
         let same : z ≡ x = cc in
@@ -129,58 +111,73 @@ renewed_later r v z x zs ys rest f = by_test (same_symbol r z.symbol) refl
         (h.0, rw k h.1, h.2)
 
 -- a variable that is there gets a value of its type; those that are found stay, with their types
-abbrev Puts : Symbol → Value → List Stored → Type 0
-Puts s v variables = (later : List Stored) × (with_global variables s v ≡ Some later) × ((r : Symbol) (x : Stored) → among r variables ≡ Some x → StillThere r v later x)
+abbrev Puts : Symbol → Type' → Value → List Stored → Type 0
+Puts s t v variables = (later : List Stored) × (with_global variables s v ≡ Some later) × ((r : Symbol) (x : Stored) → among r variables ≡ Some x → StillThere r t v later x)
 
-put : (s : Symbol) (v : Value) (variables : List Stored) (x : Stored) → among s variables ≡ Some x → is_of x.of v ≡ true → Puts s v variables
-put s v [] x f e = absurd (cc)
-put s v (z ∷ zs) x f e = by_test (same_symbol s z.symbol) refl (put s v zs x)
+put : (s : Symbol) (t : Type') (v : Value) (variables : List Stored) (x : Stored) → among s variables ≡ Some x → x.of ≡ t → is_of t v ≡ true → Puts s t v variables
+put s t v [] x f e h = absurd (cc)
+put s t v (z ∷ zs) x f e h = by_test (same_symbol s z.symbol) refl (put s t v zs x)
   where
-    by_test : (b : Bool) → same_symbol s z.symbol ≡ b → (among s zs ≡ Some x → is_of x.of v ≡ true → Puts s v zs) → Puts s v (z ∷ zs)
+    by_test : (b : Bool) → same_symbol s z.symbol ≡ b → (among s zs ≡ Some x → x.of ≡ t → is_of t v ≡ true → Puts s t v zs) → Puts s t v (z ∷ zs)
     by_test true k rest =
         let found : Some z ≡ Some x = rw k at f in
         let same : z ≡ x = cc in
-        let typed : is_of z.of v ≡ true = subst (λ q. is_of q.of v ≡ true) (sym same) e in
-        (record z { value = v } ∷ zs, rw (k, typed) refl, λ r y g. renewed_here r v z y zs typed g)
+        let is : z.of ≡ t = ap (λ q. q.of) same ∙ e in
+        let typed : is_of z.of v ≡ true = subst (λ u. is_of u v ≡ true) (sym is) h in
+        (record z { value = v } ∷ zs, rw (k, typed) refl, λ r y g. renewed_here r t v z y zs is g)
     by_test false k rest =
         let found : among s zs ≡ Some x = rw k at f in
-        let h = rest found e in
-        (z ∷ h.0, rw (k, h.1) refl, λ r y g. renewed_later r v z y zs h.0 (h.2 r) g)
+        let p = rest found e h in
+        (z ∷ p.0, rw (k, p.1) refl, λ r y g. renewed_later r t v z y zs p.0 (p.2 r) g)
 
-still_of : (t : Type') (v : Value) (x y : Stored) → x.of ≡ t → Of t x.value → Proper v → Renewed v x y → (y.of ≡ t) × Of t y.value
-still_of t v x y e h k n =
-    (n.0 ∙ e, elim n.1 [ inl same ↦ subst (λ u. Of t u) (sym same) h | inr new ↦ subst (λ u. Of t u) (sym new.0) (subst (λ s. is_of s v ≡ true) e new.1, k) ])
+still_of : (σ : Shelf) (t u : Type') (v : Value) (x y : Stored) → x.of ≡ u → Of σ u x.value → Of σ t v → Renewed t v x y → (y.of ≡ u) × Of σ u y.value
+still_of σ t u v x y e h k n =
+    (n.0 ∙ e, elim n.1 [ inl same ↦ subst (λ q. Of σ u q) (sym same) h | inr new ↦ subst (λ q. Of σ u q) (sym new.0) (subst (λ s. Of σ s v) (sym new.1 ∙ e) k) ])
 
-pub global_put : (types : Symbol → Option Type') (variables : List Stored) (s : Symbol) (t : Type') (v : Value) → Stores types variables → types s ≡ Some t → Of t v → (later : List Stored) × (with_global variables s v ≡ Some later) × Stores types later
-global_put types variables s t v good e h =
+pub global_put : (σ : Shelf) (types : Symbol → Option Type') (variables : List Stored) (s : Symbol) (t : Type') (v : Value) → Stores σ types variables → types s ≡ Some t → Of σ t v → (later : List Stored) × (with_global variables s v ≡ Some later) × Stores σ types later
+global_put σ types variables s t v good e h =
     let r = good.each s t e in
-    let p = put s v variables r.0 r.1 (subst (λ u. is_of u v ≡ true) (sym r.2) h.0) in (
+    let p = put s t v variables r.0 r.1 r.2 h.0 in (
       p.0,
       p.1,
       record {
         each = λ q u k.
             (let x = good.each q u k in
             let y = p.2 q x.0 x.1 in
-            (let z = still_of u v x.0 y.0 x.2 x.3 h.1 y.2 in (y.0, y.1, z.0, z.1)));
+            (let z = still_of σ t u v x.0 y.0 x.2 x.3 h y.2 in (y.0, y.1, z.0, z.1)));
       },
     )
+
+pub stores_grow : {σ later : Shelf} {types : Symbol → Option Type'} {variables : List Stored} → Grows σ later → Stores σ types variables → Stores later types variables
+stores_grow g h = record { each = λ s t e. (let r = h.each s t e in (r.0, r.1, r.2, of_grow t (r.0).value g r.3)) }
+
+-- the variables stay, where the shelf grows and the arrays are others
+pub keeps_with : (types : Symbol → Option Type') (σ later : Shelf) (w w1 : World) → Grows σ later → w1.variables ≡ w.variables → Keeps types σ w → Stands later w1.arrays → Keeps types later w1
+keeps_with types σ later w w1 g e h stands = (subst (λ vs. Stores later types vs) (sym e) (stores_grow g h.0), stands)
 
 -- ---- local variables
 
 -- what a variable of that number holds, where those of these numbers have been given a value
-abbrev pub Held : Type' → List ℕ → ℕ → Option Value → Type 0
-Held t d n None = has d n ≡ false
-Held t d n (Some v) = Of t v
+abbrev pub Held : Shelf → Type' → List ℕ → ℕ → Option Value → Type 0
+Held σ t d n None = has d n ≡ false
+Held σ t d n (Some v) = Of σ t v
 
-pub record Fits (types : List Type') (d : List ℕ) (ls : Locals) : Type 0 where
-  pub each : (n : ℕ) (t : Type') → slice_get types n ≡ Some t → (o : Option Value) × (slice_get ls n ≡ Some (record { of = t; value = o })) × Held t d n o
+pub record Fits (σ : Shelf) (types : List Type') (d : List ℕ) (ls : Locals) : Type 0 where
+  pub each : (n : ℕ) (t : Type') → slice_get types n ≡ Some t → (o : Option Value) × (slice_get ls n ≡ Some (record { of = t; value = o })) × Held σ t d n o
 
-pub local_is : (types : List Type') (d : List ℕ) (ls : Locals) (n : ℕ) (t : Type') → Fits types d ls → slice_get types n ≡ Some t → has d n ≡ true → Fine (Of t) (local_value ls n)
-local_is types d ls n t fits e h = (let r = fits.each n t e in rw (r.1) (by_value r.0 r.2))
+pub local_is : (σ : Shelf) (types : List Type') (d : List ℕ) (ls : Locals) (n : ℕ) (t : Type') → Fits σ types d ls → slice_get types n ≡ Some t → has d n ≡ true → Fine (Of σ t) (local_value ls n)
+local_is σ types d ls n t fits e h = (let r = fits.each n t e in rw (r.1) (by_value r.0 r.2))
   where
-    by_value : (o : Option Value) → Held t d n o → Fine (Of t) (or_else operators.Senseless o)
+    by_value : (o : Option Value) → Held σ t d n o → Fine (Of σ t) (or_else operators.Senseless o)
     by_value None k = absurd (cc)
     by_value (Some v) k = k
+
+held_grow : {σ later : Shelf} (t : Type') (d : List ℕ) (n : ℕ) (o : Option Value) → Grows σ later → Held σ t d n o → Held later t d n o
+held_grow t d n None g h = h
+held_grow t d n (Some v) g h = of_grow t v g h
+
+pub fits_grow : {σ later : Shelf} {types : List Type'} {d : List ℕ} {ls : Locals} → Grows σ later → Fits σ types d ls → Fits later types d ls
+fits_grow {d = d} g h = record { each = λ n t e. (let r = h.each n t e in (r.0, r.1, held_grow t d n r.0 g r.2)) }
 
 get_same : (ls : Locals) (n : ℕ) (x y : Local) → slice_get ls n ≡ Some y → slice_get (slice_set ls n x) n ≡ Some x
 get_same [] n x y e = cc
@@ -197,12 +194,12 @@ get_other (l ∷ ls) (suc m) (suc n) x e = get_other ls m n x (λ h. e (ap suc h
 same_type : (t u : Type') → Some t ≡ Some u → t ≡ u
 same_type t u e = cc
 
-held_still : (t : Type') (d : List ℕ) (m n : ℕ) (o : Option Value) → nat_eq m n ≡ false → Held t d m o → Held t (n ∷ d) m o
-held_still t d m n None e h = rw (e) h
-held_still t d m n (Some v) e h = h
+held_still : (σ : Shelf) (t : Type') (d : List ℕ) (m n : ℕ) (o : Option Value) → nat_eq m n ≡ false → Held σ t d m o → Held σ t (n ∷ d) m o
+held_still σ t d m n None e h = rw (e) h
+held_still σ t d m n (Some v) e h = h
 
-pub local_put : (types : List Type') (d : List ℕ) (ls : Locals) (n : ℕ) (t : Type') (v : Value) → Fits types d ls → slice_get types n ≡ Some t → Of t v → (later : Locals) × (with_local ls n v ≡ Some later) × Fits types (n ∷ d) later
-local_put types d ls n t v fits e h =
+pub local_put : (σ : Shelf) (types : List Type') (d : List ℕ) (ls : Locals) (n : ℕ) (t : Type') (v : Value) → Fits σ types d ls → slice_get types n ≡ Some t → Of σ t v → (later : Locals) × (with_local ls n v ≡ Some later) × Fits σ types (n ∷ d) later
+local_put σ types d ls n t v fits e h =
     let r = fits.each n t e in
     let x : Local = record { of = t; value = Some v } in (
       slice_set ls n x,
@@ -212,10 +209,10 @@ local_put types d ls n t v fits e h =
           | inl is ↦
               let same : m ≡ n = eqb-true m n is in
               let alike : t ≡ u = same_type t u (sym e ∙ ap (slice_get types) (sym same) ∙ k) in
-              (Some v, ap (slice_get (slice_set ls n x)) same ∙ get_same ls n x _ (r.1) ∙ ap (λ s. Some (record { of = s; value = Some v })) alike, subst (λ s. Of s v) alike h)
+              (Some v, ap (slice_get (slice_set ls n x)) same ∙ get_same ls n x _ (r.1) ∙ ap (λ s. Some (record { of = s; value = Some v })) alike, subst (λ s. Of σ s v) alike h)
           | inr not_so ↦
               let s = fits.each m u k in
-              (s.0, get_other ls m n x (eqb-false m n not_so) ∙ s.1, held_still u d m n s.0 not_so s.2)
+              (s.0, get_other ls m n x (eqb-false m n not_so) ∙ s.1, held_still σ u d m n s.0 not_so s.2)
         ];
       },
     )
@@ -225,12 +222,12 @@ local_put types d ls n t v fits e h =
 abbrev pub Within : List ℕ → List ℕ → Type 0
 Within d e = (n : ℕ) → has d n ≡ true → has e n ≡ true
 
-held_before : (t : Type') (d e : List ℕ) (n : ℕ) (o : Option Value) → Within d e → Held t e n o → Held t d n o
-held_before t d e n None w h = elim (cases_Bool (has d n)) [ inl is ↦ (let more = w n is in cc) | inr not_so ↦ not_so ]
-held_before t d e n (Some v) w h = h
+held_before : (σ : Shelf) (t : Type') (d e : List ℕ) (n : ℕ) (o : Option Value) → Within d e → Held σ t e n o → Held σ t d n o
+held_before σ t d e n None w h = elim (cases_Bool (has d n)) [ inl is ↦ (let more = w n is in cc) | inr not_so ↦ not_so ]
+held_before σ t d e n (Some v) w h = h
 
-pub fits_before : (types : List Type') (d e : List ℕ) (ls : Locals) → Within d e → Fits types e ls → Fits types d ls
-fits_before types d e ls w h = record { each = λ n t k. (let r = h.each n t k in (r.0, r.1, held_before t d e n r.0 w r.2)) }
+pub fits_before : (σ : Shelf) (types : List Type') (d e : List ℕ) (ls : Locals) → Within d e → Fits σ types e ls → Fits σ types d ls
+fits_before σ types d e ls w h = record { each = λ n t k. (let r = h.each n t k in (r.0, r.1, held_before σ t d e n r.0 w r.2)) }
 
 pub within_more : (xs d : List ℕ) → Within d (xs ++ d)
 within_more [] d n h = h
@@ -241,33 +238,33 @@ within_more (x ∷ xs) d n h = either_way (nat_eq n x) (has (xs ++ d) n) (within
     either_way false q e = e
 
 -- new variables get values
-pub defined_is : (types : List Type') (d : List ℕ) (os : List (Option ℕ)) (ts : List Type') (vs : List Value) (ls : Locals) → AreNew types os ts → AllOf ts vs → Fits types d ls → (later : Locals) × (defined os vs ls ≡ Some later) × Fits types (numbers os ++ d) later
-defined_is types d [] [] [] ls new h fits = (ls, refl, fits)
-defined_is types d [] [] (v ∷ vs) ls new h fits = absurd h
-defined_is types d [] (t ∷ ts) vs ls new h fits = absurd new
-defined_is types d (o ∷ os) [] vs ls new h fits = absurd new
-defined_is types d (o ∷ os) (t ∷ ts) [] ls new h fits = absurd h
-defined_is types d (None ∷ os) (t ∷ ts) (v ∷ vs) ls new h fits = defined_is types d os ts vs ls new h.1 fits
-defined_is types d (Some n ∷ os) (t ∷ ts) (v ∷ vs) ls new h fits =
-    let r = defined_is types d os ts vs ls new.1 h.1 fits in
+pub defined_is : (σ : Shelf) (types : List Type') (d : List ℕ) (os : List (Option ℕ)) (ts : List Type') (vs : List Value) (ls : Locals) → AreNew types os ts → AllOf σ ts vs → Fits σ types d ls → (later : Locals) × (defined os vs ls ≡ Some later) × Fits σ types (numbers os ++ d) later
+defined_is σ types d [] [] [] ls new h fits = (ls, refl, fits)
+defined_is σ types d [] [] (v ∷ vs) ls new h fits = absurd h
+defined_is σ types d [] (t ∷ ts) vs ls new h fits = absurd new
+defined_is σ types d (o ∷ os) [] vs ls new h fits = absurd new
+defined_is σ types d (o ∷ os) (t ∷ ts) [] ls new h fits = absurd h
+defined_is σ types d (None ∷ os) (t ∷ ts) (v ∷ vs) ls new h fits = defined_is σ types d os ts vs ls new h.1 fits
+defined_is σ types d (Some n ∷ os) (t ∷ ts) (v ∷ vs) ls new h fits =
+    let r = defined_is σ types d os ts vs ls new.1 h.1 fits in
     let u = new.0 in
-    let s = local_put types (numbers os ++ d) r.0 n u.0 v r.2 u.1 (suits t u.0 v u.2 h.0) in
+    let s = local_put σ types (numbers os ++ d) r.0 n u.0 v r.2 u.1 (suits σ t u.0 v u.2 h.0) in
     (s.0, rw (r.1) (s.1), s.2)
 
 -- package variables get values
 abbrev pub put_at : List ℕ → List Stored → List ℕ → Value → Option (List Stored)
 put_at path variables x = with_global variables (record { path = path; name = x })
 
-pub stored_is : (types : Symbol → Option Type') (path : List ℕ) (os : List (Option (List ℕ))) (ts : List Type') (vs : List Value) (variables : List Stored) → AreGiven (λ x. types (record { path = path; name = x })) os ts → AllOf ts vs → Stores types variables
-    → (later : List Stored) × (all_put (put_at path) os vs variables ≡ Some later) × Stores types later
-stored_is types path [] [] [] variables new h good = (variables, refl, good)
-stored_is types path [] [] (v ∷ vs) variables new h good = absurd h
-stored_is types path [] (t ∷ ts) vs variables new h good = absurd new
-stored_is types path (o ∷ os) [] vs variables new h good = absurd new
-stored_is types path (o ∷ os) (t ∷ ts) [] variables new h good = absurd h
-stored_is types path (None ∷ os) (t ∷ ts) (v ∷ vs) variables new h good = stored_is types path os ts vs variables new h.1 good
-stored_is types path (Some x ∷ os) (t ∷ ts) (v ∷ vs) variables new h good =
-    let r = stored_is types path os ts vs variables new.1 h.1 good in
+pub stored_is : (σ : Shelf) (types : Symbol → Option Type') (path : List ℕ) (os : List (Option (List ℕ))) (ts : List Type') (vs : List Value) (variables : List Stored) → AreGiven (λ x. types (record { path = path; name = x })) os ts → AllOf σ ts vs → Stores σ types variables
+    → (later : List Stored) × (all_put (put_at path) os vs variables ≡ Some later) × Stores σ types later
+stored_is σ types path [] [] [] variables new h good = (variables, refl, good)
+stored_is σ types path [] [] (v ∷ vs) variables new h good = absurd h
+stored_is σ types path [] (t ∷ ts) vs variables new h good = absurd new
+stored_is σ types path (o ∷ os) [] vs variables new h good = absurd new
+stored_is σ types path (o ∷ os) (t ∷ ts) [] variables new h good = absurd h
+stored_is σ types path (None ∷ os) (t ∷ ts) (v ∷ vs) variables new h good = stored_is σ types path os ts vs variables new h.1 good
+stored_is σ types path (Some x ∷ os) (t ∷ ts) (v ∷ vs) variables new h good =
+    let r = stored_is σ types path os ts vs variables new.1 h.1 good in
     let u = new.0 in
-    let s = global_put types r.0 (record { path = path; name = x }) u.0 v r.2 u.1 (suits t u.0 v u.2 h.0) in
+    let s = global_put σ types r.0 (record { path = path; name = x }) u.0 v r.2 u.1 (suits σ t u.0 v u.2 h.0) in
     (s.0, rw (r.1) (s.1), s.2)

@@ -13,17 +13,17 @@ use Rattle.go_const.specs.declared.operator.ComparisonOperator.TheVariants.{Equa
 use Rattle.go_types.specs.declared.types.Basic.{Basic}
 use Rattle.go_types.specs.declared.types.Basic.TheVariants as basics
 use Rattle.go_types.specs.declared.types.Untyped.TheVariants as kinds
-use Rattle.go_types.specs.Types.{Type', basic, array, struct, named, Fields, no_fields, field}
-use Rattle.go_types.specs.Relations.{underlying}
+use Rattle.go_types.specs.Types.{Type', basic, array, slice, struct, named, Fields, no_fields, field}
+use Rattle.go_types.specs.Relations.{underlying, is_comparable}
 use Rattle.go_types.specs.Sizes.{cells}
 use Rattle.go_code.specs.declared.cell.Cell.{Cell}
 use Rattle.go_code.specs.declared.cell.Cell.TheVariants.{Text}
 use Rattle.go_typed.specs.declared.expression.Operator.{Operator}
 use Rattle.go_typed.specs.declared.expression.Operator.TheVariants.{Arithmetic as arithmetic, Shift as shift, Comparison as comparison}
 use Rattle.go_typed.specs.Trees as trees
-use Rattle.go_typed.specs.Trees.{Symbol, Expr, constant, local, global, index, unary, binary, both, either, conversion, literal, call, Exprs, no_exprs, some_exprs, Parts, no_parts, part, Steps, here, to_field, to_element, Left, blank, of_local, of_global, Source, each, results, zeros, Stmt, define, assign, update, run, print, panic, if_statement, for_statement, range_statement, switch_statement, block, break, continue, return, Stmts, no_stmts, some_stmts, Clauses, no_clauses, clause, Function, Package, expr_type}
+use Rattle.go_typed.specs.Trees.{Symbol, Expr, constant, local, global, index, unary, binary, both, either, conversion, literal, call, Exprs, no_exprs, some_exprs, Perhaps, absent, present, Parts, no_parts, part, Steps, here, to_field, to_element, Left, blank, of_local, of_global, of_slice, Source, each, results, zeros, Stmt, define, assign, update, run, print, panic, if_statement, for_statement, range_statement, switch_statement, block, break, continue, return, Stmts, no_stmts, some_stmts, Clauses, no_clauses, clause, Function, Package, expr_type}
 use Rattle.go_meaning.specs.Values.{single, is_of}
-use Rattle.go_meaning.specs.Choices.{cell_of, field_type, element_type}
+use Rattle.go_meaning.specs.Choices.{cell_of, field_type}
 use Rattle.go_symbol.specs.Symbols.{same_symbol}
 use Rattle.go_meaning.specs.Meaning.{Stored, most_cells}
 use Rattle.go_meaning.specs.Programs.{Step, sets, calls, Declared, package_functions, function_at, first_variables, start_steps}
@@ -70,6 +70,10 @@ abbrev pub is_string : Type' → Bool
 is_string (basic basics.String) = true
 is_string t = false
 
+abbrev pub is_slice : Type' → Bool
+is_slice (slice t) = true
+is_slice t = false
+
 -- a comparison has no type of its own: its value is an untyped one
 abbrev pub is_bool : Type' → Bool
 is_bool (basic basics.Bool) = true
@@ -85,6 +89,7 @@ abbrev mutual
   pub IsWhole : Type' → Type 0
   IsWhole (basic b) = is_typed b ≡ true
   IsWhole (array n t) = IsWhole t
+  IsWhole (slice t) = IsWhole t
   IsWhole (struct fs) = AreWhole fs
   IsWhole (named path name t) = IsWhole t
 
@@ -126,10 +131,10 @@ abbrev pub is_sum : ArithmeticOperator → Type' → Bool
 is_sum Add s = is_integer s || is_string s
 is_sum op s = is_integer s
 
--- https://go.dev/ref/spec#Comparison_operators: all types are comparable, integers and strings are ordered
+-- https://go.dev/ref/spec#Comparison_operators: integers and strings are ordered
 abbrev pub is_compared : ComparisonOperator → Type' → Bool
-is_compared Equal s = true
-is_compared NotEqual s = true
+is_compared Equal s = is_comparable s
+is_compared NotEqual s = is_comparable s
 is_compared op s = is_integer s || is_string s
 
 -- the operator gives a value of the first type of operands of the others
@@ -142,9 +147,10 @@ IsOperation (comparison op) t a b = (is_bool (underlying t) ≡ true) × (a ≡ 
 abbrev pub Converts : Type' → Type' → Type 0
 Converts t u = (t ≡ u) ⊎ ((is_integer t ≡ true) × (is_integer u ≡ true)) ⊎ ((is_bool t ≡ true) × (is_bool u ≡ true))
 
--- https://go.dev/ref/spec#Index_expressions, by the underlying type: an element of an array, a byte of a string
+-- https://go.dev/ref/spec#Index_expressions, by the underlying type: an element of an array or a slice, a byte of a string
 abbrev pub indexed_type : Type' → Option Type'
 indexed_type (array n t) = Some t
+indexed_type (slice t) = Some t
 indexed_type (basic basics.String) = Some byte
 indexed_type s = None
 
@@ -173,7 +179,17 @@ abbrev mutual
   IsExpr g d (index t e i) =
       IsExpr g d e × IsExpr g d i × (is_integer (underlying (expr_type i)) ≡ true) × (indexed_type (underlying (expr_type e)) ≡ Some t)
   -- https://go.dev/ref/spec#Length_and_capacity
-  IsExpr g d (trees.length t e) = IsExpr g d e × (is_string (underlying (expr_type e)) ≡ true) × (t ≡ int)
+  IsExpr g d (trees.length t e) = IsExpr g d e × (is_string (underlying (expr_type e)) || is_slice (underlying (expr_type e)) ≡ true) × (t ≡ int)
+  IsExpr g d (trees.capacity t e) = IsExpr g d e × (is_slice (underlying (expr_type e)) ≡ true) × (t ≡ int)
+  -- https://go.dev/ref/spec#Slice_expressions
+  IsExpr g d (trees.cut t e low o) =
+      IsExpr g d e × (expr_type e ≡ t) × (is_string (underlying t) || is_slice (underlying t) ≡ true) × IsExpr g d low × (is_integer (underlying (expr_type low)) ≡ true)
+      × IsSize g d o
+  -- https://go.dev/ref/spec#Making_slices_maps_and_channels
+  IsExpr g d (trees.make t n o) =
+      IsWhole t × (is_slice (underlying t) ≡ true) × IsExpr g d n × (is_integer (underlying (expr_type n)) ≡ true) × IsSize g d o
+  -- https://go.dev/ref/spec#Appending_and_copying_slices
+  IsExpr g d (trees.append t o es) = IsWhole t × IsAppended g d t o × ((u : Type') × (underlying t ≡ slice u) × AreElements g d u es)
   IsExpr g d (unary t op e) = IsExpr g d e × (expr_type e ≡ t) × (is_unary op (underlying t) ≡ true)
   IsExpr g d (binary t op a b) = IsExpr g d a × IsExpr g d b × IsOperation op t (expr_type a) (expr_type b)
   IsExpr g d (both t a b) = IsExpr g d a × IsExpr g d b × (expr_type a ≡ t) × (expr_type b ≡ t) × (is_bool (underlying t) ≡ true)
@@ -181,6 +197,21 @@ abbrev mutual
   IsExpr g d (conversion t e) = IsExpr g d e × Converts (underlying (expr_type e)) (underlying t)
   IsExpr g d (literal t ps) = IsWhole t × AreParts g d t ps
   IsExpr g d (call t s es) = AreExprs g d es × IsCall g s (exprs_types es) (t ∷ [])
+
+  -- a length, a capacity or a bound that may be left out
+  pub IsSize : Setting → List ℕ → Perhaps → Type 0
+  IsSize g d absent = ⊤
+  IsSize g d (present e) = IsExpr g d e × (is_integer (underlying (expr_type e)) ≡ true)
+
+  -- what is appended to, if anything is
+  pub IsAppended : Setting → List ℕ → Type' → Perhaps → Type 0
+  IsAppended g d t absent = ⊤
+  IsAppended g d t (present e) = IsExpr g d e × (expr_type e ≡ t)
+
+  -- elements of that type
+  pub AreElements : Setting → List ℕ → Type' → Exprs → Type 0
+  AreElements g d u no_exprs = ⊤
+  AreElements g d u (some_exprs e es) = IsExpr g d e × Suits (expr_type e) u × AreElements g d u es
 
   pub AreExprs : Setting → List ℕ → Exprs → Type 0
   AreExprs g d no_exprs = ⊤
@@ -219,18 +250,31 @@ AreGiven types (Some n ∷ os) (t ∷ ts) = ((u : Type') × (types n ≡ Some u)
 abbrev pub AreNew : List Type' → List (Option ℕ) → List Type' → Type 0
 AreNew locals = AreGiven (slice_get locals)
 
--- the steps lead from a variable of the first type to a part that may be given a value of the other
+-- the elements that a value has itself: those of an array
+abbrev pub array_element : Type' → Option Type'
+array_element (array n t) = Some t
+array_element s = None
+
+-- the steps lead from a variable of the first type to a part of it that may be given a value of the other
 abbrev pub LeadsTo : Setting → List ℕ → Type' → Steps → Type' → Type 0
 LeadsTo g d t here u = Suits u t
 LeadsTo g d t (to_field n ss) u = (part : Type') × (field_type (underlying t) n ≡ Some part) × LeadsTo g d part ss u
 LeadsTo g d t (to_element e ss) u =
-    (part : Type') × (element_type (underlying t) ≡ Some part) × IsExpr g d e × (is_integer (underlying (expr_type e)) ≡ true) × LeadsTo g d part ss u
+    (part : Type') × (array_element (underlying t) ≡ Some part) × IsExpr g d e × (is_integer (underlying (expr_type e)) ≡ true) × LeadsTo g d part ss u
 
--- a part of a variable, which is no larger than types may be
+-- so they do from a slice whose elements have the first type, an element first
+abbrev pub LeadsInto : Setting → List ℕ → Type' → Steps → Type' → Type 0
+LeadsInto g d t here u = ⊥
+LeadsInto g d t (to_field n ss) u = ⊥
+LeadsInto g d t (to_element e ss) u = IsExpr g d e × (is_integer (underlying (expr_type e)) ≡ true) × LeadsTo g d t ss u
+
+-- a part of a variable, or of a slice's elements, which is no larger than types may be
 abbrev pub IsPart : Setting → List ℕ → Left → Type' → Type 0
 IsPart g d blank u = ⊥
 IsPart g d (of_local t n ss) u = Holds g d n t × (nat_le (cells t) most_cells ≡ true) × LeadsTo g d t ss u
 IsPart g d (of_global t s ss) u = (g.variables s ≡ Some t) × (nat_le (cells t) most_cells ≡ true) × LeadsTo g d t ss u
+IsPart g d (of_slice t e ss) u =
+    IsExpr g d e × (expr_type e ≡ t) × ((v : Type') × (underlying t ≡ slice v) × (nat_le (cells v) most_cells ≡ true) × LeadsInto g d v ss u)
 
 abbrev pub AreLefts : Setting → List ℕ → List Left → List Type' → Type 0
 AreLefts g d [] [] = ⊤

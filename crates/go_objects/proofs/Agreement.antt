@@ -1,15 +1,15 @@
 -- Scopes that find the same for each name that a tree uses give it one verdict.
-use Rattle.std.proofs.Common.{◌≡◌, ℕ, suc, Bool, true, false, List, [], ◌∷◌, ◌++◌, Option, map, refl, ap, ◌∙◌}
-use Rattle.std.specs.Prelude.{option_map}
+use Rattle.std.proofs.Common.{◌≡◌, ℕ, suc, Bool, true, false, List, [], ◌∷◌, ◌++◌, Option, Some, map, refl, ap, ◌∙◌}
+use Rattle.std.specs.Prelude.{option_map, if◌then◌else◌}
 use Rattle.std.specs.List.{Contains}
 use Rattle.ws_reach.proofs.Reached.{contains_get, get_contains}
-use Rattle.go_ast.specs.Trees.{TypeExpr, named, qualified, array, struct, Fields, no_fields, field, Expr, name, integer, rune, string, parenthesized, composite_lit, conversion, selector, index, call, unary, binary, Exprs, no_exprs, some_exprs, Elements, no_elements, element, Element, expression_element, value_element}
+use Rattle.go_ast.specs.Trees.{TypeExpr, named, qualified, array, slice, struct, Fields, no_fields, field, Expr, name, integer, rune, string, parenthesized, composite_lit, conversion, selector, index, cut, Bound, no_bound, bound, call, type_operand, unary, binary, Exprs, no_exprs, some_exprs, Elements, no_elements, element, Element, expression_element, value_element}
 use Rattle.go_types.specs.Types.{Type'}
-use Rattle.go_scope.specs.Names.{Used, in_type, in_fields, in_expr, in_exprs, in_elements, in_element}
+use Rattle.go_scope.specs.Names.{Used, in_type, in_fields, in_expr, in_bound, in_exprs, in_elements, in_element}
 use Rattle.go_typed.specs.Trees.{Expr as Typed}
-use Rattle.go_expr.specs.Known.{Known, Verdict, Scope, look_up}
-use Rattle.go_expr.specs.Rules.{fine, checked, valued, type_due, array_of, declared_field, struct_of, value_due, ElementList, literal_of, Due, element_due, due_type, untyped_literal, selected, exported_by, index_of, unary_of, binary_of, converted, called}
-use Rattle.go_expr.specs.Verdicts.{asked, asked_both, joined, operand, callee, inside, subject, key_text, verdict, operands, elements, element_verdict, type_verdict, fields_known}
+use Rattle.go_expr.specs.Known.{type', declared, Known, Verdict, Fine, Scope, look_up}
+use Rattle.go_expr.specs.Rules.{fine, checked, valued, type_due, array_of, slice_of, declared_field, struct_of, value_due, ElementList, literal_of, Due, element_due, due_type, untyped_literal, selected, exported_by, index_of, cut_of, made, unmade, unary_of, binary_of, converted, called}
+use Rattle.go_expr.specs.Verdicts.{asked, both, asked_both, joined, operand, callee, inside, subject, key_text, is_make, is_name, verdict, bound_known, made_verdict, call_verdict, operands, elements, element_verdict, type_verdict, fields_known}
 
 -- at each name that is used
 abbrev Agree : Scope → Scope → List Used → Type 0
@@ -46,6 +46,18 @@ by_value rule a b c d e f = ap valued (by_both rule (operand a) (operand b) (ope
 by_joined : {A : Type 0} (a b c d : Option (List A)) → a ≡ b → c ≡ d → joined a c ≡ joined b d
 by_joined a b c d e f = ap (λ x. joined x c) e ∙ ap (joined b) f
 
+-- a rule over a value and its bounds
+abbrev cut_between : Typed → Option Typed × Option Typed → Verdict Typed
+cut_between e bounds = cut_of e bounds.0 bounds.1
+
+-- what is made, by what is known of the first operand and of the others
+abbrev made_by : Expr → Verdict Known → Option (List Typed) → Verdict Typed
+made_by e v sizes = if is_name e then asked_both made (fine (asked type_due (fine v))) sizes else asked_both unmade (fine v) sizes
+
+-- a call of what is known, by what it makes and by its operands
+abbrev called_by : Option Known → Verdict Typed → Option (List Typed) → Verdict Known
+called_by o v xs = if is_make o then valued v else asked_both called o xs
+
 mutual
   same : (s r : Scope) → s.path ≡ r.path → (dotted : Bool) (e : Expr) → Agree s r (in_expr dotted e) → verdict s e ≡ verdict r e
   same s r p dotted (name q x) h = h.0
@@ -63,10 +75,30 @@ mutual
   same s r p dotted (selector q e x) h =
       ap (λ path. asked (selected path x.text) (fine (subject (verdict s e)))) p ∙ ap (λ (v : Verdict Known). asked (selected r.path x.text) (fine (subject v))) (same s r p true e h)
   same s r p dotted (index q e i) h = by_value index_of _ _ _ _ (same s r p false e (first s r (in_expr false e) (in_expr false i) h)) (same s r p false i (second s r (in_expr false e) (in_expr false i) h))
+  same s r p dotted (cut q e a b) h =
+      let front = first s r (in_expr false e ++ in_bound a) (in_bound b) h in
+      ap valued (by_both cut_between _ _ _ _ (ap operand (same s r p false e (first s r (in_expr false e) (in_bound a) front)))
+      (ap (λ (x : Option (Option Typed)). both x (bound_known s b)) (same_bound s r p a (second s r (in_expr false e) (in_bound a) front))
+      ∙ ap (both (bound_known r a)) (same_bound s r p b (second s r (in_expr false e ++ in_bound a) (in_bound b) h))))
+  same s r p dotted (type_operand q t) h = ap (λ (v : Verdict Type'). checked (λ t. Fine (declared (type' t))) v) (same_type s r p t h)
   same s r p dotted (call q f es) h =
-      by_both called _ _ _ _ (ap (λ v. fine (callee v)) (same s r p false f (first s r (in_expr false f) (in_exprs es) h))) (same_operands s r p es (second s r (in_expr false f) (in_exprs es) h))
+      let operands_agree = second s r (in_expr false f) (in_exprs es) h in
+      let o = fine (callee (verdict r f)) in
+      ap (λ (v : Verdict Known). call_verdict s (fine (callee v)) es) (same s r p false f (first s r (in_expr false f) (in_exprs es) h))
+      ∙ ap (λ (v : Verdict Typed). called_by o v (operands s es)) (same_made s r p es operands_agree)
+      ∙ ap (called_by o (made_verdict r es)) (same_operands s r p es operands_agree)
   same s r p dotted (unary q op e) h = ap (λ (v : Verdict Known). valued (asked (unary_of op) (operand v))) (same s r p false e h)
   same s r p dotted (binary q op a b) h = by_value (binary_of op) _ _ _ _ (same s r p false a (first s r (in_expr false a) (in_expr false b) h)) (same s r p false b (second s r (in_expr false a) (in_expr false b) h))
+
+  same_bound : (s r : Scope) → s.path ≡ r.path → (b : Bound) → Agree s r (in_bound b) → bound_known s b ≡ bound_known r b
+  same_bound s r p no_bound h = refl
+  same_bound s r p (bound e) h = ap (λ (v : Verdict Known). option_map Some (operand v)) (same s r p false e h)
+
+  same_made : (s r : Scope) → s.path ≡ r.path → (es : Exprs) → Agree s r (in_exprs es) → made_verdict s es ≡ made_verdict r es
+  same_made s r p no_exprs h = refl
+  same_made s r p (some_exprs e es) h =
+      ap (λ (v : Verdict Known). made_by e v (operands s es)) (same s r p false e (first s r (in_expr false e) (in_exprs es) h))
+      ∙ ap (made_by e (verdict r e)) (same_operands s r p es (second s r (in_expr false e) (in_exprs es) h))
 
   same_operands : (s r : Scope) → s.path ≡ r.path → (es : Exprs) → Agree s r (in_exprs es) → operands s es ≡ operands r es
   same_operands s r p no_exprs h = refl
@@ -93,6 +125,7 @@ mutual
       ap (λ (v : Verdict Known). asked type_due (fine (asked (exported_by n.text) (fine v)))) h.0
   same_type s r p (array q e t) h =
       by_both array_of _ _ _ _ (ap operand (same s r p false e (first s r (in_expr false e) (in_type t) h))) (ap fine (same_type s r p t (second s r (in_expr false e) (in_type t) h)))
+  same_type s r p (slice q t) h = ap (λ (v : Verdict Type'). asked slice_of (fine v)) (same_type s r p t h)
   same_type s r p (struct q fs) h = ap (asked struct_of) (same_fields s r p fs h)
 
   same_fields : (s r : Scope) → s.path ≡ r.path → (fs : Fields) → Agree s r (in_fields fs) → fields_known s fs ≡ fields_known r fs

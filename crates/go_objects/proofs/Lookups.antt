@@ -93,7 +93,7 @@ same_found : (p : Package) (t u : Names) → Named p.objects t → Named p.objec
     look_up x (scope_at p t file iota).names ≡ look_up x (scope_at p u file iota).names
 same_found p t u nt nu file iota x h =
     let imports = imports_at p file in
-    let a : Found = iota_of iota ++ universe in
+    let a : Found = iota_of iota ++ universe p.edition in
     ap (λ (o : Option (Verdict Known)). unwrap_or o (Breaks Undeclared)) (elim (cases_Bool (is_hidden imports x)) [
       | inl hides ↦ hidden imports x (in_table t ++ a) (in_table u ++ a) hides
       | inr shows ↦ visible imports x (in_table t ++ a) shows

@@ -18,4 +18,4 @@ abbrev pub listed : objects.Objects → List Object
 listed os = map object_of os.list.items
 
 abbrev pub package_of : packages.Package → Package
-package_of p = record { path = p.path.now; imports = map (λ is. imports_of is.items) p.imports.items; objects = listed p.objects }
+package_of p = record { path = p.path.now; edition = p.edition; imports = map (λ is. imports_of is.items) p.imports.items; objects = listed p.objects }

@@ -2,6 +2,7 @@
 use Rattle.std.specs.Prelude.{◌≡◌, ℕ, suc, Bool, false, not, nat_eq, bytes_eq, codes, length, if◌then◌else◌, List, [], ◌∷◌, ◌++◌, map, Option, Some, None, option_map, option_and_then, unwrap_or}
 use Rattle.std.specs.List.{slice_get, flat_map, filter, filter_map, list_any}
 use Rattle.go_text.specs.declared.fault.FaultKind.TheVariants.{Size, Redeclared}
+use Rattle.go_text.specs.declared.edition.Edition.{Edition}
 use Rattle.go_ast.specs.Trees.{Name, TypeExpr, Expr, Parameter}
 use Rattle.go_types.specs.Types.{Type', named}
 use Rattle.go_types.specs.Relations.{underlying}
@@ -18,6 +19,7 @@ use Rattle.go_objects.specs.Objects as forms
 -- a package: its path, of each file the names of its imports with what these export, and its objects
 pub record Package : Type 0 where
   pub path : List ℕ
+  pub edition : Edition
   pub imports : List (List (List ℕ × Names))
   pub objects : List Object
 
@@ -63,7 +65,7 @@ rows p = map (needs p) p.objects
 abbrev pub scope_at : Package → Names → ℕ → Option ℕ → Scope
 scope_at p known file iota = record {
   path = p.path;
-  names = map (λ i. (i.0, Fine (package' i.1))) (imports_at p file) ++ (map (λ n. (n.0, known_name n.1)) known ++ (iota_of iota ++ universe));
+  names = map (λ i. (i.0, Fine (package' i.1))) (imports_at p file) ++ (map (λ n. (n.0, known_name n.1)) known ++ (iota_of iota ++ universe p.edition));
 }
 
 -- https://go.dev/ref/spec#Constant_declarations

@@ -100,7 +100,13 @@ pub fn scope_in<'a>(
 ) -> Scope<'a>
     ensures { scope_of result ≡ scope_at (package_of «package».now) (names_of known.now) file iota }
 {
-    Scope::new(package.path, imports_at(package, file), known, iota)
+    Scope::new(
+        package.path,
+        package.edition,
+        imports_at(package, file),
+        known,
+        iota,
+    )
 }
 
 // A constant, by the type that is written, if one is, and its value.

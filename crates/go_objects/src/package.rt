@@ -16,6 +16,7 @@ use go_ast::expression::{Expr, TypeExpr};
 use go_ast::file::Parameter;
 use go_expr::scope::Import;
 use go_scope::names::{UsedName, add_names, add_type_names};
+use go_text::edition::Edition;
 use std::alloc::{AllocError, Global};
 
 /// A package: its path, the imports of each of its files, and what its files declare.
@@ -23,6 +24,8 @@ use std::alloc::{AllocError, Global};
 pub struct Package<'a> {
     /// Its path.
     pub path: &'a str,
+    /// The edition of its files.
+    pub edition: Edition,
     /// Of each file what its imports declare.
     pub imports: Vec<Vec<Import<'a>>>,
     /// What its files declare.

@@ -6,6 +6,7 @@ use go_expr::scope::Import;
 use go_objects::listing::objects_of;
 use go_objects::package::Package;
 use go_parse::{ParseError, parse_source};
+use go_text::edition::Edition;
 use go_text::source::Source;
 use go_types::types::{Basic, GoType, Untyped};
 use indexmap::IndexMap;
@@ -66,6 +67,7 @@ pub(crate) fn package_of<'a>(
     };
     Ok(Package {
         path: "p",
+        edition: Edition::One,
         imports: vec![in alloc; vec![in alloc; import]?]?,
         objects: objects_of(alloc, &trees)?,
     })

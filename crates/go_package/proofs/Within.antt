@@ -2,6 +2,7 @@
 use Rattle.std.proofs.Common.{◌≡◌, ℕ, suc, ◌+◌, ◌<◌, Bool, true, false, List, [], ◌∷◌, ◌++◌, length, map, Option, Some, None, sym, subst, arith}
 use Rattle.std.specs.Prelude.{bytes_eq, codes, ◌||◌, ◌&&◌, not, is_some, unwrap_or, option_map, if◌then◌else◌}
 use Rattle.std.specs.List.{slice_get, flat_map, list_any}
+use Rattle.go_text.specs.declared.edition.Edition.{Edition}
 use Rattle.go_text.specs.declared.place.Place.{Place}
 use Rattle.go_text.specs.declared.fault.FaultKind.{FaultKind}
 use Rattle.go_text.specs.declared.fault.FaultKind.TheVariants.{Main}
@@ -163,7 +164,7 @@ first_found n (y ∷ ys) x h e =
     subst (λ (z : ℕ × (Place × FaultKind)). z.0 < n) same h.0
 
 -- the fault of a package stands in one of its files
-pub fault_within : (path : List ℕ) (files : List File) (ps : List Importable) (fault : ℕ × (Place × FaultKind)) → IsFaultOf path files ps (Some fault) → fault.0 < length files
-fault_within path files ps fault it =
+pub fault_within : (edition : Edition) (path : List ℕ) (files : List File) (ps : List Importable) (fault : ℕ × (Place × FaultKind)) → IsFaultOf edition path files ps (Some fault) → fault.0 < length files
+fault_within edition path files ps fault it =
     let os = subst (λ p. Objects (length files) p.objects) (sym it.are.package_is) (all_objects files) in
     first_found (length files) (package_faults ps it.facts files) fault (found_all ps it.facts files os) it.first

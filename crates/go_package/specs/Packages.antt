@@ -1,6 +1,7 @@
 -- The first fault of a package.
 use Rattle.std.specs.Prelude.{◌≡◌, ℕ, suc, ◌&&◌, ◌||◌, not, Bool, bytes_eq, codes, is_some, if◌then◌else◌, List, [], ◌∷◌, ◌++◌, map, Option}
 use Rattle.std.specs.List.{slice_get, flat_map, list_any}
+use Rattle.go_text.specs.declared.edition.Edition.{Edition}
 use Rattle.go_text.specs.declared.place.Place.{Place}
 use Rattle.go_text.specs.declared.fault.FaultKind.{FaultKind}
 use Rattle.go_text.specs.declared.fault.FaultKind.TheVariants.{Redeclared, UnusedImport, Main}
@@ -12,9 +13,9 @@ use Rattle.go_objects.specs.Table.{Package, number_of, rows, IsTable}
 use Rattle.go_decl.specs.Faults.{Facts, Faults, AreRecursive, object_faults, top_faults}
 use Rattle.go_package.specs.Imports.{Importable, imports_in, imports_of}
 
--- the package at a path: what its files import and declare
-abbrev pub package_in : List ℕ → List File → List Importable → Package
-package_in path files ps = record { path = path; imports = imports_of ps files; objects = objects_of files }
+-- the package of an edition at a path: what its files import and declare
+abbrev pub package_in : Edition → List ℕ → List File → List Importable → Package
+package_in edition path files ps = record { path = path; edition = edition; imports = imports_of ps files; objects = objects_of files }
 
 -- what holds of a package: what is known of its names, and which of them depend on themselves
 pub record AreFacts (p : Package) (t : Facts) : Type 0 where
@@ -99,5 +100,5 @@ pub record IsFaultIn (p : Package) (files : List File) (ps : List Importable) (f
   pub are : AreFacts p facts
   pub first : slice_get (package_faults ps facts files) 0 ≡ fault
 
-abbrev pub IsFaultOf : List ℕ → List File → List Importable → Option (ℕ × (Place × FaultKind)) → Type 0
-IsFaultOf path files ps = IsFaultIn (package_in path files ps) files ps
+abbrev pub IsFaultOf : Edition → List ℕ → List File → List Importable → Option (ℕ × (Place × FaultKind)) → Type 0
+IsFaultOf edition path files ps = IsFaultIn (package_in edition path files ps) files ps

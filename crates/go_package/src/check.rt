@@ -24,11 +24,12 @@ use go_expr::known::Names;
 use go_objects::listing::objects_of;
 use go_objects::package::Package;
 use go_objects::table::table;
+use go_text::edition::Edition;
 use go_text::fault::FaultKind;
 use go_text::place::Place;
 use std::alloc::{AllocError, Global};
 
-/// The first fault of the package at a path that some files are, which come in ascending order of
+/// The first fault of the package of an edition at a path that some files are, which come in ascending order of
 /// their names and have one package name, by the packages that they may import, the library fmt
 /// too; `Ok` where there is none. `Faulty` has the number of its file and its place: the first node
 /// in declaration order, parts before the whole and left to right, that breaks a rule, while all
@@ -38,15 +39,16 @@ use std::alloc::{AllocError, Global};
 /// [Packages](https://go.dev/ref/spec#Packages)
 pub fn check<'a>(
     alloc: Global,
+    edition: Edition,
     path: &'a str,
     files: &[&'a File],
     packages: &[Importable<'a>],
 ) -> Result<(), DeclError>
-    ensures good { IfOk result (λ u. IsFaultOf path.now (files_of files.now) (importables_of packages.now) None) }
+    ensures good { IfOk result (λ u. IsFaultOf edition path.now (files_of files.now) (importables_of packages.now) None) }
     ensures faulty { (file : ℕ) (place : Place) (kind : FaultKind) → result ≡ Err (errors.Faulty file place kind)
-        → IsFaultOf path.now (files_of files.now) (importables_of packages.now) (Some (file, (place, kind))) }
+        → IsFaultOf edition path.now (files_of files.now) (importables_of packages.now) (Some (file, (place, kind))) }
 {
-    let package = package_of(alloc, path, files, packages)?;
+    let package = package_of(alloc, edition, path, files, packages)?;
     check_package(alloc, packages, &package, files)
 }
 
@@ -78,17 +80,19 @@ fn check_known<'a>(
     check_facts(alloc, packages, &facts, files)
 }
 
-// What the files of a package import and declare. An `Err` only where memory ran out.
+// What the files of a package of an edition import and declare. An `Err` only where memory ran out.
 pub(crate) fn package_of<'a>(
     alloc: Global,
+    edition: Edition,
     path: &'a str,
     files: &[&'a File],
     packages: &[Importable<'a>],
 ) -> Result<Package<'a>, AllocError>
-    ensures { IfOk result (λ p. package_of p ≡ package_in path.now (files_of files.now) (importables_of packages.now)) }
+    ensures { IfOk result (λ p. package_of p ≡ package_in edition path.now (files_of files.now) (importables_of packages.now)) }
 {
     Ok(Package {
         path,
+        edition,
         imports: imports_of(alloc, packages, files)?,
         objects: objects_of(alloc, files)?,
     })

@@ -32,7 +32,14 @@ fn function_in(
 {
     let package = facts.package();
     let imports = imports_at(package, file);
-    check_body(alloc, package.path, imports, facts.known(), function)
+    check_body(
+        alloc,
+        package.path,
+        package.edition,
+        imports,
+        facts.known(),
+        function,
+    )
 }
 
 // A function of a file that has no fault.

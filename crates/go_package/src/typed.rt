@@ -78,12 +78,12 @@ pub fn typed<'a>(
     files: &[&'a File],
     packages: &[Importable<'a>],
 ) -> Result<Typed, DeclError>
-    ensures good { IfOk result (λ t. IsTypedIn edition (package_in path.now (files_of files.now) (importables_of packages.now)) (files_of files.now)
+    ensures good { IfOk result (λ t. IsTypedIn edition (package_in edition path.now (files_of files.now) (importables_of packages.now)) (files_of files.now)
         (importables_of packages.now) (texts_of names.now) (typed_of t)) }
     ensures faulty { (file : ℕ) (place : Place) (kind : FaultKind) → result ≡ Err (errors.Faulty file place kind)
-        → IsFaultOf path.now (files_of files.now) (importables_of packages.now) (Some (file, (place, kind))) }
+        → IsFaultOf edition path.now (files_of files.now) (importables_of packages.now) (Some (file, (place, kind))) }
 {
-    let package = package_of(alloc, path, files, packages)?;
+    let package = package_of(alloc, edition, path, files, packages)?;
     typed_in(alloc, packages, &package, edition, names, files)
 }
 

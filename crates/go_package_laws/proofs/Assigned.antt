@@ -5,14 +5,14 @@ use Rattle.go_const.specs.declared.constant.Const.{Const}
 use Rattle.go_types.specs.declared.types.Basic.TheVariants as basics
 use Rattle.go_types.specs.declared.types.Untyped.{Untyped}
 use Rattle.go_types.specs.declared.types.Untyped.TheVariants as kinds
-use Rattle.go_types.specs.Types.{Type', basic, array, struct, named}
+use Rattle.go_types.specs.Types.{Type', basic, array, slice, struct, named}
 use Rattle.go_types.specs.Relations.{underlying, identical, assignable}
 use Rattle.go_typed.specs.Trees as typed
 use Rattle.go_typed.specs.Trees.{Expr, constant, expr_type}
 use Rattle.go_meaning_laws.specs.WellTyped.{Setting, is_bool, Converts, IsExpr}
 use Rattle.go_expr.specs.Known.{Verdict, Fine, Breaks, Passed}
 use Rattle.go_expr.specs.Rules.{constant_in, int_kind, in_kind, lies_in, as_type, assigned, default_type, defaulted}
-use Rattle.go_package_laws.specs.Soundness.{Table, IsSoundType, is_of_kind, IsUntypedConstant, IsSoundValue}
+use Rattle.go_package_laws.specs.Soundness.{Table, HasSoundWay, IsSoundType, is_of_kind, IsUntypedConstant, IsSoundValue}
 use Rattle.go_package_laws.proofs.Types.{identical_same, untyped_bool, not_identical_to, assignable_suits, untyped_fits, fits_truth}
 use Rattle.go_package_laws.proofs.Constants.{IsConstantOf, is_constant_of, same_constant, fit_constant, typed_constant, constant_typed}
 
@@ -46,7 +46,7 @@ module _ (w : Table) (g : Setting) (d : List ℕ) where
   pub value_constant : (t : Type') (c : Const) → IsSoundValue w g d (constant t c) → IsOperandType w t × IsConstantOf t c
   value_constant t c (inl h) = untyped_parts t c h
   value_constant t c (inr (inl h)) = (inl h.1, constant_typed w t c h.1 h.0)
-  value_constant t c (inr (inr h)) = absurd (some_none c h.2)
+  value_constant t c (inr (inr h)) = absurd (true≢false (sym h.2))
 
   pub kind_of : (t : Type') (c : Const) (k : Untyped) → t ≡ basic (basics.Untyped k) → IsConstantOf t c → is_of_kind k c ≡ true
   kind_of t c k at h = (
@@ -57,13 +57,13 @@ module _ (w : Table) (g : Setting) (d : List ℕ) where
 
   -- and the other way
   pub constant_value : (t : Type') (c : Const) → IsOperandType w t → IsConstantOf t c → IsSoundValue w g d (constant t c)
-  constant_value t c (inl h) k = inr (inl (typed_constant w t c h k, h))
+  constant_value t c (inl h) k = inr (inl (typed_constant w t c h k, h, tt))
   constant_value t c (inr h) k = inl (h.0, c, ap (λ u. constant u c) h.1, kind_of t c h.0 h.1 k)
 
   -- ---- as a value of a sound type
 
   abbrev pub GoodAs : Type' → Expr → Type 0
-  GoodAs t x = IsExpr g d x × (expr_type x ≡ t)
+  GoodAs t x = IsExpr g d x × (expr_type x ≡ t) × HasSoundWay w x
 
   abbrev as_of : Type' → Expr → Option Const → Expr
   as_of t e o = elim o [ Some c ↦ constant t c | None ↦ if identical (expr_type e) t then e else typed.conversion t e ]
@@ -78,10 +78,10 @@ module _ (w : Table) (g : Setting) (d : List ℕ) where
       fit_constant k.0 t c (kind_of v c k.0 k.1 l) (untyped_fits w k.0 t h (subst (λ u. assignable u t ≡ true) k.1 f)) i
 
   -- a value that isn't constant, whose type is one or converts to it
-  unless_identical : (t : Type') (e : Expr) → IsExpr g d e → Converts (underlying (expr_type e)) (underlying t) → (identical (expr_type e) t ≡ true → expr_type e ≡ t)
+  unless_identical : (t : Type') (e : Expr) → IsExpr g d e → Converts (underlying (expr_type e)) (underlying t) → (identical (expr_type e) t ≡ true → (expr_type e ≡ t) × HasSoundWay w e)
       → (b : Bool) → identical (expr_type e) t ≡ b → GoodAs t (if b then e else typed.conversion t e)
-  unless_identical t e h k same true at = (h, same at)
-  unless_identical t e h k same false at = ((h, k), refl)
+  unless_identical t e h k same true at = (let is = same at in (h, is.0, is.1))
+  unless_identical t e h k same false at = ((h, k), refl, tt)
 
   pub converts_truth : (v t : Type') → v ≡ untyped_bool → is_bool (underlying t) ≡ true → Converts (underlying v) (underlying t)
   converts_truth v t at h = inr (inr (subst (λ u. is_bool (underlying u) ≡ true) (sym at) refl, h))
@@ -89,16 +89,16 @@ module _ (w : Table) (g : Setting) (d : List ℕ) where
   truth_suits : (v t : Type') → IsSoundType w t → v ≡ untyped_bool → assignable v t ≡ true → Converts (underlying v) (underlying t)
   truth_suits v t h at f = converts_truth v t at (fits_truth t (untyped_fits w kinds.Bool t h (subst (λ u. assignable u t ≡ true) at f)))
 
-  no_truth : (v t : Type') → IsSoundType w t → v ≡ untyped_bool → identical v t ≡ true → v ≡ t
-  no_truth v t h at same = absurd (not_identical_to w t kinds.Bool h (subst (λ u. identical u t ≡ true) at same))
+  no_truth : (v t : Type') → IsSoundType w t → v ≡ untyped_bool → identical v t ≡ true → ⊥
+  no_truth v t h at same = not_identical_to w t kinds.Bool h (subst (λ u. identical u t ≡ true) at same)
 
   other_as : (t : Type') (e : Expr) → IsSoundType w t → IsSoundValue w g d e → constant_in e ≡ None → assignable (expr_type e) t ≡ true
       → GoodAs t (if identical (expr_type e) t then e else typed.conversion t e)
   other_as t e h (inl k) none f = absurd (none_some k.1 (sym none ∙ ap constant_in k.2))
   other_as t e h (inr (inl k)) none f =
-      unless_identical t e k.0 (inl (assignable_suits w (expr_type e) t k.1 h f)) (identical_same w (expr_type e) t k.1 h) (identical (expr_type e) t) refl
+      unless_identical t e k.0 (inl (assignable_suits w (expr_type e) t k.1 h f)) (λ same. (identical_same w (expr_type e) t k.1 h same, k.2)) (identical (expr_type e) t) refl
   other_as t e h (inr (inr k)) none f =
-      unless_identical t e k.0 (truth_suits (expr_type e) t h k.1 f) (no_truth (expr_type e) t h k.1) (identical (expr_type e) t) refl
+      unless_identical t e k.0 (truth_suits (expr_type e) t h k.1 f) (λ same. absurd (no_truth (expr_type e) t h k.1 same)) (identical (expr_type e) t) refl
 
   constant_as : (t : Type') (e : Expr) (c : Const) → IsSoundType w t → IsSoundValue w g d e → constant_in e ≡ Some c → assignable (expr_type e) t ≡ true
       → in_kind (int_kind t) c ≡ true → IsConstantOf t c
@@ -109,7 +109,7 @@ module _ (w : Table) (g : Setting) (d : List ℕ) where
 
   as_by : (t : Type') (e : Expr) → IsSoundType w t → IsSoundValue w g d e → assignable (expr_type e) t ≡ true
       → (o : Option Const) → constant_in e ≡ o → lies_of t o ≡ true → GoodAs t (as_of t e o)
-  as_by t e h k f (Some c) at lies = (typed_constant w t c h (constant_as t e c h k at f lies), refl)
+  as_by t e h k f (Some c) at lies = (typed_constant w t c h (constant_as t e c h k at f lies), refl, tt)
   as_by t e h k f None at lies = other_as t e h k at f
 
   pub good_as : (t : Type') (e : Expr) → IsSoundType w t → IsSoundValue w g d e → assignable (expr_type e) t ≡ true → lies_in t e ≡ true → GoodAs t (as_type t e)
@@ -133,6 +133,7 @@ module _ (w : Table) (g : Setting) (d : List ℕ) where
   sound_default (basic (basics.Integer i)) h = refl
   sound_default (basic (basics.Untyped k)) h = absurd (true≢false (sym h))
   sound_default (array n t) h = refl
+  sound_default (slice t) h = refl
   sound_default (struct fs) h = refl
   sound_default (named p x t) h = refl
 

@@ -15,8 +15,8 @@ use Rattle.go_const.specs.Constants as constants
 use Rattle.go_types.specs.declared.types.Basic.TheVariants as basics
 use Rattle.go_types.specs.declared.types.Untyped.{Untyped}
 use Rattle.go_types.specs.declared.types.Untyped.TheVariants as kinds
-use Rattle.go_types.specs.Types.{Type', basic, array, struct, named}
-use Rattle.go_types.specs.Relations.{underlying, identical, assignable}
+use Rattle.go_types.specs.Types.{Type', basic, array, slice, struct, named}
+use Rattle.go_types.specs.Relations.{underlying, identical, is_comparable, assignable}
 use Rattle.go_typed.specs.declared.expression.Operator.TheVariants as nodes
 use Rattle.go_typed.specs.Trees as typed
 use Rattle.go_typed.specs.Trees.{Expr, constant, expr_type}
@@ -24,7 +24,7 @@ use Rattle.go_meaning_laws.specs.WellTyped.{Setting, is_integer, is_string, is_s
 use Rattle.go_expr.specs.Known.{Verdict, Fine, Breaks, Passed}
 use Rattle.go_expr.specs.Rules as rules
 use Rattle.go_expr.specs.Rules.{checked, constant_in, int_kind, lies_in, as_type, takes, common, is_defined, result_type, operation, divides_by_zero, operated, operand_type, combined}
-use Rattle.go_package_laws.specs.Soundness.{Table, IsSoundType, is_of_kind, IsSoundValue}
+use Rattle.go_package_laws.specs.Soundness.{Table, IsSoundType, is_of_kind, HasSoundWay, IsSoundValue}
 use Rattle.go_package_laws.proofs.Types.{untyped_bool, no_untyped, not_assignable, assignable_itself}
 use Rattle.go_package_laws.proofs.Constants.{IsConstantOf, IsEither, two_operands}
 use Rattle.go_package_laws.proofs.Assigned.{Gives, IsOperandType, some_same, none_some, kind_of, value_type, GoodAs, good_as}
@@ -72,20 +72,35 @@ sums : (op : ArithmeticOperator) (s : Type') → is_integer s ≡ true → is_su
 sums Add s h = or_left (is_integer s) (is_string s) h
 sums op s h = h
 
+comparable_integer : (s : Type') → is_integer s ≡ true → is_comparable s ≡ true
+comparable_integer (basic b) h = refl
+comparable_integer s h = absurd (true≢false (sym h))
+
+comparable_text : (s : Type') → is_string s ≡ true → is_comparable s ≡ true
+comparable_text (basic b) h = refl
+comparable_text s h = absurd (true≢false (sym h))
+
 compared_integers : (op : ComparisonOperator) (s : Type') → is_integer s ≡ true → is_compared op s ≡ true
-compared_integers Equal s h = refl
-compared_integers NotEqual s h = refl
+compared_integers Equal s h = comparable_integer s h
+compared_integers NotEqual s h = comparable_integer s h
 compared_integers op s h = or_left (is_integer s) (is_string s) h
 
 compared_texts : (op : ComparisonOperator) (s : Type') → is_string s ≡ true → is_compared op s ≡ true
-compared_texts Equal s h = refl
-compared_texts NotEqual s h = refl
+compared_texts Equal s h = comparable_text s h
+compared_texts NotEqual s h = comparable_text s h
 compared_texts op s h = or_right (is_integer s) (is_string s) h
 
-compared_equal : (op : ComparisonOperator) (s : Type') → (elim op [ Equal ↦ true | NotEqual ↦ true | _ ↦ false ]) ≡ true → is_compared op s ≡ true
-compared_equal Equal s h = refl
-compared_equal NotEqual s h = refl
-compared_equal op s h = absurd (true≢false (sym h))
+comparable_below : (t : Type') → is_comparable t ≡ true → is_comparable (underlying t) ≡ true
+comparable_below (named p x t) h = comparable_below t h
+comparable_below t h = h
+
+abbrev equals : ComparisonOperator → Type' → Bool
+equals op t = elim op [ Equal ↦ is_comparable t | NotEqual ↦ is_comparable t | _ ↦ false ]
+
+compared_equal : (op : ComparisonOperator) (t : Type') → equals op t ≡ true → is_compared op (underlying t) ≡ true
+compared_equal Equal t h = comparable_below t h
+compared_equal NotEqual t h = comparable_below t h
+compared_equal op t h = absurd (true≢false (sym h))
 
 module _ (w : Table) (g : Setting) (d : List ℕ) where
   sum_of_texts : (op : ArithmeticOperator) (t : Type') → IsValueType w g d t → (elim op [ Add ↦ rules.is_string t | _ ↦ false ]) ≡ true → is_sum op (underlying t) ≡ true
@@ -99,8 +114,8 @@ module _ (w : Table) (g : Setting) (d : List ℕ) where
   ]
 
   comparison_defined : (op : ComparisonOperator) (t : Type') → IsValueType w g d t → is_defined (Comparison op) t ≡ true → is_compared op (underlying t) ≡ true
-  comparison_defined op t h e = elim (or_cases (rules.is_integer t || rules.is_string t) (elim op [ Equal ↦ true | NotEqual ↦ true | _ ↦ false ]) e) [
-    | inr equal ↦ compared_equal op (underlying t) equal
+  comparison_defined op t h e = elim (or_cases (rules.is_integer t || rules.is_string t) (equals op t) e) [
+    | inr equal ↦ compared_equal op t equal
     | inl rest ↦ elim (or_cases (rules.is_integer t) (rules.is_string t) rest) [
       | inl integer ↦ compared_integers op (underlying t) (integer_value w g d t h integer)
       | inr text ↦ compared_texts op (underlying t) (string_value w g d t h text)
@@ -114,12 +129,12 @@ module _ (w : Table) (g : Setting) (d : List ℕ) where
 
   operation_sound : (op : BinaryOperator) (t : Type') (a b : Expr) → IsValueType w g d t → is_defined op t ≡ true → GoodAs w g d t a → GoodAs w g d t b
       → IsSoundValue w g d (operation op (result_type op t) a b)
-  operation_sound (Arithmetic op) t a b h e k l = value_made w g d (typed.binary t (nodes.Arithmetic op) a b) (k.0, l.0, (k.1, l.1, arithmetic_defined op t h e)) h refl
+  operation_sound (Arithmetic op) t a b h e k l = value_made w g d (typed.binary t (nodes.Arithmetic op) a b) (k.0, l.0, (k.1, l.1, arithmetic_defined op t h e)) h refl k.2
   operation_sound (Comparison op) t a b h e k l =
       value_made w g d (typed.binary untyped_bool (nodes.Comparison op) a b)
-      (k.0, l.0, (refl, same_types t a b k.1 l.1, subst (λ u. is_compared op (underlying u) ≡ true) (sym k.1) (comparison_defined op t h e))) (inr refl) refl
-  operation_sound LogicalAnd t a b h e k l = value_made w g d (typed.both t a b) (k.0, l.0, k.1, l.1, sound_bool t e) h refl
-  operation_sound LogicalOr t a b h e k l = value_made w g d (typed.either t a b) (k.0, l.0, k.1, l.1, sound_bool t e) h refl
+      (k.0, l.0, (refl, same_types t a b k.1 l.1, subst (λ u. is_compared op (underlying u) ≡ true) (sym k.1) (comparison_defined op t h e))) (inr refl) refl k.2
+  operation_sound LogicalAnd t a b h e k l = value_made w g d (typed.both t a b) (k.0, l.0, k.1, l.1, sound_bool t e) h refl tt
+  operation_sound LogicalOr t a b h e k l = value_made w g d (typed.either t a b) (k.0, l.0, k.1, l.1, sound_bool t e) h refl tt
 
   -- ---- operands as values of that type
 
@@ -145,6 +160,7 @@ module _ (w : Table) (g : Setting) (d : List ℕ) where
   sound_takes_none (basic (basics.Integer i)) k h e = not_assignable w (basic (basics.Integer i)) k h e
   sound_takes_none (basic (basics.Untyped l)) k h e = true≢false (sym h)
   sound_takes_none (array n t) k h e = not_assignable w (array n t) k h e
+  sound_takes_none (slice t) k h e = not_assignable w (slice t) k h e
   sound_takes_none (struct fs) k h e = not_assignable w (struct fs) k h e
   sound_takes_none (named p x t) k h e = not_assignable w (named p x t) k h e
 
@@ -180,13 +196,13 @@ module _ (w : Table) (g : Setting) (d : List ℕ) where
   abbrev as_of : Type' → Expr → Option Const → Expr
   as_of t e o = elim o [ Some c ↦ constant t c | None ↦ if identical (expr_type e) t then e else typed.conversion t e ]
 
-  truth_unless : (e : Expr) → IsExpr g d e → expr_type e ≡ untyped_bool → (b : Bool) → GoodAs w g d untyped_bool (if b then e else typed.conversion untyped_bool e)
-  truth_unless e h at true = (h, at)
-  truth_unless e h at false = ((h, inl (ap underlying at)), refl)
+  truth_unless : (e : Expr) → IsExpr g d e → expr_type e ≡ untyped_bool → HasSoundWay w e → (b : Bool) → GoodAs w g d untyped_bool (if b then e else typed.conversion untyped_bool e)
+  truth_unless e h at way true = (h, at, way)
+  truth_unless e h at way false = ((h, inl (ap underlying at)), refl, tt)
 
   truth_as_by : (e : Expr) → IsSoundValue w g d e → expr_type e ≡ untyped_bool → (o : Option Const) → constant_in e ≡ o → GoodAs w g d untyped_bool (as_of untyped_bool e o)
-  truth_as_by e h at (Some c) is = (truth_constant c (kind_of w g d (expr_type e) c kinds.Bool at (constant_of w g d e c h is).1), refl)
-  truth_as_by e h at None is = truth_unless e (other_value w g d e h is).0 at (identical (expr_type e) untyped_bool)
+  truth_as_by e h at (Some c) is = (truth_constant c (kind_of w g d (expr_type e) c kinds.Bool at (constant_of w g d e c h is).1), refl, tt)
+  truth_as_by e h at None is = (let other = other_value w g d e h is in truth_unless e other.0 at other.2 (identical (expr_type e) untyped_bool))
 
   truth_as : (e : Expr) → IsSoundValue w g d e → expr_type e ≡ untyped_bool → GoodAs w g d untyped_bool (as_type untyped_bool e)
   truth_as e h at = truth_as_by e h at (constant_in e) refl

@@ -219,7 +219,7 @@ module _ (x : Expected) (w : Table) (functions : Symbol → Option Signature) (v
   -- ---- switches
 
   tag_sure : (c : Context) → Good c → (tag : Option source.Expr) → MayHaveTexts tag → Sure w locals stays (IsSoundValue w (at c)) (tag_at c tag)
-  tag_sure c g None texts = sure_given w locals (IsSoundValue w (at c)) (constant (basic basics.Bool) (Truth true)) (λ d l. inr (inl ((refl, refl), refl)))
+  tag_sure c g None texts = sure_given w locals (IsSoundValue w (at c)) (constant (basic basics.Bool) (Truth true)) (λ d l. inr (inl ((refl, refl), refl, tt)))
   tag_sure c g (Some e) texts = value_sure x w (at c) c (g.0 c.breaks c.continues) e texts
 
   cases_sure : (c : Context) → Good c → (values : Option source.Exprs) → CasesHaveTexts values → Sure w locals stays (SoundValues x w (at c)) (cases_at c values)

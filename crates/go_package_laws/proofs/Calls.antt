@@ -8,16 +8,17 @@ use Rattle.go_types.specs.Types.{Type'}
 use Rattle.go_types.specs.Relations.{underlying, assignable}
 use Rattle.go_typed.specs.Trees.{Symbol, Expr, expr_type, pack_exprs}
 use Rattle.go_meaning_laws.specs.WellTyped.{Setting, is_string, exprs_types, IsCall, IsExpr, AreExprs}
-use Rattle.go_expr.specs.Known.{value, type', function, println, length', panic', Known, declared, package', results, printed, panicked, Verdict, Fine, Breaks, Passed}
+use Rattle.go_expr.specs.Known.{value, type', function, println, length', capacity', make', append', panic', Known, declared, package', results, printed, panicked, Verdict, Fine, Breaks, Passed}
 use Rattle.go_expr.specs.Rules as rules
-use Rattle.go_expr.specs.Rules.{fine, checked, valued, wrong, each_unless, lies_in, as_type, assigned, default_type, defaulted, value_due, string, converted, length_of, one, function_call, printable, called}
+use Rattle.go_expr.specs.Rules.{fine, checked, valued, wrong, each_unless, lies_in, as_type, assigned, default_type, defaulted, value_due, string, converted, length_of, capacity_of, appended, one, function_call, printable, called}
 use Rattle.go_package_laws.specs.Soundness.{Table, AreSoundTypes, IsSoundValue, IsSoundDeclared}
 use Rattle.go_package_laws.proofs.SoundNames.{IsSoundKnown}
 use Rattle.go_package_laws.proofs.Assigned.{Gives, GoodAs, assigned_gives, defaulted_gives}
 use Rattle.go_package_laws.proofs.Operators.{converted_gives}
-use Rattle.go_package_laws.proofs.Selections.{length_gives}
+use Rattle.go_package_laws.proofs.Selections.{length_gives, capacity_gives}
 use Rattle.go_package_laws.proofs.Binary.{checked_gives}
 use Rattle.go_package_laws.proofs.Literals.{Every, each_gives}
+use Rattle.go_package_laws.proofs.Slices.{appended_gives}
 
 module _ (w : Table) (g : Setting) (d : List ℕ) where
   pub valued_gives : (v : Verdict Expr) → Gives (IsSoundValue w g d) v → Gives (IsSoundKnown w g d) (valued v)
@@ -64,7 +65,7 @@ module _ (w : Table) (g : Setting) (d : List ℕ) where
       argument t ts x (map (λ k. assigned k.0 k.1) (zip ts xs)) (assigned t x) refl (assigned_gives w g d t x h.0 k.0) none (λ rest. arguments ts xs (omega (arith, same)) h.1 k.1 rest)
 
   call_known : (s : Symbol) (ts rs : List Type') (ys : List Expr) → IsCall g s ts rs → AreSoundTypes w rs → AreGood ts ys → IsSoundKnown w g d (function_call s rs ys)
-  call_known s ts (r ∷ []) ys h k good = inr (inl ((good.0, subst (λ us. IsCall g s us (r ∷ [])) (sym good.1) h), k.0))
+  call_known s ts (r ∷ []) ys h k good = inr (inl ((good.0, subst (λ us. IsCall g s us (r ∷ [])) (sym good.1) h), k.0, tt))
   call_known s ts [] ys h k good = (good.0, subst (λ us. IsCall g s us []) (sym good.1) h, k)
   call_known s ts (r ∷ q ∷ rs) ys h k good = (good.0, subst (λ us. IsCall g s us (r ∷ q ∷ rs)) (sym good.1) h, k)
 
@@ -112,6 +113,10 @@ module _ (w : Table) (g : Setting) (d : List ℕ) where
       (each_gives (λ ys. AreExprs g d (pack_exprs ys)) [] (map printable xs) (λ none sure. printables xs k)) (λ ys good. good)
   called_gives (declared length') xs h k =
       valued_gives (checked length_of (one xs)) (checked_gives (IsSoundValue w g d) (IsSoundValue w g d) length_of (one xs) (one_gives xs k) (λ x good. length_gives w g d x good))
+  called_gives (declared capacity') xs h k =
+      valued_gives (checked capacity_of (one xs)) (checked_gives (IsSoundValue w g d) (IsSoundValue w g d) capacity_of (one xs) (one_gives xs k) (λ x good. capacity_gives w g d x good))
+  called_gives (declared make') xs h k = tt
+  called_gives (declared append') xs h k = valued_gives (appended xs) (appended_gives w g d xs k)
   called_gives (declared panic') xs h k =
       checked_gives (GoodAs w g d string) (IsSoundKnown w g d) (λ y. Fine (panicked y)) (checked (assigned string) (one xs))
       (checked_gives (IsSoundValue w g d) (GoodAs w g d string) (assigned string) (one xs) (one_gives xs k) (λ x good. assigned_gives w g d string x refl good))

@@ -13,7 +13,7 @@ use Rattle.go_const.specs.declared.operator.ComparisonOperator.TheVariants.{Equa
 use Rattle.go_types.specs.declared.types.Basic.TheVariants as basics
 use Rattle.go_types.specs.declared.types.Untyped.{Untyped}
 use Rattle.go_types.specs.declared.types.Untyped.TheVariants as kinds
-use Rattle.go_types.specs.Types.{Type', basic, array, struct, named, Fields, no_fields, field}
+use Rattle.go_types.specs.Types.{Type', basic, array, slice, struct, named, Fields, no_fields, field}
 use Rattle.go_types.specs.Texts.{basic_text}
 use Rattle.go_types.specs.Relations.{underlying, identical, all_identical, is_literal, fits, assignable}
 use Rattle.go_typed.specs.Trees.{Expr, local, expr_type, pack_exprs}
@@ -41,6 +41,7 @@ mutual
   identical_self : (t : Type') → identical t t ≡ true
   identical_self (basic b) = text_same (basic_text b)
   identical_self (array n t) = (let a : (n == n) ≡ true = (Decides-eqb n n).1 refl in rw (a, identical_self t) refl)
+  identical_self (slice t) = identical_self t
   identical_self (struct fs) = all_self fs
   identical_self (named p x t) = rw (text_same p, text_same x) refl
 

@@ -3,7 +3,7 @@ use Rattle.std.proofs.Common.{◌≡◌, ℕ, Bool, true, false, not, ◌&&◌, 
 use Rattle.go_text.specs.declared.fault.FaultKind.TheVariants.{Mismatch}
 use Rattle.go_types.specs.declared.types.Basic.TheVariants as basics
 use Rattle.go_types.specs.declared.types.Untyped.TheVariants as kinds
-use Rattle.go_types.specs.Types.{Type', basic, array, struct, named}
+use Rattle.go_types.specs.Types.{Type', basic, array, slice, struct, named}
 use Rattle.go_typed.specs.Trees as typed
 use Rattle.go_typed.specs.Trees.{Expr, expr_type, Exprs, Stmt, if_statement, for_statement, switch_statement, range_statement, return, Source, pack_exprs, pack_stmts, pack_clauses, Clauses}
 use Rattle.go_meaning_laws.specs.WellTyped.{Setting, AllSuit, after, source_types, AreExprs, exprs_types, AreCases, IsStmt, AreStmts, AreClauses, IsConditionOrNone, in_loop, in_post, in_clause, is_last}
@@ -41,6 +41,7 @@ counts (basic (basics.Untyped kinds.Int)) h = refl
 counts (basic (basics.Untyped kinds.Rune)) h = refl
 counts (basic (basics.Untyped kinds.String)) h = absurd (true≢false (sym h))
 counts (array n t) h = h
+counts (slice t) h = h
 counts (struct fs) h = h
 counts (named p x t) h = h
 

@@ -1,5 +1,5 @@
 -- Constants are of their types: what operators give of such, and what they become as values of another type.
-use Rattle.std.proofs.Common.{◌≡◌, ℕ, ℤ, pos, not, Bool, true, ◌&&◌, ◌||◌, List, ◌++◌, length, Option, Some, None, Result, Ok, Err, refl, ap, sym, ◌∙◌, subst, arith, true≢false, ◌⊎◌, inl, inr}
+use Rattle.std.proofs.Common.{◌≡◌, ℕ, ℤ, pos, not, Bool, true, false, ◌&&◌, ◌||◌, List, ◌++◌, length, Option, Some, None, Result, Ok, Err, refl, ap, sym, ◌∙◌, subst, arith, true≢false, ◌⊎◌, inl, inr}
 use Rattle.std.specs.Prelude.{nat_le, nat_lt, unsigned_abs, neg_ℤ}
 use Rattle.std.specs.List.{list_all}
 use Rattle.std.specs.Ordering.{int_eq}
@@ -24,7 +24,7 @@ use Rattle.go_types.specs.declared.types.Basic.{Basic}
 use Rattle.go_types.specs.declared.types.Basic.TheVariants as basics
 use Rattle.go_types.specs.declared.types.Untyped.{Untyped}
 use Rattle.go_types.specs.declared.types.Untyped.TheVariants as kinds
-use Rattle.go_types.specs.Types.{Type', basic, array, struct, named}
+use Rattle.go_types.specs.Types.{Type', basic, array, slice, struct, named}
 use Rattle.go_types.specs.Relations as relations
 use Rattle.go_types.specs.Relations.{underlying, are_integers}
 use Rattle.go_meaning.specs.Values.{single, is_of, is_basic}
@@ -51,6 +51,7 @@ Given P (Err k) = Unit {0}
 pub underlying_twice : (t : Type') → underlying (underlying t) ≡ underlying t
 underlying_twice (basic b) = refl
 underlying_twice (array n t) = refl
+underlying_twice (slice t) = refl
 underlying_twice (struct fs) = refl
 underlying_twice (named p x t) = underlying_twice t
 
@@ -221,6 +222,7 @@ integer_constant t u c h f k = integer_below (underlying t) (underlying u) h.0 c
 below_of : (t : Type') (x : _) → is_of t (single x) ≡ is_of (underlying t) (single x)
 below_of (basic b) x = refl
 below_of (array n t) x = refl
+below_of (slice t) x = refl
 below_of (struct fs) x = refl
 below_of (named p y t) x = below_of t x
 
@@ -243,8 +245,15 @@ below_typed basics.String c h k l = and_from (is_basic basics.String (cell_of c)
 below_typed (basics.Integer i) c h k l = and_from (is_basic (basics.Integer i) (cell_of c)) (is_sound_cell (cell_of c)) k l
 below_typed (basics.Untyped kind) c h k l = absurd (true≢false (sym h))
 
+-- no constant is a slice
+pub no_slice : (t : Type') (c : Const) → is_of (slice t) (single (cell_of c)) ≡ false
+no_slice t (Integer z) = refl
+no_slice t (Text text) = refl
+no_slice t (Truth b) = refl
+
 pub constant_typed : (w : Table) (t : Type') (c : Const) → IsSoundType w t → IsConstant t c → IsConstantOf t c
 constant_typed w (basic b) c h k = (b, refl, below_typed b c h k.0 k.1)
 constant_typed w (array n t) c h k = absurd (true≢false (sym k.0))
+constant_typed w (slice t) c h k = absurd (true≢false (sym k.0 ∙ no_slice t c))
 constant_typed w (struct fs) c h k = absurd (true≢false (sym k.0))
 constant_typed w (named p x t) c h k = constant_typed w t c h.1 k

@@ -3,7 +3,7 @@ use Rattle.std.proofs.Common.{◌≡◌, Bool, true, false, refl, sym, true≢fa
 use Rattle.go_types.specs.declared.types.Basic.TheVariants as basics
 use Rattle.go_types.specs.declared.types.Untyped.{Untyped}
 use Rattle.go_types.specs.declared.types.Untyped.TheVariants as kinds
-use Rattle.go_types.specs.Types.{Type', basic, array, struct, named}
+use Rattle.go_types.specs.Types.{Type', basic, array, slice, struct, named}
 use Rattle.go_types.specs.Relations.{underlying}
 use Rattle.go_meaning_laws.specs.WellTyped.{is_bool, is_integer, is_string}
 use Rattle.go_expr.specs.Rules as rules
@@ -65,5 +65,6 @@ sound_typed w (basic basics.String) h = refl
 sound_typed w (basic (basics.Integer i)) h = refl
 sound_typed w (basic (basics.Untyped k)) h = absurd (true≢false (sym h))
 sound_typed w (array n t) h = refl
+sound_typed w (slice t) h = refl
 sound_typed w (struct fs) h = refl
 sound_typed w (named p x t) h = refl

@@ -3,12 +3,14 @@ use Rattle.std.proofs.Common.{◌≡◌, ℕ, suc, true, false, Bool, List, [], 
 use Rattle.std.specs.Prelude.{bytes_eq}
 use Rattle.std.specs.List.{slice_get, list_all}
 use Rattle.std.proofs.lemmas.Bool.{cases_Bool, and_parts}
+use Rattle.go_text.specs.declared.edition.Edition.{Edition}
+use Rattle.go_text.specs.declared.edition.Edition.TheVariants.{One, Two}
 use Rattle.go_text.specs.declared.fault.FaultKind.TheVariants.{LeftOut}
 use Rattle.go_const.specs.declared.constant.Const.TheVariants.{Integer, Bool as Truth}
 use Rattle.go_types.specs.declared.types.Basic.{Basic}
 use Rattle.go_types.specs.declared.types.Untyped.TheVariants as kinds
 use Rattle.go_types.specs.Types.{basic}
-use Rattle.go_expr.specs.Known.{Declared, type', Names, Known, declared, package', Verdict, Fine, Breaks, Passed, look_up, named, basic_types, left_out, others, truth, universe}
+use Rattle.go_expr.specs.Known.{Declared, type', Names, Known, declared, package', Verdict, Fine, Breaks, Passed, look_up, named, basic_types, left_out, slice_functions, others, truth, universe}
 use Rattle.go_expr.specs.Seen.{iota_of}
 use Rattle.go_objects.specs.Table.{Package, imports_at, scope_at}
 use Rattle.go_meaning_laws.specs.WellTyped.{Setting, is_typed}
@@ -48,12 +50,17 @@ module _ (w : Table) (g : Setting) (d : List ℕ) where
   truth_sound : (b : Bool) → IsSoundVerdict (truth b)
   truth_sound b = inl (kinds.Bool, Truth b, refl, refl)
 
-  universe_sound : AllSound universe
+  slices_sound : (e : Edition) → AllSound (slice_functions e)
+  slices_sound One = (tt, (tt, (tt, tt)))
+  slices_sound Two = (tt, (tt, (tt, tt)))
+
+  universe_sound : (e : Edition) → AllSound (universe e)
   unfolding universe
-  universe_sound =
+  universe_sound e =
       let types : Entries = map (λ (t : List ℕ × Basic). (t.0, Fine (declared (type' (basic t.1))))) basic_types in
       let rest : Entries = map (λ (x : List ℕ). (x, Breaks LeftOut)) left_out in
-      more (types ++ rest) others (more types rest (types_sound basic_types refl) (others_sound left_out)) (truth_sound true, (truth_sound false, (tt, (tt, tt))))
+      let front : Entries = types ++ rest in
+      more (front ++ slice_functions e) others (more front (slice_functions e) (more types rest (types_sound basic_types refl) (others_sound left_out)) (slices_sound e)) (truth_sound true, (truth_sound false, (tt, (tt, tt))))
 
   iota_sound : (iota : Option ℕ) → AllSound (iota_of iota)
   iota_sound None = tt
@@ -87,7 +94,7 @@ module _ (w : Table) (g : Setting) (d : List ℕ) where
     λ x k is.
         let imports : Entries = map (λ (i : List ℕ × Names). (i.0, Fine (package' i.1))) (imports_at p file) in
         let names : Entries = map (λ n. (n.0, named n.1)) known in
-        let rest = more (iota_of iota) universe (iota_sound iota) universe_sound in
-        told _ k is (found (imports ++ (names ++ (iota_of iota ++ universe)))
-        (more imports (names ++ (iota_of iota ++ universe)) (imports_sound (imports_at p file) imported) (more names (iota_of iota ++ universe) (names_sound known h) rest)) x),
+        let outer : Entries = iota_of iota ++ universe p.edition in
+        let rest = more (iota_of iota) (universe p.edition) (iota_sound iota) (universe_sound p.edition) in
+        told _ k is (found (imports ++ (names ++ outer)) (more imports (names ++ outer) (imports_sound (imports_at p file) imported) (more names outer (names_sound known h) rest)) x),
   )

@@ -13,7 +13,7 @@ use Rattle.go_expr.specs.Known.{Known, Scope, Fine}
 use Rattle.go_expr.specs.Rules.{assigned, default_type, defaulted, condition, value_due, binary_of}
 use Rattle.go_expr.specs.Verdicts.{operand, verdict, type_verdict}
 use Rattle.go_meaning_laws.specs.WellTyped.{Setting, IsWhole, IsExpr, IsCondition}
-use Rattle.go_package_laws.specs.Soundness.{Table, IsSoundType, IsTypedValue, IsSoundValue}
+use Rattle.go_package_laws.specs.Soundness.{Table, IsSoundType, HasSoundWay, IsTypedValue, IsSoundValue}
 use Rattle.go_package_laws.proofs.SoundNames.{IsSoundKnown, IsSoundScope}
 use Rattle.go_package_laws.proofs.Texts.{HasTexts, TypeHasTexts}
 
@@ -25,7 +25,7 @@ pub record Expected : Type 0 where
   pub sound_known : (w : Table) (g : Setting) (d : List ℕ) (s : Scope) (e : source.Expr) → IsSoundScope w g d s → HasTexts e → (k : Known) → verdict s e ≡ Fine k → IsSoundKnown w g d k
   pub sound_operand : (w : Table) (g : Setting) (d : List ℕ) (s : Scope) (e : source.Expr) → IsSoundScope w g d s → HasTexts e → (x : Expr) → operand (verdict s e) ≡ Some x → IsSoundValue w g d x
   pub sound_type : (w : Table) (g : Setting) (d : List ℕ) (s : Scope) (t : source.TypeExpr) → IsSoundScope w g d s → TypeHasTexts t → (u : Type') → type_verdict s t ≡ Fine u → IsSoundType w u
-  pub sound_assigned : (w : Table) (g : Setting) (d : List ℕ) (t : Type') (e : Expr) → IsSoundType w t → IsSoundValue w g d e → (x : Expr) → assigned t e ≡ Fine x → IsExpr g d x × (expr_type x ≡ t)
+  pub sound_assigned : (w : Table) (g : Setting) (d : List ℕ) (t : Type') (e : Expr) → IsSoundType w t → IsSoundValue w g d e → (x : Expr) → assigned t e ≡ Fine x → IsExpr g d x × (expr_type x ≡ t) × HasSoundWay w x
   pub sound_defaulted : (w : Table) (g : Setting) (d : List ℕ) (e : Expr) → IsSoundValue w g d e → (x : Expr) → defaulted e ≡ Fine x → IsTypedValue w g d x × (expr_type x ≡ default_type (expr_type e))
   pub sound_condition : (w : Table) (g : Setting) (d : List ℕ) (e : Expr) → IsSoundValue w g d e → (x : Expr) → condition e ≡ Fine x → IsCondition g d x
   pub sound_binary : (w : Table) (g : Setting) (d : List ℕ) (op : BinaryOperator) (x y : Expr) → IsSoundValue w g d x → IsSoundValue w g d y → (z : Expr) → binary_of op x y ≡ Fine z → IsSoundValue w g d z

@@ -2,6 +2,7 @@
 use Rattle.std.proofs.Common.{◌≡◌, List, [], Some, map, sym, ap, ◌∙◌}
 use Rattle.std.specs.List.{slice_get}
 use Rattle.std.specs.Prelude.{ℕ}
+use Rattle.go_text.specs.declared.edition.Edition.{Edition}
 use Rattle.go_ast.specs.Trees.{File}
 use Rattle.go_objects.specs.Objects.{Object, firsts, objects_from}
 use Rattle.go_objects.specs.Table.{Package}
@@ -26,10 +27,10 @@ form_texts : (files : List File) → FilesHaveTexts files → (k : ℕ) (o : Obj
 form_texts files texts k o at = all_at HasFormTexts (firsts [] (objects_from 0 files)) k o (all_firsts HasFormTexts [] (objects_from 0 files) (files_texts 0 files texts)) at
 
 -- what holds of a package without fault
-pub checked : (path : List ℕ) (files : List File) (ps : List Importable) (t : Facts) → exported ps → AreFacts (package_in path files ps) t → package_faults ps t files ≡ [] → LocalFiles files → FilesHaveTexts files → FilesNamed files → AreApart [] (objects_from 0 files) → Checked t files
-checked path files ps t whole are none local texts named apart =
-    let h = given path files ps t whole are none in
-    let known = objects_known path files ps t whole are none in
+pub checked : (edition : Edition) (path : List ℕ) (files : List File) (ps : List Importable) (t : Facts) → exported ps → AreFacts (package_in edition path files ps) t → package_faults ps t files ≡ [] → LocalFiles files → FilesHaveTexts files → FilesNamed files → AreApart [] (objects_from 0 files) → Checked t files
+checked edition path files ps t whole are none local texts named apart =
+    let h = given edition path files ps t whole are none in
+    let known = objects_known edition path files ps t whole are none in
     let objects = ap (λ (q : Package). q.objects) are.package_is in
     record {
       told = record {

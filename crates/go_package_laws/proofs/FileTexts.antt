@@ -1,5 +1,6 @@
 -- Files of the grammar have texts for string literals, where their tokens' bytes are texts.
 use Rattle.std.proofs.Common.{List, [], ◌∷◌, subst, inl, inr}
+use Rattle.go_text.specs.declared.edition.Edition.{Edition}
 use Rattle.go_scan.specs.Words.{IsWord}
 use Rattle.go_ast.specs.Trees.{constants, variables, types, TopLevel, declared, function, ImportSpec, File}
 use Rattle.go_ast.specs.Grammar.{Lexeme, IsImportSpec, AreImports, IsTopLevel, AreTopLevels, IsFile}
@@ -14,17 +15,18 @@ TopTexts (declared (variables p ss)) = VariablesHaveTexts ss
 TopTexts (declared (types p ss)) = Every SpecHasTexts ss
 TopTexts (function f) = FunctionHasTexts f × IsWord f.name.text
 
-top_texts : (top : TopLevel) (us ws : List Lexeme) → IsTopLevel top us ws → AreTexts us → TopTexts top × AreTexts ws
-top_texts (declared (constants p ss)) us ws (k, vs, word, at, all) texts = constants_texts ss vs ws all (behind_token _ k us vs word texts)
-top_texts (declared (variables p ss)) us ws (k, vs, word, at, all) texts = variables_texts ss vs ws all (behind_token _ k us vs word texts)
-top_texts (declared (types p ss)) us ws (k, vs, word, at, all) texts = type_specs_texts ss vs ws all (behind_token _ k us vs word texts)
-top_texts (function f) us ws h texts = (let both = function_texts f us ws h texts in ((both.0, function_named f us ws h texts), both.1))
+module _ (ed : Edition) where
+  top_texts : (top : TopLevel) (us ws : List Lexeme) → IsTopLevel ed top us ws → AreTexts us → TopTexts top × AreTexts ws
+  top_texts (declared (constants p ss)) us ws (k, vs, word, at, all) texts = constants_texts ed ss vs ws all (behind_token _ k us vs word texts)
+  top_texts (declared (variables p ss)) us ws (k, vs, word, at, all) texts = variables_texts ed ss vs ws all (behind_token _ k us vs word texts)
+  top_texts (declared (types p ss)) us ws (k, vs, word, at, all) texts = type_specs_texts ed ss vs ws all (behind_token _ k us vs word texts)
+  top_texts (function f) us ws h texts = (let both = function_texts ed f us ws h texts in ((both.0, function_named ed f us ws h texts), both.1))
 
-tops_texts : (tops : List TopLevel) (us ws : List Lexeme) → AreTopLevels tops us ws → AreTexts us → Every TopTexts tops
-tops_texts [] us ws h texts = tt
-tops_texts (top ∷ tops) us ws (t, vs, xs, one, mark, rest) texts =
-    let first = top_texts top us vs one texts in
-    (first.0, tops_texts tops xs ws rest (behind_token _ t vs xs mark first.1))
+  tops_texts : (tops : List TopLevel) (us ws : List Lexeme) → AreTopLevels ed tops us ws → AreTexts us → Every TopTexts tops
+  tops_texts [] us ws h texts = tt
+  tops_texts (top ∷ tops) us ws (t, vs, xs, one, mark, rest) texts =
+      let first = top_texts top us vs one texts in
+      (first.0, tops_texts tops xs ws rest (behind_token _ t vs xs mark first.1))
 
 abbrev Nothing : ImportSpec → Type 0
 Nothing i = Unit {0}
@@ -38,8 +40,9 @@ imports_texts [] us ws h texts = subst AreTexts h texts
 imports_texts (is ∷ iss) us ws (k, t, vs, xs, ys, word, group, mark, rest) texts =
     imports_texts iss ys ws rest (behind_token _ t xs ys mark (group_texts IsImportSpec Nothing import_texts is vs xs group (behind_token _ k us vs word texts)).1)
 
--- each declaration of a file whose tokens are texts
-pub file_texts : (f : File) (us : List Lexeme) → IsFile f us → AreTexts us → Every TopTexts f.declarations
-file_texts f us (k, t, s, vs, xs, ys, zs, iss, word, own, named, is, mark, imports, also, tops) texts =
-    tops_texts f.declarations zs [] tops
-    (imports_texts iss ys zs imports (behind_token _ s xs ys mark (behind_token _ t vs xs own (behind_token _ k us vs word texts))))
+module _ (ed : Edition) where
+  -- each declaration of a file whose tokens are texts
+  pub file_texts : (f : File) (us : List Lexeme) → IsFile ed f us → AreTexts us → Every TopTexts f.declarations
+  file_texts f us (k, t, s, vs, xs, ys, zs, iss, word, own, named, is, mark, imports, also, tops) texts =
+      tops_texts ed f.declarations zs [] tops
+      (imports_texts iss ys zs imports (behind_token _ s xs ys mark (behind_token _ t vs xs own (behind_token _ k us vs word texts))))

@@ -10,7 +10,7 @@ use Rattle.go_const.specs.declared.constant.Const.{Const}
 use Rattle.go_types.specs.declared.types.Basic.TheVariants as basics
 use Rattle.go_types.specs.declared.types.Untyped.{Untyped}
 use Rattle.go_types.specs.declared.types.Untyped.TheVariants as kinds
-use Rattle.go_types.specs.Types.{Type', basic, array, struct, named}
+use Rattle.go_types.specs.Types.{Type', basic, array, slice, struct, named}
 use Rattle.go_types.specs.Relations.{underlying}
 use Rattle.go_typed.specs.Trees.{Symbol, Expr, Exprs, constant, global, expr_type}
 use Rattle.go_expr.specs.Known.{Declared, value, type', function, Known, declared, package', results, printed, panicked, Verdict, Fine, Breaks, Passed, Scope}
@@ -126,6 +126,7 @@ default_sound w (basic basics.String) h = refl
 default_sound w (basic (basics.Integer i)) h = refl
 default_sound w (basic (basics.Untyped k)) h = absurd cc
 default_sound w (array n t) h = refl
+default_sound w (slice t) h = refl
 default_sound w (struct fs) h = refl
 default_sound w (named p x t) h = refl
 
@@ -210,7 +211,7 @@ module _ (known : Expected) (w : Table) (g : Setting) (d : List ℕ) where
       let of = known.sound_type w g d s t h a parts.0 (fine_is (type_verdict s t) parts.0 parts.2) in
       let e = known.sound_operand w g d s v h b parts.1 parts.3 in
       let made = known.sound_assigned w g d parts.0 parts.1 of e x parts.4 in
-      inr (inl (made.0, subst (IsSoundType w) (sym made.1) of))
+      inr (inl (made.0, subst (IsSoundType w) (sym made.1) of, made.2))
 
   types_repeated : (t : Type') → IsSoundType w t → (ns : List source.Name) → AreSoundTypes w (map (λ n. t) ns)
   types_repeated t h [] = tt
@@ -237,7 +238,7 @@ module _ (known : Expected) (w : Table) (g : Setting) (d : List ℕ) where
   variable_sound : (x : Symbol) (u : Type') (e : Declared) → e ≡ value (global u x) → IsSoundType w u → IsLinked w g e → IsSoundOwn w g d e
   variable_sound x u e is h l =
       let there = subst (IsLinked w g) is l in
-      subst (IsSoundOwn w g d) (sym is) (there, h)
+      subst (IsSoundOwn w g d) (sym is) (there, h, tt)
 
   pub form_sound : (s : Scope) (x : Symbol) (f : Form) → IsSoundScope w g d s → FormHasTexts f → (e : Declared) → form_verdict s x f ≡ Fine (declared e) → IsLinked w g e → IsSoundOwn w g d e
   form_sound s x (forms.constant t v iota) h a e is l =

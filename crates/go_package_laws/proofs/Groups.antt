@@ -1,5 +1,5 @@
 -- Declarations of constants: their names stand for constants of their types.
-use Rattle.std.proofs.Common.{◌≡◌, ℕ, suc, Bool, true, false, Option, Some, None, List, [], ◌∷◌, length, refl, sym, ap, subst, ◌∙◌, ◌⊎◌, inl, inr, append-nil}
+use Rattle.std.proofs.Common.{◌≡◌, ℕ, suc, Bool, true, false, Option, Some, None, List, [], ◌∷◌, length, refl, sym, ap, subst, ◌∙◌, ◌⊎◌, inl, inr, true≢false, append-nil}
 use Rattle.std.specs.Prelude.{nat_eq}
 use Rattle.std.specs.List.{list_all}
 use Rattle.std.proofs.lemmas.Bool.{cases_Bool}
@@ -78,8 +78,8 @@ module _ (x : Expected) (w : Table) (g : Setting) where
   -- a constant without a type, or one of the type that is written
   constant_value : (d : List ℕ) (t : Type') (c : Const) → IsSoundValue w g d (constant t c) → IsUntypedConstant (constant t c) ⊎ (IsConstant t c × IsSoundType w t)
   constant_value d t c (inl h) = inl h
-  constant_value d t c (inr (inl h)) = inr h
-  constant_value d t c (inr (inr h)) = absurd (let none : Some c ≡ None = h.2 in cc)
+  constant_value d t c (inr (inl h)) = inr (h.0, h.1)
+  constant_value d t c (inr (inr h)) = absurd (true≢false (sym h.2))
 
   declared_sound : (d : List ℕ) (o : Option Expr) → ((e : Expr) → o ≡ Some e → IsSoundValue w g d e) → IsSoundName w g.locals d (declared_as o)
   declared_sound d None h = tt
@@ -93,7 +93,7 @@ module _ (x : Expected) (w : Table) (g : Setting) where
   typed_constant d s h t texts e more (Some u) (Some v) at is y made =
       let sound = x.sound_type w g d s t h texts u (fine_is (type_verdict s t) u at) in
       let r = x.sound_assigned w g d u v sound (x.sound_operand w g d s e h more v is) y (fine_is (assigned u v) y made) in
-      inr (inl (r.0, subst (IsSoundType w) (sym r.1) sound))
+      inr (inl (r.0, subst (IsSoundType w) (sym r.1) sound, r.2))
 
   each_sound : (d : List ℕ) (s : Scope) → IsSoundScope w g d s → (t : Option TypeExpr) → WrittenHasTexts t → (es : source.Exprs) → HaveTexts es → SoundEach d (each_of (constant_in s t) es)
   each_sound d s h t texts source.no_exprs more = tt

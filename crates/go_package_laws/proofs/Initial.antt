@@ -19,7 +19,7 @@ use Rattle.go_init.specs.Variables.{depends, variable_order}
 use Rattle.go_init.proofs.Members.{all_of}
 use Rattle.go_init.proofs.Turns.{turns_are}
 use Rattle.go_meaning.specs.Programs.{symbol_of, sets}
-use Rattle.go_expr.specs.Known.{Declared, value, type', function as known_function, println, length', panic', Known, declared as known_declared, package', results as call_results, printed, panicked, Verdict, Fine, Breaks, Passed, Scope, Names}
+use Rattle.go_expr.specs.Known.{Declared, value, type', function as known_function, println, length', capacity', make', append', panic', Known, declared as known_declared, package', results as call_results, printed, panicked, Verdict, Fine, Breaks, Passed, Scope, Names}
 use Rattle.go_expr.specs.Rules.{fine, value_due, settled_type}
 use Rattle.go_expr.specs.Verdicts.{asked, asked_both, operand, verdict, type_verdict}
 use Rattle.go_stmt.specs.Scopes.{nothing}
@@ -78,6 +78,9 @@ single (Fine (known_declared (type' t))) u v h k = absurd cc
 single (Fine (known_declared (known_function s ts rs))) u v h k = absurd cc
 single (Fine (known_declared println)) u v h k = absurd cc
 single (Fine (known_declared length')) u v h k = absurd cc
+single (Fine (known_declared capacity')) u v h k = absurd cc
+single (Fine (known_declared make')) u v h k = absurd cc
+single (Fine (known_declared append')) u v h k = absurd cc
 single (Fine (known_declared panic')) u v h k = absurd cc
 single (Fine (package' names)) u v h k = absurd cc
 single (Fine (call_results ts s es)) u v h k = absurd cc

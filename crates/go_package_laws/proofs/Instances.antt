@@ -82,7 +82,7 @@ file_names = codes "a.go" ∷ []
 
 module _ (path : List ℕ) (files : List File) (ps : List Importable) where
   abbrev pub whole : objects.Package
-  whole = package_in path files ps
+  whole = package_in One path files ps
 
   abbrev entry : Names → Object → List ℕ × Option Declared
   entry known o = (o.name.text, declared_in (fine (object_verdict whole known o)))
@@ -132,7 +132,7 @@ module _ (path : List ℕ) where
   abbrev pub a_valued : Package
   a_valued = typed path (files_of valued_tops) [] valued_known
 
-  pub valued_typed : IsTypedIn One (package_in path (files_of valued_tops) []) (files_of valued_tops) [] file_names a_valued
+  pub valued_typed : IsTypedIn One (package_in One path (files_of valued_tops) []) (files_of valued_tops) [] file_names a_valued
   unfolding function_at
   valued_typed = typed_in path (files_of valued_tops) [] valued_known refl refl tt refl
 
@@ -143,7 +143,7 @@ module _ (path : List ℕ) where
   abbrev pub a_circular : Package
   a_circular = typed path (files_of circular_tops) [] valued_known
 
-  pub circular_typed : IsTypedIn One (package_in path (files_of circular_tops) []) (files_of circular_tops) [] file_names a_circular
+  pub circular_typed : IsTypedIn One (package_in One path (files_of circular_tops) []) (files_of circular_tops) [] file_names a_circular
   unfolding function_at universe
   circular_typed = typed_in path (files_of circular_tops) [] valued_known refl refl tt refl
 
@@ -154,7 +154,7 @@ module _ (path : List ℕ) where
   abbrev pub an_init : Package
   an_init = typed path (files_of init_tops) [] main_known
 
-  pub init_typed : IsTypedIn One (package_in path (files_of init_tops) []) (files_of init_tops) [] file_names an_init
+  pub init_typed : IsTypedIn One (package_in One path (files_of init_tops) []) (files_of init_tops) [] file_names an_init
   unfolding function_at
   init_typed = typed_in path (files_of init_tops) [] main_known refl refl tt refl
 
@@ -177,7 +177,7 @@ library_known = (codes "F", Some (known_function (record { path = library_path; 
 abbrev pub a_library : Package
 a_library = typed library_path library_files [] library_known
 
-pub library_typed : IsTypedIn One (package_in library_path library_files []) library_files [] file_names a_library
+pub library_typed : IsTypedIn One (package_in One library_path library_files []) library_files [] file_names a_library
 unfolding function_at
 library_typed = typed_in library_path library_files [] library_known refl refl tt refl
 
@@ -193,7 +193,7 @@ module _ (path : List ℕ) where
   abbrev pub a_caller : Package
   a_caller = typed path caller_files (importable_of a_library ∷ []) (main_known path)
 
-  pub caller_typed : IsTypedIn One (package_in path caller_files (importable_of a_library ∷ [])) caller_files (importable_of a_library ∷ []) file_names a_caller
+  pub caller_typed : IsTypedIn One (package_in One path caller_files (importable_of a_library ∷ [])) caller_files (importable_of a_library ∷ []) file_names a_caller
   unfolding function_at exports_of chars general_category value_in general_category_rows
   caller_typed = typed_in path caller_files (importable_of a_library ∷ []) (main_known path) refl refl tt refl
 

@@ -9,7 +9,7 @@ use Rattle.go_meaning_laws.specs.WellTyped.{Setting, IsExpr, IsCondition}
 use Rattle.go_expr.specs.Known.{Known, Fine, Scope}
 use Rattle.go_expr.specs.Rules.{assigned, default_type, defaulted, condition, value_due, converted, unary_of, binary_of, called}
 use Rattle.go_expr.specs.Verdicts.{operand, verdict, type_verdict}
-use Rattle.go_package_laws.specs.Soundness.{Table, IsSoundType, IsTypedValue, IsSoundValue}
+use Rattle.go_package_laws.specs.Soundness.{Table, IsSoundType, HasSoundWay, IsTypedValue, IsSoundValue}
 use Rattle.go_package_laws.proofs.SoundNames.{IsSoundKnown, IsSoundScope}
 use Rattle.go_package_laws.proofs.Texts.{HasTexts, TypeHasTexts}
 use Rattle.go_package_laws.proofs.Assigned.{GoodAs, value_type, default_sound, assigned_gives, defaulted_gives}
@@ -32,13 +32,13 @@ module _ (w : Table) (g : Setting) (d : List ℕ) where
   pub sound_value_due : (k : Known) → IsSoundKnown w g d k → (x : Typed) → value_due k ≡ Fine x → IsSoundValue w g d x
   sound_value_due k h x at = gives_at (IsSoundValue w g d) (value_due k) x (value_due_gives w g d k h) at
 
-  pub sound_assigned : (t : Type') (e : Typed) → IsSoundType w t → IsSoundValue w g d e → (x : Typed) → assigned t e ≡ Fine x → IsExpr g d x × (expr_type x ≡ t)
+  pub sound_assigned : (t : Type') (e : Typed) → IsSoundType w t → IsSoundValue w g d e → (x : Typed) → assigned t e ≡ Fine x → IsExpr g d x × (expr_type x ≡ t) × HasSoundWay w x
   sound_assigned t e h k x at = gives_at (GoodAs w g d t) (assigned t e) x (assigned_gives w g d t e h k) at
 
   pub sound_defaulted : (e : Typed) → IsSoundValue w g d e → (x : Typed) → defaulted e ≡ Fine x → IsTypedValue w g d x × (expr_type x ≡ default_type (expr_type e))
   sound_defaulted e h x at =
       let one = gives_at (GoodAs w g d (default_type (expr_type e))) (defaulted e) x (defaulted_gives w g d e h) at in
-      ((one.0, subst (IsSoundType w) (sym one.1) (default_sound w g d (expr_type e) (value_type w g d e h))), one.1)
+      ((one.0, subst (IsSoundType w) (sym one.1) (default_sound w g d (expr_type e) (value_type w g d e h)), one.2), one.1)
 
   pub sound_condition : (e : Typed) → IsSoundValue w g d e → (x : Typed) → condition e ≡ Fine x → IsCondition g d x
   sound_condition e h x at = gives_at (IsCondition g d) (condition e) x (condition_gives w g d e h) at

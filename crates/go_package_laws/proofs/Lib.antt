@@ -54,6 +54,7 @@ pub mod Shorts
 pub mod Shown
 pub mod Signed
 pub mod Simples
+pub mod Slices
 pub mod Sound
 pub mod SoundNames
 pub mod Spelled

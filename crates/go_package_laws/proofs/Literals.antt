@@ -9,16 +9,17 @@ use Rattle.go_text.specs.Faults.{fault_number}
 use Rattle.go_scan.specs.Words.{IsWord}
 use Rattle.go_const.specs.declared.constant.Const.TheVariants.{Integer, Text, Bool as Truth}
 use Rattle.go_types.specs.declared.types.Basic.TheVariants as basics
-use Rattle.go_types.specs.Types.{Type', basic, array, struct, Fields}
+use Rattle.go_types.specs.Types.{Type', basic, array, slice, struct, Fields}
 use Rattle.go_types.specs.Names.{is_exported}
 use Rattle.go_types.specs.Relations.{underlying}
 use Rattle.go_types.specs.Sizes.{cells, nodes}
 use Rattle.go_ast.specs.Trees.{Name}
-use Rattle.go_typed.specs.Trees.{Expr, expr_type, pack_parts}
+use Rattle.go_typed.specs.Trees as typed
+use Rattle.go_typed.specs.Trees.{Expr, expr_type, pack_exprs, pack_parts}
 use Rattle.go_meaning.specs.Meaning.{most_cells}
-use Rattle.go_meaning_laws.specs.WellTyped.{Setting, part_type, IsExpr, AreParts}
+use Rattle.go_meaning_laws.specs.WellTyped.{Setting, part_type, IsExpr, AreElements, AreParts}
 use Rattle.go_expr.specs.Known.{type', Known, declared, Verdict, Fine, Breaks, Passed}
-use Rattle.go_expr.specs.Rules.{fine, constant_in, lesser, least, when, wrong, each_unless, numbered, type_due, is_small, array_of, FieldList, declared_field, field_names, packed, differ, listed, struct_of, assigned, ElementList, field_named, any_keyed, field_slot, keyed_slot, element_part, parts_by, array_parts, is_counted, struct_faults, struct_slot, struct_parts, parts_of, literal_of, Due, taken, written, nothing, element_due, due_type, untyped_literal}
+use Rattle.go_expr.specs.Rules.{fine, constant_in, lesser, least, when, wrong, each_unless, numbered, checked, type_due, is_small, array_of, slice_of, slice_element, FieldList, declared_field, field_names, packed, differ, listed, struct_of, assigned, ElementList, field_named, any_keyed, field_slot, keyed_slot, element_part, parts_by, array_parts, slice_parts, is_counted, struct_faults, struct_slot, struct_parts, parts_of, literal_of, Due, taken, written, nothing, element_due, due_type, untyped_literal}
 use Rattle.go_package_laws.specs.Soundness.{Table, IsNamedField, IsSoundType, AreSoundFields, IsSoundValue}
 use Rattle.go_package_laws.proofs.SoundNames.{IsSoundKnown}
 use Rattle.go_package_laws.proofs.Texts.{AreWords}
@@ -52,7 +53,7 @@ pub both_empty : {A : Type 0} (xs ys : List A) → xs ++ ys ≡ [] → (xs ≡ [
 both_empty [] ys h = (refl, h)
 both_empty (x ∷ xs) ys h = cc
 
-fine_ones : {A : Type 0} (P : A → Type 0) (vs : List (Verdict A)) → Every (Gives P) vs → Every P (filter_map fine vs)
+pub fine_ones : {A : Type 0} (P : A → Type 0) (vs : List (Verdict A)) → Every (Gives P) vs → Every P (filter_map fine vs)
 fine_ones P [] h = tt
 fine_ones P (Fine x ∷ vs) h = (h.0, fine_ones P vs h.1)
 fine_ones P (Breaks kind ∷ vs) h = fine_ones P vs h.1
@@ -65,9 +66,14 @@ each_gives {A} P ks vs each = elim (least (ks ++ flat_map wrong vs)) as (λ o. l
   | None ↦ λ at. (let none = both_empty ks (flat_map wrong vs) (least_none (ks ++ flat_map wrong vs) at) in rw (at, Gives) (each none.0 none.1))
 ] refl
 
-when_none : (b : Bool) (k : FaultKind) → when b k ≡ [] → b ≡ false
+pub when_none : (b : Bool) (k : FaultKind) → when b k ≡ [] → b ≡ false
 when_none true k h = cc
 when_none false k h = refl
+
+-- slices have elements
+pub slice_is : (u of : Type') → (elim u [ slice of ↦ Some of | _ ↦ None ]) ≡ Some of → u ≡ slice of
+slice_is (slice v) of h = ap slice (some_same v of h)
+slice_is u of h = absurd (none_some of h)
 
 module _ (w : Table) (g : Setting) (d : List ℕ) where
   -- ---- elements as parts: https://go.dev/ref/spec#Composite_literals
@@ -169,9 +175,33 @@ module _ (w : Table) (g : Setting) (d : List ℕ) where
   packed_parts t [] h = tt
   packed_parts t (p ∷ ps) h = ((h.0).0, (h.0).1, packed_parts t ps h.1)
 
+  -- ---- slices
+
+  pub packed_elements : (u : Type') (xs : List Expr) → Every (GoodAs w g d u) xs → AreElements g d u (pack_exprs xs)
+  packed_elements u [] h = tt
+  packed_elements u (x ∷ xs) h = ((h.0).0, ap underlying (h.0).1, packed_elements u xs h.1)
+
+  elements_assigned : (of : Type') (es : ElementList) → IsSoundType w of → Every IsSoundElement es → Every (Gives (GoodAs w g d of)) (map (λ e. assigned of e.1) es)
+  elements_assigned of [] h k = tt
+  elements_assigned of (e ∷ es) h k = (assigned_gives w g d of e.1 h k.0, elements_assigned of es h k.1)
+
+  elements_literal : (t of : Type') (es : ElementList) → slice_element t ≡ Some of → IsSoundType w t → Every IsSoundElement es
+      → Gives (IsSoundValue w g d) (checked (λ xs. Fine (typed.append t typed.absent (pack_exprs xs))) (slice_parts of es))
+  elements_literal t of es at h k =
+      let under = slice_is (underlying t) of at in
+      let sound : IsSoundType w of = subst (IsSoundType w) under (sound_underlying w t h) in
+      let vs = map (λ (e : Option (List ℕ) × Expr). assigned of e.1) es in
+      checked_gives (Every (GoodAs w g d of)) (IsSoundValue w g d) _ (slice_parts of es)
+      (each_gives (Every (GoodAs w g d of)) (when (any_keyed es) LeftOut) vs (λ none sure. fine_ones (GoodAs w g d of) vs (elements_assigned of es sound k)))
+      (λ xs good. inr (inl ((whole_type w t h, tt, (of, under, packed_elements of xs good)), h, tt)))
+
   pub literal_gives : (path : List ℕ) (t : Type') (es : ElementList) → IsSoundType w t → Every IsSoundElement es → Gives (IsSoundValue w g d) (literal_of path t es)
-  literal_gives path t es h k =
-      checked_gives (Every (IsPartOf t)) (IsSoundValue w g d) _ (parts_of path t es) (parts_give path t es h k) (λ ps good. inr (inl ((whole_type w t h, packed_parts t ps good), h)))
+  literal_gives path t es h k = elim (slice_element t) as (λ o. slice_element t ≡ o → Gives (IsSoundValue w g d) (literal_of path t es)) [
+    | Some of ↦ λ at. rw (at, Gives) (elements_literal t of es at h k)
+    | None ↦ λ at. rw (at, Gives) (
+        checked_gives (Every (IsPartOf t)) (IsSoundValue w g d) _ (parts_of path t es) (parts_give path t es h k) (λ ps good. inr (inl ((whole_type w t h, packed_parts t ps good), h, tt)))
+        )
+  ] refl
 
 -- what is known, if anything is
 abbrev pub Has : {A : Type 0} → (A → Type 0) → Option A → Type 0
@@ -196,6 +226,7 @@ module _ (w : Table) (g : Setting) (d : List ℕ) where
   element_due_sound None n key h = tt
   element_due_sound (Some t) n key h = elim (underlying t) as (λ u. underlying t ≡ u → IsSoundType w u → IsSoundDue (element_due (Some t) n key)) [
     | array m of ↦ λ at whole. rw (at, IsSoundDue) whole.2
+    | slice of ↦ λ at whole. rw (at, IsSoundDue) whole
     | struct fs ↦ λ at whole. rw (at, IsSoundDue) (slot_has t fs n key at whole.1)
     | _ ↦ λ at whole. rw (at, IsSoundDue) tt
   ] refl (sound_underlying w t h)
@@ -238,6 +269,13 @@ module _ (w : Table) (g : Setting) (d : List ℕ) where
     | Some (Truth b) ↦ λ at. rw (at, Gives) tt
     | None ↦ λ at. rw (at, Gives) tt
   ] refl
+
+  slice_if : (of : Type') → IsSoundType w of → (b : Bool) → is_small (slice of) ≡ b → Gives (IsSoundType w) (slice_of of)
+  slice_if of h false is = rw is tt
+  slice_if of h true is = rw is h
+
+  pub slice_of_gives : (of : Type') → IsSoundType w of → Gives (IsSoundType w) (slice_of of)
+  slice_of_gives of h = slice_if of h (is_small (slice of)) refl
 
   -- fields as a list
   abbrev pub IsSoundField : Option (List ℕ) × (List ℕ × Type') → Type 0

@@ -56,7 +56,7 @@ module _ (path : List ℕ) (files : List File) (ps : List Importable) (names : L
       are_libraries = libraries;
       stand_before = All-nil (Contains []);
       sources = it.sources;
-      typed = subst (λ (qs : List Importable). IsTypedIn it.edition (package_in path files qs) files qs names p) (sym (append-nil ps)) it.typed;
+      typed = subst (λ (qs : List Importable). IsTypedIn it.edition (package_in it.edition path files qs) files qs names p) (sym (append-nil ps)) it.typed;
       new = All-nil (λ (q : Package). p.path ≢ q.path);
       ordered = it.ordered;
     },

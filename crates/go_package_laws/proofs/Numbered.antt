@@ -29,9 +29,9 @@ module _ (w : Table) (g : Setting) where
   name_known d l None h k is = absurd cc
   name_known d l (Some (value (local t n))) h k is =
       let same : declared (value (local t n)) ≡ k = cc in
-      subst (IsSoundKnown w g d) same (inr (inl ((h.0, h.1), l n t h.0 h.1)))
+      subst (IsSoundKnown w g d) same (inr (inl ((h.0, h.1), l n t h.0 h.1, tt)))
   name_known d l (Some (value (constant t c))) (inl h) k is = (let same : declared (value (constant t c)) ≡ k = cc in subst (IsSoundKnown w g d) same (inl h))
-  name_known d l (Some (value (constant t c))) (inr h) k is = (let same : declared (value (constant t c)) ≡ k = cc in subst (IsSoundKnown w g d) same (inr (inl h)))
+  name_known d l (Some (value (constant t c))) (inr h) k is = (let same : declared (value (constant t c)) ≡ k = cc in subst (IsSoundKnown w g d) same (inr (inl (h.0, h.1, tt))))
   name_known d l o h k is = absurd h
 
   more_sound : (d : List ℕ) (ns ms : List (List ℕ × Option Declared)) → AllSound w g.locals d ns → AllSound w g.locals d ms → AllSound w g.locals d (ns ++ ms)

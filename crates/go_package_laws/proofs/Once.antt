@@ -12,7 +12,7 @@ use Rattle.go_meaning.specs.Values.{zero_of}
 use Rattle.go_symbol.specs.Symbols.{same_symbol}
 use Rattle.go_meaning.specs.Meaning.{Stored}
 use Rattle.go_meaning.specs.Programs.{symbol_of}
-use Rattle.go_expr.specs.Known.{Declared, value, type', function, println, length', panic', Names}
+use Rattle.go_expr.specs.Known.{Declared, value, type', function, println, length', capacity', make', append', panic', Names}
 use Rattle.go_objects.specs.Objects.{Object, firsts}
 use Rattle.go_package.specs.Typed.{type_in, types_in, declared_at, variable_in, variables_in}
 use Rattle.go_package_laws.proofs.Tables.{pair_first, pair_second}
@@ -107,6 +107,9 @@ skip_type y x (Some (value e)) rest other = refl
 skip_type y x (Some (function s ts rs)) rest other = refl
 skip_type y x (Some println) rest other = refl
 skip_type y x (Some length') rest other = refl
+skip_type y x (Some capacity') rest other = refl
+skip_type y x (Some make') rest other = refl
+skip_type y x (Some append') rest other = refl
 skip_type y x (Some panic') rest other = refl
 
 pub type_found : (known : Names) → Once (keys known) → (k : ℕ) (x : List ℕ) (t : Type') → slice_get known k ≡ Some (x, Some (type' t)) → lookup (bytes_eq x) (types_in known) ≡ Some t
@@ -140,6 +143,9 @@ skip_variable p files x o (Some (type' t)) vs rest other = refl
 skip_variable p files x o (Some (function s ts rs)) vs rest other = refl
 skip_variable p files x o (Some println) vs rest other = refl
 skip_variable p files x o (Some length') vs rest other = refl
+skip_variable p files x o (Some capacity') vs rest other = refl
+skip_variable p files x o (Some make') vs rest other = refl
+skip_variable p files x o (Some append') vs rest other = refl
 skip_variable p files x o (Some panic') vs rest other = refl
 
 pub variable_found : (p : typed.Package) (files : List (List ℕ)) (known : Names) (os : List Object) (rest : List Stored) → Once (texts os) → (k : ℕ) (o : Object) (t : Type') (s : Symbol)

@@ -16,7 +16,7 @@ use Rattle.go_meaning_laws.specs.WellTyped.{Setting, is_bool, is_integer, is_str
 use Rattle.go_expr.specs.Known.{Verdict, Fine, Breaks, Passed}
 use Rattle.go_expr.specs.Rules as rules
 use Rattle.go_expr.specs.Rules.{given, constant_in, int_kind, in_kind, lies_in, default_type, defaulted, condition, converted, operator_of, is_operand, unary_of}
-use Rattle.go_package_laws.specs.Soundness.{Table, IsSoundType, IsSoundValue}
+use Rattle.go_package_laws.specs.Soundness.{Table, IsSoundType, HasSoundWay, is_operation, IsSoundValue}
 use Rattle.go_package_laws.proofs.Types.{untyped_bool, convertible_same, both_integers, untyped_converts, fits_truth}
 use Rattle.go_package_laws.proofs.Constants.{IsConstantOf, Given, one_operand, same_constant, integer_constant, fit_constant}
 use Rattle.go_package_laws.proofs.Assigned.{Gives, IsOperandType, some_none, some_same, none_some, value_constant, constant_value, kind_of, value_type, sound_default, GoodAs, defaulted_gives, converts_truth}
@@ -74,9 +74,9 @@ module _ (w : Table) (g : Setting) (d : List ℕ) where
       → (o : Option Const) → constant_in e ≡ o → lies_of t o ≡ true → IsSoundValue w g d (to_of t e o)
   to_by t e h k f (Some c) at lies = constant_value w g d t c (inl h) (constant_to t e c h k at f lies)
   to_by t e h (inl k) f None at lies = absurd (none_some k.1 (sym at ∙ ap constant_in k.2))
-  to_by t e h (inr (inl k)) f None at lies = inr (inl ((k.0, value_converts (expr_type e) t h k.1 f), h))
+  to_by t e h (inr (inl k)) f None at lies = inr (inl ((k.0, value_converts (expr_type e) t h k.1 f), h, tt))
   to_by t e h (inr (inr k)) f None at lies =
-      inr (inl ((k.0, converts_truth w g d (expr_type e) t k.1 (fits_truth t (untyped_converts w kinds.Bool t h (subst (λ u. convertible u t ≡ true) k.1 f)))), h))
+      inr (inl ((k.0, converts_truth w g d (expr_type e) t k.1 (fits_truth t (untyped_converts w kinds.Bool t h (subst (λ u. convertible u t ≡ true) k.1 f)))), h, tt))
 
   converted_by : (t : Type') (e : Expr) → IsSoundType w t → IsSoundValue w g d e → (a b : Bool) → convertible (expr_type e) t ≡ a → lies_in t e ≡ b → Gives (IsSoundValue w g d) (converted t e)
   converted_by t e h k false b f lies = rw f tt
@@ -101,14 +101,14 @@ module _ (w : Table) (g : Setting) (d : List ℕ) where
   abbrev pub IsValueType : Type' → Type 0
   IsValueType t = IsSoundType w t ⊎ (t ≡ untyped_bool)
 
-  pub other_value : (e : Expr) → IsSoundValue w g d e → constant_in e ≡ None → IsExpr g d e × IsValueType (expr_type e)
+  pub other_value : (e : Expr) → IsSoundValue w g d e → constant_in e ≡ None → IsExpr g d e × IsValueType (expr_type e) × HasSoundWay w e
   other_value e (inl h) none = absurd (none_some h.1 (sym none ∙ ap constant_in h.2))
-  other_value e (inr (inl h)) none = (h.0, inl h.1)
-  other_value e (inr (inr h)) none = (h.0, inr h.1)
+  other_value e (inr (inl h)) none = (h.0, inl h.1, h.2)
+  other_value e (inr (inr h)) none = (h.0, inr h.1, h.3)
 
-  pub value_made : (e : Expr) → IsExpr g d e → IsValueType (expr_type e) → constant_in e ≡ None → IsSoundValue w g d e
-  value_made e h (inl k) none = inr (inl (h, k))
-  value_made e h (inr k) none = inr (inr (h, k, none))
+  pub value_made : (e : Expr) → IsExpr g d e → IsValueType (expr_type e) → is_operation e ≡ true → HasSoundWay w e → IsSoundValue w g d e
+  value_made e h (inl k) is way = inr (inl (h, k, way))
+  value_made e h (inr k) is way = inr (inr (h, k, is, way))
 
   -- ---- one operand
 
@@ -148,7 +148,7 @@ module _ (w : Table) (g : Setting) (d : List ℕ) where
       given_sound (expr_type e) (constants.unary (operator_of op) (int_kind (expr_type e)) c) one.0 (one_operand (expr_type e) (operator_of op) c one.1)
   unary_by op e h is None at =
       let one = other_value e h at in
-      value_made (typed.unary (expr_type e) (operator_of op) e) (one.0, refl, unary_defined op (expr_type e) one.1 is) one.1 refl
+      value_made (typed.unary (expr_type e) (operator_of op) e) (one.0, refl, unary_defined op (expr_type e) one.1 is) one.1 refl tt
 
   unary_if : (op : signs.UnaryOperator) (e : Expr) → IsSoundValue w g d e → (b : Bool) → is_operand op (expr_type e) ≡ b → Gives (IsSoundValue w g d) (unary_of op e)
   unary_if op e h false is = rw is tt

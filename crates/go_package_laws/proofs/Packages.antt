@@ -19,7 +19,7 @@ use Rattle.go_symbol.specs.Symbols.{same_symbol}
 use Rattle.go_meaning.specs.Meaning.{Stored}
 use Rattle.go_meaning.specs.Programs.{symbol_of, package_functions, first_variables, package_steps, HasMain}
 use Rattle.go_meaning.specs.Programs as meaning
-use Rattle.go_expr.specs.Known.{Declared, value, type', function as known_function, println, length', panic', Names, declared as known_declared, Fine}
+use Rattle.go_expr.specs.Known.{Declared, value, type', function as known_function, println, length', capacity', make', append', panic', Names, declared as known_declared, Fine}
 use Rattle.go_export.specs.Exports as exports
 use Rattle.go_export.specs.Exports.{Export, Exports, named_constant, named_type, named_variable, named_function, exports_of, look_up as look_up_export}
 use Rattle.go_export.proofs.Found.{found}
@@ -300,6 +300,9 @@ module _ (packages : List typed.Package) (w : Table) (edition : Edition) (t : Fa
     one_variable o (Some (known_function s ts rs)) is vs all = all
     one_variable o (Some println) is vs all = all
     one_variable o (Some length') is vs all = all
+    one_variable o (Some capacity') is vs all = all
+    one_variable o (Some make') is vs all = all
+    one_variable o (Some append') is vs all = all
     one_variable o (Some panic') is vs all = all
 
     all_sound : (os : List Object) → All SoundVariable (variables_in names t.known os)
@@ -333,7 +336,7 @@ module _ (packages : List typed.Package) (w : Table) (edition : Edition) (t : Fa
         let found = mapped_is (λ (v : Stored). v.of) (find test (first_variables p)) u there.2 in
         let type : IsSoundType w u = subst (IsSoundType w) (sym found.2) (found_of SoundStored test (first_variables p) found.0 stored_sound found.1) in
         let alone : variable_at (p ∷ []) (symbol_of p x) ≡ Some u = ap (λ (vs : List Stored). option_map (λ (v : Stored). v.of) (find test vs)) (append-nil (first_variables p)) ∙ there.2 in
-        subst (λ (e : Export). IsSoundDeclared w g d (exported_as p.path x e)) (sym there.1) (inr (inl ((inside_it g within).1 x ∙ alone, type)))
+        subst (λ (e : Export). IsSoundDeclared w g d (exported_as p.path x e)) (sym there.1) (inr (inl ((inside_it g within).1 x ∙ alone, type, tt)))
 
     function_exported : (g : Setting) (d : List ℕ) → IsWithin packages w g → (x : List ℕ) (e : Export) → look_up_export x (map named_function p.functions) ≡ Some e → IsSoundDeclared w g d (exported_as p.path x e)
     function_exported g d within x e at =

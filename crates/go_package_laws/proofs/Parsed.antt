@@ -2,6 +2,7 @@
 use Rattle.std.specs.Prelude.{◌≡◌, ℕ, true, List, [], ◌∷◌}
 use Rattle.go_scan.specs.Words.{IsWord}
 use Rattle.go_scan.proofs.Spelled.{tokens_stand}
+use Rattle.go_text.specs.declared.edition.Edition.{Edition}
 use Rattle.go_ast.specs.Parse.{Derived, IsParse}
 use Rattle.go_ast.specs.Tokens.{lexemes}
 use Rattle.go_ast.specs.Trees.{TypeSpec, constants, variables, types, TopLevel, declared, function, File}
@@ -25,9 +26,9 @@ tops_have (declared (variables p ss) ∷ tops) h = (h.0, tops_have tops h.1)
 tops_have (declared (types p ss) ∷ tops) h = (types_have ss h.0, tops_have tops h.1)
 tops_have (function f ∷ tops) h = ((h.0).0, tops_have tops h.1)
 
-file_has : (text : List ℕ) (f : File) → IsParse text (Derived f) → is_text text ≡ true → TopsHaveTexts f.declarations
+file_has : (edition : Edition) (text : List ℕ) (f : File) → IsParse edition text (Derived f) → is_text text ≡ true → TopsHaveTexts f.declarations
 unfolding IsParse
-file_has text f (ts, lexes, derives) h = tops_have f.declarations (file_texts f (lexemes text ts) derives.derived (lexemes_texts text ts h (tokens_stand text ts lexes)))
+file_has edition text f (ts, lexes, derives) h = tops_have f.declarations (file_texts edition f (lexemes text ts) derives.derived (lexemes_texts text ts h (tokens_stand text ts lexes)))
 
 -- names of functions are words
 abbrev pub TopsNamed : List TopLevel → Type 0
@@ -44,18 +45,18 @@ tops_named [] h = tt
 tops_named (declared d ∷ tops) h = tops_named tops h.1
 tops_named (function f ∷ tops) h = ((h.0).1, tops_named tops h.1)
 
-file_named : (text : List ℕ) (f : File) → IsParse text (Derived f) → is_text text ≡ true → TopsNamed f.declarations
+file_named : (edition : Edition) (text : List ℕ) (f : File) → IsParse edition text (Derived f) → is_text text ≡ true → TopsNamed f.declarations
 unfolding IsParse
-file_named text f (ts, lexes, derives) h = tops_named f.declarations (file_texts f (lexemes text ts) derives.derived (lexemes_texts text ts h (tokens_stand text ts lexes)))
+file_named edition text f (ts, lexes, derives) h = tops_named f.declarations (file_texts edition f (lexemes text ts) derives.derived (lexemes_texts text ts h (tokens_stand text ts lexes)))
 
-pub files_named : (files : List File) → AreOfTexts files → FilesNamed files
-files_named [] h = tt
-files_named (f ∷ fs) ((text, parsed, is), rest) = (file_named text f parsed is, files_named fs rest)
+pub files_named : (edition : Edition) (files : List File) → AreOfTexts edition files → FilesNamed files
+files_named edition [] h = tt
+files_named edition (f ∷ fs) ((text, parsed, is), rest) = (file_named edition text f parsed is, files_named edition fs rest)
 
-pub files_have : (files : List File) → AreOfTexts files → FilesHaveTexts files
-files_have [] h = tt
-files_have (f ∷ fs) ((text, parsed, is), rest) = (file_has text f parsed is, files_have fs rest)
+pub files_have : (edition : Edition) (files : List File) → AreOfTexts edition files → FilesHaveTexts files
+files_have edition [] h = tt
+files_have edition (f ∷ fs) ((text, parsed, is), rest) = (file_has edition text f parsed is, files_have edition fs rest)
 
-pub files_parsed : (files : List File) → AreOfTexts files → AreParsed files
-files_parsed [] h = tt
-files_parsed (f ∷ fs) ((text, parsed, is), rest) = ((text, parsed), files_parsed fs rest)
+pub files_parsed : (edition : Edition) (files : List File) → AreOfTexts edition files → AreParsed edition files
+files_parsed edition [] h = tt
+files_parsed edition (f ∷ fs) ((text, parsed, is), rest) = ((text, parsed), files_parsed edition fs rest)

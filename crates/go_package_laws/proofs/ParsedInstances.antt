@@ -39,10 +39,10 @@ library_files = library_file ∷ []
 abbrev pub parsed_library : Package
 parsed_library = typed library_path library_files [] library_known
 
-library_texts : AreOfTexts library_files
+library_texts : AreOfTexts One library_files
 library_texts = ((library_text, library_parses, short_text library_text refl (let le : 22 ≤ 100 = omega arith in le)), tt)
 
-library_typed : IsTypedIn One (package_in library_path library_files []) library_files [] file_names parsed_library
+library_typed : IsTypedIn One (package_in One library_path library_files []) library_files [] file_names parsed_library
 unfolding function_at
 library_typed = typed_in library_path library_files [] library_known refl refl tt refl
 
@@ -77,10 +77,10 @@ caller_files = caller_file ∷ []
 abbrev pub parsed_caller : Package
 parsed_caller = typed caller_path caller_files (importable_of parsed_library ∷ []) (main_known caller_path)
 
-caller_texts : AreOfTexts caller_files
+caller_texts : AreOfTexts One caller_files
 caller_texts = ((caller_text, caller_parses, short_text caller_text refl (let le : 46 ≤ 100 = omega arith in le)), tt)
 
-caller_typed : IsTypedIn One (package_in caller_path caller_files (importable_of parsed_library ∷ [])) caller_files (importable_of parsed_library ∷ []) file_names parsed_caller
+caller_typed : IsTypedIn One (package_in One caller_path caller_files (importable_of parsed_library ∷ [])) caller_files (importable_of parsed_library ∷ []) file_names parsed_caller
 unfolding function_at exports_of chars general_category value_in general_category_rows
 caller_typed = typed_in caller_path caller_files (importable_of parsed_library ∷ []) (main_known caller_path) refl refl tt refl
 

@@ -2,6 +2,7 @@
 use Rattle.std.proofs.Common.{◌≡◌, ◌≢◌, ◌≤◌, ℕ, suc, true, false, List, [], ◌∷◌, None, codes, refl, sym, ◌∙◌, inl, inr, arith}
 use Rattle.std.specs.Prelude.{bytes_eq}
 use Rattle.std.proofs.lemmas.Slice.Eq.{bytes_eq-Decides}
+use Rattle.go_text.specs.declared.edition.Edition.TheVariants.{One}
 use Rattle.go_text.specs.declared.place.Place.{Place}
 use Rattle.go_scan.specs.declared.keyword.Keyword.TheVariants as keywords
 use Rattle.go_scan.specs.declared.token.TokenKind.{TokenKind}
@@ -47,7 +48,7 @@ library_signature = lexeme_at opening (codes "(") 18 ∷ lexeme_at closing (code
 abbrev library_declaration : List Lexeme
 library_declaration = lexeme_at (kinds.Keyword keywords.Func) (codes "func") 12 ∷ lexeme_at kinds.Name (codes "F") 17 ∷ library_signature
 
-library_is_function : IsFunction library_function library_declaration library_end
+library_is_function : IsFunction One library_function library_declaration library_end
 library_is_function = (
   lexeme_at (kinds.Keyword keywords.Func) (codes "func") 12,
   lexeme_at kinds.Name (codes "F") 17,
@@ -80,7 +81,7 @@ library_is_function = (
   ),
 )
 
-library_is_file : IsFile library_file (lexemes library_text library_tokens)
+library_is_file : IsFile One library_file (lexemes library_text library_tokens)
 library_is_file = (
   lexeme_at (kinds.Keyword keywords.Package) (codes "package") 0,
   lexeme_at kinds.Name (codes "lib") 8,
@@ -100,10 +101,10 @@ library_is_file = (
   (lexeme_at semicolon [] 22, library_end, [], library_is_function, record { whole = refl; is = refl }, refl),
 )
 
-library_derives : Derives 250 (lexemes library_text library_tokens) library_file
+library_derives : Derives One 250 (lexemes library_text library_tokens) library_file
 library_derives = record { derived = library_is_file; fits = (let le : 1 ≤ 250 = omega arith in le) }
 
-pub library_parses : IsParse library_text (Derived library_file)
+pub library_parses : IsParse One library_text (Derived library_file)
 unfolding IsParse
 library_parses = (library_tokens, library_lexes, library_derives)
 
@@ -157,7 +158,7 @@ import_spec = lexeme_at kinds.String (codes "`lib`") 20 ∷ behind_import
 abbrev import_declaration : List Lexeme
 import_declaration = lexeme_at (kinds.Keyword keywords.Import) (codes "import") 13 ∷ import_spec
 
-caller_is_function : IsFunction caller_function caller_declaration caller_end
+caller_is_function : IsFunction One caller_function caller_declaration caller_end
 caller_is_function = (
   lexeme_at (kinds.Keyword keywords.Func) (codes "func") 26,
   lexeme_at kinds.Name (codes "main") 31,
@@ -190,7 +191,7 @@ caller_is_function = (
   ),
 )
   where
-    is_selector : IsExpr 0 false (selector (at 38) (name_expr (at 38) (codes "lib")) (name_at (codes "F") 42)) statement arguments
+    is_selector : IsExpr One 0 false (selector (at 38) (name_expr (at 38) (codes "lib")) (name_at (codes "F") 42)) statement arguments
     is_selector = (
       lexeme_at period (codes ".") 41,
       lexeme_at kinds.Name (codes "F") 42,
@@ -204,7 +205,7 @@ caller_is_function = (
       refl,
     )
 
-    is_called : IsExpr 5 false called statement after_call
+    is_called : IsExpr One 5 false called statement after_call
     is_called = (
       lexeme_at opening (codes "(") 43,
       lexeme_at closing (codes ")") 44,
@@ -245,7 +246,7 @@ caller_imports = (
   refl,
 )
 
-caller_is_file : IsFile caller_file (lexemes caller_text caller_tokens)
+caller_is_file : IsFile One caller_file (lexemes caller_text caller_tokens)
 caller_is_file = (
   lexeme_at (kinds.Keyword keywords.Package) (codes "package") 0,
   lexeme_at kinds.Name (codes "main") 8,
@@ -265,9 +266,9 @@ caller_is_file = (
   (lexeme_at semicolon [] 46, caller_end, [], caller_is_function, record { whole = refl; is = refl }, refl),
 )
 
-caller_derives : Derives 250 (lexemes caller_text caller_tokens) caller_file
+caller_derives : Derives One 250 (lexemes caller_text caller_tokens) caller_file
 caller_derives = record { derived = caller_is_file; fits = (let le : 5 ≤ 250 = omega arith in le) }
 
-pub caller_parses : IsParse caller_text (Derived caller_file)
+pub caller_parses : IsParse One caller_text (Derived caller_file)
 unfolding IsParse
 caller_parses = (caller_tokens, caller_lexes, caller_derives)

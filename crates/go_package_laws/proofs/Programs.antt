@@ -1,5 +1,5 @@
 -- Packages without fault that import each other are well typed, and a program by the last of them.
-use Rattle.std.proofs.Common.{◌≡◌, ℕ, zero, suc, Bool, true, List, [], ◌∷◌, ◌++◌, Option, Some, None, map, codes, length, ◌-◌, refl, sym, ap, subst, inl, inr}
+use Rattle.std.proofs.Common.{◌≡◌, ℕ, zero, suc, Bool, true, List, [], ◌∷◌, ◌++◌, Option, Some, None, map, codes, length, get_or, ◌-◌, refl, sym, ap, subst, inl, inr}
 use Rattle.std.specs.Prelude.{bytes_eq}
 use Rattle.std.specs.Map.{lookup}
 use Rattle.std.specs.List.{All, Contains, find, flat_map, slice_get}
@@ -111,7 +111,7 @@ module _ (packages : List typed.Package) (w : Table) where
         facts = t;
         names = it.names;
         files = it.files;
-        given = checked it.path it.files ps t whole it.typed.are it.typed.none (local_files it.files (files_parsed it.files it.sources)) (files_have it.files it.sources) (files_named it.files it.sources) (parsed_apart it.files (files_parsed it.files it.sources));
+        given = checked it.edition it.path it.files ps t whole it.typed.are it.typed.none (local_files it.edition it.files (files_parsed it.edition it.files it.sources)) (files_have it.edition it.files it.sources) (files_named it.edition it.files it.sources) (parsed_apart it.edition it.files (files_parsed it.edition it.files it.sources));
         is = it.typed.is;
         own = subst (HasOwn packages w) it.typed.is own;
         imports = ps;
@@ -198,7 +198,7 @@ module _ (packages : List typed.Package) (w : Table) where
           let last_steps = subst (λ (o : Option typed.Package). All Starts (main_steps o)) (sym is_last) (All-cons Starts (meaning.calls (symbol_of last main)) [] main_called (All-nil Starts)) in (
             record {
               functions = all_functions packages good;
-              variables = λ k v lt. whole_type w _ (all_stored packages good k v lt);
+              variables = λ k v lt. whole_type w (get_or (flat_map first_variables packages) k v).of (all_stored packages good k v lt);
               start = All-append Starts (flat_map package_steps packages) (main_steps (last_package packages)) (first_steps packages good) last_steps;
             },
             subst HasMain (sym is_last) main_there,

@@ -1,8 +1,8 @@
 -- Selectors, index expressions and lengths of sound values are sound.
-use Rattle.std.proofs.Common.{◌≡◌, ℕ, zero, suc, ◌+◌, pos, Bool, true, false, cond, List, [], length, Option, Some, None, refl, ap, sym, ◌∙◌, subst, arith, true≢false, inl, inr}
+use Rattle.std.proofs.Common.{◌≡◌, ℕ, zero, suc, ◌+◌, pos, Bool, true, false, ◌||◌, cond, List, [], length, Option, Some, None, refl, ap, sym, ◌∙◌, subst, arith, true≢false, inl, inr}
 use Rattle.std.specs.Prelude.{if◌then◌else◌, bytes_eq, nat_le, nat_lt}
 use Rattle.std.specs.List.{find, slice_get, list_all}
-use Rattle.std.proofs.lemmas.Bool.{and_parts, and_from, leb-true, lt-ltb}
+use Rattle.std.proofs.lemmas.Bool.{and_parts, and_from, or_left, leb-true, lt-ltb}
 use Rattle.go_text.specs.declared.fault.FaultKind.TheVariants.{Index, Mismatch, Unexported}
 use Rattle.go_const.specs.declared.constant.Const.{Const}
 use Rattle.go_const.specs.declared.constant.Const.TheVariants.{Integer, Text, Bool as Truth}
@@ -12,15 +12,15 @@ use Rattle.go_const.specs.Constants.{fits}
 use Rattle.go_types.specs.declared.types.Basic.TheVariants as basics
 use Rattle.go_types.specs.declared.types.Untyped.{Untyped}
 use Rattle.go_types.specs.declared.types.Untyped.TheVariants as kinds
-use Rattle.go_types.specs.Types.{Type', basic, array, struct, Fields, no_fields, field}
+use Rattle.go_types.specs.Types.{Type', basic, array, slice, struct, Fields, no_fields, field}
 use Rattle.go_types.specs.Relations.{underlying, assignable, is_literal}
 use Rattle.go_typed.specs.Trees as typed
 use Rattle.go_typed.specs.Trees.{Expr, constant, expr_type}
 use Rattle.go_meaning.specs.Choices.{field_at, field_type}
-use Rattle.go_meaning_laws.specs.WellTyped.{Setting, int, byte, is_text, is_integer, indexed_type}
+use Rattle.go_meaning_laws.specs.WellTyped.{Setting, int, byte, is_text, is_integer, is_string, is_slice, indexed_type}
 use Rattle.go_expr.specs.Known.{Fine, Breaks}
 use Rattle.go_expr.specs.Rules as rules
-use Rattle.go_expr.specs.Rules.{constant_in, int_kind, in_kind, lies_in, default_type, settled, defaulted, numbered, listed, field_named, fields_of, is_visible, field_of, known_length, is_within, index_of, holds_call, length_in, length_of}
+use Rattle.go_expr.specs.Rules.{constant_in, int_kind, in_kind, lies_in, default_type, settled, defaulted, numbered, listed, field_named, fields_of, is_visible, field_of, known_length, is_within, index_of, holds_call, length_in, length_of, capacity_of}
 use Rattle.go_package_laws.specs.Soundness.{Table, IsSoundType, AreSoundFields, is_of_kind, IsTypedValue, IsSoundValue}
 use Rattle.go_package_laws.proofs.Types.{sound_underlying, assignable_itself}
 use Rattle.go_package_laws.proofs.Constants.{text_is}
@@ -92,7 +92,7 @@ module _ (w : Table) (g : Setting) (d : List ℕ) where
       let value = literal_value e (struct of.0) h of.1 refl in
       let found = named_field of.0 x f of.2 in
       let whole : IsSoundType w (struct of.0) = subst (IsSoundType w) of.1 (sound_underlying w (expr_type e) value.1) in
-      inr (inl ((value.0, ap (λ u. field_type u f.0) of.1 ∙ found), sound_field w of.0 f.0 ((f.1).1).1 whole.1 found))
+      inr (inl ((value.0, ap (λ u. field_type u f.0) of.1 ∙ found), sound_field w of.0 f.0 ((f.1).1).1 whole.1 found, value.2))
 
   field_if : (path x : List ℕ) (e : Expr) (f : Numbered) → IsSoundValue w g d e → field_named x (fields_of (expr_type e)) ≡ Some f → (b : Bool) → is_visible path (f.1).0 ≡ b
       → Gives (IsSoundValue w g d) (if b then Fine (typed.field ((f.1).1).1 e f.0) else Breaks Unexported)
@@ -124,7 +124,7 @@ module _ (w : Table) (g : Setting) (d : List ℕ) where
   default_assignable t (inl h) = subst (λ u. assignable t u ≡ true) (sym (sound_default w g d t h)) (assignable_itself t)
   default_assignable t (inr h) = subst (λ u. assignable u (default_type u) ≡ true) (sym h.1) (untyped_assignable h.0)
 
-  settled_good : (e : Expr) → IsSoundValue w g d e → int_kind (default_type (expr_type e)) ≡ None → GoodAs w g d (default_type (expr_type e)) (settled e)
+  pub settled_good : (e : Expr) → IsSoundValue w g d e → int_kind (default_type (expr_type e)) ≡ None → GoodAs w g d (default_type (expr_type e)) (settled e)
   settled_good e h none =
       let of = value_type w g d e h in
       good_as w g d (default_type (expr_type e)) e (default_sound w g d (expr_type e) of) h (default_assignable (expr_type e) of) (free (default_type (expr_type e)) e none)
@@ -136,7 +136,7 @@ module _ (w : Table) (g : Setting) (d : List ℕ) where
   string_below u = elim u [ basic basics.String ↦ true | basic (basics.Untyped kinds.String) ↦ true | _ ↦ false ]
 
   abbrev indexed_below : Type' → Bool → Option Type'
-  indexed_below u text = elim u [ array n of ↦ Some of | _ ↦ if text then Some byte else None ]
+  indexed_below u text = elim u [ array n of ↦ Some of | slice of ↦ Some of | _ ↦ if text then Some byte else None ]
 
   -- a type that is indexed, below another, and that of its parts
   abbrev IsIndexed : Type' → Type' → Type 0
@@ -144,6 +144,7 @@ module _ (w : Table) (g : Setting) (d : List ℕ) where
 
   indexed_sound : (u t : Type') (text : Bool) → string_below u ≡ text → IsSoundType w u → indexed_below u text ≡ Some t → IsIndexed u t
   indexed_sound (array n of) t text is h at = (refl, at, subst (IsSoundType w) (some_same of t at) h.2)
+  indexed_sound (slice of) t text is h at = (refl, at, subst (IsSoundType w) (some_same of t at) h)
   indexed_sound (basic basics.String) t true is h at = (refl, at, subst (IsSoundType w) (some_same byte t at) refl)
   indexed_sound (basic (basics.Untyped k)) t text is h at = absurd (true≢false (sym h))
   indexed_sound u t true is h at = absurd (true≢false (sym is))
@@ -169,7 +170,8 @@ module _ (w : Table) (g : Setting) (d : List ℕ) where
       let of = indexed (expr_type e) t (value_type w g d e h) at in
       let whole = settled_good e h of.0 in
       let number = subst (λ u. is_integer (underlying u) ≡ true) (sym good.1) (default_is_integer (expr_type i) (value_type w g d i k) is) in
-      inr (inl ((whole.0, good.0, number, ap (λ u. indexed_type (underlying u)) whole.1 ∙ of.1), of.2))
+      let sound = default_sound w g d (expr_type e) (value_type w g d e h) in
+      inr (inl ((whole.0, good.0, number, ap (λ u. indexed_type (underlying u)) whole.1 ∙ of.1), of.2, (subst (IsSoundType w) (sym whole.1) sound, whole.2)))
 
   index_within : (t : Type') (e i j : Expr) → IsSoundValue w g d e → IsSoundValue w g d i → rules.indexed_type (expr_type e) ≡ Some t → rules.is_integer (expr_type i) ≡ true
       → GoodAs w g d (default_type (expr_type i)) j → (b : Bool) → Gives (IsSoundValue w g d) (if b then Fine (typed.index t (settled e) j) else Breaks Index)
@@ -190,7 +192,7 @@ module _ (w : Table) (g : Setting) (d : List ℕ) where
 
   -- ---- lengths: https://go.dev/ref/spec#Length_and_capacity
 
-  number : (n : ℕ) → fits (Some integers.Int) (pos n) ≡ true → IsSoundValue w g d (constant int (Integer (pos n)))
+  pub number : (n : ℕ) → fits (Some integers.Int) (pos n) ≡ true → IsSoundValue w g d (constant int (Integer (pos n)))
   number n h = constant_value w g d int (Integer (pos n)) (inl refl) (basics.Integer integers.Int, refl, and_from (fits (Some integers.Int) (pos n)) true h refl)
 
   -- what isn't constant, or is no text
@@ -206,7 +208,7 @@ module _ (w : Table) (g : Setting) (d : List ℕ) where
   length_made e (inl h) other is =
       let text = kind_text h.0 h.1 (subst (λ u. rules.is_string u ≡ true) (ap expr_type h.2) is) h.3 in
       absurd (other text.0 (ap constant_in h.2 ∙ ap Some text.1))
-  length_made e (inr (inl h)) other is = inr (inl ((h.0, sound_string w (expr_type e) h.1 is, refl), refl))
+  length_made e (inr (inl h)) other is = inr (inl ((h.0, or_left (is_string (underlying (expr_type e))) (is_slice (underlying (expr_type e))) (sound_string w (expr_type e) h.1 is), refl), refl, tt))
   length_made e (inr (inr h)) other is = absurd (true≢false (sym (subst (λ u. rules.is_string u ≡ true) h.1 is)))
 
   array_length : (e : Expr) (n : ℕ) (of : Type') → IsSoundValue w g d e → underlying (expr_type e) ≡ array n of → (b : Bool)
@@ -217,6 +219,15 @@ module _ (w : Table) (g : Setting) (d : List ℕ) where
       let whole : IsSoundType w (array n of) = subst (IsSoundType w) at (sound_underlying w (expr_type e) value.1) in
       number n (counts n whole.0)
 
+  array_in : (e : Expr) (n : ℕ) (of : Type') → IsSoundValue w g d e → underlying (expr_type e) ≡ array n of → Gives (IsSoundValue w g d) (length_in e)
+  array_in e n of h at = rw (at, Gives) (array_length e n of h at (holds_call e))
+
+  slice_length : (e : Expr) (of : Type') → IsSoundValue w g d e → underlying (expr_type e) ≡ slice of → IsSoundValue w g d (typed.length int e)
+  slice_length e of h at = inr (inl (((literal_value e (slice of) h at refl).0, ap (λ u. is_string u || is_slice u) at, refl), refl, tt))
+
+  slice_capacity : (e : Expr) (of : Type') → IsSoundValue w g d e → underlying (expr_type e) ≡ slice of → IsSoundValue w g d (typed.capacity int e)
+  slice_capacity e of h at = inr (inl (((literal_value e (slice of) h at refl).0, ap is_slice at, refl), refl, tt))
+
   text_length : (e : Expr) → IsSoundValue w g d e → IsNoText e → (b : Bool) → rules.is_string (expr_type e) ≡ b → Gives (IsSoundValue w g d) (if b then Fine (typed.length int e) else Breaks Mismatch)
   text_length e h other true is = length_made e h other is
   text_length e h other false is = tt
@@ -224,6 +235,7 @@ module _ (w : Table) (g : Setting) (d : List ℕ) where
   length_in_gives : (e : Expr) → IsSoundValue w g d e → IsNoText e → Gives (IsSoundValue w g d) (length_in e)
   length_in_gives e h other = elim (underlying (expr_type e)) as (λ u. underlying (expr_type e) ≡ u → Gives (IsSoundValue w g d) (length_in e)) [
     | array n of ↦ λ at. rw (at, Gives) (array_length e n of h at (holds_call e))
+    | slice of ↦ λ at. rw (at, Gives) (slice_length e of h at)
     | _ ↦ λ at. rw (at, Gives) (text_length e h other (rules.is_string (expr_type e)) refl)
   ] refl
 
@@ -239,4 +251,11 @@ module _ (w : Table) (g : Setting) (d : List ℕ) where
     | Some (Integer z) ↦ λ at. rw (at, Gives) (length_in_gives e h (other_constant (Some (Integer z)) e at (λ bytes is. cc)))
     | Some (Truth b) ↦ λ at. rw (at, Gives) (length_in_gives e h (other_constant (Some (Truth b)) e at (λ bytes is. cc)))
     | None ↦ λ at. rw (at, Gives) (length_in_gives e h (other_constant None e at (λ bytes is. cc)))
+  ] refl
+
+  pub capacity_gives : (e : Expr) → IsSoundValue w g d e → Gives (IsSoundValue w g d) (capacity_of e)
+  capacity_gives e h = elim (underlying (expr_type e)) as (λ u. underlying (expr_type e) ≡ u → Gives (IsSoundValue w g d) (capacity_of e)) [
+    | array n of ↦ λ at. rw (at, Gives) (array_in e n of h at)
+    | slice of ↦ λ at. rw (at, Gives) (slice_capacity e of h at)
+    | _ ↦ λ at. rw (at, Gives) tt
   ] refl

@@ -24,7 +24,7 @@ use Rattle.go_meaning_laws.specs.WellTyped.{Setting, is_integer, IsExpr}
 use Rattle.go_expr.specs.Known.{Fine, Breaks}
 use Rattle.go_expr.specs.Rules as rules
 use Rattle.go_expr.specs.Rules.{constant_in, int_kind, is_untyped, lies_in, as_type, uint, counted_by, shift_of, shifted, binary_of}
-use Rattle.go_package_laws.specs.Soundness.{Table, IsSoundType, IsSoundValue}
+use Rattle.go_package_laws.specs.Soundness.{Table, IsSoundType, HasSoundWay, IsSoundValue}
 use Rattle.go_package_laws.proofs.Types.{untyped_bool}
 use Rattle.go_package_laws.proofs.Constants.{shift_operands}
 use Rattle.go_package_laws.proofs.Assigned.{Gives, some_none, GoodAs, good_as}
@@ -38,11 +38,11 @@ module _ (w : Table) (g : Setting) (d : List ℕ) where
 
   -- an integer that has a type
   abbrev IsInteger : Expr → Type 0
-  IsInteger e = IsExpr g d e × IsSoundType w (expr_type e) × (is_integer (underlying (expr_type e)) ≡ true)
+  IsInteger e = IsExpr g d e × IsSoundType w (expr_type e) × (is_integer (underlying (expr_type e)) ≡ true) × HasSoundWay w e
 
   typed_integer : (e : Expr) → IsSoundValue w g d e → rules.is_integer (expr_type e) ≡ true → is_untyped (expr_type e) ≡ false → IsInteger e
   typed_integer e (inl h) is not_so = absurd (true≢false (sym (ap is_untyped (ap expr_type h.2)) ∙ not_so))
-  typed_integer e (inr (inl h)) is not_so = (h.0, h.1, sound_integer w (expr_type e) h.1 is)
+  typed_integer e (inr (inl h)) is not_so = (h.0, h.1, sound_integer w (expr_type e) h.1 is, h.2)
   typed_integer e (inr (inr h)) is not_so = absurd (no_integer (expr_type e) h.1 is)
 
   -- ---- the count
@@ -74,7 +74,7 @@ module _ (w : Table) (g : Setting) (d : List ℕ) where
   -- ---- the shift
 
   made : (op : ShiftOperator) (x y : Expr) → IsInteger x → IsCount y → IsSoundValue w g d (typed.binary (expr_type x) (nodes.Shift op) x y)
-  made op x y h k = inr (inl ((h.0, k.0, (refl, h.2, k.1)), h.1))
+  made op x y h k = inr (inl ((h.0, k.0, (refl, h.2, k.1)), h.1, h.3))
 
   within : (op : ShiftOperator) (x y : Expr) → IsInteger x → IsSoundValue w g d y → rules.is_integer (expr_type y) ≡ true → (b : Bool) → lies_in uint y ≡ b
       → Gives (IsSoundValue w g d) (if b then Fine (typed.binary (expr_type x) (nodes.Shift op) x (counted_by y)) else Breaks Range)
@@ -85,7 +85,7 @@ module _ (w : Table) (g : Setting) (d : List ℕ) where
   has_type : (x : Expr) → IsSoundValue w g d x → rules.is_integer (expr_type x) ≡ true → (constant_in x ≡ None) ⊎ (is_untyped (expr_type x) ≡ false) → IsInteger x
   has_type x (inl h) is (inl none) = absurd (some_none h.1 (sym (ap constant_in h.2) ∙ none))
   has_type x (inl h) is (inr un) = typed_integer x (inl h) is un
-  has_type x (inr (inl h)) is one = (h.0, h.1, sound_integer w (expr_type x) h.1 is)
+  has_type x (inr (inl h)) is one = (h.0, h.1, sound_integer w (expr_type x) h.1 is, h.2)
   has_type x (inr (inr h)) is one = absurd (no_integer (expr_type x) h.1 is)
 
   counted : (b : Bool) (o : Option Const) → o ≡ None → (b && not (is_some o)) ≡ false → b ≡ false

@@ -1,5 +1,5 @@
 -- What checked packages export can be shown: their types are named by words, and their constants are of their types.
-use Rattle.std.proofs.Common.{◌≡◌, ℕ, suc, ◌<◌, ◌≤◌, ◌^◌, Bool, true, false, List, [], ◌∷◌, ◌++◌, length, get_or, map, Option, Some, None, refl, sym, ap, ◌∙◌, subst, inl, inr, true≢false, leb-true, arith}
+use Rattle.std.proofs.Common.{◌≡◌, ℕ, suc, ◌<◌, ◌≤◌, ◌^◌, true, false, List, [], ◌∷◌, ◌++◌, length, get_or, map, Option, Some, None, refl, sym, ap, ◌∙◌, subst, inl, inr, true≢false, leb-true, arith}
 use Rattle.std.specs.Prelude.{nat_eq, nat_le}
 use Rattle.std.specs.List.{All, list_all, slice_get}
 use Rattle.std.specs.Map.{values_of}
@@ -19,7 +19,7 @@ use Rattle.go_types.specs.declared.types.Basic.{Basic}
 use Rattle.go_types.specs.declared.types.Basic.TheVariants as basics
 use Rattle.go_types.specs.declared.types.Untyped.{Untyped}
 use Rattle.go_types.specs.declared.types.Untyped.TheVariants as kinds
-use Rattle.go_types.specs.Types.{Type', basic, array, struct, named, Fields, no_fields, field}
+use Rattle.go_types.specs.Types.{Type', basic, array, slice, struct, named, Fields, no_fields, field}
 use Rattle.go_types.specs.Texts.{Lacks, IsSpelled, IsWritable, AreWritable}
 use Rattle.go_typed.specs.Trees as typed
 use Rattle.go_expr.specs.Known.{Declared, value, type', Names}
@@ -33,6 +33,7 @@ use Rattle.go_export.proofs.Found.{shown}
 use Rattle.go_package.specs.Typed.{constants_in, types_in, typed_package}
 use Rattle.go_package_laws.specs.Soundness.{Table, IsNamedField, IsSoundType, AreSoundFields, AreSoundTypes, is_of_kind, IsSoundValue}
 use Rattle.go_package_laws.specs.Packages.{AreChecked, is_plain, HavePlainPaths}
+use Rattle.go_package_laws.proofs.Constants.{no_slice}
 use Rattle.go_package_laws.proofs.Dots.{dot}
 use Rattle.go_package_laws.proofs.Entries.{TableSound}
 use Rattle.go_package_laws.proofs.Packages.{entries_sound, variables_sound, signatures_sound}
@@ -122,6 +123,7 @@ module _ (packages : List typed.Package) where
     writable : (t : Type') → IsSoundType w t → IsWritable t
     writable (basic b) h = tt
     writable (array n t) h = (short n h.0, writable t h.2)
+    writable (slice t) h = writable t h
     writable (struct fs) h = all_writable fs h.1
     writable (named p x t) h = (name_spelled p x (h.2).0 (h.2).1, writable t h.1)
 
@@ -152,6 +154,7 @@ module _ (packages : List typed.Package) where
   valued : (t : Type') (c : Const) → is_of t (single (cell_of c)) ≡ true → IsValue t c
   valued (basic b) c h = record { of = b; is = refl; kind = basic_kind b c h }
   valued (array n t) c h = absurd (true≢false (sym h))
+  valued (slice t) c h = absurd (true≢false (sym h ∙ no_slice t c))
   valued (struct fs) c h = absurd (true≢false (sym h))
   valued (named p x t) c h = (let below = valued t c h in record { of = below.of; is = below.is; kind = below.kind })
 
@@ -162,8 +165,8 @@ module _ (packages : List typed.Package) where
         subst IsWritable (sym type) tt,
         subst (λ (t : Type'). IsValue t c) (sym type) (record { of = basics.Untyped kind; is = refl; kind = untyped_kind kind c (ap (is_of_kind kind) same ∙ of) }),
       )
-  constant_shown g d t c (inr (inl (of, sound))) = (writable t sound, valued t c of.0)
-  constant_shown g d t c (inr (inr (of, is, none))) = absurd (let no : Some c ≡ None = none in cc (no))
+  constant_shown g d t c (inr (inl (of, sound, way))) = (writable t sound, valued t c of.0)
+  constant_shown g d t c (inr (inr (of, is, none, way))) = absurd (true≢false (sym none))
 
   -- ---- what a package declares
 

@@ -4,27 +4,29 @@ use Rattle.std.specs.Prelude.{bytes_eq, unwrap_or, option_map, if◌then◌else�
 use Rattle.std.specs.Map.{lookup}
 use Rattle.std.proofs.lemmas.Bool.{cases_Bool}
 use Rattle.go_text.specs.declared.fault.FaultKind.TheVariants.{Undeclared, Unexported}
-use Rattle.go_ast.specs.Trees.{TypeExpr, named as by_name, qualified, array, struct, Fields, no_fields, field, Expr, name, integer, rune, string, parenthesized, composite_lit, conversion, selector, index, call, unary, binary, Exprs, no_exprs, some_exprs, Elements, no_elements, element, Element, expression_element, value_element}
+use Rattle.go_ast.specs.Trees.{TypeExpr, named as by_name, qualified, array, slice, struct, Fields, no_fields, field, Expr, name, integer, rune, string, parenthesized, composite_lit, conversion, selector, index, cut, Bound, no_bound, bound, call, type_operand, unary, binary, Exprs, no_exprs, some_exprs, Elements, no_elements, element, Element, expression_element, value_element}
 use Rattle.go_const.specs.declared.constant.Const.TheVariants.{Integer, Text}
 use Rattle.go_const.specs.Constants.{represent, fits}
 use Rattle.go_types.specs.declared.types.Basic.TheVariants as basics
 use Rattle.go_types.specs.declared.types.Untyped.TheVariants as kinds
 use Rattle.go_types.specs.Types.{Type', basic}
+use Rattle.go_typed.specs.Trees.{Expr as Typed}
 use Rattle.go_meaning_laws.specs.WellTyped.{Setting}
-use Rattle.go_expr.specs.Known.{Names, Known, declared, package', results, printed, panicked, Verdict, Fine, Breaks, Passed, Scope, look_up, named}
-use Rattle.go_expr.specs.Rules.{fine, checked, valued, type_due, array_of, is_exported, declared_field, struct_of, value_due, unpackaged, selectable, callable, numeral, number_of, literal, literal_of, Due, element_due, due_type, untyped_literal, field_of, selected, exported_by, index_of, binary_of, unary_of, converted, called}
-use Rattle.go_expr.specs.Verdicts.{asked, both, asked_both, joined, qualified_known, operand, inside, subject, callee, key_text, verdict, operands, elements, element_verdict, type_verdict, fields_known}
+use Rattle.go_expr.specs.Known.{Names, type', Known, declared, package', results, printed, panicked, Verdict, Fine, Breaks, Passed, Scope, look_up, named}
+use Rattle.go_expr.specs.Rules.{fine, checked, valued, type_due, array_of, slice_of, is_exported, declared_field, struct_of, value_due, unpackaged, selectable, callable, numeral, number_of, literal, literal_of, Due, element_due, due_type, untyped_literal, field_of, selected, exported_by, index_of, cut_of, made, unmade, binary_of, unary_of, converted, called}
+use Rattle.go_expr.specs.Verdicts.{asked, both, asked_both, joined, qualified_known, operand, inside, subject, callee, key_text, is_make, is_name, verdict, bound_known, made_verdict, operands, elements, element_verdict, type_verdict, fields_known}
 use Rattle.go_package_laws.specs.Soundness.{Table, IsSoundType, IsSoundValue, AreSoundNames}
 use Rattle.go_package_laws.proofs.SoundNames.{IsSoundKnown, IsSoundScope}
-use Rattle.go_package_laws.proofs.Texts.{HasTexts, HaveTexts, ElementsHaveTexts, ElementHasTexts, TypeHasTexts, FieldsHaveTexts}
+use Rattle.go_package_laws.proofs.Texts.{HasTexts, BoundHasTexts, HaveTexts, ElementsHaveTexts, ElementHasTexts, TypeHasTexts, FieldsHaveTexts}
 use Rattle.go_package_laws.proofs.Constants.{IsConstantOf, Given}
 use Rattle.go_package_laws.proofs.Assigned.{Gives}
 use Rattle.go_package_laws.proofs.Operators.{converted_gives, given_sound, unary_gives}
 use Rattle.go_package_laws.proofs.Binary.{checked_gives}
 use Rattle.go_package_laws.proofs.Shifts.{binary_gives}
 use Rattle.go_package_laws.proofs.Selections.{field_gives, index_gives}
-use Rattle.go_package_laws.proofs.Literals.{Every, every_append, Has, IsSoundElement, IsSoundDue, literal_gives, untyped_gives, element_due_sound, due_type_has, type_due_gives, array_of_gives, IsSoundField, struct_of_gives, declared_fields}
+use Rattle.go_package_laws.proofs.Literals.{Every, every_append, Has, IsSoundElement, IsSoundDue, literal_gives, untyped_gives, element_due_sound, due_type_has, type_due_gives, array_of_gives, slice_of_gives, IsSoundField, struct_of_gives, declared_fields}
 use Rattle.go_package_laws.proofs.Calls.{valued_gives, value_due_gives, called_gives}
+use Rattle.go_package_laws.proofs.Slices.{cut_gives, made_gives}
 
 -- ---- rules over what is known
 
@@ -151,6 +153,16 @@ module _ (w : Table) (g : Setting) (d : List ℕ) where
   type_found : (v : Verdict Known) → Gives (IsSoundKnown w g d) v → Gives (IsSoundType w) (asked type_due (fine v))
   type_found v h = asked_gives (IsSoundKnown w g d) (IsSoundType w) type_due (fine v) (fine_has (IsSoundKnown w g d) v h) (type_due_gives w g d)
 
+  type_operand_gives : (v : Verdict Type') → Gives (IsSoundType w) v → Gives (IsSoundKnown w g d) (checked (λ t. Fine (declared (type' t))) v)
+  type_operand_gives (Fine t) h = h
+  type_operand_gives (Breaks kind) h = tt
+  type_operand_gives Passed h = tt
+
+  unmade_gives : (o : Option Known) (xs : Option (List Typed)) → Gives (IsSoundValue w g d) (asked_both unmade o xs)
+  unmade_gives None xs = tt
+  unmade_gives (Some k) None = tt
+  unmade_gives (Some k) (Some xs) = tt
+
   -- ---- expressions and types
 
   mutual
@@ -180,10 +192,21 @@ module _ (w : Table) (g : Setting) (d : List ℕ) where
         let at = operand_has (verdict s i) (known_gives s i h t.1) in
         valued_gives w g d (asked_both index_of (operand (verdict s e)) (operand (verdict s i)))
         (asked_both_gives (IsSoundValue w g d) (IsSoundValue w g d) (IsSoundValue w g d) index_of (operand (verdict s e)) (operand (verdict s i)) of at (λ x y good also. index_gives w g d x y good also))
+    known_gives s (cut p e a b) h t =
+        let of = operand_has (verdict s e) (known_gives s e h t.0) in
+        let bounds = both_has (Has (IsSoundValue w g d)) (Has (IsSoundValue w g d)) (bound_known s a) (bound_known s b) (bound_has s a h t.1) (bound_has s b h t.2) in
+        let rule : Typed → Option Typed × Option Typed → Verdict Typed = λ e bounds. cut_of e bounds.0 bounds.1 in
+        let between = both (bound_known s a) (bound_known s b) in
+        valued_gives w g d (asked_both rule (operand (verdict s e)) between)
+        (asked_both_gives (IsSoundValue w g d) (λ k. Has (IsSoundValue w g d) k.0 × Has (IsSoundValue w g d) k.1) (IsSoundValue w g d) rule (operand (verdict s e)) between of bounds (λ x k good also. cut_gives w g d x k.0 k.1 good also.0 also.1))
     known_gives s (call p f es) h t =
         let of = fine_has (IsSoundKnown w g d) (callee (verdict s f)) (callee_gives (verdict s f) (known_gives s f h t.0)) in
-        asked_both_gives (IsSoundKnown w g d) (Every (IsSoundValue w g d)) (IsSoundKnown w g d) called (fine (callee (verdict s f))) (operands s es) of (operands_have s es h t.1)
-        (λ x y good each. called_gives w g d x y good each)
+        elim (cases_Bool (is_make (fine (callee (verdict s f))))) [
+          | inl make ↦ rw make (valued_gives w g d (made_verdict s es) (made_have s es h t.1))
+          | inr other ↦ rw other (asked_both_gives (IsSoundKnown w g d) (Every (IsSoundValue w g d)) (IsSoundKnown w g d) called (fine (callee (verdict s f))) (operands s es) of (operands_have s es h t.1)
+              (λ x y good each. called_gives w g d x y good each))
+        ]
+    known_gives s (type_operand p u) h t = type_operand_gives (type_verdict s u) (type_gives s u h t)
     known_gives s (unary p op e) h t =
         valued_gives w g d (asked (unary_of op) (operand (verdict s e)))
         (asked_gives (IsSoundValue w g d) (IsSoundValue w g d) (unary_of op) (operand (verdict s e)) (operand_has (verdict s e) (known_gives s e h t)) (unary_gives w g d op))
@@ -192,6 +215,21 @@ module _ (w : Table) (g : Setting) (d : List ℕ) where
         let right = operand_has (verdict s b) (known_gives s b h t.1) in
         valued_gives w g d (asked_both (binary_of op) (operand (verdict s a)) (operand (verdict s b)))
         (asked_both_gives (IsSoundValue w g d) (IsSoundValue w g d) (IsSoundValue w g d) (binary_of op) (operand (verdict s a)) (operand (verdict s b)) left right (λ x y good also. binary_gives w g d op x y good also))
+
+    bound_has : (s : Scope) (b : Bound) → IsSoundScope w g d s → BoundHasTexts b → Has (Has (IsSoundValue w g d)) (bound_known s b)
+    bound_has s no_bound h t = tt
+    bound_has s (bound e) h t =
+        mapped_has (IsSoundValue w g d) (Has (IsSoundValue w g d)) Some (operand (verdict s e)) (operand_has (verdict s e) (known_gives s e h t)) (λ x good. good)
+
+    made_have : (s : Scope) (es : Exprs) → IsSoundScope w g d s → HaveTexts es → Gives (IsSoundValue w g d) (made_verdict s es)
+    made_have s no_exprs h t = tt
+    made_have s (some_exprs e es) h t =
+        let due = asked type_due (fine (verdict s e)) in
+        let of = fine_has (IsSoundType w) due (type_found (verdict s e) (known_gives s e h t.0)) in
+        elim (cases_Bool (is_name e)) [
+          | inl is ↦ rw is (asked_both_gives (IsSoundType w) (Every (IsSoundValue w g d)) (IsSoundValue w g d) made (fine due) (operands s es) of (operands_have s es h t.1) (λ x y good each. made_gives w g d x y good each))
+          | inr other ↦ rw other (unmade_gives (fine (verdict s e)) (operands s es))
+        ]
 
     pub operands_have : (s : Scope) (es : Exprs) → IsSoundScope w g d s → HaveTexts es → Has (Every (IsSoundValue w g d)) (operands s es)
     operands_have s no_exprs h t = tt
@@ -225,6 +263,7 @@ module _ (w : Table) (g : Setting) (d : List ℕ) where
         let size = operand_has (verdict s e) (known_gives s e h t.0) in
         let of = fine_has (IsSoundType w) (type_verdict s u) (type_gives s u h t.1) in
         asked_both_gives (IsSoundValue w g d) (IsSoundType w) (IsSoundType w) array_of (operand (verdict s e)) (fine (type_verdict s u)) size of (λ x y good also. array_of_gives w g d x y also)
+    type_gives s (slice p u) h t = asked_gives (IsSoundType w) (IsSoundType w) slice_of (fine (type_verdict s u)) (fine_has (IsSoundType w) (type_verdict s u) (type_gives s u h t)) (slice_of_gives w g d)
     type_gives s (struct p fs) h t = asked_gives (Every (IsSoundField w g d)) (IsSoundType w) struct_of (fields_known s fs) (fields_have s fs h t) (struct_of_gives w g d)
 
     fields_have : (s : Scope) (fs : Fields) → IsSoundScope w g d s → FieldsHaveTexts fs → Has (Every (IsSoundField w g d)) (fields_known s fs)

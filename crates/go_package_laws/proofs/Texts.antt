@@ -1,7 +1,7 @@
 -- Source trees whose string literals are texts: bytes, no more than an int counts. The names of fields are words.
 use Rattle.std.specs.Prelude.{◌≡◌, true, List, [], ◌∷◌}
 use Rattle.go_scan.specs.Words.{IsWord}
-use Rattle.go_ast.specs.Trees.{Name, TypeExpr, named, qualified, array, struct, Fields, no_fields, field, Expr, name, integer, rune, string, parenthesized, composite_lit, conversion, selector, index, call, unary, binary, Exprs, no_exprs, some_exprs, Elements, no_elements, element, Element, expression_element, value_element}
+use Rattle.go_ast.specs.Trees.{Name, TypeExpr, named, qualified, array, slice, struct, Fields, no_fields, field, Expr, name, integer, rune, string, parenthesized, composite_lit, conversion, selector, index, cut, Bound, no_bound, bound, call, type_operand, unary, binary, Exprs, no_exprs, some_exprs, Elements, no_elements, element, Element, expression_element, value_element}
 use Rattle.go_meaning_laws.specs.WellTyped.{is_text}
 
 -- names are words
@@ -20,9 +20,15 @@ abbrev mutual
   HasTexts (conversion p t e) = TypeHasTexts t × HasTexts e
   HasTexts (selector p e x) = HasTexts e
   HasTexts (index p e i) = HasTexts e × HasTexts i
+  HasTexts (cut p e a b) = HasTexts e × BoundHasTexts a × BoundHasTexts b
   HasTexts (call p f es) = HasTexts f × HaveTexts es
+  HasTexts (type_operand p t) = TypeHasTexts t
   HasTexts (unary p op e) = HasTexts e
   HasTexts (binary p op a b) = HasTexts a × HasTexts b
+
+  pub BoundHasTexts : Bound → Type 0
+  BoundHasTexts no_bound = Unit {0}
+  BoundHasTexts (bound e) = HasTexts e
 
   pub HaveTexts : Exprs → Type 0
   HaveTexts no_exprs = Unit {0}
@@ -40,6 +46,7 @@ abbrev mutual
   TypeHasTexts (named p x) = Unit {0}
   TypeHasTexts (qualified p m n) = Unit {0}
   TypeHasTexts (array p e t) = HasTexts e × TypeHasTexts t
+  TypeHasTexts (slice p t) = TypeHasTexts t
   TypeHasTexts (struct p fs) = FieldsHaveTexts fs
 
   pub FieldsHaveTexts : Fields → Type 0

@@ -10,7 +10,7 @@ use Rattle.go_types.specs.declared.types.Basic.{Basic}
 use Rattle.go_types.specs.declared.types.Basic.TheVariants as basics
 use Rattle.go_types.specs.declared.types.Untyped.{Untyped}
 use Rattle.go_types.specs.declared.types.Untyped.TheVariants as kinds
-use Rattle.go_types.specs.Types.{Type', basic, array, struct, named, Fields, no_fields, field}
+use Rattle.go_types.specs.Types.{Type', basic, array, slice, struct, named, Fields, no_fields, field}
 use Rattle.go_types.specs.Texts.{basic_text}
 use Rattle.go_types.specs.Relations.{underlying, identical, all_identical, is_literal, fits, assignable, are_integers, convertible}
 use Rattle.go_types.specs.Sizes.{cells}
@@ -92,6 +92,7 @@ mutual
   identical_same w (array m a) (array n b) h k e =
       let both = and_parts (m == n) (identical a b) e in
       same_array ((Decides-eqb m n).0 both.0) (identical_same w a b h.2 k.2 both.1)
+  identical_same w (slice a) (slice b) h k e = ap slice (identical_same w a b h k e)
   identical_same w (struct f) (struct g) h k e = ap struct (all_same w f g h.1 k.1 e)
   identical_same w (named p x a) (named q y b) h k e =
       let both = and_parts (bytes_eq p q) (bytes_eq x y) e in
@@ -115,6 +116,7 @@ mutual
   pub whole_type : (w : Table) (t : Type') → IsSoundType w t → IsWhole t
   whole_type w (basic b) h = h
   whole_type w (array n t) h = whole_type w t h.2
+  whole_type w (slice t) h = whole_type w t h
   whole_type w (struct fs) h = whole_fields w fs h.1
   whole_type w (named p x t) h = whole_type w t h.1
 
@@ -129,12 +131,14 @@ one_cell = refl
 pub small_type : (w : Table) (t : Type') → IsSoundType w t → nat_le (cells t) most_cells ≡ true
 small_type w (basic b) h = one_cell
 small_type w (array n t) h = h.1
+small_type w (slice t) h = one_cell
 small_type w (struct fs) h = h.0
 small_type w (named p x t) h = small_type w t h.1
 
 pub sound_underlying : (w : Table) (t : Type') → IsSoundType w t → IsSoundType w (underlying t)
 sound_underlying w (basic b) h = h
 sound_underlying w (array n t) h = h
+sound_underlying w (slice t) h = h
 sound_underlying w (struct fs) h = h
 sound_underlying w (named p x t) h = sound_underlying w t h.1
 
@@ -152,6 +156,7 @@ no_untyped w t k h e = true≢false (sym (subst (IsSoundType w) e h))
 pub not_identical : (w : Table) (t : Type') (k : Untyped) → IsSoundType w t → identical t (basic (basics.Untyped k)) ≡ true → ⊥
 not_identical w (basic b) k h e = typed_untyped b k h (same_basic b (basics.Untyped k) e)
 not_identical w (array n t) k h e = true≢false (sym e)
+not_identical w (slice t) k h e = true≢false (sym e)
 not_identical w (struct fs) k h e = true≢false (sym e)
 not_identical w (named p x t) k h e = true≢false (sym e)
 
@@ -165,6 +170,7 @@ no_fit w (basic basics.String) u h e = true≢false (sym e)
 no_fit w (basic (basics.Integer i)) u h e = true≢false (sym e)
 no_fit w (basic (basics.Untyped k)) u h e = true≢false (sym h)
 no_fit w (array n t) u h e = true≢false (sym e)
+no_fit w (slice t) u h e = true≢false (sym e)
 no_fit w (struct fs) u h e = true≢false (sym e)
 no_fit w (named p x t) u h e = true≢false (sym e)
 
@@ -211,6 +217,7 @@ both_integers t u e = absurd (true≢false (sym e))
 pub not_identical_to : (w : Table) (t : Type') (k : Untyped) → IsSoundType w t → identical (basic (basics.Untyped k)) t ≡ true → ⊥
 not_identical_to w (basic b) k h e = typed_untyped b k h (sym (same_basic (basics.Untyped k) b e))
 not_identical_to w (array n t) k h e = true≢false (sym e)
+not_identical_to w (slice t) k h e = true≢false (sym e)
 not_identical_to w (struct fs) k h e = true≢false (sym e)
 not_identical_to w (named p x t) k h e = true≢false (sym e)
 
@@ -257,6 +264,7 @@ mutual
   pub identical_itself : (t : Type') → identical t t ≡ true
   identical_itself (basic b) = text_itself (basic_text b)
   identical_itself (array n t) = and_from (n == n) (identical t t) ((Decides-eqb n n).1 refl) (identical_itself t)
+  identical_itself (slice t) = identical_itself t
   identical_itself (struct fs) = all_itself fs
   identical_itself (named p x t) = and_from (bytes_eq p p) (bytes_eq x x) (text_itself p) (text_itself x)
 

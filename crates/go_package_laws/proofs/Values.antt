@@ -9,7 +9,7 @@ use Rattle.go_text.specs.Faults.{fault_number}
 use Rattle.go_ast.specs.Trees as source
 use Rattle.go_types.specs.declared.types.Basic.{Basic}
 use Rattle.go_types.specs.declared.types.Basic.TheVariants as basics
-use Rattle.go_types.specs.Types.{Type', basic, array, struct, named}
+use Rattle.go_types.specs.Types.{Type', basic, array, slice, struct, named}
 use Rattle.go_types.specs.Relations.{underlying, identical, is_literal, fits, assignable}
 use Rattle.go_typed.specs.Trees.{Symbol, Expr, expr_type, Exprs, Source, each, results, pack_exprs}
 use Rattle.go_meaning_laws.specs.WellTyped.{Setting, is_typed, Suits, IsExpr, AreExprs, exprs_types, IsCall, IsSource, source_types}
@@ -34,12 +34,14 @@ typed_fits (basics.Untyped k) t h = absurd (true≢false (sym h))
 pub no_fit : (w : Table) (u t : Type') → IsSoundType w u → fits u t ≡ false
 no_fit w (basic b) t h = typed_fits b t h
 no_fit w (array n u) t h = refl
+no_fit w (slice u) t h = refl
 no_fit w (struct fs) t h = refl
 no_fit w (named p x u) t h = refl
 
 pub sound_under : (w : Table) (t : Type') → IsSoundType w t → IsSoundType w (underlying t)
 sound_under w (basic b) h = h
 sound_under w (array n t) h = h
+sound_under w (slice t) h = h
 sound_under w (struct fs) h = h
 sound_under w (named p x t) h = sound_under w t h.1
 

@@ -25,16 +25,16 @@ AreLibraries (i ∷ is) = (i.exports ≡ library) × AreLibraries is
 -- ---- programs
 
 -- some text is parsed to each file; a text has bytes, no more than an int counts
-abbrev pub AreOfTexts : List File → Type 0
-AreOfTexts [] = Unit {0}
-AreOfTexts (f ∷ fs) = ((text : List ℕ) × IsParse text (Derived f) × (is_text text ≡ true)) × AreOfTexts fs
+abbrev pub AreOfTexts : Edition → List File → Type 0
+AreOfTexts edition [] = Unit {0}
+AreOfTexts edition (f ∷ fs) = ((text : List ℕ) × IsParse edition text (Derived f) × (is_text text ≡ true)) × AreOfTexts edition fs
 
 -- The program is the typed package of files without fault, to which some texts are parsed. Its variables get their values in some order, and
 -- it is named main.
 pub record AreProgram (path : List ℕ) (files : List File) (ps : List Importable) (names : List (List ℕ)) (p : Package) : Type 0 where
   pub edition : Edition
-  pub sources : AreOfTexts files
-  pub typed : IsTypedIn edition (package_in path files ps) files ps names p
+  pub sources : AreOfTexts edition files
+  pub typed : IsTypedIn edition (package_in edition path files ps) files ps names p
   pub ordered : (variable_order p).1 ≡ []
   pub named : p.name ≡ codes "main"
 
@@ -51,8 +51,8 @@ pub record IsChecked (before : List Package) (p : Package) : Type 0 where
   pub imported : List Package
   pub are_libraries : AreLibraries libraries
   pub stand_before : All (Contains before) imported
-  pub sources : AreOfTexts files
-  pub typed : IsTypedIn edition (package_in path files (libraries ++ map importable_of imported)) files (libraries ++ map importable_of imported) names p
+  pub sources : AreOfTexts edition files
+  pub typed : IsTypedIn edition (package_in edition path files (libraries ++ map importable_of imported)) files (libraries ++ map importable_of imported) names p
   pub new : All (λ (q : Package). p.path ≢ q.path) before
   pub ordered : (variable_order p).1 ≡ []
 

@@ -7,13 +7,13 @@ use Rattle.go_const.specs.declared.constant.Const.TheVariants.{Integer, Text, Bo
 use Rattle.go_types.specs.declared.types.Basic.TheVariants as basics
 use Rattle.go_types.specs.declared.types.Untyped.{Untyped}
 use Rattle.go_types.specs.declared.types.Untyped.TheVariants as kinds
-use Rattle.go_types.specs.Types.{Type', basic, array, struct, named, Fields, no_fields, field}
+use Rattle.go_types.specs.Types.{Type', basic, array, slice, struct, named, Fields, no_fields, field}
 use Rattle.go_types.specs.Sizes.{cells}
-use Rattle.go_typed.specs.Trees.{Expr, constant, expr_type}
+use Rattle.go_typed.specs.Trees.{Expr, constant, index, unary, binary, both, either, expr_type}
+use Rattle.go_typed.specs.Trees as trees
 use Rattle.go_meaning.specs.Meaning.{most_cells}
 use Rattle.go_meaning_laws.specs.WellTyped.{Setting, is_typed, is_text, IsCall, IsExpr}
 use Rattle.go_expr.specs.Known.{Declared, value, type', function, Names}
-use Rattle.go_expr.specs.Rules.{constant_in}
 
 -- what each declared type is declared as, by its package's path and its name, and which paths are plain
 pub record Table : Type 0 where
@@ -35,6 +35,7 @@ abbrev mutual
   pub IsSoundType : Table → Type' → Type 0
   IsSoundType w (basic b) = is_typed b ≡ true
   IsSoundType w (array n t) = (nat_le n 65536 ≡ true) × (nat_le (cells (array n t)) most_cells ≡ true) × IsSoundType w t
+  IsSoundType w (slice t) = IsSoundType w t
   IsSoundType w (struct fs) = (nat_le (cells (struct fs)) most_cells ≡ true) × AreSoundFields w fs
   IsSoundType w (named path name t) = (w.types path name ≡ Some t) × IsSoundType w t × IsNamed w path name
 
@@ -60,16 +61,27 @@ is_of_kind kind c = false
 abbrev pub IsUntypedConstant : Expr → Type 0
 IsUntypedConstant e = (kind : Untyped) × (c : Const) × (e ≡ constant (basic (basics.Untyped kind)) c) × (is_of_kind kind c ≡ true)
 
+-- what is indexed on the way to a part has a sound type; an operation goes on with its left operand, which may be assigned to
+abbrev pub HasSoundWay : Table → Expr → Type 0
+HasSoundWay w (trees.field t e n) = HasSoundWay w e
+HasSoundWay w (index t e i) = IsSoundType w (expr_type e) × HasSoundWay w e
+HasSoundWay w (binary t op a b) = HasSoundWay w a
+HasSoundWay w e = Unit {0}
+
 -- well typed, and of a sound type
 abbrev pub IsTypedValue : Table → Setting → List ℕ → Expr → Type 0
-IsTypedValue w g d e = IsExpr g d e × IsSoundType w (expr_type e)
+IsTypedValue w g d e = IsExpr g d e × IsSoundType w (expr_type e) × HasSoundWay w e
+
+-- what an operator gives
+abbrev pub is_operation : Expr → Bool
+is_operation e = elim e [ unary t op a ↦ true | binary t op a b ↦ true | both t a b ↦ true | either t a b ↦ true | _ ↦ false ]
 
 -- the truth value of a comparison, which has no type yet
-abbrev pub IsComparison : Setting → List ℕ → Expr → Type 0
-IsComparison g d e = IsExpr g d e × (expr_type e ≡ basic (basics.Untyped kinds.Bool)) × (constant_in e ≡ None)
+abbrev pub IsComparison : Table → Setting → List ℕ → Expr → Type 0
+IsComparison w g d e = IsExpr g d e × (expr_type e ≡ basic (basics.Untyped kinds.Bool)) × (is_operation e ≡ true) × HasSoundWay w e
 
 abbrev pub IsSoundValue : Table → Setting → List ℕ → Expr → Type 0
-IsSoundValue w g d e = IsUntypedConstant e ⊎ IsTypedValue w g d e ⊎ IsComparison g d e
+IsSoundValue w g d e = IsUntypedConstant e ⊎ IsTypedValue w g d e ⊎ IsComparison w g d e
 
 -- ---- names
 

@@ -66,19 +66,19 @@ pub fn law_one_checked_package()
 /// main. A value can depend on itself, too: of such a package the laws above say nothing.
 pub fn law_packages_may_be_initialized()
     ensures valued { (path : List ℕ) → (files : List File) × (names : List (List ℕ)) × (p : Package) × (i : Initialization)
-        × IsTypedIn One (package_in path files []) files [] names p × (p.name ≡ codes "main") × (variable_order p ≡ (i ∷ [], [])) }
+        × IsTypedIn One (package_in One path files []) files [] names p × (p.name ≡ codes "main") × (variable_order p ≡ (i ∷ [], [])) }
     ensures init { (path : List ℕ) → (files : List File) × (names : List (List ℕ)) × (p : Package) × (x : List ℕ)
-        × IsTypedIn One (package_in path files []) files [] names p × (p.name ≡ codes "main") × (package_steps p ≡ calls (symbol_of p x) ∷ []) }
+        × IsTypedIn One (package_in One path files []) files [] names p × (p.name ≡ codes "main") × (package_steps p ≡ calls (symbol_of p x) ∷ []) }
     ensures circular { (path : List ℕ) → (files : List File) × (names : List (List ℕ)) × (p : Package) × (i : Initialization)
-        × IsTypedIn One (package_in path files []) files [] names p × (p.name ≡ codes "main") × (variable_order p ≡ ([], i ∷ [])) }
+        × IsTypedIn One (package_in One path files []) files [] names p × (p.name ≡ codes "main") × (variable_order p ≡ ([], i ∷ [])) }
 {}
 
 /// A package named main without fault can call a function of another without fault that it imports.
 /// No list of checked packages has one twice.
 pub fn law_packages_may_import()
     ensures calls { (path : List ℕ) → (others files : List File) × (names : List (List ℕ)) × (q p : Package)
-        × IsTypedIn One (package_in q.path others []) others [] names q
-        × IsTypedIn One (package_in path files (importable_of q ∷ [])) files (importable_of q ∷ []) names p
+        × IsTypedIn One (package_in One q.path others []) others [] names q
+        × IsTypedIn One (package_in One path files (importable_of q ∷ [])) files (importable_of q ∷ []) names p
         × ((variable_order q).1 ≡ []) × ((variable_order p).1 ≡ []) × (p.name ≡ codes "main")
         × ((x : List ℕ) × (map (λ (f : Function). f.body) p.functions ≡ some_stmts (run_call [] (symbol_of q x) no_exprs) no_stmts ∷ [])) }
     ensures once { (p : Package) → AreChecked (p ∷ p ∷ []) → ⊥ }

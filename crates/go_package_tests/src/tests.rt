@@ -49,7 +49,7 @@ fn row_of<'a>(alloc: Global, sources: &'a Sources) -> Result<Row<'a>, AllocError
 }
 
 fn told(alloc: Global, row: &Row<'_>) -> Result<String, AllocError> {
-    let checked = check(alloc, row.path, &row.files, &row.packages);
+    let checked = check(alloc, Edition::One, row.path, &row.files, &row.packages);
     match checked {
         Ok(()) => String::from_str(alloc, "good"),
         Err(DeclError::Memory) => Err(AllocError),

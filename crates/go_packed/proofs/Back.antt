@@ -10,7 +10,7 @@ use Rattle.go_const.specs.declared.operator.ComparisonOperator.TheVariants.{Equa
 use Rattle.go_const.specs.declared.operator.ShiftOperator.TheVariants.{Left, Right}
 use Rattle.go_symbol.specs.Symbols.{Symbol}
 use Rattle.go_text.specs.declared.edition.Edition.{Edition}
-use Rattle.go_text.specs.declared.edition.Edition.TheVariants.{One}
+use Rattle.go_text.specs.declared.edition.Edition.TheVariants.{One, Two}
 use Rattle.go_text.specs.Editions.{edition_number}
 use Rattle.go_code.specs.declared.cell.Cell.{Cell}
 use Rattle.go_code.specs.declared.cell.Cell.TheVariants as cell
@@ -19,13 +19,15 @@ use Rattle.go_code.specs.declared.instr.Instr.TheVariants as instr
 use Rattle.go_code.specs.declared.instr.FrameInstr.{FrameInstr}
 use Rattle.go_code.specs.declared.instr.FrameInstr.TheVariants.{Push, Pop, Repeat}
 use Rattle.go_code.specs.declared.instr.AccessInstr.TheVariants.{Load, Store, LoadAt, StoreAt}
-use Rattle.go_code.specs.declared.instr.PartInstr.TheVariants.{Move, Index, Pick, Part}
+use Rattle.go_code.specs.declared.instr.PartInstr.TheVariants.{Move, Index, Reach, Pick, Part}
+use Rattle.go_code.specs.declared.instr.RowInstr.TheVariants as row
 use Rattle.go_code.specs.declared.instr.JumpInstr.TheVariants.{Jump, JumpIf, JumpIfNot, LoopIf}
 use Rattle.go_code.specs.declared.instr.OutputInstr.TheVariants.{Print, Panic}
 use Rattle.go_code.specs.declared.instr.CallInstr.TheVariants.{Call, Return}
 use Rattle.go_code.specs.declared.operator.Operator.{Operator}
 use Rattle.go_code.specs.declared.operator.Operator.TheVariants as operator
-use Rattle.go_code.specs.declared.operator.TextOperator.TheVariants.{At, Length, Join}
+use Rattle.go_code.specs.declared.operator.TextOperator.TheVariants.{At, Length, Join, Cut}
+use Rattle.go_code.specs.declared.operator.SliceOperator.TheVariants as slices
 use Rattle.go_code.specs.Functions.{Setup}
 use Rattle.go_code.specs.Packages.{Object, PackageVariable, PackageFunction}
 use Rattle.go_packed.specs.Tokens.{Token}
@@ -76,18 +78,24 @@ operator_back (operator.Equal count) rest = refl
 operator_back (operator.Text At) rest = refl
 operator_back (operator.Text Length) rest = refl
 operator_back (operator.Text Join) rest = refl
+operator_back (operator.Text Cut) rest = refl
+operator_back (operator.Slice slices.Length) rest = refl
+operator_back (operator.Slice slices.Capacity) rest = refl
+operator_back (operator.Slice slices.Cut) rest = refl
 
 cell_back : (c : Cell) (rest : List Token) → read_cell (cell_tokens c ++ rest) ≡ (c, rest)
 cell_back (cell.Int z) rest = refl
 cell_back (cell.Bool false) rest = refl
 cell_back (cell.Bool true) rest = refl
 cell_back (cell.Text text) rest = refl
+cell_back (cell.Slice row start n c) rest = refl
 
 frame_back : (i : FrameInstr) (rest : List Token) → read_instr (frame_tokens i ++ rest) ≡ (instr.Frame i, rest)
 frame_back (Push (cell.Int z)) rest = refl
 frame_back (Push (cell.Bool false)) rest = refl
 frame_back (Push (cell.Bool true)) rest = refl
 frame_back (Push (cell.Text text)) rest = refl
+frame_back (Push (cell.Slice row start n c)) rest = refl
 frame_back (Pop count) rest = refl
 frame_back (Repeat count times) rest = refl
 
@@ -104,7 +112,13 @@ instr_back (instr.Global (StoreAt first count)) rest = refl
 instr_back (instr.Part (Move by)) rest = refl
 instr_back (instr.Part (Index count size)) rest = refl
 instr_back (instr.Part (Pick count size)) rest = refl
+instr_back (instr.Part (Reach size)) rest = refl
 instr_back (instr.Part (Part whole first count)) rest = refl
+instr_back (instr.Row (row.Make size)) rest = refl
+instr_back (instr.Row (row.Get size)) rest = refl
+instr_back (instr.Row (row.GetAt count)) rest = refl
+instr_back (instr.Row (row.SetAt count)) rest = refl
+instr_back (instr.Row (row.Append size count)) rest = refl
 instr_back (instr.Operate o) rest = operator_back o rest
 instr_back (instr.Jump (Jump by)) rest = refl
 instr_back (instr.Jump (JumpIf by)) rest = refl
@@ -144,6 +158,7 @@ function_back p rest =
 
 edition_back : (e : Edition) → edition_at (edition_number e) ≡ e
 edition_back One = refl
+edition_back Two = refl
 
 -- what an object is written by gives the object back
 pub object_back : (o : Object) → object_of (object_tokens o) ≡ o

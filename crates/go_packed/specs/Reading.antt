@@ -9,7 +9,7 @@ use Rattle.go_const.specs.declared.operator.ComparisonOperator.TheVariants.{Equa
 use Rattle.go_const.specs.declared.operator.ShiftOperator.TheVariants.{Left, Right}
 use Rattle.go_symbol.specs.Symbols.{Symbol}
 use Rattle.go_text.specs.declared.edition.Edition.{Edition}
-use Rattle.go_text.specs.declared.edition.Edition.TheVariants.{One}
+use Rattle.go_text.specs.declared.edition.Edition.TheVariants.{One, Two}
 use Rattle.go_code.specs.declared.cell.Cell.{Cell}
 use Rattle.go_code.specs.declared.cell.Cell.TheVariants as cell
 use Rattle.go_code.specs.declared.instr.Instr.{Instr}
@@ -19,7 +19,9 @@ use Rattle.go_code.specs.declared.instr.FrameInstr.TheVariants.{Push, Pop, Repea
 use Rattle.go_code.specs.declared.instr.AccessInstr.{AccessInstr}
 use Rattle.go_code.specs.declared.instr.AccessInstr.TheVariants.{Load, Store, LoadAt, StoreAt}
 use Rattle.go_code.specs.declared.instr.PartInstr.{PartInstr}
-use Rattle.go_code.specs.declared.instr.PartInstr.TheVariants.{Move, Index, Pick, Part}
+use Rattle.go_code.specs.declared.instr.PartInstr.TheVariants.{Move, Index, Reach, Pick, Part}
+use Rattle.go_code.specs.declared.instr.RowInstr.{RowInstr}
+use Rattle.go_code.specs.declared.instr.RowInstr.TheVariants as row
 use Rattle.go_code.specs.declared.instr.JumpInstr.{JumpInstr}
 use Rattle.go_code.specs.declared.instr.JumpInstr.TheVariants.{Jump, JumpIf, JumpIfNot, LoopIf}
 use Rattle.go_code.specs.declared.instr.OutputInstr.{OutputInstr}
@@ -28,7 +30,8 @@ use Rattle.go_code.specs.declared.instr.CallInstr.{CallInstr}
 use Rattle.go_code.specs.declared.instr.CallInstr.TheVariants.{Call, Return}
 use Rattle.go_code.specs.declared.operator.Operator.{Operator}
 use Rattle.go_code.specs.declared.operator.Operator.TheVariants as operator
-use Rattle.go_code.specs.declared.operator.TextOperator.TheVariants.{At, Length, Join}
+use Rattle.go_code.specs.declared.operator.TextOperator.TheVariants.{At, Length, Join, Cut}
+use Rattle.go_code.specs.declared.operator.SliceOperator.TheVariants as slices
 use Rattle.go_code.specs.Functions.{Setup}
 use Rattle.go_code.specs.Packages.{Object, PackageVariable, PackageFunction}
 use Rattle.go_packed.specs.Tokens.{Token, Number, Integer, Text, Name, first_or, behind}
@@ -118,16 +121,24 @@ operator_by tag ts =
     else if nat_eq tag 34 then number_then ts (λ count ts. (operator.Equal count, ts))
     else if nat_eq tag 35 then (operator.Text At, ts)
     else if nat_eq tag 36 then (operator.Text Length, ts)
-    else (operator.Text Join, ts)
+    else if nat_eq tag 37 then (operator.Text Join, ts)
+    else if nat_eq tag 45 then (operator.Text Cut, ts)
+    else if nat_eq tag 46 then (operator.Slice slices.Length, ts)
+    else if nat_eq tag 47 then (operator.Slice slices.Capacity, ts)
+    else (operator.Slice slices.Cut, ts)
 
 -- ---- instructions, by their tags
+
+abbrev pub slice_then : List Token → Read Cell
+slice_then ts = number_then ts (λ row ts. number_then ts (λ start ts. number_then ts (λ n ts. number_then ts (λ c ts. (cell.Slice row start n c, ts)))))
 
 abbrev pub cell_by : ℕ → List Token → Read Cell
 cell_by tag ts =
     if nat_eq tag 0 then (cell.Int (integer_of (next ts)), behind ts)
     else if nat_eq tag 1 then (cell.Bool false, ts)
     else if nat_eq tag 2 then (cell.Bool true, ts)
-    else (cell.Text (text_of (next ts)), behind ts)
+    else if nat_eq tag 3 then (cell.Text (text_of (next ts)), behind ts)
+    else slice_then ts
 
 abbrev pub frame_by : ℕ → List Token → Read FrameInstr
 frame_by tag ts =
@@ -153,7 +164,16 @@ part_by tag ts =
     if nat_eq tag 14 then number_then ts (λ by ts. (Move by, ts))
     else if nat_eq tag 15 then number_then ts (λ count ts. number_then ts (λ size ts. (Index count size, ts)))
     else if nat_eq tag 16 then number_then ts (λ count ts. number_then ts (λ size ts. (Pick count size, ts)))
+    else if nat_eq tag 43 then number_then ts (λ size ts. (Reach size, ts))
     else number_then ts (λ whole ts. number_then ts (λ first ts. number_then ts (λ count ts. (Part whole first count, ts))))
+
+abbrev pub row_by : ℕ → List Token → Read RowInstr
+row_by tag ts =
+    if nat_eq tag 38 then number_then ts (λ size ts. (row.Make size, ts))
+    else if nat_eq tag 39 then number_then ts (λ size ts. (row.Get size, ts))
+    else if nat_eq tag 40 then number_then ts (λ count ts. (row.GetAt count, ts))
+    else if nat_eq tag 41 then number_then ts (λ count ts. (row.SetAt count, ts))
+    else number_then ts (λ size ts. number_then ts (λ count ts. (row.Append size count, ts)))
 
 abbrev pub jump_by : ℕ → ℕ → JumpInstr
 jump_by tag by =
@@ -182,6 +202,10 @@ instr_by tag ts =
     else if nat_lt tag 22 then number_then ts (λ by ts. (instr.Jump (jump_by tag by), ts))
     else if nat_lt tag 24 then as_part instr.Output (output_by tag ts)
     else if nat_lt tag 26 then as_part instr.Calls (call_by tag ts)
+    else if nat_lt tag 38 then as_part instr.Operate (operator_by tag ts)
+    else if nat_lt tag 43 then as_part instr.Row (row_by tag ts)
+    else if nat_eq tag 43 then as_part instr.Part (part_by tag ts)
+    else if nat_eq tag 44 then as_part instr.Frame (frame_by tag ts)
     else as_part instr.Operate (operator_by tag ts)
 
 -- ---- objects
@@ -212,9 +236,9 @@ read_function ts =
     number_then (behind ts) (λ parameters rest. number_then rest (λ cells rest.
     as_part (λ code. record { name = name_of (next ts); function = record { parameters = parameters; cells = cells; code = code } }) (read_list read_instr rest)))
 
--- there is one edition so far
+-- the edition of a number; the first for a number of none
 abbrev pub edition_at : ℕ → Edition
-edition_at number = One
+edition_at number = if nat_eq number 2 then Two else One
 
 abbrev pub object_of : List Token → Object
 object_of ts =

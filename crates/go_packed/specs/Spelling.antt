@@ -19,7 +19,9 @@ use Rattle.go_code.specs.declared.instr.FrameInstr.TheVariants.{Push, Pop, Repea
 use Rattle.go_code.specs.declared.instr.AccessInstr.{AccessInstr}
 use Rattle.go_code.specs.declared.instr.AccessInstr.TheVariants.{Load, Store, LoadAt, StoreAt}
 use Rattle.go_code.specs.declared.instr.PartInstr.{PartInstr}
-use Rattle.go_code.specs.declared.instr.PartInstr.TheVariants.{Move, Index, Pick, Part}
+use Rattle.go_code.specs.declared.instr.PartInstr.TheVariants.{Move, Index, Reach, Pick, Part}
+use Rattle.go_code.specs.declared.instr.RowInstr.{RowInstr}
+use Rattle.go_code.specs.declared.instr.RowInstr.TheVariants as row
 use Rattle.go_code.specs.declared.instr.JumpInstr.{JumpInstr}
 use Rattle.go_code.specs.declared.instr.JumpInstr.TheVariants.{Jump, JumpIf, JumpIfNot, LoopIf}
 use Rattle.go_code.specs.declared.instr.OutputInstr.{OutputInstr}
@@ -28,7 +30,8 @@ use Rattle.go_code.specs.declared.instr.CallInstr.{CallInstr}
 use Rattle.go_code.specs.declared.instr.CallInstr.TheVariants.{Call, Return}
 use Rattle.go_code.specs.declared.operator.Operator.{Operator}
 use Rattle.go_code.specs.declared.operator.Operator.TheVariants as operator
-use Rattle.go_code.specs.declared.operator.TextOperator.TheVariants.{At, Length, Join}
+use Rattle.go_code.specs.declared.operator.TextOperator.TheVariants.{At, Length, Join, Cut}
+use Rattle.go_code.specs.declared.operator.SliceOperator.TheVariants as slices
 use Rattle.go_code.specs.Functions.{Setup}
 use Rattle.go_code.specs.Packages.{Object, PackageVariable, PackageFunction}
 use Rattle.go_packed.specs.Tokens.{Token, Number, Integer, Text, Name}
@@ -79,6 +82,10 @@ operator_tokens (operator.Equal count) = Number 34 ∷ Number count ∷ []
 operator_tokens (operator.Text At) = Number 35 ∷ []
 operator_tokens (operator.Text Length) = Number 36 ∷ []
 operator_tokens (operator.Text Join) = Number 37 ∷ []
+operator_tokens (operator.Text Cut) = Number 45 ∷ []
+operator_tokens (operator.Slice slices.Length) = Number 46 ∷ []
+operator_tokens (operator.Slice slices.Capacity) = Number 47 ∷ []
+operator_tokens (operator.Slice slices.Cut) = Number 48 ∷ []
 
 -- ---- instructions: a tag, and what it takes
 
@@ -87,6 +94,7 @@ cell_tokens (cell.Int z) = Number 0 ∷ Integer z ∷ []
 cell_tokens (cell.Bool false) = Number 1 ∷ []
 cell_tokens (cell.Bool true) = Number 2 ∷ []
 cell_tokens (cell.Text text) = Number 3 ∷ Text text ∷ []
+cell_tokens (cell.Slice row start n c) = Number 44 ∷ Number row ∷ Number start ∷ Number n ∷ Number c ∷ []
 
 abbrev pub frame_tokens : FrameInstr → List Token
 frame_tokens (Push cell) = cell_tokens cell
@@ -112,7 +120,15 @@ abbrev pub part_tokens : PartInstr → List Token
 part_tokens (Move by) = Number 14 ∷ Number by ∷ []
 part_tokens (Index count size) = Number 15 ∷ Number count ∷ Number size ∷ []
 part_tokens (Pick count size) = Number 16 ∷ Number count ∷ Number size ∷ []
+part_tokens (Reach size) = Number 43 ∷ Number size ∷ []
 part_tokens (Part whole first count) = Number 17 ∷ Number whole ∷ Number first ∷ Number count ∷ []
+
+abbrev pub row_tokens : RowInstr → List Token
+row_tokens (row.Make size) = Number 38 ∷ Number size ∷ []
+row_tokens (row.Get size) = Number 39 ∷ Number size ∷ []
+row_tokens (row.GetAt count) = Number 40 ∷ Number count ∷ []
+row_tokens (row.SetAt count) = Number 41 ∷ Number count ∷ []
+row_tokens (row.Append size count) = Number 42 ∷ Number size ∷ Number count ∷ []
 
 abbrev pub jump_tokens : JumpInstr → List Token
 jump_tokens (Jump by) = Number 18 ∷ Number by ∷ []
@@ -133,6 +149,7 @@ instr_tokens (instr.Frame i) = frame_tokens i
 instr_tokens (instr.Local i) = local_tokens i
 instr_tokens (instr.Global i) = global_tokens i
 instr_tokens (instr.Part i) = part_tokens i
+instr_tokens (instr.Row i) = row_tokens i
 instr_tokens (instr.Operate i) = operator_tokens i
 instr_tokens (instr.Jump i) = jump_tokens i
 instr_tokens (instr.Output i) = output_tokens i

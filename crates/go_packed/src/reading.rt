@@ -7,12 +7,12 @@ use crate::source::Source;
 use go_code::cell::Cell;
 use go_code::function::Function;
 use go_code::instr::{
-    AccessInstr, CallInstr, FrameInstr, Instr, JumpInstr, OutputInstr, PartInstr,
+    AccessInstr, CallInstr, FrameInstr, Instr, JumpInstr, OutputInstr, PartInstr, RowInstr,
 };
 use go_code::object::Object;
 use go_code::object::function::PackageFunction;
 use go_code::object::variable::PackageVariable;
-use go_code::operator::{Operator, TextOperator};
+use go_code::operator::{Operator, SliceOperator, TextOperator};
 use go_code::setup::Setup;
 use go_const::kind::IntKind;
 use go_const::operator::{ArithmeticOperator, ComparisonOperator, ShiftOperator};
@@ -93,11 +93,14 @@ fn jump_by(tag: usize, by: usize) -> JumpInstr
     }
 }
 
-/// The edition of a number: there is one so far.
-fn edition_at(_number: usize) -> Edition
-    ensures { result ≡ reading.edition_at _number }
+/// The edition of a number; the first for a number of none.
+fn edition_at(number: usize) -> Edition
+    ensures { result ≡ reading.edition_at number }
 {
-    Edition::One
+    match number {
+        2 => Edition::Two,
+        _ => Edition::One,
+    }
 }
 
 impl<'a> Source<'a> {
@@ -120,7 +123,11 @@ impl<'a> Source<'a> {
             34 => Operator::Equal(self.number()),
             35 => Operator::Text(TextOperator::At),
             36 => Operator::Text(TextOperator::Length),
-            _ => Operator::Text(TextOperator::Join),
+            37 => Operator::Text(TextOperator::Join),
+            45 => Operator::Text(TextOperator::Cut),
+            46 => Operator::Slice(SliceOperator::Length),
+            47 => Operator::Slice(SliceOperator::Capacity),
+            _ => Operator::Slice(SliceOperator::Cut),
         }
     }
 
@@ -133,6 +140,22 @@ impl<'a> Source<'a> {
         Ok(Symbol::new(path, name))
     }
 
+    /// Passes a slice.
+    fn slice(&mut self) -> Cell
+        ensures { reading.slice_then self.old ≡ (result, self.new) }
+    {
+        let row = self.number();
+        let start = self.number();
+        let length = self.number();
+        let capacity = self.number();
+        Cell::Slice {
+            row,
+            start,
+            length,
+            capacity,
+        }
+    }
+
     /// Passes the cell of a tag.
     fn cell_by(&mut self, alloc: Global, tag: usize) -> Result<Cell, AllocError>
         ensures { IfOk result (λ cell. reading.cell_by tag self.old ≡ (cell, self.new)) }
@@ -141,7 +164,8 @@ impl<'a> Source<'a> {
             0 => Ok(Cell::Int(self.integer())),
             1 => Ok(Cell::Bool(false)),
             2 => Ok(Cell::Bool(true)),
-            _ => Ok(Cell::Text(self.text(alloc)?)),
+            3 => Ok(Cell::Text(self.text(alloc)?)),
+            _ => Ok(self.slice()),
         }
     }
 
@@ -186,6 +210,9 @@ impl<'a> Source<'a> {
         if tag == 14 {
             return PartInstr::Move(first);
         }
+        if tag == 43 {
+            return PartInstr::Reach(first);
+        }
         let second = self.number();
         match tag {
             15 => PartInstr::Index {
@@ -199,6 +226,23 @@ impl<'a> Source<'a> {
             _ => PartInstr::Part {
                 whole: first,
                 first: second,
+                count: self.number(),
+            },
+        }
+    }
+
+    /// Passes the instruction of a tag that is about rows.
+    fn row(&mut self, tag: usize) -> RowInstr
+        ensures { reading.row_by tag self.old ≡ (result, self.new) }
+    {
+        let first = self.number();
+        match tag {
+            38 => RowInstr::Make(first),
+            39 => RowInstr::Get(first),
+            40 => RowInstr::GetAt(first),
+            41 => RowInstr::SetAt(first),
+            _ => RowInstr::Append {
+                size: first,
                 count: self.number(),
             },
         }
@@ -243,6 +287,14 @@ impl<'a> Source<'a> {
             Ok(Instr::Output(self.output(tag)))
         } else if tag < 26 {
             Ok(Instr::Calls(self.call(alloc, tag)?))
+        } else if tag < 38 {
+            Ok(Instr::Operate(self.operator(tag)))
+        } else if tag < 43 {
+            Ok(Instr::Row(self.row(tag)))
+        } else if tag == 43 {
+            Ok(Instr::Part(self.part(tag)))
+        } else if tag == 44 {
+            Ok(Instr::Frame(self.frame(alloc, tag)?))
         } else {
             Ok(Instr::Operate(self.operator(tag)))
         }

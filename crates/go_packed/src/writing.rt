@@ -6,12 +6,12 @@ use crate::piece::Piece::{Integer, Name, Number, Text};
 use crate::sink::Sink;
 use go_code::cell::Cell;
 use go_code::instr::{
-    AccessInstr, CallInstr, FrameInstr, Instr, JumpInstr, OutputInstr, PartInstr,
+    AccessInstr, CallInstr, FrameInstr, Instr, JumpInstr, OutputInstr, PartInstr, RowInstr,
 };
 use go_code::object::Object;
 use go_code::object::function::PackageFunction;
 use go_code::object::variable::PackageVariable;
-use go_code::operator::{Operator, TextOperator};
+use go_code::operator::{Operator, SliceOperator, TextOperator};
 use go_code::setup::Setup;
 use go_const::kind::IntKind;
 use go_const::operator::{ArithmeticOperator, ComparisonOperator, ShiftOperator};
@@ -94,6 +94,10 @@ impl<'a> Sink<'a> {
             Operator::Text(TextOperator::At) => self.put_all(&[Number(35)]),
             Operator::Text(TextOperator::Length) => self.put_all(&[Number(36)]),
             Operator::Text(TextOperator::Join) => self.put_all(&[Number(37)]),
+            Operator::Text(TextOperator::Cut) => self.put_all(&[Number(45)]),
+            Operator::Slice(SliceOperator::Length) => self.put_all(&[Number(46)]),
+            Operator::Slice(SliceOperator::Capacity) => self.put_all(&[Number(47)]),
+            Operator::Slice(SliceOperator::Cut) => self.put_all(&[Number(48)]),
         }
     }
 
@@ -106,6 +110,18 @@ impl<'a> Sink<'a> {
             Cell::Bool(false) => self.put_all(&[Number(1)]),
             Cell::Bool(true) => self.put_all(&[Number(2)]),
             Cell::Text(text) => self.put_all(&[Number(3), Text(text)]),
+            Cell::Slice {
+                row,
+                start,
+                length,
+                capacity,
+            } => self.put_all(&[
+                Number(44),
+                Number(*row),
+                Number(*start),
+                Number(*length),
+                Number(*capacity),
+            ]),
         }
     }
 
@@ -178,11 +194,27 @@ impl<'a> Sink<'a> {
             PartInstr::Pick { count, size } => {
                 self.put_all(&[Number(16), Number(count), Number(size)])
             }
+            PartInstr::Reach(size) => self.put_all(&[Number(43), Number(size)]),
             PartInstr::Part {
                 whole,
                 first,
                 count,
             } => self.put_all(&[Number(17), Number(whole), Number(first), Number(count)]),
+        }
+    }
+
+    /// Writes an instruction about rows.
+    fn put_row(&mut self, instr: RowInstr) -> Result<(), AllocError>
+        ensures { OnOk result (self.new ≡ self.old ++ spelling.row_tokens instr) }
+    {
+        match instr {
+            RowInstr::Make(size) => self.put_all(&[Number(38), Number(size)]),
+            RowInstr::Get(size) => self.put_all(&[Number(39), Number(size)]),
+            RowInstr::GetAt(count) => self.put_all(&[Number(40), Number(count)]),
+            RowInstr::SetAt(count) => self.put_all(&[Number(41), Number(count)]),
+            RowInstr::Append { size, count } => {
+                self.put_all(&[Number(42), Number(size), Number(count)])
+            }
         }
     }
 
@@ -229,6 +261,7 @@ impl<'a> Sink<'a> {
             Instr::Local(instr) => self.put_local(instr),
             Instr::Global(instr) => self.put_global(instr),
             Instr::Part(instr) => self.put_part(*instr),
+            Instr::Row(instr) => self.put_row(*instr),
             Instr::Operate(operator) => self.put_operator(*operator),
             Instr::Jump(instr) => self.put_jump(*instr),
             Instr::Output(instr) => self.put_output(*instr),

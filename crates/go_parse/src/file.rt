@@ -75,7 +75,7 @@ fn declarations(parser: &mut Parser<'_>) -> Result<Vec<TopLevel>, Refusal>
 ///
 /// `SourceFile = PackageClause ";" { ImportDecl ";" } { TopLevelDecl ";" } .` `PackageClause = "package" PackageName .`
 pub fn file(parser: &mut Parser<'_>) -> Result<File, Refusal>
-    ensures ok { IfOk result (λ f. run 250 start (left parser.old) ≡ Done (file_of f)) }
+    ensures ok { IfOk result (λ f. run parser.old.edition 250 start (left parser.old) ≡ Done (file_of f)) }
     ensures err { IfErr result (λ e. Failing e start parser.old parser.new) }
 {
     parser.expect(PACKAGE, 0, Expected::Another)?;

@@ -7,4 +7,4 @@ mod import;
 mod marks;
 mod parser;
 
-pub use parser::{ParseError, parse, parse_source};
+pub use parser::{ParseError, parse, parse_in, parse_source};

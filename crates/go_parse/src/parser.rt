@@ -76,11 +76,11 @@ fn place_before(text: &[u8], tokens: &[Token]) -> Place
     }
 }
 
-/// The file that a source's text is. An `Err` has the fault by which it is none, and its place, or
+/// The file that a source's text is in an edition. An `Err` has the fault by which it is none, and its place, or
 /// says that memory ran out.
-pub fn parse(alloc: Global, source: &Source) -> Result<File, ParseError>
-    ensures ok { IfOk result (λ file. IsParse source.now.text (Derived (file_of file))) }
-    ensures err { (kind : AKind) (place : APlace) → result ≡ Err (ParseError.Fault kind place) → IsParse source.now.text (Stopped kind place) }
+pub fn parse(alloc: Global, edition: Edition, source: &Source) -> Result<File, ParseError>
+    ensures ok { IfOk result (λ file. IsParse edition source.now.text (Derived (file_of file))) }
+    ensures err { (kind : AKind) (place : APlace) → result ≡ Err (ParseError.Fault kind place) → IsParse edition source.now.text (Stopped kind place) }
 {
     let tokens = match scan(alloc, source) {
         Ok(tokens) => tokens,
@@ -92,6 +92,7 @@ pub fn parse(alloc: Global, source: &Source) -> Result<File, ParseError>
     let text = source.text().as_str().as_bytes();
     let mut parser = Parser {
         alloc,
+        edition,
         text,
         tokens: &tokens,
     };
@@ -105,15 +106,26 @@ pub fn parse(alloc: Global, source: &Source) -> Result<File, ParseError>
     }
 }
 
+/// A source with the file that its text is in an edition. An `Err` has the fault by which the text is no file, and its place, or says
+/// that memory ran out.
+pub fn parse_in(alloc: Global, edition: Edition, source: Source) -> Result<Parsed, ParseError>
+    ensures name { IfOk result (λ parsed. parsed.name ≡ source.name) }
+    ensures text { IfOk result (λ parsed. parsed.text ≡ source.text) }
+    ensures edition { IfOk result (λ parsed. parsed.edition ≡ edition) }
+    ensures err { (kind : AKind) (place : APlace) → result ≡ Err (ParseError.Fault kind place) → IsParse edition source.text (Stopped kind place) }
+{
+    let file = parse(alloc, edition, &source)?;
+    let file = Arc::new(alloc, file)?;
+    Ok(Parsed::of(source, edition, file))
+}
+
 /// A source with the file that its text is in the first edition. An `Err` has the fault by which the text is no file, and its place, or says
 /// that memory ran out.
 pub fn parse_source(alloc: Global, source: Source) -> Result<Parsed, ParseError>
     ensures name { IfOk result (λ parsed. parsed.name ≡ source.name) }
     ensures text { IfOk result (λ parsed. parsed.text ≡ source.text) }
     ensures edition { IfOk result (λ parsed. parsed.edition ≡ One) }
-    ensures err { (kind : AKind) (place : APlace) → result ≡ Err (ParseError.Fault kind place) → IsParse source.text (Stopped kind place) }
+    ensures err { (kind : AKind) (place : APlace) → result ≡ Err (ParseError.Fault kind place) → IsParse One source.text (Stopped kind place) }
 {
-    let file = parse(alloc, &source)?;
-    let file = Arc::new(alloc, file)?;
-    Ok(Parsed::of(source, Edition::One, file))
+    parse_in(alloc, Edition::One, source)
 }

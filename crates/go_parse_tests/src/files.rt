@@ -4,6 +4,7 @@ use go_ast::file::{File, ImportSpec, TopLevel};
 use go_ast::name::Name;
 use go_ast::spelling::Spelling;
 use go_parse::{ParseError, parse, parse_source};
+use go_text::edition::Edition;
 use go_text::place::Place;
 use std::alloc::{AllocError, Global};
 use test_rows::answers::RowError;
@@ -11,7 +12,7 @@ use test_rows::answers::RowError;
 /// What an error says of a text that is no file.
 pub(crate) fn said(alloc: Global, text: &str) -> Result<String, RowError> {
     let source = source(alloc, text)?;
-    match parse(alloc, &source) {
+    match parse(alloc, Edition::One, &source) {
         Ok(_) => Err(RowError::NoRow),
         Err(error) => Ok(format!(in alloc; "{error}")?),
     }
@@ -58,7 +59,7 @@ fn told(alloc: Global, file: &File) -> Result<String, RowError> {
 
 /// A file's package and its place, its imports, and what it declares, in lines.
 pub(crate) fn names(alloc: Global, text: &str) -> Result<String, RowError> {
-    told(alloc, &file(alloc, text)?)
+    told(alloc, &file(alloc, Edition::One, text)?)
 }
 
 /// What a copy keeps of a source that is a file: its name, what the file has, and the text; or where

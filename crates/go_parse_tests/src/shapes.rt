@@ -1,6 +1,6 @@
 //! The shapes of trees: of the first variable's value, or else its type.
 use go_ast::declaration::{Decl, VarSpec};
-use go_ast::expression::{Element, Expr, ExprKind, TypeExpr, TypeKind};
+use go_ast::expression::{Bound, Element, Expr, ExprKind, TypeExpr, TypeKind};
 use go_ast::file::{File, TopLevel};
 use std::alloc::{AllocError, Global};
 
@@ -15,9 +15,27 @@ fn kind_of(expr: &Expr) -> &'static str {
         ExprKind::Conversion(_, _) => "conversion",
         ExprKind::Selector(_, _) => "selector",
         ExprKind::Index(_, _) => "index",
+        ExprKind::Cut(_, _, _) => "cut",
+        ExprKind::Type(_) => "type",
         ExprKind::Call(_, _) => "call",
         ExprKind::Unary(_, _) => "unary",
         ExprKind::Binary(_, _, _) => "binary",
+    }
+}
+
+/// The kind of a bound, or that it is left out.
+fn bound(bound: &Bound) -> &'static str {
+    match bound {
+        Bound::Open => "open",
+        Bound::At(at) => kind_of(at),
+    }
+}
+
+/// Whether the first of some arguments is a type.
+fn is_by_type(arguments: &[Expr]) -> bool {
+    match arguments.first() {
+        Some(first) => matches!(first.kind, ExprKind::Type(_)),
+        None => false,
     }
 }
 
@@ -39,9 +57,17 @@ fn expression(alloc: Global, expr: &Expr) -> Result<String, AllocError> {
         ExprKind::Unary(_, a) | ExprKind::Parenthesized(a) | ExprKind::Conversion(_, a) => {
             format!(in alloc; "{kind} {}", kind_of(a))
         }
+        ExprKind::Cut(a, low, high) => {
+            format!(in alloc; "{kind} {} {} {}", kind_of(a), bound(low), bound(high))
+        }
         ExprKind::Selector(a, name) => format!(in alloc; "{kind} {} {}", kind_of(a), name.text()),
         ExprKind::Call(f, arguments) => {
-            format!(in alloc; "{kind} {} {}", kind_of(f), arguments.len())
+            let by = if is_by_type(arguments) {
+                " by a type"
+            } else {
+                ""
+            };
+            format!(in alloc; "{kind} {} {}{by}", kind_of(f), arguments.len())
         }
         ExprKind::CompositeLit(_, _, elements) => {
             format!(in alloc; "{kind} {} {}", elements.len(), keys(elements))
@@ -57,6 +83,7 @@ fn type_expression(alloc: Global, type_expr: &TypeExpr) -> Result<String, AllocE
             format!(in alloc; "type {}.{}", package.text(), name.text())
         }
         TypeKind::Array(length, _) => format!(in alloc; "type array {}", kind_of(length)),
+        TypeKind::Slice(_) => String::from_str(alloc, "type slice"),
         TypeKind::Struct(fields) => format!(in alloc; "type struct {}", fields.len()),
     }
 }

@@ -1,14 +1,15 @@
 -- Places of trees, and which trees are names.
-use Rattle.std.proofs.Common.{◌≡◌, None, refl}
+use Rattle.std.proofs.Common.{◌≡◌, false, None, refl}
 use Rattle.go_text.specs.declared.place.Place.{Place}
 use Rattle.go_ast.specs.Trees as trees
 use Rattle.go_ast.specs.declared.expression.Expr.{Expr}
 use Rattle.go_ast.specs.declared.expression.ExprKind.{ExprKind, Name, Selector, Selector'}
 use Rattle.go_ast.specs.Machine.{name_if, literal_type}
 use Rattle.go_ast.specs.declared.expression.ElementValue.{ElementValue, Expression, Expression', Value'}
+use Rattle.go_pexpr.specs.Next.{is_slice}
 use Rattle.go_pexpr.specs.Turns.{key_in}
 use Rattle.go_ast.specs.declared.expression.TypeExpr.{TypeExpr}
-use Rattle.go_ast.specs.declared.expression.TypeKind.{TypeKind, Named}
+use Rattle.go_ast.specs.declared.expression.TypeKind.{TypeKind, Named, Slice, Slice'}
 use Rattle.go_ast.specs.Grammar.{type_place}
 use Rattle.go_ast.specs.Views.{type_at, type_of, expr_at, expr_of, value_of}
 
@@ -19,6 +20,15 @@ type_placed a = by_kind a.kind
     by_kind : (k : TypeKind) → type_place (type_at k a.place) ≡ a.place
     by_kind (Named n) = refl
     by_kind _ = refl
+
+-- types that aren't slices'
+kind_no_slice : (k : TypeKind) (p : Place) → ((x : _) → k ≡ Slice x → ⊥) → is_slice (type_at k p) ≡ false
+kind_no_slice (Slice' x q a) p never = absurd (never (record { ptr = x.ptr; alloc = x.alloc; value = record { place = q; kind = a } }) refl)
+kind_no_slice _ p never = refl
+
+pub no_slice : (a : TypeExpr) → ((x : _) → a.kind ≡ Slice x → ⊥) → is_slice (type_of a) ≡ false
+unfolding type_of
+no_slice a never = kind_no_slice a.kind a.place never
 
 -- expressions that are no names, and those that name no type of a literal
 pub kind_no_name : (k : ExprKind) (p : Place) → ((x : _) → k ≡ Name x → ⊥) → name_if (expr_at k p) ≡ None

@@ -1,5 +1,6 @@
 -- Where the elements of a literal go on.
 use Rattle.std.proofs.Common.{◌≡◌, ℕ, Bool, true, false, List, [], ◌∷◌, ◌++◌, Option, Some, None, refl, ap, ◌∙◌}
+use Rattle.go_text.specs.declared.edition.Edition.{Edition}
 use Rattle.go_scan.specs.declared.token.TokenKind.{TokenKind}
 use Rattle.go_scan.specs.declared.token.TokenKind.TheVariants as kinds
 use Rattle.go_scan.specs.declared.punctuation.Punctuation.TheVariants as marks
@@ -23,21 +24,21 @@ same_fault go k ts true c m n e = refl
 same_fault go k ts false true m n e = refl
 same_fault go k ts false false m n e = ap (λ f. Refused f ts) e
 
-module _ (l : ℕ) (front : List (Option Name × Element)) (next : List (Option Name × Element) → Lexeme → State) where
-  ends_alike : (ts : List Lexeme) → (First (Kind colon) ts → ⊥) → run 250 (list_end (elements l) another front next) ts ≡ run 250 (list_end (elements l) an_element_end front next) ts
+module _ (ed : Edition) (l : ℕ) (front : List (Option Name × Element)) (next : List (Option Name × Element) → Lexeme → State) where
+  ends_alike : (ts : List Lexeme) → (First (Kind colon) ts → ⊥) → run ed 250 (list_end (elements l) another front next) ts ≡ run ed 250 (list_end (elements l) an_element_end front next) ts
   unfolding run
   ends_alike [] never = refl
   ends_alike (t ∷ ts) never =
-      same_fault (λ r. run 250 r ts) t.kind (t ∷ ts) (same comma t.kind) (same closing_brace t.kind) (Take 0 (list_start (elements l) front next)) (Take 0 (next front t)) (no_colon t.kind never)
+      same_fault (λ r. run ed 250 r ts) t.kind (t ∷ ts) (same comma t.kind) (same closing_brace t.kind) (Take 0 (list_start (elements l) front next)) (Take 0 (next front t)) (no_colon t.kind never)
 
-module _ (l : ℕ) (front : List (Option Name × Element)) (next : List (Option Name × Element) → Lexeme → State) where
+module _ (ed : Edition) (l : ℕ) (front : List (Option Name × Element)) (next : List (Option Name × Element) → Lexeme → State) where
   -- a value without a colon behind it is no key
-  pub no_colon_ends : (v : Element) (ts : List Lexeme) → (First (Kind colon) ts → ⊥) → run 250 (behind_first l front next v) ts ≡ run 250 (behind_last l front next None v) ts
+  pub no_colon_ends : (v : Element) (ts : List Lexeme) → (First (Kind colon) ts → ⊥) → run ed 250 (behind_first l front next v) ts ≡ run ed 250 (behind_last l front next None v) ts
   no_colon_ends (value_element p es) ts never = refl
   no_colon_ends (expression_element (name p text)) ts never =
       let more = front ++ (None, expression_element (name p text)) ∷ [] in
-      optional_none colon 0 (λ _. value_at l (behind_last l front next (Some (record { text = text; place = p })))) (list_end (elements l) another more next) ts never
-      ∙ ends_alike l more next ts never
+      optional_none ed colon 0 (λ _. value_at l (behind_last l front next (Some (record { text = text; place = p })))) (list_end (elements l) another more next) ts never
+      ∙ ends_alike ed l more next ts never
   no_colon_ends (expression_element _) ts never = refl
 
   -- nor is one that is no name
@@ -48,9 +49,9 @@ module _ (l : ℕ) (front : List (Option Name × Element)) (next : List (Option 
 
   -- a name with a colon behind it is one
   pub key_takes : (v : Element) (n : Name) (ts : List Lexeme) → key_in v ≡ Some n → First (Kind colon) ts →
-      run 250 (behind_first l front next v) ts ≡ run 250 (token colon 0 another (λ _. value_at l (behind_last l front next (Some n)))) ts
+      run ed 250 (behind_first l front next v) ts ≡ run ed 250 (token colon 0 another (λ _. value_at l (behind_last l front next (Some n)))) ts
   key_takes (value_element p es) n ts e f = cc (e)
   key_takes (expression_element (name p text)) n ts e f =
-      optional_some colon 0 another (λ _. value_at l (behind_last l front next (Some (record { text = text; place = p })))) (list_end (elements l) another (front ++ (None, expression_element (name p text)) ∷ []) next) ts f
-      ∙ ap (λ m. run 250 (token colon 0 another (λ _. value_at l (behind_last l front next m))) ts) e
+      optional_some ed colon 0 another (λ _. value_at l (behind_last l front next (Some (record { text = text; place = p })))) (list_end (elements l) another (front ++ (None, expression_element (name p text)) ∷ []) next) ts f
+      ∙ ap (λ m. run ed 250 (token colon 0 another (λ _. value_at l (behind_last l front next m))) ts) e
   key_takes (expression_element _) n ts e f = cc (e)

@@ -3,14 +3,16 @@ use Rattle.std.proofs.Common.{◌≡◌, ℕ, ◌-◌, ◌≤◌, ◌<◌, Bool,
 use Rattle.std.specs.Prelude.{nat_le, slice_index_or}
 use Rattle.std.proofs.lemmas.List.{take_rest}
 use Rattle.std.proofs.lemmas.Bool.Decides.{nat_tests}
+use Rattle.go_text.specs.declared.edition.Edition.{Edition}
+use Rattle.go_text.specs.Editions.{has_slices}
 use Rattle.go_scan.specs.declared.token.TokenKind.{TokenKind}
 use Rattle.go_text.specs.declared.place.Place.{Place}
 use Rattle.go_ast.specs.Expected.{Expected, fault_at}
 use Rattle.go_ast.specs.Kinds.{same}
 use Rattle.go_ast.specs.Grammar.{Lexeme}
-use Rattle.go_ast.specs.Machine.{State, token, optional, Move, Take, Fail, cond, step, final, Refused, at_end, by_level, by_move, run}
-use Rattle.go_ast.proofs.Same.{is_same, not_same}
-use Rattle.go_pexpr.specs.Reads.{First, first_kind, fault_of}
+use Rattle.go_ast.specs.Machine.{State, token, optional, newer, Move, Take, Fail, cond, step, final, Refused, at_end, by_level, by_move, run}
+use Rattle.go_ast.proofs.Same.{are_same, is_same, not_same}
+use Rattle.go_pexpr.specs.Reads.{First, Refusing, first_kind, fault_of}
 
 abbrev pub Kind : TokenKind → Lexeme → Type 0
 Kind k t = t.kind ≡ k
@@ -31,43 +33,43 @@ gt_test : (m n : ℕ) → n < m → nat_le m n ≡ false
 gt_test m n h = grind (arith, nat_tests)
 
 -- a token is taken, or is too deep, or may not come
-pub takes : (s r : State) (need : ℕ) (t : Lexeme) (ts : List Lexeme) → step s t ≡ Take need r → need ≤ 250 → run 250 s (t ∷ ts) ≡ run 250 r ts
+pub takes : (ed : Edition) → (s r : State) (need : ℕ) (t : Lexeme) (ts : List Lexeme) → step ed s t ≡ Take need r → need ≤ 250 → run ed 250 s (t ∷ ts) ≡ run ed 250 r ts
 unfolding run
-takes s r need t ts e h =
-    ap (by_move 250 (λ q. run 250 q ts) t.kind (t ∷ ts)) e ∙ ap (λ x. by_level x (run 250 r ts) (t ∷ ts)) (le_test need 250 h)
+takes ed s r need t ts e h =
+    ap (by_move 250 (λ q. run ed 250 q ts) t.kind (t ∷ ts)) e ∙ ap (λ x. by_level x (run ed 250 r ts) (t ∷ ts)) (le_test need 250 h)
 
-pub too_deep : (s r : State) (need : ℕ) (t : Lexeme) (ts : List Lexeme) → step s t ≡ Take need r → 250 < need → run 250 s (t ∷ ts) ≡ Refused 4 (t ∷ ts)
+pub too_deep : (ed : Edition) → (s r : State) (need : ℕ) (t : Lexeme) (ts : List Lexeme) → step ed s t ≡ Take need r → 250 < need → run ed 250 s (t ∷ ts) ≡ Refused 4 (t ∷ ts)
 unfolding run
-too_deep s r need t ts e h =
-    ap (by_move 250 (λ q. run 250 q ts) t.kind (t ∷ ts)) e ∙ ap (λ x. by_level x (run 250 r ts) (t ∷ ts)) (gt_test need 250 h)
+too_deep ed s r need t ts e h =
+    ap (by_move 250 (λ q. run ed 250 q ts) t.kind (t ∷ ts)) e ∙ ap (λ x. by_level x (run ed 250 r ts) (t ∷ ts)) (gt_test need 250 h)
 
-pub refuses : (s : State) (x : Expected) (t : Lexeme) (ts : List Lexeme) → step s t ≡ Fail x → run 250 s (t ∷ ts) ≡ Refused (fault_at x t.kind) (t ∷ ts)
+pub refuses : (ed : Edition) → (s : State) (x : Expected) (t : Lexeme) (ts : List Lexeme) → step ed s t ≡ Fail x → run ed 250 s (t ∷ ts) ≡ Refused (fault_at x t.kind) (t ∷ ts)
 unfolding run
-refuses s x t ts e = ap (by_move 250 (λ q. run 250 q ts) t.kind (t ∷ ts)) e
+refuses ed s x t ts e = ap (by_move 250 (λ q. run ed 250 q ts) t.kind (t ∷ ts)) e
 
-pub end_refuses : (s : State) → final s ≡ None → run 250 s [] ≡ Refused 3 []
+pub end_refuses : (ed : Edition) → (s : State) → final s ≡ None → run ed 250 s [] ≡ Refused 3 []
 unfolding run
-end_refuses s e = ap at_end e
+end_refuses ed s e = ap at_end e
 
-pub same_step : (s r : State) (t : Lexeme) (ts : List Lexeme) → step s t ≡ step r t → run 250 s (t ∷ ts) ≡ run 250 r (t ∷ ts)
+pub same_step : (ed : Edition) → (s r : State) (t : Lexeme) (ts : List Lexeme) → step ed s t ≡ step ed r t → run ed 250 s (t ∷ ts) ≡ run ed 250 r (t ∷ ts)
 unfolding run
-same_step s r t ts e = ap (by_move 250 (λ q. run 250 q ts) t.kind (t ∷ ts)) e
+same_step ed s r t ts e = ap (by_move 250 (λ q. run ed 250 q ts) t.kind (t ∷ ts)) e
 
-pub same_end : (s r : State) → final s ≡ final r → run 250 s [] ≡ run 250 r []
+pub same_end : (ed : Edition) → (s r : State) → final s ≡ final r → run ed 250 s [] ≡ run ed 250 r []
 unfolding run
-same_end s r e = ap at_end e
+same_end ed s r e = ap at_end e
 
 -- states that do the same with each token
-pub same_run : (s r : State) (ts : List Lexeme) → ((t : Lexeme) → step s t ≡ step r t) → final s ≡ final r → run 250 s ts ≡ run 250 r ts
-same_run s r [] e f = same_end s r f
-same_run s r (t ∷ ts) e f = same_step s r t ts (e t)
+pub same_run : (ed : Edition) → (s r : State) (ts : List Lexeme) → ((t : Lexeme) → step ed s t ≡ step ed r t) → final s ≡ final r → run ed 250 s ts ≡ run ed 250 r ts
+same_run ed s r [] e f = same_end ed s r f
+same_run ed s r (t ∷ ts) e f = same_step ed s r t ts (e t)
 
 -- states that do the same with a token of a kind
-pub same_at : (s r : State) (k : TokenKind) (ts : List Lexeme) → First (Kind k) ts → ((text : List ℕ) (p : Place) → step s (record { kind = k; text = text; place = p }) ≡ step r (record { kind = k; text = text; place = p })) → run 250 s ts ≡ run 250 r ts
-same_at s r k [] h e = absurd h
-same_at s r k (t ∷ ts) h e =
-    let P : TokenKind → Type 0 = λ j. step s (record { kind = j; text = t.text; place = t.place }) ≡ step r (record { kind = j; text = t.text; place = t.place }) in
-    same_step s r t ts (subst P (sym h) (e t.text t.place))
+pub same_at : (ed : Edition) → (s r : State) (k : TokenKind) (ts : List Lexeme) → First (Kind k) ts → ((text : List ℕ) (p : Place) → step ed s (record { kind = k; text = text; place = p }) ≡ step ed r (record { kind = k; text = text; place = p })) → run ed 250 s ts ≡ run ed 250 r ts
+same_at ed s r k [] h e = absurd h
+same_at ed s r k (t ∷ ts) h e =
+    let P : TokenKind → Type 0 = λ j. step ed s (record { kind = j; text = t.text; place = t.place }) ≡ step ed r (record { kind = j; text = t.text; place = t.place }) in
+    same_step ed s r t ts (subst P (sym h) (e t.text t.place))
 
 -- a kind that is the first, and one that isn't
 pub first_of : (k : TokenKind) (ts : List Lexeme) → first_kind ts ≡ Some k → First (Kind k) ts
@@ -88,28 +90,68 @@ pub chosen : (k : TokenKind) (t : Lexeme) (m n : Move) → t.kind ≡ k → cond
 chosen k t m n e = ap (λ x. cond x m n) (is_same k t.kind e)
 
 -- a token that is due
-pub token_takes : (k : TokenKind) (need : ℕ) (x : Expected) (next : Lexeme → State) (t : Lexeme) (ts : List Lexeme) → t.kind ≡ k → need ≤ 250 → run 250 (token k need x next) (t ∷ ts) ≡ run 250 (next t) ts
-token_takes k need x next t ts e h = takes (token k need x next) (next t) need t ts (chosen k t (Take need (next t)) (Fail x) e) h
+pub token_takes : (ed : Edition) → (k : TokenKind) (need : ℕ) (x : Expected) (next : Lexeme → State) (t : Lexeme) (ts : List Lexeme) → t.kind ≡ k → need ≤ 250 → run ed 250 (token k need x next) (t ∷ ts) ≡ run ed 250 (next t) ts
+token_takes ed k need x next t ts e h = takes ed (token k need x next) (next t) need t ts (chosen k t (Take need (next t)) (Fail x) e) h
 
-pub token_deep : (k : TokenKind) (need : ℕ) (x : Expected) (next : Lexeme → State) (t : Lexeme) (ts : List Lexeme) → t.kind ≡ k → 250 < need → run 250 (token k need x next) (t ∷ ts) ≡ Refused 4 (t ∷ ts)
-token_deep k need x next t ts e h = too_deep (token k need x next) (next t) need t ts (chosen k t (Take need (next t)) (Fail x) e) h
+pub token_deep : (ed : Edition) → (k : TokenKind) (need : ℕ) (x : Expected) (next : Lexeme → State) (t : Lexeme) (ts : List Lexeme) → t.kind ≡ k → 250 < need → run ed 250 (token k need x next) (t ∷ ts) ≡ Refused 4 (t ∷ ts)
+token_deep ed k need x next t ts e h = too_deep ed (token k need x next) (next t) need t ts (chosen k t (Take need (next t)) (Fail x) e) h
 
-pub token_fails : (k : TokenKind) (need : ℕ) (x : Expected) (next : Lexeme → State) (ts : List Lexeme) → (First (Kind k) ts → ⊥) → run 250 (token k need x next) ts ≡ Refused (fault_of x ts) ts
-token_fails k need x next [] never = end_refuses (token k need x next) refl
-token_fails k need x next (t ∷ ts) never = refuses (token k need x next) x t ts (passed k t (Take need (next t)) (Fail x) never)
+pub token_fails : (ed : Edition) → (k : TokenKind) (need : ℕ) (x : Expected) (next : Lexeme → State) (ts : List Lexeme) → (First (Kind k) ts → ⊥) → run ed 250 (token k need x next) ts ≡ Refused (fault_of x ts) ts
+token_fails ed k need x next [] never = end_refuses ed (token k need x next) refl
+token_fails ed k need x next (t ∷ ts) never = refuses ed (token k need x next) x t ts (passed k t (Take need (next t)) (Fail x) never)
 
 -- what is expected matters only where the token is another
-pub token_as : (k : TokenKind) (need : ℕ) (x y : Expected) (next : Lexeme → State) (ts : List Lexeme) → First (Kind k) ts → run 250 (token k need x next) ts ≡ run 250 (token k need y next) ts
-token_as k need x y next [] h = absurd h
-token_as k need x y next (t ∷ ts) h =
-    same_step (token k need x next) (token k need y next) t ts (chosen k t (Take need (next t)) (Fail x) h ∙ sym (chosen k t (Take need (next t)) (Fail y) h))
+pub token_as : (ed : Edition) → (k : TokenKind) (need : ℕ) (x y : Expected) (next : Lexeme → State) (ts : List Lexeme) → First (Kind k) ts → run ed 250 (token k need x next) ts ≡ run ed 250 (token k need y next) ts
+token_as ed k need x y next [] h = absurd h
+token_as ed k need x y next (t ∷ ts) h =
+    same_step ed (token k need x next) (token k need y next) t ts (chosen k t (Take need (next t)) (Fail x) h ∙ sym (chosen k t (Take need (next t)) (Fail y) h))
 
 -- a token that may be missing
-pub optional_some : (k : TokenKind) (need : ℕ) (x : Expected) (some : Lexeme → State) (none : State) (ts : List Lexeme) → First (Kind k) ts → run 250 (optional k need some none) ts ≡ run 250 (token k need x some) ts
-optional_some k need x some none [] h = absurd h
-optional_some k need x some none (t ∷ ts) h =
-    same_step (optional k need some none) (token k need x some) t ts (chosen k t (Take need (some t)) (step none t) h ∙ sym (chosen k t (Take need (some t)) (Fail x) h))
+pub optional_some : (ed : Edition) → (k : TokenKind) (need : ℕ) (x : Expected) (some : Lexeme → State) (none : State) (ts : List Lexeme) → First (Kind k) ts → run ed 250 (optional k need some none) ts ≡ run ed 250 (token k need x some) ts
+optional_some ed k need x some none [] h = absurd h
+optional_some ed k need x some none (t ∷ ts) h =
+    same_step ed (optional k need some none) (token k need x some) t ts (chosen k t (Take need (some t)) (step ed none t) h ∙ sym (chosen k t (Take need (some t)) (Fail x) h))
 
-pub optional_none : (k : TokenKind) (need : ℕ) (some : Lexeme → State) (none : State) (ts : List Lexeme) → (First (Kind k) ts → ⊥) → run 250 (optional k need some none) ts ≡ run 250 none ts
-optional_none k need some none [] never = same_end (optional k need some none) none refl
-optional_none k need some none (t ∷ ts) never = same_step (optional k need some none) none t ts (passed k t (Take need (some t)) (step none t) never)
+pub optional_none : (ed : Edition) → (k : TokenKind) (need : ℕ) (some : Lexeme → State) (none : State) (ts : List Lexeme) → (First (Kind k) ts → ⊥) → run ed 250 (optional k need some none) ts ≡ run ed 250 none ts
+optional_none ed k need some none [] never = same_end ed (optional k need some none) none refl
+optional_none ed k need some none (t ∷ ts) never = same_step ed (optional k need some none) none t ts (passed k t (Take need (some t)) (step ed none t) never)
+
+-- a token that came with slices
+taken_newer : (ed : Edition) → (k : TokenKind) (need : ℕ) (x : Expected) (some : Lexeme → State) (none : State) (t : Lexeme) → t.kind ≡ k →
+    step ed (newer k need x some none) t ≡ cond (has_slices ed) (Take need (some t)) (Fail x)
+taken_newer ed k need x some none t h = chosen k t (cond (has_slices ed) (Take need (some t)) (Fail x)) (step ed none t) h
+
+newer_refused : (ed : Edition) → (k : TokenKind) (need : ℕ) (x : Expected) (some : Lexeme → State) (none : State) (ts : List Lexeme) → has_slices ed ≡ false →
+    First (Kind k) ts → run ed 250 (newer k need x some none) ts ≡ Refused (fault_of x ts) ts
+newer_refused ed k need x some none [] has h = absurd h
+newer_refused ed k need x some none (t ∷ ts) has h =
+    refuses ed (newer k need x some none) x t ts (taken_newer ed k need x some none t h ∙ ap (λ b. cond b (Take need (some t)) (Fail x)) has)
+
+-- without slices what may come in its place refuses it alike
+pub newer_old : (ed : Edition) → (k : TokenKind) (need : ℕ) (x : Expected) (some : Lexeme → State) (none : State) (ts : List Lexeme) → has_slices ed ≡ false →
+    Refusing ed k x none → run ed 250 (newer k need x some none) ts ≡ run ed 250 none ts
+newer_old ed k need x some none [] has refusing = same_end ed (newer k need x some none) none refl
+newer_old ed k need x some none (t ∷ ts) has refusing = by_test (same k t.kind) refl
+  where
+    by_test : (b : Bool) → same k t.kind ≡ b → run ed 250 (newer k need x some none) (t ∷ ts) ≡ run ed 250 none (t ∷ ts)
+    by_test true e =
+        let is : t.kind ≡ k = are_same k t.kind e in
+        newer_refused ed k need x some none (t ∷ ts) has is ∙ sym (refusing has (t ∷ ts) is)
+    by_test false e =
+        same_step ed (newer k need x some none) none t ts (cond_false (same k t.kind) (cond (has_slices ed) (Take need (some t)) (Fail x)) (step ed none t) e)
+
+-- with slices it is one that may be missing
+pub newer_new : (ed : Edition) → (k : TokenKind) (need : ℕ) (x : Expected) (some : Lexeme → State) (none : State) (ts : List Lexeme) → has_slices ed ≡ true →
+    run ed 250 (newer k need x some none) ts ≡ run ed 250 (optional k need some none) ts
+newer_new ed k need x some none [] has = same_end ed (newer k need x some none) (optional k need some none) refl
+newer_new ed k need x some none (t ∷ ts) has =
+    same_step ed (newer k need x some none) (optional k need some none) t ts
+    (ap (λ b. cond (same k t.kind) (cond b (Take need (some t)) (Fail x)) (step ed none t)) has)
+
+-- a state that refuses a token of a kind
+pub refuses_at : (ed : Edition) → (s : State) (x : Expected) (k : TokenKind) →
+    ((text : List ℕ) (p : Place) → step ed s (record { kind = k; text = text; place = p }) ≡ Fail x) → Refusing ed k x s
+refuses_at ed s x k e old [] h = absurd h
+refuses_at ed s x k e old (t ∷ ts) h =
+    let P : TokenKind → Type 0 = λ j. step ed s (record { kind = j; text = t.text; place = t.place }) ≡ Fail x in
+    refuses ed s x t ts (subst P (sym h) (e t.text t.place))

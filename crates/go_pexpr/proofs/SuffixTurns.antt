@@ -1,5 +1,6 @@
 -- Where the suffixes of an operand go on.
 use Rattle.std.proofs.Common.{◌≡◌, ℕ, ◌+◌, Bool, true, false, List, [], ◌∷◌, Option, Some, None, refl, ap, ◌∙◌}
+use Rattle.go_text.specs.declared.edition.Edition.{Edition}
 use Rattle.go_scan.specs.declared.token.TokenKind.{TokenKind}
 use Rattle.go_scan.specs.declared.token.TokenKind.TheVariants as kinds
 use Rattle.go_scan.specs.declared.punctuation.Punctuation.TheVariants as marks
@@ -61,34 +62,34 @@ brace_ends false l behind t other None q = refl
 brace_ends false l behind t other (Some a) q =
     passed opening_brace t (Take (l + 1) (behind_brace l a behind t)) other (λ k. some_none (suffix_of false true t.kind) CompositeLit (ap (suffix_of false true) k) q)
 
-module _ (h : Bool) (l : ℕ) (e : Expr) (next : Expr → State) where
-  pub as_selector : (a : Bool) (ts : List Lexeme) → suffix_at h a ts ≡ Some Selector → run 250 (suffixes h l e next) ts ≡ run 250 (token period (l + height e) another (behind_selector e (λ x. suffixes h l x next))) ts
+module _ (ed : Edition) (h : Bool) (l : ℕ) (e : Expr) (next : Expr → State) where
+  pub as_selector : (a : Bool) (ts : List Lexeme) → suffix_at h a ts ≡ Some Selector → run ed 250 (suffixes h l e next) ts ≡ run ed 250 (token period (l + height e) another (behind_selector e (λ x. suffixes h l x next))) ts
   as_selector a [] q = cc (q)
-  as_selector a (t ∷ ts) q = same_at (suffixes h l e next) (token period (l + height e) another (behind_selector e (λ x. suffixes h l x next))) period (t ∷ ts) (selector_kind h a t.kind q) (λ text p. refl)
+  as_selector a (t ∷ ts) q = same_at ed (suffixes h l e next) (token period (l + height e) another (behind_selector e (λ x. suffixes h l x next))) period (t ∷ ts) (selector_kind h a t.kind q) (λ text p. refl)
 
-  pub as_index : (a : Bool) (ts : List Lexeme) → suffix_at h a ts ≡ Some Index → run 250 (suffixes h l e next) ts ≡ run 250 (token opening_bracket (l + height e) another (behind_index l e (λ x. suffixes h l x next))) ts
+  pub as_index : (a : Bool) (ts : List Lexeme) → suffix_at h a ts ≡ Some Index → run ed 250 (suffixes h l e next) ts ≡ run ed 250 (token opening_bracket (l + height e) another (behind_index l e (λ x. suffixes h l x next))) ts
   as_index a [] q = cc (q)
-  as_index a (t ∷ ts) q = same_at (suffixes h l e next) (token opening_bracket (l + height e) another (behind_index l e (λ x. suffixes h l x next))) opening_bracket (t ∷ ts) (index_kind h a t.kind q) (λ text p. refl)
+  as_index a (t ∷ ts) q = same_at ed (suffixes h l e next) (token opening_bracket (l + height e) another (behind_index l e (λ x. suffixes h l x next))) opening_bracket (t ∷ ts) (index_kind h a t.kind q) (λ text p. refl)
 
-  pub as_call : (a : Bool) (ts : List Lexeme) → suffix_at h a ts ≡ Some Call → run 250 (suffixes h l e next) ts ≡ run 250 (token opening (l + height e) another (behind_call l e (λ x. suffixes h l x next))) ts
+  pub as_call : (a : Bool) (ts : List Lexeme) → suffix_at h a ts ≡ Some Call → run ed 250 (suffixes h l e next) ts ≡ run ed 250 (token opening (l + height e) another (behind_call l e (λ x. suffixes h l x next))) ts
   as_call a [] q = cc (q)
-  as_call a (t ∷ ts) q = same_at (suffixes h l e next) (token opening (l + height e) another (behind_call l e (λ x. suffixes h l x next))) opening (t ∷ ts) (call_kind h a t.kind q) (λ text p. refl)
+  as_call a (t ∷ ts) q = same_at ed (suffixes h l e next) (token opening (l + height e) another (behind_call l e (λ x. suffixes h l x next))) opening (t ∷ ts) (call_kind h a t.kind q) (λ text p. refl)
 
-  pub as_literal : (a : TypeExpr) (ts : List Lexeme) → suffix_at h (is_some (literal_type e)) ts ≡ Some CompositeLit → literal_type e ≡ Some a → run 250 (suffixes h l e next) ts ≡ run 250 (token opening_brace (l + 1) another (behind_brace l a (λ x. suffixes h l x next))) ts
+  pub as_literal : (a : TypeExpr) (ts : List Lexeme) → suffix_at h (is_some (literal_type e)) ts ≡ Some CompositeLit → literal_type e ≡ Some a → run ed 250 (suffixes h l e next) ts ≡ run ed 250 (token opening_brace (l + 1) another (behind_brace l a (λ x. suffixes h l x next))) ts
   as_literal a [] q la = cc (q)
   as_literal a (t ∷ ts) q la =
       let is = literal_kind h (is_some (literal_type e)) t.kind q in
-      same_at (suffixes h l e next) (token opening_brace (l + 1) another (behind_brace l a (λ x. suffixes h l x next))) opening_brace (t ∷ ts) is.0
+      same_at ed (suffixes h l e next) (token opening_brace (l + 1) another (behind_brace l a (λ x. suffixes h l x next))) opening_brace (t ∷ ts) is.0
       (λ text p.
-      ap (λ x. on_brace x l (λ y. suffixes h l y next) (record { kind = opening_brace; text = text; place = p }) (step (next e) (record { kind = opening_brace; text = text; place = p })) (literal_type e)) is.1
-      ∙ ap (on_brace false l (λ y. suffixes h l y next) (record { kind = opening_brace; text = text; place = p }) (step (next e) (record { kind = opening_brace; text = text; place = p }))) la)
+      ap (λ x. on_brace x l (λ y. suffixes h l y next) (record { kind = opening_brace; text = text; place = p }) (step ed (next e) (record { kind = opening_brace; text = text; place = p })) (literal_type e)) is.1
+      ∙ ap (on_brace false l (λ y. suffixes h l y next) (record { kind = opening_brace; text = text; place = p }) (step ed (next e) (record { kind = opening_brace; text = text; place = p }))) la)
 
-  pub suffix_ends : (ts : List Lexeme) → suffix_at h (is_some (literal_type e)) ts ≡ None → run 250 (suffixes h l e next) ts ≡ run 250 (next e) ts
-  suffix_ends [] q = same_end (suffixes h l e next) (next e) refl
+  pub suffix_ends : (ts : List Lexeme) → suffix_at h (is_some (literal_type e)) ts ≡ None → run ed 250 (suffixes h l e next) ts ≡ run ed 250 (next e) ts
+  suffix_ends [] q = same_end ed (suffixes h l e next) (next e) refl
   suffix_ends (t ∷ ts) q =
       let a = is_some (literal_type e) in
-      same_step (suffixes h l e next) (next e) t ts (
+      same_step ed (suffixes h l e next) (next e) t ts (
       cond_false (same period t.kind) _ _ (not_same period t.kind (λ k. some_none (suffix_of h a t.kind) Selector (ap (suffix_of h a) k) q))
       ∙ cond_false (same opening_bracket t.kind) _ _ (not_same opening_bracket t.kind (λ k. some_none (suffix_of h a t.kind) Index (ap (suffix_of h a) k) q))
       ∙ cond_false (same opening t.kind) _ _ (not_same opening t.kind (λ k. some_none (suffix_of h a t.kind) Call (ap (suffix_of h a) k) q))
-      ∙ brace_ends h l (λ x. suffixes h l x next) t (step (next e) t) (literal_type e) q)
+      ∙ brace_ends h l (λ x. suffixes h l x next) t (step ed (next e) t) (literal_type e) q)

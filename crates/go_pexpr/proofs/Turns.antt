@@ -1,5 +1,6 @@
 -- Where one state goes on as another does.
 use Rattle.std.proofs.Common.{◌≡◌, ℕ, suc, ◌+◌, Bool, List, [], ◌∷◌, ◌++◌, Option, Some, None, refl, sym, ap, ◌∙◌, arith}
+use Rattle.go_text.specs.declared.edition.Edition.{Edition}
 use Rattle.go_scan.specs.declared.token.TokenKind.{TokenKind}
 use Rattle.go_scan.specs.declared.token.TokenKind.TheVariants as kinds
 use Rattle.go_scan.specs.declared.keyword.Keyword.TheVariants as keywords
@@ -18,26 +19,26 @@ use Rattle.go_pexpr.specs.Turns.{behind_paren}
 use Rattle.go_pexpr.proofs.Steps.{Kind, same_run, same_step, same_end, same_at, refuses, end_refuses, passed, chosen, cond_false}
 
 -- more names, and their end
-pub more_names_takes : (front : List Name) (next : List Name → State) (ts : List Lexeme) → First (Kind comma) ts → run 250 (more_names front next) ts ≡ run 250 (token comma 0 another (λ _. token kinds.Name 0 another (λ n. more_names (front ++ name_of n ∷ []) next))) ts
-more_names_takes front next ts h = same_at (more_names front next) (token comma 0 another (λ _. token kinds.Name 0 another (λ n. more_names (front ++ name_of n ∷ []) next))) comma ts h (λ text p. refl)
+pub more_names_takes : (ed : Edition) → (front : List Name) (next : List Name → State) (ts : List Lexeme) → First (Kind comma) ts → run ed 250 (more_names front next) ts ≡ run ed 250 (token comma 0 another (λ _. token kinds.Name 0 another (λ n. more_names (front ++ name_of n ∷ []) next))) ts
+more_names_takes ed front next ts h = same_at ed (more_names front next) (token comma 0 another (λ _. token kinds.Name 0 another (λ n. more_names (front ++ name_of n ∷ []) next))) comma ts h (λ text p. refl)
 
-pub more_names_end : (front : List Name) (next : List Name → State) (ts : List Lexeme) → (First (Kind comma) ts → ⊥) → run 250 (more_names front next) ts ≡ run 250 (next front) ts
-more_names_end front next [] never = same_end (more_names front next) (next front) refl
-more_names_end front next (t ∷ ts) never = same_step (more_names front next) (next front) t ts (passed comma t (Take 0 (token kinds.Name 0 another (λ n. more_names (front ++ name_of n ∷ []) next))) (step (next front) t) never)
+pub more_names_end : (ed : Edition) → (front : List Name) (next : List Name → State) (ts : List Lexeme) → (First (Kind comma) ts → ⊥) → run ed 250 (more_names front next) ts ≡ run ed 250 (next front) ts
+more_names_end ed front next [] never = same_end ed (more_names front next) (next front) refl
+more_names_end ed front next (t ∷ ts) never = same_step ed (more_names front next) (next front) t ts (passed comma t (Take 0 (token kinds.Name 0 another (λ n. more_names (front ++ name_of n ∷ []) next))) (step ed (next front) t) never)
 
 -- a type, by its first token
-pub type_as_name : (l : ℕ) (x : Expected) (next : TypeExpr → State) (ts : List Lexeme) → First (Kind kinds.Name) ts → run 250 (type l x next) ts ≡ run 250 (token kinds.Name l another (behind_name next)) ts
-type_as_name l x next ts h = same_at (type l x next) (token kinds.Name l another (behind_name next)) kinds.Name ts h (λ text p. refl)
+pub type_as_name : (ed : Edition) → (l : ℕ) (x : Expected) (next : TypeExpr → State) (ts : List Lexeme) → First (Kind kinds.Name) ts → run ed 250 (type l x next) ts ≡ run ed 250 (token kinds.Name l another (behind_name next)) ts
+type_as_name ed l x next ts h = same_at ed (type l x next) (token kinds.Name l another (behind_name next)) kinds.Name ts h (λ text p. refl)
 
-pub type_as_array : (l : ℕ) (x : Expected) (next : TypeExpr → State) (ts : List Lexeme) → First (Kind opening_bracket) ts → run 250 (type l x next) ts ≡ run 250 (token opening_bracket (l + 1) another (behind_bracket l next)) ts
-type_as_array l x next ts h = same_at (type l x next) (token opening_bracket (l + 1) another (behind_bracket l next)) opening_bracket ts h (λ text p. refl)
+pub type_as_array : (ed : Edition) → (l : ℕ) (x : Expected) (next : TypeExpr → State) (ts : List Lexeme) → First (Kind opening_bracket) ts → run ed 250 (type l x next) ts ≡ run ed 250 (token opening_bracket (l + 1) another (behind_bracket l next)) ts
+type_as_array ed l x next ts h = same_at ed (type l x next) (token opening_bracket (l + 1) another (behind_bracket l next)) opening_bracket ts h (λ text p. refl)
 
-pub type_as_struct : (l : ℕ) (x : Expected) (next : TypeExpr → State) (ts : List Lexeme) → First (Kind (keyword keywords.Struct)) ts → run 250 (type l x next) ts ≡ run 250 (token (keyword keywords.Struct) l another (behind_struct l next)) ts
-type_as_struct l x next ts h = same_at (type l x next) (token (keyword keywords.Struct) l another (behind_struct l next)) (keyword keywords.Struct) ts h (λ text p. refl)
+pub type_as_struct : (ed : Edition) → (l : ℕ) (x : Expected) (next : TypeExpr → State) (ts : List Lexeme) → First (Kind (keyword keywords.Struct)) ts → run ed 250 (type l x next) ts ≡ run ed 250 (token (keyword keywords.Struct) l another (behind_struct l next)) ts
+type_as_struct ed l x next ts h = same_at ed (type l x next) (token (keyword keywords.Struct) l another (behind_struct l next)) (keyword keywords.Struct) ts h (λ text p. refl)
 
-pub type_fails : (l : ℕ) (x : Expected) (next : TypeExpr → State) (ts : List Lexeme) → (First (Kind kinds.Name) ts → ⊥) → (First (Kind opening_bracket) ts → ⊥) → (First (Kind (keyword keywords.Struct)) ts → ⊥) → run 250 (type l x next) ts ≡ Refused (fault_of x ts) ts
-type_fails l x next [] a b c = end_refuses (type l x next) refl
-type_fails l x next (t ∷ ts) a b c = refuses (type l x next) x t ts (
+pub type_fails : (ed : Edition) → (l : ℕ) (x : Expected) (next : TypeExpr → State) (ts : List Lexeme) → (First (Kind kinds.Name) ts → ⊥) → (First (Kind opening_bracket) ts → ⊥) → (First (Kind (keyword keywords.Struct)) ts → ⊥) → run ed 250 (type l x next) ts ≡ Refused (fault_of x ts) ts
+type_fails ed l x next [] a b c = end_refuses ed (type l x next) refl
+type_fails ed l x next (t ∷ ts) a b c = refuses ed (type l x next) x t ts (
     passed kinds.Name t (Take l (behind_name next t)) (cond (same opening_bracket t.kind) (Take (l + 1) (behind_bracket l next t)) (cond (same (keyword keywords.Struct) t.kind) (Take l (behind_struct l next t)) (Fail x))) a
     ∙ passed opening_bracket t (Take (l + 1) (behind_bracket l next t)) (cond (same (keyword keywords.Struct) t.kind) (Take l (behind_struct l next t)) (Fail x)) b
     ∙ passed (keyword keywords.Struct) t (Take l (behind_struct l next t)) (Fail x) c)
@@ -57,9 +58,9 @@ by_sign : (n : ℕ) (h : Bool) (l : ℕ) (x : Expected) (next : Expr → State) 
 by_sign n h l x next t None = refl
 by_sign n h l x next t (Some op) = refl
 
-pub splits : (n : ℕ) (h : Bool) (l : ℕ) (x : Expected) (next : Expr → State) (ts : List Lexeme) → run 250 (expr (suc n) h l x next) ts ≡ run 250 (expr n h l x (λ a. operators n h l a next)) ts
-splits n h l x next ts =
-    same_run (expr (suc n) h l x next) (expr n h l x (λ a. operators n h l a next)) ts
+pub splits : (ed : Edition) → (n : ℕ) (h : Bool) (l : ℕ) (x : Expected) (next : Expr → State) (ts : List Lexeme) → run ed 250 (expr (suc n) h l x next) ts ≡ run ed 250 (expr n h l x (λ a. operators n h l a next)) ts
+splits ed n h l x next ts =
+    same_run ed (expr (suc n) h l x next) (expr n h l x (λ a. operators n h l a next)) ts
     (λ t. ap (first_operand n h l (λ a. operators n h l a next) t) (by_sign n h l x next t (unary_of t.kind))) refl
 
 -- the kind of the first token, or any
@@ -71,29 +72,29 @@ some_none : {A : Type 0} (o : Option A) (a : A) → o ≡ Some a → o ≡ None 
 some_none o a e f = cc (e, f)
 
 -- an expression without operators between operands, by its first token
-pub expr_as_name : (h : Bool) (l : ℕ) (x : Expected) (next : Expr → State) (ts : List Lexeme) → First (Kind kinds.Name) ts → run 250 (expr 0 h l x next) ts ≡ run 250 (token kinds.Name l another (λ t. suffixes h l (name t.place t.text) next)) ts
-expr_as_name h l x next ts f = same_at (expr 0 h l x next) (token kinds.Name l another (λ t. suffixes h l (name t.place t.text) next)) kinds.Name ts f (λ text p. refl)
+pub expr_as_name : (ed : Edition) → (h : Bool) (l : ℕ) (x : Expected) (next : Expr → State) (ts : List Lexeme) → First (Kind kinds.Name) ts → run ed 250 (expr 0 h l x next) ts ≡ run ed 250 (token kinds.Name l another (λ t. suffixes h l (name t.place t.text) next)) ts
+expr_as_name ed h l x next ts f = same_at ed (expr 0 h l x next) (token kinds.Name l another (λ t. suffixes h l (name t.place t.text) next)) kinds.Name ts f (λ text p. refl)
 
-pub expr_as_integer : (h : Bool) (l : ℕ) (x : Expected) (next : Expr → State) (ts : List Lexeme) → First (Kind kinds.Integer) ts → run 250 (expr 0 h l x next) ts ≡ run 250 (token kinds.Integer l another (λ t. suffixes h l (integer t.place t.text) next)) ts
-expr_as_integer h l x next ts f = same_at (expr 0 h l x next) (token kinds.Integer l another (λ t. suffixes h l (integer t.place t.text) next)) kinds.Integer ts f (λ text p. refl)
+pub expr_as_integer : (ed : Edition) → (h : Bool) (l : ℕ) (x : Expected) (next : Expr → State) (ts : List Lexeme) → First (Kind kinds.Integer) ts → run ed 250 (expr 0 h l x next) ts ≡ run ed 250 (token kinds.Integer l another (λ t. suffixes h l (integer t.place t.text) next)) ts
+expr_as_integer ed h l x next ts f = same_at ed (expr 0 h l x next) (token kinds.Integer l another (λ t. suffixes h l (integer t.place t.text) next)) kinds.Integer ts f (λ text p. refl)
 
-pub expr_as_rune : (h : Bool) (l : ℕ) (x : Expected) (next : Expr → State) (ts : List Lexeme) → First (Kind kinds.Rune) ts → run 250 (expr 0 h l x next) ts ≡ run 250 (token kinds.Rune l another (λ t. suffixes h l (rune t.place (rune_value t.text)) next)) ts
-expr_as_rune h l x next ts f = same_at (expr 0 h l x next) (token kinds.Rune l another (λ t. suffixes h l (rune t.place (rune_value t.text)) next)) kinds.Rune ts f (λ text p. refl)
+pub expr_as_rune : (ed : Edition) → (h : Bool) (l : ℕ) (x : Expected) (next : Expr → State) (ts : List Lexeme) → First (Kind kinds.Rune) ts → run ed 250 (expr 0 h l x next) ts ≡ run ed 250 (token kinds.Rune l another (λ t. suffixes h l (rune t.place (rune_value t.text)) next)) ts
+expr_as_rune ed h l x next ts f = same_at ed (expr 0 h l x next) (token kinds.Rune l another (λ t. suffixes h l (rune t.place (rune_value t.text)) next)) kinds.Rune ts f (λ text p. refl)
 
-pub expr_as_string : (h : Bool) (l : ℕ) (x : Expected) (next : Expr → State) (ts : List Lexeme) → First (Kind kinds.String) ts → run 250 (expr 0 h l x next) ts ≡ run 250 (token kinds.String l another (λ t. suffixes h l (string t.place (string_value t.text)) next)) ts
-expr_as_string h l x next ts f = same_at (expr 0 h l x next) (token kinds.String l another (λ t. suffixes h l (string t.place (string_value t.text)) next)) kinds.String ts f (λ text p. refl)
+pub expr_as_string : (ed : Edition) → (h : Bool) (l : ℕ) (x : Expected) (next : Expr → State) (ts : List Lexeme) → First (Kind kinds.String) ts → run ed 250 (expr 0 h l x next) ts ≡ run ed 250 (token kinds.String l another (λ t. suffixes h l (string t.place (string_value t.text)) next)) ts
+expr_as_string ed h l x next ts f = same_at ed (expr 0 h l x next) (token kinds.String l another (λ t. suffixes h l (string t.place (string_value t.text)) next)) kinds.String ts f (λ text p. refl)
 
-pub expr_as_paren : (h : Bool) (l : ℕ) (x : Expected) (next : Expr → State) (ts : List Lexeme) → First (Kind opening) ts → run 250 (expr 0 h l x next) ts ≡ run 250 (token opening (l + 1) another (behind_paren l (λ e. suffixes h l e next))) ts
-expr_as_paren h l x next ts f = same_at (expr 0 h l x next) (token opening (l + 1) another (behind_paren l (λ e. suffixes h l e next))) opening ts f (λ text p. refl)
+pub expr_as_paren : (ed : Edition) → (h : Bool) (l : ℕ) (x : Expected) (next : Expr → State) (ts : List Lexeme) → First (Kind opening) ts → run ed 250 (expr 0 h l x next) ts ≡ run ed 250 (token opening (l + 1) another (behind_paren l (λ e. suffixes h l e next))) ts
+expr_as_paren ed h l x next ts f = same_at ed (expr 0 h l x next) (token opening (l + 1) another (behind_paren l (λ e. suffixes h l e next))) opening ts f (λ text p. refl)
 
-pub expr_as_array : (h : Bool) (l : ℕ) (x : Expected) (next : Expr → State) (ts : List Lexeme) → First (Kind opening_bracket) ts → run 250 (expr 0 h l x next) ts ≡ run 250 (token opening_bracket (l + 1 + 1) another (behind_bracket (l + 1) (behind_literal_type l (λ e. suffixes h l e next)))) ts
-expr_as_array h l x next ts f =
+pub expr_as_array : (ed : Edition) → (h : Bool) (l : ℕ) (x : Expected) (next : Expr → State) (ts : List Lexeme) → First (Kind opening_bracket) ts → run ed 250 (expr 0 h l x next) ts ≡ run ed 250 (token opening_bracket (l + 1 + 1) another (behind_bracket (l + 1) (behind_literal_type l (λ e. suffixes h l e next)))) ts
+expr_as_array ed h l x next ts f =
     let two : l + 2 ≡ l + 1 + 1 = omega arith in
-    same_at (expr 0 h l x next) (token opening_bracket (l + 1 + 1) another (behind_bracket (l + 1) (behind_literal_type l (λ e. suffixes h l e next)))) opening_bracket ts f
+    same_at ed (expr 0 h l x next) (token opening_bracket (l + 1 + 1) another (behind_bracket (l + 1) (behind_literal_type l (λ e. suffixes h l e next)))) opening_bracket ts f
     (λ text p. ap (λ n. Take n (behind_bracket (l + 1) (behind_literal_type l (λ e. suffixes h l e next)) (record { kind = opening_bracket; text = text; place = p }))) two)
 
-pub expr_as_struct : (h : Bool) (l : ℕ) (x : Expected) (next : Expr → State) (ts : List Lexeme) → First (Kind (keyword keywords.Struct)) ts → run 250 (expr 0 h l x next) ts ≡ run 250 (token (keyword keywords.Struct) (l + 1) another (behind_struct (l + 1) (behind_literal_type l (λ e. suffixes h l e next)))) ts
-expr_as_struct h l x next ts f = same_at (expr 0 h l x next) (token (keyword keywords.Struct) (l + 1) another (behind_struct (l + 1) (behind_literal_type l (λ e. suffixes h l e next)))) (keyword keywords.Struct) ts f (λ text p. refl)
+pub expr_as_struct : (ed : Edition) → (h : Bool) (l : ℕ) (x : Expected) (next : Expr → State) (ts : List Lexeme) → First (Kind (keyword keywords.Struct)) ts → run ed 250 (expr 0 h l x next) ts ≡ run ed 250 (token (keyword keywords.Struct) (l + 1) another (behind_struct (l + 1) (behind_literal_type l (λ e. suffixes h l e next)))) ts
+expr_as_struct ed h l x next ts f = same_at ed (expr 0 h l x next) (token (keyword keywords.Struct) (l + 1) another (behind_struct (l + 1) (behind_literal_type l (λ e. suffixes h l e next)))) (keyword keywords.Struct) ts f (λ text p. refl)
 
 -- past the first tokens of operands
 past : (h : Bool) (l : ℕ) (next : Expr → State) (t : Lexeme) (last : Move) → (Kind kinds.Name t → ⊥) → (Kind kinds.Integer t → ⊥) → (Kind kinds.Rune t → ⊥) → (Kind kinds.String t → ⊥) → (Kind opening t → ⊥) → (Kind opening_bracket t → ⊥) → (Kind (keyword keywords.Struct) t → ⊥) → first_operand 0 h l next t last ≡ last
@@ -106,28 +107,28 @@ past h l next t last a b c d e f g =
     ∙ cond_false (same opening_bracket t.kind) _ _ (not_same opening_bracket t.kind f)
     ∙ cond_false (same (keyword keywords.Struct) t.kind) _ _ (not_same (keyword keywords.Struct) t.kind g)
 
-pub expr_fails : (h : Bool) (l : ℕ) (x : Expected) (next : Expr → State) (ts : List Lexeme) → sign_at ts ≡ None → (First (Kind kinds.Name) ts → ⊥) → (First (Kind kinds.Integer) ts → ⊥) → (First (Kind kinds.Rune) ts → ⊥) → (First (Kind kinds.String) ts → ⊥) → (First (Kind opening) ts → ⊥) → (First (Kind opening_bracket) ts → ⊥) → (First (Kind (keyword keywords.Struct)) ts → ⊥) → run 250 (expr 0 h l x next) ts ≡ Refused (fault_of x ts) ts
-expr_fails h l x next [] q a b c d e f g = end_refuses (expr 0 h l x next) refl
-expr_fails h l x next (t ∷ ts) q a b c d e f g =
-    refuses (expr 0 h l x next) x t ts (past h l next t (on_unary 0 h l next t (Fail x) (unary_of t.kind)) a b c d e f g ∙ ap (on_unary 0 h l next t (Fail x)) q)
+pub expr_fails : (ed : Edition) → (h : Bool) (l : ℕ) (x : Expected) (next : Expr → State) (ts : List Lexeme) → sign_at ts ≡ None → (First (Kind kinds.Name) ts → ⊥) → (First (Kind kinds.Integer) ts → ⊥) → (First (Kind kinds.Rune) ts → ⊥) → (First (Kind kinds.String) ts → ⊥) → (First (Kind opening) ts → ⊥) → (First (Kind opening_bracket) ts → ⊥) → (First (Kind (keyword keywords.Struct)) ts → ⊥) → run ed 250 (expr 0 h l x next) ts ≡ Refused (fault_of x ts) ts
+expr_fails ed h l x next [] q a b c d e f g = end_refuses ed (expr 0 h l x next) refl
+expr_fails ed h l x next (t ∷ ts) q a b c d e f g =
+    refuses ed (expr 0 h l x next) x t ts (past h l next t (on_unary 0 h l next t (Fail x) (unary_of t.kind)) a b c d e f g ∙ ap (on_unary 0 h l next t (Fail x)) q)
 
 pub sign_first : (ts : List Lexeme) (op : UnaryOperator) → sign_at ts ≡ Some op → First (Kind (kind_at ts)) ts
 sign_first [] op e = cc (e)
 sign_first (t ∷ ts) op e = refl
 
-pub expr_as_sign : (h : Bool) (l : ℕ) (x : Expected) (next : Expr → State) (ts : List Lexeme) (op : UnaryOperator) → sign_at ts ≡ Some op → run 250 (expr 0 h l x next) ts ≡ run 250 (token (kind_at ts) (l + 1) another (λ t. expr 0 h (l + 1) an_operand (λ e. next (unary t.place op e)))) ts
-expr_as_sign h l x next [] op q = cc (q)
-expr_as_sign h l x next (t ∷ ts) op q =
+pub expr_as_sign : (ed : Edition) → (h : Bool) (l : ℕ) (x : Expected) (next : Expr → State) (ts : List Lexeme) (op : UnaryOperator) → sign_at ts ≡ Some op → run ed 250 (expr 0 h l x next) ts ≡ run ed 250 (token (kind_at ts) (l + 1) another (λ t. expr 0 h (l + 1) an_operand (λ e. next (unary t.place op e)))) ts
+expr_as_sign ed h l x next [] op q = cc (q)
+expr_as_sign ed h l x next (t ∷ ts) op q =
     let no = λ (k : TokenKind) (e : t.kind ≡ k) (f : unary_of k ≡ None). some_none (unary_of t.kind) op q (ap unary_of e ∙ f) in
-    same_step (expr 0 h l x next) (token t.kind (l + 1) another (λ u. expr 0 h (l + 1) an_operand (λ e. next (unary u.place op e)))) t ts (
+    same_step ed (expr 0 h l x next) (token t.kind (l + 1) another (λ u. expr 0 h (l + 1) an_operand (λ e. next (unary u.place op e)))) t ts (
     past h l next t (on_unary 0 h l next t (Fail x) (unary_of t.kind)) (λ e. no kinds.Name e refl) (λ e. no kinds.Integer e refl) (λ e. no kinds.Rune e refl) (λ e. no kinds.String e refl) (λ e. no opening e refl) (λ e. no opening_bracket e refl) (λ e. no (keyword keywords.Struct) e refl)
     ∙ ap (on_unary 0 h l next t (Fail x)) q
     ∙ sym (chosen t.kind t (Take (l + 1) (expr 0 h (l + 1) an_operand (λ e. next (unary t.place op e)))) (Fail another) refl))
 
 -- more expressions, and their end
-pub more_exprs_takes : (h : Bool) (l : ℕ) (front : List Expr) (next : List Expr → State) (ts : List Lexeme) → First (Kind comma) ts → run 250 (more_exprs h l front next) ts ≡ run 250 (token comma 0 another (λ _. expr 5 h l an_operand (λ e. more_exprs h l (front ++ e ∷ []) next))) ts
-more_exprs_takes h l front next ts f = same_at (more_exprs h l front next) (token comma 0 another (λ _. expr 5 h l an_operand (λ e. more_exprs h l (front ++ e ∷ []) next))) comma ts f (λ text p. refl)
+pub more_exprs_takes : (ed : Edition) → (h : Bool) (l : ℕ) (front : List Expr) (next : List Expr → State) (ts : List Lexeme) → First (Kind comma) ts → run ed 250 (more_exprs h l front next) ts ≡ run ed 250 (token comma 0 another (λ _. expr 5 h l an_operand (λ e. more_exprs h l (front ++ e ∷ []) next))) ts
+more_exprs_takes ed h l front next ts f = same_at ed (more_exprs h l front next) (token comma 0 another (λ _. expr 5 h l an_operand (λ e. more_exprs h l (front ++ e ∷ []) next))) comma ts f (λ text p. refl)
 
-pub more_exprs_end : (h : Bool) (l : ℕ) (front : List Expr) (next : List Expr → State) (ts : List Lexeme) → (First (Kind comma) ts → ⊥) → run 250 (more_exprs h l front next) ts ≡ run 250 (next front) ts
-more_exprs_end h l front next [] never = same_end (more_exprs h l front next) (next front) refl
-more_exprs_end h l front next (t ∷ ts) never = same_step (more_exprs h l front next) (next front) t ts (passed comma t (Take 0 (expr 5 h l an_operand (λ e. more_exprs h l (front ++ e ∷ []) next))) (step (next front) t) never)
+pub more_exprs_end : (ed : Edition) → (h : Bool) (l : ℕ) (front : List Expr) (next : List Expr → State) (ts : List Lexeme) → (First (Kind comma) ts → ⊥) → run ed 250 (more_exprs h l front next) ts ≡ run ed 250 (next front) ts
+more_exprs_end ed h l front next [] never = same_end ed (more_exprs h l front next) (next front) refl
+more_exprs_end ed h l front next (t ∷ ts) never = same_step ed (more_exprs h l front next) (next front) t ts (passed comma t (Take 0 (expr 5 h l an_operand (λ e. more_exprs h l (front ++ e ∷ []) next))) (step ed (next front) t) never)

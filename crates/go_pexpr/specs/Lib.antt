@@ -1,3 +1,4 @@
+pub mod Inside
 pub mod Next
 pub mod Reads
 pub mod Tall

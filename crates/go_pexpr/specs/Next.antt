@@ -7,6 +7,7 @@ use Rattle.go_scan.specs.declared.punctuation.Punctuation.TheVariants as marks
 use Rattle.go_ast.specs.Operators.{unary_of, binary_of, tighter}
 use Rattle.go_ast.specs.declared.expression.UnaryOperator.{UnaryOperator}
 use Rattle.go_ast.specs.declared.expression.BinaryOperator.{BinaryOperator}
+use Rattle.go_ast.specs.Trees.{TypeExpr, slice}
 use Rattle.go_ast.specs.Grammar.{Lexeme}
 use Rattle.go_ast.specs.Expected.{Expected, is_left_out_at}
 use Rattle.go_ast.specs.Machine.{begins_type, begins_expr}
@@ -73,3 +74,8 @@ expr_begins (t ∷ ts) = begins_expr t.kind
 abbrev pub left_out_at : Expected → List Lexeme → Bool
 left_out_at x [] = false
 left_out_at x (t ∷ ts) = is_left_out_at x t.kind
+
+-- a type of slices
+abbrev pub is_slice : TypeExpr → Bool
+is_slice (slice p a) = true
+is_slice a = false

@@ -1,5 +1,7 @@
 -- What a function of the parser did.
-use Rattle.std.specs.Prelude.{◌≡◌, ℕ, List, [], ◌∷◌, length, Result, Ok, Err, Option, Some, None}
+use Rattle.std.specs.Prelude.{◌≡◌, ℕ, false, List, [], ◌∷◌, length, Result, Ok, Err, Option, Some, None}
+use Rattle.go_text.specs.declared.edition.Edition.{Edition}
+use Rattle.go_text.specs.Editions.{has_slices}
 use Rattle.go_scan.specs.declared.token.TokenKind.{TokenKind}
 use Rattle.go_scan.specs.declared.token.TokenKind.TheVariants as kinds
 use Rattle.go_ast.specs.Expected as expected
@@ -80,12 +82,16 @@ either some none None = none
 either some none (Some a) = some a
 
 abbrev pub Failing : Refusal → State → Parser → Parser → Type 0
-Failing (Wrong f) before old new = run 250 before (left old) ≡ Refused (number f) (left new)
+Failing (Wrong f) before old new = run old.edition 250 before (left old) ≡ Refused (number f) (left new)
 Failing Memory before old new = Unit {0}
 
 abbrev pub Reading : {A : Type 0} → State → (A → State) → Parser → Result A Refusal → Parser → Type 0
-Reading before after old (Ok a) new = run 250 before (left old) ≡ run 250 (after a) (left new)
+Reading before after old (Ok a) new = run old.edition 250 before (left old) ≡ run new.edition 250 (after a) (left new)
 Reading before after old (Err e) new = Failing e before old new
+
+-- a state without slices that refuses a token which came with them, as what is left out where this is expected
+abbrev pub Refusing : Edition → TokenKind → expected.Expected → State → Type 0
+Refusing e k x s = has_slices e ≡ false → (ts : List Lexeme) → First (λ t. t.kind ≡ k) ts → run e 250 s ts ≡ Refused (fault_of x ts) ts
 
 -- From one state and the tokens of old it came to another state and the tokens of new, or failed.
 pub record Reads {A : Type 0} (before : State) (after : A → State) (old : Parser) (result : Result A Refusal) (new : Parser) : Type 0 where

@@ -1,10 +1,11 @@
 -- What is due at some turns of an expression.
 use Rattle.std.specs.Prelude.{ℕ, ◌+◌, Option, None, List, [], ◌∷◌, ◌++◌, false}
 use Rattle.go_scan.specs.declared.token.TokenKind.TheVariants as kinds
-use Rattle.go_ast.specs.Trees.{Name, TypeExpr, Expr, Element, parenthesized, selector, index, call, composite_lit, expression_element, value_element, place_of, pack, pack_elements}
-use Rattle.go_ast.specs.Expected.{an_operand, an_element_end, a_selected_name, an_index, an_index_end, another}
-use Rattle.go_ast.specs.Grammar.{Lexeme, name_of, type_place, comma, closing, closing_bracket, opening_brace}
-use Rattle.go_ast.specs.Machine.{State, token, optional, expr, list_start, list_end, arguments, elements, behind_element, name_if}
+use Rattle.go_ast.specs.Trees.{Name, TypeExpr, Expr, Element, parenthesized, selector, index, bound, call, type_operand, composite_lit, expression_element, value_element, place_of, pack, pack_elements}
+use Rattle.go_ast.specs.Expected.{an_operand, an_element_end, a_selected_name, an_index_end, another}
+use Rattle.go_ast.specs.Grammar.{Lexeme, name_of, type_place, comma, colon, opening, closing, closing_bracket, opening_brace}
+use Rattle.go_ast.specs.Machine.{State, token, optional, newer, expr, operands, list_start, list_end, elements, behind_element, name_if}
+use Rattle.go_ast.specs.Machine as machine
 
 -- behind an opening parenthesis
 abbrev pub behind_paren : ℕ → (Expr → State) → Lexeme → State
@@ -41,15 +42,26 @@ behind_first l front next (value_element p es) = behind_last l front next None (
 abbrev pub element_at : ℕ → List (Option Name × Element) → (List (Option Name × Element) → Lexeme → State) → State
 element_at l front next = value_at l (behind_first l front next)
 
+-- behind a type that a call's first operand begins with and that isn't a slice's, of so many levels: what is converted to it, or
+-- the type itself
+abbrev pub conversion_or_type : ℕ → (Expr → State) → ℕ → TypeExpr → State
+conversion_or_type l next n a =
+    optional opening (l + n) (machine.converted_operand l (machine.behind_operand 5 false l next) a) (next (type_operand (type_place a) a))
+
 -- behind the first token of each suffix of an operand
 abbrev pub behind_selector : Expr → (Expr → State) → Lexeme → State
 behind_selector e next t = token kinds.Name 0 a_selected_name (λ s. next (selector (place_of e) e (name_of s)))
 
 abbrev pub behind_index : ℕ → Expr → (Expr → State) → Lexeme → State
-behind_index l e next t = expr 5 false (l + 1) an_index (λ i. token closing_bracket 0 an_index_end (λ _. next (index (place_of e) e i)))
+behind_index l e next t = machine.behind_index l e next
+
+-- behind an index, or the first bound of a part
+abbrev pub index_ends : ℕ → Expr → (Expr → State) → Expr → State
+index_ends l e next i =
+    newer colon 0 an_index_end (λ _. machine.behind_colon l e (bound i) next) (token closing_bracket 0 an_index_end (λ _. next (index (place_of e) e i)))
 
 abbrev pub behind_call : ℕ → Expr → (Expr → State) → Lexeme → State
-behind_call l e next t = list_start (arguments (l + 1)) [] (λ es _. next (call (place_of e) e (pack es)))
+behind_call l e next t = operands (l + 1) (λ es _. next (call (place_of e) e (pack es)))
 
 abbrev pub behind_brace : ℕ → TypeExpr → (Expr → State) → Lexeme → State
 behind_brace l a next t = list_start (elements (l + 2)) [] (λ es _. next (composite_lit (type_place a) a t.place (pack_elements es)))

@@ -1,15 +1,16 @@
 //! Makes trees from their parts, and counts their levels.
-ghost use Rattle.std.specs.Prelude.{◌≡◌, ℕ, ◌+◌, ◌<◌, max, map, IfOk, IfErr, Ok, Err, Option, Some, None};
+ghost use Rattle.std.specs.Prelude.{◌≡◌, ℕ, ◌+◌, ◌<◌, ◌≤◌, [], ◌∷◌, max, map, IfOk, IfErr, Ok, Err, Option, Some, None};
 ghost use Rattle.go_ast.specs.Trees as trees;
 ghost use Rattle.go_ast.specs.Grammar.{type_place};
-ghost use Rattle.go_ast.specs.Views.{type_of, expr_of, exprs_in, element_of, field_of, value_of, if_some};
+ghost use Rattle.go_ast.specs.Views.{type_of, expr_of, bound_of, exprs_in, element_of, field_of, value_of, if_some};
 ghost use Rattle.go_ast.specs.Machine.{literal_type, name_if};
 ghost use Rattle.go_pexpr.specs.Turns.{key_in};
-ghost use Rattle.go_pexpr.specs.Tall.{tall, type_tall, exprs_tall, value_tall, element_tall, elements_tall, fields_tall};
+ghost use Rattle.go_pexpr.specs.Tall.{tall, type_tall, bound_tall, exprs_tall, value_tall, element_tall, elements_tall, fields_tall};
 
 use crate::parser::Refusal;
 use go_ast::expression::{
-    BinaryOperator, Element, ElementValue, Expr, ExprKind, Field, TypeExpr, TypeKind, UnaryOperator,
+    BinaryOperator, Bound, Element, ElementValue, Expr, ExprKind, Field, TypeExpr, TypeKind,
+    UnaryOperator,
 };
 use go_ast::name::Name;
 use go_ast::spelling::Spelling;
@@ -30,6 +31,15 @@ pub(crate) struct TallType {
     pub(crate) type_expr: TypeExpr,
     pub(crate) height: u32,
     ghost counted: { height ≡ type_tall type_expr },
+    ghost one: { 1 ≤ height },
+}
+
+/// A bound of a part and how many levels it has.
+#[derive(Drop)]
+pub(crate) struct TallBound {
+    pub(crate) bound: Bound,
+    pub(crate) height: u32,
+    ghost counted: { height ≡ bound_tall bound },
 }
 
 /// Arguments and how many levels they have.
@@ -144,6 +154,24 @@ pub(crate) fn array(
         type_expr: TypeExpr {
             place,
             kind: TypeKind::Array(length, item),
+        },
+        height,
+    })
+}
+
+/// The type of slices.
+pub(crate) fn slice(alloc: Global, place: Place, item: TallType) -> Result<TallType, Refusal>
+    requires { item.height < 1000 }
+    ensures expr { IfOk result (λ t. type_of t.type_expr ≡ trees.slice place (type_of item.type_expr)) }
+    ensures height { IfOk result (λ t. t.height ≡ item.height + 1) }
+    ensures err { IfErr result (λ e. e ≡ Refusal.Memory) }
+{
+    let height = item.height + 1;
+    let item = Box::new(alloc, item.type_expr)?;
+    Ok(TallType {
+        type_expr: TypeExpr {
+            place,
+            kind: TypeKind::Slice(item),
         },
         height,
     })
@@ -318,6 +346,96 @@ pub(crate) fn index(alloc: Global, operand: Tall, at: Tall) -> Result<Tall, Refu
         },
         height,
     })
+}
+
+/// No bound of a part.
+pub(crate) fn unbounded() -> TallBound
+    ensures bound { bound_of result.bound ≡ trees.no_bound }
+    ensures height { result.height ≡ 0 }
+{
+    TallBound {
+        bound: Bound::Open,
+        height: 0,
+    }
+}
+
+/// An expression as a bound of a part.
+pub(crate) fn bound(alloc: Global, at: Tall) -> Result<TallBound, Refusal>
+    ensures bound { IfOk result (λ b. bound_of b.bound ≡ trees.bound (expr_of at.expr)) }
+    ensures height { IfOk result (λ b. b.height ≡ at.height) }
+    ensures err { IfErr result (λ e. e ≡ Refusal.Memory) }
+{
+    let height = at.height;
+    let at = Box::new(alloc, at.expr)?;
+    Ok(TallBound {
+        bound: Bound::At(at),
+        height,
+    })
+}
+
+/// A part of an operand, between two bounds.
+pub(crate) fn cut(
+    alloc: Global,
+    operand: Tall,
+    low: TallBound,
+    high: TallBound,
+) -> Result<Tall, Refusal>
+    requires { (operand.height < 1000) × (low.height < 1000) × (high.height < 1000) }
+    ensures expr { IfOk result (λ t. expr_of t.expr ≡ trees.cut (trees.place_of (expr_of operand.expr)) (expr_of operand.expr) (bound_of low.bound) (bound_of high.bound)) }
+    ensures height { IfOk result (λ t. t.height ≡ max operand.height (max low.height high.height) + 1) }
+    ensures err { IfErr result (λ e. e ≡ Refusal.Memory) }
+{
+    let height = operand.height.max(low.height.max(high.height)) + 1;
+    let place = operand.expr.place;
+    let operand = Box::new(alloc, operand.expr)?;
+    Ok(Tall {
+        expr: Expr {
+            place,
+            kind: ExprKind::Cut(operand, low.bound, high.bound),
+        },
+        height,
+    })
+}
+
+/// A type as a call's first operand.
+pub(crate) fn type_operand(alloc: Global, a: TallType) -> Result<Tall, Refusal>
+    ensures expr { IfOk result (λ t. expr_of t.expr ≡ trees.type_operand (type_place (type_of a.type_expr)) (type_of a.type_expr)) }
+    ensures height { IfOk result (λ t. t.height ≡ a.height) }
+    ensures err { IfErr result (λ e. e ≡ Refusal.Memory) }
+{
+    let height = a.height;
+    let place = a.type_expr.place;
+    let a = Box::new(alloc, a.type_expr)?;
+    Ok(Tall {
+        expr: Expr {
+            place,
+            kind: ExprKind::Type(a),
+        },
+        height,
+    })
+}
+
+/// No arguments of a call.
+pub(crate) fn no_arguments(alloc: Global) -> Arguments
+    ensures items { result.items.items ≡ [] }
+    ensures height { result.height ≡ 0 }
+{
+    Arguments {
+        items: Vec::new(alloc),
+        height: 0,
+    }
+}
+
+/// An operand as the first of a call's.
+pub(crate) fn one_argument(alloc: Global, first: Tall) -> Result<Arguments, Refusal>
+    ensures items { IfOk result (λ es. es.items.items ≡ first.expr ∷ []) }
+    ensures height { IfOk result (λ es. es.height ≡ first.height) }
+    ensures err { IfErr result (λ e. e ≡ Refusal.Memory) }
+{
+    let height = first.height;
+    let mut items = Vec::new(alloc);
+    items.push(first.expr)?;
+    Ok(Arguments { items, height })
 }
 
 /// A call of an operand with arguments.

@@ -1,6 +1,7 @@
 //! Reads types and expressions.
 #![tactic(auto)]
 
+mod brackets;
 mod build;
 pub mod expected;
 pub mod expression;

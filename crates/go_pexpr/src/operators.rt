@@ -2,12 +2,12 @@
 ghost use Rattle.std.specs.Prelude.{◌≡◌, Option, Some, None};
 ghost use Rattle.go_ast.specs.Operators as operators;
 ghost use Rattle.go_ast.specs.Machine.{literal_type, is_some, begins_type, begins_expr};
-ghost use Rattle.go_ast.specs.Views.{expr_of};
+ghost use Rattle.go_ast.specs.Views.{type_of, expr_of};
 ghost use Rattle.go_pexpr.specs.Reads.{left};
-ghost use Rattle.go_pexpr.specs.Next.{sign_at, operator_at, suffix_at, beginning_of, beginning_at, type_begins, expr_begins};
+ghost use Rattle.go_pexpr.specs.Next.{sign_at, operator_at, suffix_at, beginning_of, beginning_at, type_begins, expr_begins, is_slice};
 
 use crate::parser::Parser;
-use go_ast::expression::{BinaryOperator, Expr, ExprKind, UnaryOperator};
+use go_ast::expression::{BinaryOperator, Expr, ExprKind, TypeExpr, TypeKind, UnaryOperator};
 use go_scan::keyword::Keyword;
 use go_scan::punctuation::Punctuation;
 use go_scan::token::TokenKind;
@@ -159,17 +159,15 @@ pub(crate) fn is_type(expr: &Expr) -> bool
     match &expr.kind {
         ExprKind::Name(_) => true,
         ExprKind::Selector(operand, _) => matches!(operand.kind, ExprKind::Name(_)),
-        ExprKind::Integer(_)
-        | ExprKind::Rune(_)
-        | ExprKind::String(_)
-        | ExprKind::Parenthesized(_)
-        | ExprKind::CompositeLit(_, _, _)
-        | ExprKind::Conversion(_, _)
-        | ExprKind::Index(_, _)
-        | ExprKind::Call(_, _)
-        | ExprKind::Unary(_, _)
-        | ExprKind::Binary(_, _, _) => false,
+        _ => false,
     }
+}
+
+/// Whether a type is one of slices.
+pub(crate) fn is_slice(a: &TypeExpr) -> bool
+    ensures { result ≡ is_slice (type_of a.now) }
+{
+    matches!(a.kind, TypeKind::Slice(_))
 }
 
 impl<'a> Parser<'a> {

@@ -5,6 +5,7 @@ ghost use Rattle.go_ast.specs.Tokens.{LiesIn};
 ghost use Rattle.go_pexpr.specs.declared.parser.Refusal.TheVariants.{Memory};
 
 use go_scan::token::Token;
+use go_text::edition::Edition;
 use std::alloc::{AllocError, AllocFailed, Global};
 use thiserror::Error;
 
@@ -52,10 +53,11 @@ impl<T: Drop> From<AllocFailed<T>> for Refusal {
     }
 }
 
-/// A source's text, and what is left of its tokens.
+/// A source's text, the edition in which it is read, and what is left of its tokens.
 #[derive(Drop)]
 pub struct Parser<'a> {
     pub alloc: Global,
+    pub edition: Edition,
     pub text: &'a [u8],
     pub tokens: &'a [Token],
     ghost stands: { All (LiesIn text.now) tokens.now },

@@ -6,11 +6,11 @@ ghost use Rattle.go_scan.specs.declared.token.TokenKind.TheVariants as kinds;
 ghost use Rattle.go_ast.specs.Grammar.{Lexeme, name_of, period};
 ghost use Rattle.go_ast.specs.Expected.{another, a_selected_name, is_never_read, begins_left_out, begins_left_out_type, is_left_out_at};
 ghost use Rattle.go_ast.specs.Machine as machine;
-ghost use Rattle.go_ast.specs.Machine.{State, ListKind, Item, token, optional, names, list_start, list_end};
+ghost use Rattle.go_ast.specs.Machine.{State, ListKind, Item, token, optional, newer, names, list_start, list_end};
 ghost use Rattle.go_ast.specs.Tokens.{LiesIn};
 ghost use Rattle.go_ast.specs.Tokens.{lexeme, bytes_of};
 ghost use Rattle.go_pexpr.specs.Next.{left_out_at};
-ghost use Rattle.go_pexpr.specs.Reads.{Reads, Says, First, first_kind, fault_of, left, size, lexeme_of, either, expected_of};
+ghost use Rattle.go_pexpr.specs.Reads.{Reads, Refusing, Says, First, first_kind, fault_of, left, size, lexeme_of, either, expected_of};
 
 use crate::expected::Expected;
 use crate::kind::is_kind;
@@ -181,6 +181,20 @@ impl<'a> Parser<'a> {
         let token = *token;
         self.tokens = rest;
         Ok(token)
+    }
+
+    /// Takes a token of a kind that came with slices, if it is the next and the parser's edition has these.
+    ///
+    /// In an edition without them what is read instead is refused where it is the next, as what belongs to what is left out.
+    pub(crate) fn accept_newer(&mut self, kind: TokenKind) -> Result<Option<Token>, Refusal>
+        ensures reads { (x : _) (some : Lexeme → State) (none : State) → Refusing self.old.edition kind x none → Reads (newer kind 0 x some none) (either (λ t. some (lexeme self.old.text.now t)) none) self.old result self.new }
+        ensures no_longer { OnOk result (size self.new ≤ size self.old) }
+        ensures shorter { IfOk result (λ o. (t : _) → o ≡ Some t → size self.new < size self.old) }
+    {
+        if !self.edition.has_slices() {
+            return Ok(None);
+        }
+        self.accept(kind, 0)
     }
 
     /// Takes a token of a kind, if it is the next.

@@ -1,25 +1,26 @@
 //! Reads types and expressions.
-ghost use Rattle.std.specs.Prelude.{◌≡◌, ◌<◌, ◌≤◌, ◌+◌, ℕ, Bool, List, [], ◌∷◌, ◌++◌, map, Option, Some, None, IfOk, OnOk, false};
+ghost use Rattle.std.specs.Prelude.{◌≡◌, ◌<◌, ◌≤◌, ◌+◌, Bool, List, [], ◌∷◌, ◌++◌, map, Option, Some, None, IfOk, OnOk, true, false};
+ghost use Rattle.go_text.specs.Editions.{has_slices};
 ghost use Rattle.go_ast.specs.Trees as trees;
 ghost use Rattle.go_scan.specs.declared.token.TokenKind.TheVariants as kinds;
 ghost use Rattle.go_scan.specs.declared.keyword.Keyword.TheVariants as keywords;
 ghost use Rattle.go_ast.specs.Expected.{an_operand, a_type, another};
 ghost use Rattle.go_ast.specs.Grammar.{Lexeme, opening, closing, opening_bracket, opening_brace, period, comma, colon};
-ghost use Rattle.go_ast.specs.Machine.{State, token, optional, names, type, expr, suffixes, list_start, fields, arguments, elements, keyword, behind_bracket, behind_struct, behind_literal_type, literal_type};
-ghost use Rattle.go_ast.specs.Views.{type_of, expr_of, exprs_in, value_of, element_of, field_of};
-ghost use Rattle.go_pexpr.specs.Next.{sign_at};
+ghost use Rattle.go_ast.specs.Machine.{State, token, optional, names, type, expr, operands, suffixes, tails, list_start, list_end, fields, arguments, elements, keyword, behind_bracket, behind_struct, behind_literal_type, literal_elements, behind_operand, behind_operand_type, literal_type};
+ghost use Rattle.go_ast.specs.Views.{type_of, expr_of, value_of, element_of, field_of};
+ghost use Rattle.go_pexpr.specs.Next.{sign_at, is_slice};
 ghost use Rattle.go_pexpr.specs.Reads.{Reads, First, left, size, expected_of};
-ghost use Rattle.go_pexpr.specs.Turns.{behind_conversion, behind_paren, behind_selector, behind_index, behind_call, behind_brace, behind_last, element_at, value_at};
+ghost use Rattle.go_pexpr.specs.Turns.{behind_conversion, behind_paren, behind_selector, conversion_or_type, behind_call, behind_brace, behind_last, element_at, value_at};
 
 use crate::build::{
     Arguments, Elements, Fields, Tall, TallElement, TallType, TallValue, array, beside, binary,
-    braced_value, call, composite_lit, conversion, element, expression_value, index, key_in,
-    named_by, parenthesized, selector, structure, unary,
+    braced_value, call, composite_lit, conversion, element, expression_value, key_in, named_by,
+    no_arguments, one_argument, parenthesized, selector, slice, structure, type_operand, unary,
 };
 use crate::expected::Expected;
-use crate::operators::{Beginning, Suffix, tighter};
+use crate::operators::{Beginning, Suffix, is_slice, tighter};
 use crate::parser::{Parser, Refusal};
-use go_ast::expression::{Element, ElementValue, Expr, ExprKind, Field, TypeExpr, TypeKind};
+use go_ast::expression::{Element, Expr, Field, TypeExpr};
 use go_ast::name::Name;
 use go_scan::keyword::Keyword;
 use go_scan::punctuation::Punctuation;
@@ -37,7 +38,7 @@ struct Marks {
 impl<'a> Parser<'a> {
     /// Reads a type.
     ///
-    /// `Type = TypeName | ArrayType | StructType .`
+    /// `Type = TypeName | ArrayType | SliceType | StructType .`
     #[cycle(tree)]
     pub(crate) fn type_at(&mut self, level: u32, expected: Expected) -> Result<TallType, Refusal>
         requires { level ≤ 253 }
@@ -47,17 +48,17 @@ impl<'a> Parser<'a> {
     {
         match self.beginning() {
             Beginning::Name => self.named_type(level),
-            Beginning::Bracket => self.array_type(level),
+            Beginning::Bracket => self.bracket_type(level),
             Beginning::Structure => self.struct_type(level),
             _ => Err(self.wrong(expected)),
         }
     }
 
-    /// Reads the type of arrays.
+    /// Reads the type of arrays or slices.
     ///
-    /// `ArrayType = "[" Expression "]" Type .`
+    /// `ArrayType = "[" Expression "]" Type .` `SliceType = "[" "]" Type .`
     #[cycle(tree)]
-    fn array_type(&mut self, level: u32) -> Result<TallType, Refusal>
+    fn bracket_type(&mut self, level: u32) -> Result<TallType, Refusal>
         requires { level ≤ 253 }
         ensures reads { (next : trees.TypeExpr → State) → Reads (token opening_bracket (level + 1) another (behind_bracket level next)) (λ a. next (type_of a.type_expr)) self.old result self.new }
         ensures fits { IfOk result (λ a. level + a.height ≤ 251) }
@@ -65,14 +66,17 @@ impl<'a> Parser<'a> {
     {
         let open = TokenKind::Punctuation(Punctuation::OpenBracket);
         let close = TokenKind::Punctuation(Punctuation::CloseBracket);
-        let marks = Marks {
-            first: open,
-            last: close,
-            end: Expected::Another,
-        };
-        let (place, length) = self.enclosed(marks, level + 1, level + 1, Expected::Length)?;
-        let (length, item) = beside(length, self.type_at(level + 1, Expected::Type))?;
-        array(self.alloc, place, length, item)
+        let bracket = self.expect(open, level + 1, Expected::Another)?;
+        if let Some(_) = self.accept_newer(close)? {
+            let item = self.type_at(level + 1, Expected::Type)?;
+            return slice(self.alloc, bracket.place, item);
+        }
+        let first = self.binary(5, false, level + 1, Expected::Length)?;
+        let end = self.expect(close, 0, Expected::Another);
+        let (length, _) = beside(first, end)?;
+        let behind = self.type_at(level + 1, Expected::Type);
+        let (sized, item) = beside(length, behind)?;
+        array(self.alloc, bracket.place, sized, item)
     }
 
     /// Reads the type of structs.
@@ -152,7 +156,29 @@ impl<'a> Parser<'a> {
         ensures fits { IfOk result (λ e. level + e.height ≤ 251) }
         ensures shorter { OnOk result (size self.new < size self.old) }
     {
-        let mut left = self.unary(header, level, expected)?;
+        let front = self.unary(header, level, expected)?;
+        self.operators(front, limit, header, level)
+    }
+
+    /// Reads the operators of so many levels behind an operand, and the operands behind them.
+    ///
+    /// `{ binary_op Expression } .`
+    #[cycle(tree)]
+    fn operators(
+        &mut self,
+        front: Tall,
+        limit: u8,
+        header: bool,
+        level: u32,
+    ) -> Result<Tall, Refusal>
+        requires limit { limit ≤ 5 }
+        requires level { level ≤ 252 }
+        requires fits { level + front.height ≤ 251 }
+        ensures reads { (next : trees.Expr → State) → Reads (tails limit header level next (expr_of front.expr)) (λ e. next (expr_of e.expr)) self.old result self.new }
+        ensures fits { IfOk result (λ e. level + e.height ≤ 251) }
+        ensures no_longer { OnOk result (size self.new ≤ size self.old) }
+    {
+        let mut left = front;
         let mut tightest = 0;
         'operators: while let Some(operator) = self.operator(tightest, limit) {
             tightest = tighter(operator);
@@ -216,8 +242,8 @@ impl<'a> Parser<'a> {
             Beginning::String => self.string_operand(level),
             Beginning::Parenthesis => self.parenthesized(level),
             Beginning::Bracket => {
-                let array = self.array_type(level + 1)?;
-                self.typed(array, level)
+                let bracket = self.bracket_type(level + 1)?;
+                self.typed(bracket, level)
             }
             Beginning::Structure => {
                 let structure = self.struct_type(level + 1)?;
@@ -288,7 +314,8 @@ impl<'a> Parser<'a> {
         Ok((token.place, inner))
     }
 
-    /// Reads what is behind an array or struct type that begins an operand.
+    /// Reads what is behind an array, slice or struct type that begins an operand: a literal's elements, or but for a slice
+    /// what is converted to it.
     ///
     /// `CompositeLit = LiteralType LiteralValue .` `Conversion = Type "(" Expression [ "," ] ")" .`
     #[cycle(tree)]
@@ -298,11 +325,27 @@ impl<'a> Parser<'a> {
         ensures fits { IfOk result (λ e. level + e.height ≤ 251) }
         ensures shorter { OnOk result (size self.new < size self.old) }
     {
+        if is_slice(&a.type_expr) {
+            return self.literal(a, level);
+        }
+        self.literal_or_conversion(a, level)
+    }
+
+    /// Reads what is behind an array or struct type that begins an operand: a literal's elements, or what is converted to it.
+    ///
+    /// `CompositeLit = LiteralType LiteralValue .` `Conversion = Type "(" Expression [ "," ] ")" .`
+    #[cycle(tree)]
+    fn literal_or_conversion(&mut self, a: TallType, level: u32) -> Result<Tall, Refusal>
+        requires { level + 1 + a.height ≤ 251 }
+        ensures reads { (next : trees.Expr → State) → is_slice (type_of a.type_expr) ≡ false → Reads (behind_literal_type level next (type_of a.type_expr)) (λ e. next (expr_of e.expr)) self.old result self.new }
+        ensures fits { IfOk result (λ e. level + e.height ≤ 251) }
+        ensures shorter { OnOk result (size self.new < size self.old) }
+    {
         let brace = TokenKind::Punctuation(Punctuation::OpenBrace);
         if self.is_next(brace) {
             return self.literal(a, level);
         }
-        let (a, value) = beside(a, self.converted(level))?;
+        let (a, value) = beside(a, self.converted(level + 1, level))?;
         conversion(self.alloc, a, value)
     }
 
@@ -317,7 +360,7 @@ impl<'a> Parser<'a> {
         ensures fits { IfOk result (λ e. level + e.height ≤ 251) }
         ensures shorter { OnOk result (size self.new < size self.old) }
     {
-        let (a, braced) = beside(a, self.braced(level + 1))?;
+        let (a, braced) = beside(a, self.braced(level + 1, level + 2))?;
         composite_lit(self.alloc, a, braced.0, braced.1)
     }
 
@@ -325,14 +368,16 @@ impl<'a> Parser<'a> {
     ///
     /// `LiteralValue = "{" [ KeyedElement { "," KeyedElement } [ "," ] ] "}" .`
     #[cycle(tree)]
-    fn braced(&mut self, need: u32) -> Result<(Place, Elements), Refusal>
-        ensures reads { (next : Place → List (Option trees.Name × trees.Element) → State) → Reads (token opening_brace need another (λ t. list_start (elements (need + 1)) [] (λ es _. next t.place es))) (λ r. next r.0 (map element_of r.1.items.items)) self.old result self.new }
-        ensures fits { IfOk result (λ r. need + r.1.height ≤ 250) }
+    fn braced(&mut self, need: u32, level: u32) -> Result<(Place, Elements), Refusal>
+        requires { level ≤ need + 1 }
+        ensures reads { (next : Place → List (Option trees.Name × trees.Element) → State) → Reads (token opening_brace need another (λ t. list_start (elements level) [] (λ es _. next t.place es))) (λ r. next r.0 (map element_of r.1.items.items)) self.old result self.new }
+        ensures need { OnOk result (need ≤ 250) }
+        ensures fits { IfOk result (λ r. level + r.1.height ≤ 251) }
         ensures shorter { OnOk result (size self.new < size self.old) }
     {
         let open = TokenKind::Punctuation(Punctuation::OpenBrace);
         let token = self.expect(open, need, Expected::Another)?;
-        let elements = self.elements(need + 1)?;
+        let elements = self.elements(level)?;
         Ok((token.place, elements))
     }
 
@@ -340,14 +385,16 @@ impl<'a> Parser<'a> {
     ///
     /// `"(" Expression [ "," ] ")" .`
     #[cycle(tree)]
-    fn converted(&mut self, level: u32) -> Result<Tall, Refusal>
-        requires { level ≤ 252 }
-        ensures reads { (next : trees.Expr → State) → Reads (token opening (level + 1) another (behind_conversion level next)) (λ e. next (expr_of e.expr)) self.old result self.new }
+    fn converted(&mut self, need: u32, level: u32) -> Result<Tall, Refusal>
+        requires level { level ≤ 252 }
+        requires need { level ≤ need }
+        ensures reads { (next : trees.Expr → State) → Reads (token opening need another (behind_conversion level next)) (λ e. next (expr_of e.expr)) self.old result self.new }
+        ensures need { OnOk result (need ≤ 250) }
         ensures fits { IfOk result (λ e. level + 1 + e.height ≤ 251) }
         ensures shorter { OnOk result (size self.new < size self.old) }
     {
         let open = TokenKind::Punctuation(Punctuation::OpenParenthesis);
-        let (_, inner) = self.opened(open, level + 1, level + 1, Expected::Operand)?;
+        let (_, inner) = self.opened(open, need, level + 1, Expected::Operand)?;
         let (value, _) = beside(inner, self.converted_end())?;
         Ok(value)
     }
@@ -402,29 +449,6 @@ impl<'a> Parser<'a> {
         selector(self.alloc, operand, name)
     }
 
-    /// Reads an index.
-    ///
-    /// `Index = "[" Expression "]" .`
-    #[cycle(tree)]
-    fn indexed(&mut self, operand: Tall, level: u32) -> Result<Tall, Refusal>
-        requires { level + operand.height ≤ 251 }
-        ensures reads { (next : trees.Expr → State) → Reads (token opening_bracket (level + operand.height) another (behind_index level (expr_of operand.expr) next)) (λ e. next (expr_of e.expr)) self.old result self.new }
-        ensures fits { IfOk result (λ e. level + e.height ≤ 251) }
-        ensures shorter { OnOk result (size self.new < size self.old) }
-    {
-        let open = TokenKind::Punctuation(Punctuation::OpenBracket);
-        let close = TokenKind::Punctuation(Punctuation::CloseBracket);
-        let marks = Marks {
-            first: open,
-            last: close,
-            end: Expected::IndexEnd,
-        };
-        let need = level + operand.height;
-        let enclosed = self.enclosed(marks, need, level + 1, Expected::Index);
-        let (operand, inside) = beside(operand, enclosed)?;
-        index(self.alloc, operand, inside.1)
-    }
-
     /// Reads the arguments of a call.
     ///
     /// `PrimaryExpr Arguments .`
@@ -440,36 +464,176 @@ impl<'a> Parser<'a> {
         call(self.alloc, operand, arguments)
     }
 
-    /// Reads the arguments of a call with their parentheses.
+    /// Reads the operands of a call with their parentheses.
     ///
-    /// `Arguments = "(" [ ExpressionList [ "," ] ] ")" .`
+    /// `Arguments = "(" [ ( ExpressionList | Type [ "," ExpressionList ] ) [ "," ] ] ")" .`
     #[cycle(tree)]
     fn passed(&mut self, need: u32, level: u32) -> Result<Arguments, Refusal>
         requires { level ≤ need + 1 }
-        ensures reads { (next : List trees.Expr → State) → Reads (token opening need another (λ _. list_start (arguments level) [] (λ es _. next es))) (λ es. next (map expr_of es.items.items)) self.old result self.new }
+        ensures reads { (next : List trees.Expr → State) → Reads (token opening need another (λ _. operands level (λ es _. next es))) (λ es. next (map expr_of es.items.items)) self.old result self.new }
         ensures need { OnOk result (need ≤ 250) }
         ensures fits { IfOk result (λ es. level + es.height ≤ 251) }
         ensures shorter { OnOk result (size self.new < size self.old) }
     {
         let open = TokenKind::Punctuation(Punctuation::OpenParenthesis);
         self.expect(open, need, Expected::Another)?;
-        self.arguments(level)
+        self.operands(level)
     }
 
-    /// Reads the arguments of a call and the parenthesis that closes them.
+    /// Reads the operands of a call and the parenthesis that closes them.
     ///
-    /// `[ ExpressionList [ "," ] ] ")" .`
+    /// `[ ( ExpressionList | Type [ "," ExpressionList ] ) [ "," ] ] ")" .`
     #[cycle(tree)]
-    fn arguments(&mut self, level: u32) -> Result<Arguments, Refusal>
+    fn operands(&mut self, level: u32) -> Result<Arguments, Refusal>
         requires { level ≤ 251 }
-        ensures reads { (next : List trees.Expr → State) → Reads (list_start (arguments level) [] (λ es _. next es)) (λ es. next (map expr_of es.items.items)) self.old result self.new }
+        ensures reads { (next : List trees.Expr → State) → Reads (operands level (λ es _. next es)) (λ es. next (map expr_of es.items.items)) self.old result self.new }
         ensures fits { IfOk result (λ es. level + es.height ≤ 251) }
         ensures shorter { OnOk result (size self.new < size self.old) }
     {
         let close = TokenKind::Punctuation(Punctuation::CloseParenthesis);
         let comma = TokenKind::Punctuation(Punctuation::Comma);
-        let mut items = Vec::new(self.alloc);
-        let mut height = 0;
+        if self.is_next(close) {
+            self.expect(close, 0, Expected::Another)?;
+            return Ok(no_arguments(self.alloc));
+        }
+        let first = self.first_operand(level)?;
+        let (operand, _) = beside(first, self.separate(comma, close, Expected::Another))?;
+        let front = one_argument(self.alloc, operand)?;
+        self.arguments(front, level)
+    }
+
+    /// Reads a call's first operand, which with slices may be a type.
+    ///
+    /// `Expression | Type .`
+    #[cycle(tree)]
+    fn first_operand(&mut self, level: u32) -> Result<Tall, Refusal>
+        requires { level ≤ 251 }
+        ensures reads { (next : List trees.Expr → Lexeme → State) → (First (λ t. t.kind ≡ closing) (left self.old) → ⊥) → Reads (operands level next) (λ e. list_end (arguments level) another (expr_of e.expr ∷ []) next) self.old result self.new }
+        ensures fits { IfOk result (λ e. level + e.height ≤ 251) }
+        ensures shorter { OnOk result (size self.new < size self.old) }
+    {
+        if !self.edition.has_slices() {
+            return self.binary(5, false, level, Expected::Operand);
+        }
+        self.type_or_operand(level)
+    }
+
+    /// Reads a call's first operand, where it may be a type.
+    ///
+    /// `Expression | Type .`
+    #[cycle(tree)]
+    fn type_or_operand(&mut self, level: u32) -> Result<Tall, Refusal>
+        requires { level ≤ 251 }
+        ensures reads { (next : List trees.Expr → Lexeme → State) → has_slices self.old.edition ≡ true → (First (λ t. t.kind ≡ closing) (left self.old) → ⊥) → Reads (operands level next) (λ e. list_end (arguments level) another (expr_of e.expr ∷ []) next) self.old result self.new }
+        ensures fits { IfOk result (λ e. level + e.height ≤ 251) }
+        ensures shorter { OnOk result (size self.new < size self.old) }
+    {
+        match self.beginning() {
+            Beginning::Bracket => {
+                let bracket = self.bracket_type(level)?;
+                self.operand_of_type(bracket, level)
+            }
+            Beginning::Structure => {
+                let structure = self.struct_type(level)?;
+                self.operand_of_type(structure, level)
+            }
+            _ => self.binary(5, false, level, Expected::Operand),
+        }
+    }
+
+    /// Reads what is behind a type that a call's first operand begins with: a literal's elements, what is converted to it, and
+    /// what follows these, or else nothing.
+    ///
+    /// `[ LiteralValue | "(" Expression [ "," ] ")" ] .`
+    #[cycle(tree)]
+    fn operand_of_type(&mut self, a: TallType, level: u32) -> Result<Tall, Refusal>
+        requires level { level ≤ 251 }
+        requires fits { level + a.height ≤ 251 }
+        ensures reads { (next : trees.Expr → State) → Reads (behind_operand_type level next (type_of a.type_expr)) (λ e. next (expr_of e.expr)) self.old result self.new }
+        ensures fits { IfOk result (λ e. level + e.height ≤ 251) }
+        ensures no_longer { OnOk result (size self.new ≤ size self.old) }
+    {
+        let brace = TokenKind::Punctuation(Punctuation::OpenBrace);
+        if self.is_next(brace) {
+            return self.literal_operand(a, level);
+        }
+        if is_slice(&a.type_expr) {
+            return type_operand(self.alloc, a);
+        }
+        self.converted_operand(a, level)
+    }
+
+    /// Reads the elements of a literal that a call's first operand begins with, and what follows it.
+    ///
+    /// `LiteralValue .`
+    #[cycle(tree)]
+    fn literal_operand(&mut self, a: TallType, level: u32) -> Result<Tall, Refusal>
+        requires level { level ≤ 251 }
+        requires fits { level + a.height ≤ 251 }
+        ensures reads { (next : trees.Expr → State) → Reads (token opening_brace (level + a.height) another (literal_elements level (behind_operand 5 false level next) (type_of a.type_expr))) (λ e. next (expr_of e.expr)) self.old result self.new }
+        ensures fits { IfOk result (λ e. level + e.height ≤ 251) }
+        ensures no_longer { OnOk result (size self.new ≤ size self.old) }
+    {
+        let need = level + a.height;
+        let (of, braced) = beside(a, self.braced(need, level + 2))?;
+        let literal = composite_lit(self.alloc, of, braced.0, braced.1)?;
+        self.behind(literal, level)
+    }
+
+    /// Reads what is converted to an array or struct type that a call's first operand begins with, and what follows it, or else
+    /// nothing.
+    ///
+    /// `[ "(" Expression [ "," ] ")" ] .`
+    #[cycle(tree)]
+    fn converted_operand(&mut self, a: TallType, level: u32) -> Result<Tall, Refusal>
+        requires level { level ≤ 251 }
+        requires fits { level + a.height ≤ 251 }
+        ensures reads { (next : trees.Expr → State) → Reads (conversion_or_type level next a.height (type_of a.type_expr)) (λ e. next (expr_of e.expr)) self.old result self.new }
+        ensures fits { IfOk result (λ e. level + e.height ≤ 251) }
+        ensures no_longer { OnOk result (size self.new ≤ size self.old) }
+    {
+        let parenthesis = TokenKind::Punctuation(Punctuation::OpenParenthesis);
+        if !self.is_next(parenthesis) {
+            return type_operand(self.alloc, a);
+        }
+        let need = level + a.height;
+        let (to, value) = beside(a, self.converted(need, level))?;
+        let converted = conversion(self.alloc, to, value)?;
+        self.behind(converted, level)
+    }
+
+    /// Reads the suffixes and the operators behind an operand.
+    ///
+    /// `{ Selector | Index | Slice | Arguments } { binary_op Expression } .`
+    #[cycle(tree)]
+    fn behind(&mut self, front: Tall, level: u32) -> Result<Tall, Refusal>
+        requires level { level ≤ 251 }
+        requires fits { level + front.height ≤ 251 }
+        ensures reads { (next : trees.Expr → State) → Reads (behind_operand 5 false level next (expr_of front.expr)) (λ e. next (expr_of e.expr)) self.old result self.new }
+        ensures fits { IfOk result (λ e. level + e.height ≤ 251) }
+        ensures no_longer { OnOk result (size self.new ≤ size self.old) }
+    {
+        let operand = self.suffixes(front, false, level)?;
+        self.operators(operand, 5, false, level)
+    }
+
+    /// Reads the arguments of a call behind these, and the parenthesis that closes them.
+    ///
+    /// `[ ExpressionList [ "," ] ] ")" .`
+    #[cycle(tree)]
+    fn arguments(&mut self, front: Arguments, level: u32) -> Result<Arguments, Refusal>
+        requires level { level ≤ 251 }
+        requires fits { level + front.height ≤ 251 }
+        ensures reads { (next : List trees.Expr → State) → Reads (list_start (arguments level) (map expr_of front.items.items) (λ es _. next es)) (λ es. next (map expr_of es.items.items)) self.old result self.new }
+        ensures fits { IfOk result (λ es. level + es.height ≤ 251) }
+        ensures shorter { OnOk result (size self.new < size self.old) }
+    {
+        let close = TokenKind::Punctuation(Punctuation::CloseParenthesis);
+        let comma = TokenKind::Punctuation(Punctuation::Comma);
+        let Arguments {
+            mut items,
+            mut height,
+        } = front;
         'arguments: while !self.is_next(close) {
             let item = self.binary(5, false, level, Expected::Operand)?;
             height = item.height.max(height);
@@ -572,7 +736,7 @@ impl<'a> Parser<'a> {
     {
         let open = TokenKind::Punctuation(Punctuation::OpenBrace);
         if self.is_next(open) {
-            let (place, elements) = self.braced(level)?;
+            let (place, elements) = self.braced(level, level + 1)?;
             return Ok(braced_value(place, elements));
         }
         let expr = self.binary(5, false, level, Expected::Operand)?;

@@ -1,5 +1,6 @@
 //! One program: its name, what it prints, and how it ends.
 use crate::ends::tell_answer;
+use go_text::edition::Edition;
 use go_text::text::{Text, TextError};
 use std::alloc::{AllocError, Global};
 use std::sync::Wait;
@@ -27,6 +28,7 @@ fn parts_of(row: &str) -> Option<(&str, u64, &str)> {
 pub(crate) fn tell_row<R: Threads + Wait + Sync>(
     rt: &R,
     alloc: Global,
+    edition: Edition,
     told: &mut Vec<u8>,
     row: &str,
 ) -> Result<(), AllocError> {
@@ -36,7 +38,7 @@ pub(crate) fn tell_row<R: Threads + Wait + Sync>(
     told.extend_from_slice(name.as_bytes())?;
     told.push(b'\n')?;
     match files_of(alloc, text)? {
-        Some(files) => tell_files(rt, alloc, told, files, ticks),
+        Some(files) => tell_files(rt, alloc, edition, told, files, ticks),
         None => told.extend_from_slice(b"no text\n"),
     }
 }
@@ -71,10 +73,11 @@ fn files_of(alloc: Global, text: &str) -> Result<Option<Vec<(FilePath, Text)>>, 
 fn tell_files<R: Threads + Wait + Sync>(
     rt: &R,
     alloc: Global,
+    edition: Edition,
     told: &mut Vec<u8>,
     files: Vec<(FilePath, Text)>,
     ticks: u64,
 ) -> Result<(), AllocError> {
-    let answer = run_files(rt, alloc, files, DIRECTORY, ticks, WORKERS)?;
+    let answer = run_files(rt, alloc, edition, files, DIRECTORY, ticks, WORKERS)?;
     tell_answer(alloc, told, &answer)
 }

@@ -1,5 +1,6 @@
 -- Which clause begins.
 use Rattle.std.proofs.Common.{◌≡◌, ℕ, ◌+◌, List, [], ◌∷◌, None, refl, sym, ap, ◌∙◌}
+use Rattle.go_text.specs.declared.edition.Edition.{Edition}
 use Rattle.go_scan.specs.declared.token.TokenKind.{TokenKind}
 use Rattle.go_scan.specs.declared.keyword.Keyword.TheVariants as keywords
 use Rattle.go_ast.specs.Kinds.{same}
@@ -14,16 +15,16 @@ use Rattle.go_pstmt.proofs.Steps.{Kind, same_first, same_step, same_end, taken_b
 no_case : (k : TokenKind) → k ≡ keyword keywords.Default → k ≡ keyword keywords.Case → ⊥
 no_case k d e = let both : keyword keywords.Default ≡ keyword keywords.Case = sym d ∙ e in cc (both)
 
-module _ (l : ℕ) (done : List Clause) (next : trees.Clauses → Lexeme → State) where
+module _ (ed : Edition) (l : ℕ) (done : List Clause) (next : trees.Clauses → Lexeme → State) where
   abbrev default_body : Lexeme → State
   default_body t = clause_body l done next t.place None
 
-  pub default_comes : (ts : List Lexeme) → First (Kind (keyword keywords.Default)) ts → run 250 (clauses_behind l done next) ts ≡ run 250 (token (keyword keywords.Default) 0 another default_body) ts
-  default_comes ts h = same_first (Kind (keyword keywords.Default)) (clauses_behind l done next) (token (keyword keywords.Default) 0 another default_body) ts h (λ t e.
+  pub default_comes : (ts : List Lexeme) → First (Kind (keyword keywords.Default)) ts → run ed 250 (clauses_behind l done next) ts ≡ run ed 250 (token (keyword keywords.Default) 0 another default_body) ts
+  default_comes ts h = same_first ed (Kind (keyword keywords.Default)) (clauses_behind l done next) (token (keyword keywords.Default) 0 another default_body) ts h (λ t e.
       passed_by (keyword keywords.Case) t _ _ (no_case t.kind e) ∙ taken_by (keyword keywords.Default) t _ _ e ∙ sym (taken_by (keyword keywords.Default) t _ _ e))
 
-  pub case_due : (ts : List Lexeme) → (First (Kind (keyword keywords.Default)) ts → ⊥) → (First (Kind closing_brace) ts → ⊥) → run 250 (clauses_behind l done next) ts ≡ run 250 (token (keyword keywords.Case) (l + 1) another (behind_case l done next)) ts
-  case_due [] a b = same_end (clauses_behind l done next) (token (keyword keywords.Case) (l + 1) another (behind_case l done next)) refl
-  case_due (t ∷ ts) a b = same_step (clauses_behind l done next) (token (keyword keywords.Case) (l + 1) another (behind_case l done next)) t ts (
+  pub case_due : (ts : List Lexeme) → (First (Kind (keyword keywords.Default)) ts → ⊥) → (First (Kind closing_brace) ts → ⊥) → run ed 250 (clauses_behind l done next) ts ≡ run ed 250 (token (keyword keywords.Case) (l + 1) another (behind_case l done next)) ts
+  case_due [] a b = same_end ed (clauses_behind l done next) (token (keyword keywords.Case) (l + 1) another (behind_case l done next)) refl
+  case_due (t ∷ ts) a b = same_step ed (clauses_behind l done next) (token (keyword keywords.Case) (l + 1) another (behind_case l done next)) t ts (
       ap (cond (same (keyword keywords.Case) t.kind) (Take (l + 1) (behind_case l done next t)))
       (passed_by (keyword keywords.Default) t _ _ a ∙ passed_by closing_brace t _ _ b))

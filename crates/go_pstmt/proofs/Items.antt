@@ -1,5 +1,6 @@
 -- Items of lists of statements and of clauses.
 use Rattle.std.proofs.Common.{◌≡◌, ℕ, ◌+◌, Bool, true, false, List, [], ◌∷◌, ◌++◌, Option, None, refl, sym, ap, ◌∙◌}
+use Rattle.go_text.specs.declared.edition.Edition.{Edition}
 use Rattle.go_text.specs.declared.place.Place.{Place}
 use Rattle.go_scan.specs.declared.token.TokenKind.{TokenKind}
 use Rattle.go_scan.specs.declared.keyword.Keyword.TheVariants as keywords
@@ -27,21 +28,21 @@ no_default k d e = let both : closing_brace ≡ keyword keywords.Default = sym d
 default_no_case : (k : TokenKind) → k ≡ keyword keywords.Default → k ≡ keyword keywords.Case → ⊥
 default_no_case k d e = let both : keyword keywords.Default ≡ keyword keywords.Case = sym d ∙ e in cc (both)
 
-pub list_between : (l : ℕ) (next : List trees.Stmt → Lexeme → State) (x : Expected) (ss : List trees.Stmt) → Between (list_end (statements l) x ss next) x (list_start (statements l) ss next)
-list_between l next x ss = record {
+pub list_between : (ed : Edition) → (l : ℕ) (next : List trees.Stmt → Lexeme → State) (x : Expected) (ss : List trees.Stmt) → Between ed (list_end (statements l) x ss next) x (list_start (statements l) ss next)
+list_between ed l next x ss = record {
   ends = refl;
   goes_on = λ t e. chosen semicolon t _ _ e;
   closes = λ t e. passed semicolon t _ _ (no_semicolon t.kind e) ∙ chosen closing_brace t _ _ e ∙ sym (chosen closing_brace t _ _ e);
   fails = λ t a b. passed semicolon t _ _ a ∙ passed closing_brace t _ _ b;
 }
 
-pub list_item : (l : ℕ) (front : List trees.Stmt) (next : List trees.Stmt → Lexeme → State) (ts : List Lexeme) → (First (Kind closing_brace) ts → ⊥) →
-    Does (list_start (statements l) front next) (on_item l (λ x s. list_end (statements l) x (front ++ s ∷ []) next) (λ s. list_start (statements l) (front ++ s ∷ []) next)) None ts
-list_item l front next [] never = refl
-list_item l front next (t ∷ ts) never = passed closing_brace t _ _ never
+pub list_item : (ed : Edition) → (l : ℕ) (front : List trees.Stmt) (next : List trees.Stmt → Lexeme → State) (ts : List Lexeme) → (First (Kind closing_brace) ts → ⊥) →
+    Does ed (list_start (statements l) front next) (on_item l (λ x s. list_end (statements l) x (front ++ s ∷ []) next) (λ s. list_start (statements l) (front ++ s ∷ []) next)) None ts
+list_item ed l front next [] never = refl
+list_item ed l front next (t ∷ ts) never = passed closing_brace t _ _ never
 
-module _ (l : ℕ) (done : List Clause) (p : Place) (values : Option trees.Exprs) (next : trees.Clauses → Lexeme → State) where
-  pub clause_between : (x : Expected) (ss : List trees.Stmt) → Between (clause_end l x done p values ss next) x (clause_start l done p values ss next)
+module _ (ed : Edition) (l : ℕ) (done : List Clause) (p : Place) (values : Option trees.Exprs) (next : trees.Clauses → Lexeme → State) where
+  pub clause_between : (x : Expected) (ss : List trees.Stmt) → Between ed (clause_end l x done p values ss next) x (clause_start l done p values ss next)
   clause_between x ss = record {
     ends = refl;
     goes_on = λ t e. chosen semicolon t _ _ e;
@@ -51,40 +52,40 @@ module _ (l : ℕ) (done : List Clause) (p : Place) (values : Option trees.Exprs
   }
 
   pub clause_item : (front : List trees.Stmt) (ts : List Lexeme) → (First (λ t. EndsClause t.kind) ts → ⊥) →
-      Does (clause_start l done p values front next) (on_item (l + 1) (λ x s. clause_end l x done p values (front ++ s ∷ []) next) (λ s. clause_start l done p values (front ++ s ∷ []) next)) None ts
+      Does ed (clause_start l done p values front next) (on_item (l + 1) (λ x s. clause_end l x done p values (front ++ s ∷ []) next) (λ s. clause_start l done p values (front ++ s ∷ []) next)) None ts
   clause_item front [] never = refl
   clause_item front (t ∷ ts) never =
       passed (keyword keywords.Case) t _ _ (λ e. never (by_case e)) ∙ passed (keyword keywords.Default) t _ _ (λ e. never (by_default e)) ∙ passed closing_brace t _ _ (λ e. never (by_brace e))
 
   pub clause_done : (front : List trees.Stmt) (ts : List Lexeme) → First (λ t. EndsClause t.kind) ts →
-      run 250 (clause_start l done p values front next) ts ≡ run 250 (clauses_behind l (done ++ (p, (values, front)) ∷ []) next) ts
+      run ed 250 (clause_start l done p values front next) ts ≡ run ed 250 (clauses_behind l (done ++ (p, (values, front)) ∷ []) next) ts
   clause_done front [] h = absurd h
-  clause_done front (t ∷ ts) (by_case e) = same_step _ _ t ts (chosen (keyword keywords.Case) t _ _ e ∙ sym (chosen (keyword keywords.Case) t _ _ e))
-  clause_done front (t ∷ ts) (by_default e) = same_step _ _ t ts (
+  clause_done front (t ∷ ts) (by_case e) = same_step ed _ _ t ts (chosen (keyword keywords.Case) t _ _ e ∙ sym (chosen (keyword keywords.Case) t _ _ e))
+  clause_done front (t ∷ ts) (by_default e) = same_step ed _ _ t ts (
       passed (keyword keywords.Case) t _ _ (default_no_case t.kind e) ∙ chosen (keyword keywords.Default) t _ _ e
       ∙ sym (passed (keyword keywords.Case) t _ _ (default_no_case t.kind e) ∙ chosen (keyword keywords.Default) t _ _ e))
-  clause_done front (t ∷ ts) (by_brace e) = same_step _ _ t ts (
+  clause_done front (t ∷ ts) (by_brace e) = same_step ed _ _ t ts (
       passed (keyword keywords.Case) t _ _ (no_case t.kind e) ∙ passed (keyword keywords.Default) t _ _ (no_default t.kind e) ∙ chosen closing_brace t _ _ e
       ∙ sym (passed (keyword keywords.Case) t _ _ (no_case t.kind e) ∙ passed (keyword keywords.Default) t _ _ (no_default t.kind e) ∙ chosen closing_brace t _ _ e))
 
-module _ (before : State) (l : ℕ) (next : Expected → trees.Stmt → State) (front : trees.Stmt → State) where
-  pub item_due : (ts : List Lexeme) → Does before (on_item l next front) None ts → (First (Kind semicolon) ts → ⊥) → run 250 before ts ≡ run 250 (due_stmt l (λ s. next (behind_of s) s)) ts
-  item_due [] does never = same_end before (due_stmt l (λ s. next (behind_of s) s)) does
-  item_due (t ∷ ts) does never = same_step before (due_stmt l (λ s. next (behind_of s) s)) t ts (does ∙ passed semicolon t _ _ never)
+module _ (ed : Edition) (before : State) (l : ℕ) (next : Expected → trees.Stmt → State) (front : trees.Stmt → State) where
+  pub item_due : (ts : List Lexeme) → Does ed before (on_item l next front) None ts → (First (Kind semicolon) ts → ⊥) → run ed 250 before ts ≡ run ed 250 (due_stmt l (λ s. next (behind_of s) s)) ts
+  item_due [] does never = same_end ed before (due_stmt l (λ s. next (behind_of s) s)) does
+  item_due (t ∷ ts) does never = same_step ed before (due_stmt l (λ s. next (behind_of s) s)) t ts (does ∙ passed semicolon t _ _ never)
 
-  pub item_empty : (ts : List Lexeme) → Does before (on_item l next front) None ts → First (Kind semicolon) ts → run 250 before ts ≡ run 250 (token semicolon l another (λ t. front (trees.empty t.place))) ts
-  item_empty ts does f = does_at before (token semicolon l another (λ t. front (trees.empty t.place))) (on_item l next front) None semicolon ts does f (λ text p. refl)
+  pub item_empty : (ts : List Lexeme) → Does ed before (on_item l next front) None ts → First (Kind semicolon) ts → run ed 250 before ts ≡ run ed 250 (token semicolon l another (λ t. front (trees.empty t.place))) ts
+  item_empty ts does f = does_at ed before (token semicolon l another (λ t. front (trees.empty t.place))) (on_item l next front) None semicolon ts does f (λ text p. refl)
 
 -- what is behind an item: the end, or a semicolon
-module _ (behind front : State) (x : Expected) (b : Between behind x front) where
-  pub item_closes : (ts : List Lexeme) → First (Kind closing_brace) ts → run 250 behind ts ≡ run 250 front ts
+module _ (ed : Edition) (behind front : State) (x : Expected) (b : Between ed behind x front) where
+  pub item_closes : (ts : List Lexeme) → First (Kind closing_brace) ts → run ed 250 behind ts ≡ run ed 250 front ts
   item_closes [] f = absurd f
-  item_closes (t ∷ ts) f = same_step behind front t ts (b.closes t f)
+  item_closes (t ∷ ts) f = same_step ed behind front t ts (b.closes t f)
 
-  pub item_ends : (ts : List Lexeme) → (First (Kind closing_brace) ts → ⊥) → run 250 behind ts ≡ run 250 (token semicolon 0 x (λ _. front)) ts
-  item_ends [] never = same_end behind (token semicolon 0 x (λ _. front)) b.ends
-  item_ends (t ∷ ts) never = same_step behind (token semicolon 0 x (λ _. front)) t ts (by_test (same semicolon t.kind) refl)
+  pub item_ends : (ts : List Lexeme) → (First (Kind closing_brace) ts → ⊥) → run ed 250 behind ts ≡ run ed 250 (token semicolon 0 x (λ _. front)) ts
+  item_ends [] never = same_end ed behind (token semicolon 0 x (λ _. front)) b.ends
+  item_ends (t ∷ ts) never = same_step ed behind (token semicolon 0 x (λ _. front)) t ts (by_test (same semicolon t.kind) refl)
     where
-      by_test : (c : Bool) → same semicolon t.kind ≡ c → step behind t ≡ step (token semicolon 0 x (λ _. front)) t
+      by_test : (c : Bool) → same semicolon t.kind ≡ c → step ed behind t ≡ step ed (token semicolon 0 x (λ _. front)) t
       by_test true e = b.goes_on t (are_same semicolon t.kind e) ∙ sym (ap (λ y. cond y (Take 0 front) (Fail x)) e)
       by_test false e = b.fails t (λ k. no_false (sym e ∙ is_same semicolon t.kind k)) never ∙ sym (ap (λ y. cond y (Take 0 front) (Fail x)) e)

@@ -13,11 +13,12 @@ use Rattle.go_ast.specs.Trees as trees
 use Rattle.go_ast.specs.Expected.{Expected, another, an_operand, a_value}
 use Rattle.go_ast.specs.Grammar.{Lexeme, comma, assign, define, opening_brace, is_call}
 use Rattle.go_ast.specs.Machine as machine
-use Rattle.go_ast.specs.Machine.{State, token, expr, more_exprs, lefts, Move, Take, Fail, cond, step, final, final_if, Refused, run, keyword, names_if, may_define, is_header, on_define, behind_define, short_var_decl_values, on_assignment, on_lefts, on_left, behind_left}
+use Rattle.go_ast.specs.Machine.{State, token, expr, more_exprs, lefts, Move, Take, Fail, cond, step, final, final_if, Refused, run, keyword, names_if, may_define, is_header, on_define, behind_define, short_var_decl_values, on_assignment, behind_left}
 use Rattle.go_ast.specs.Views.{expr_of, exprs_in, if_some}
 use Rattle.go_ast.specs.Expected as expected
 use Rattle.go_ast.proofs.Rows.{placed}
 use Rattle.std.proofs.lemmas.Grind.{take_at_read}
+use Rattle.go_text.specs.declared.edition.Edition.{Edition}
 use Rattle.go_pexpr.specs.Reads.{First, first_kind, fault_of}
 use Rattle.go_pexpr.proofs.Steps.{Kind, same_step, same_end, same_at, passed, chosen, refuses, end_refuses, optional_some, optional_none}
 use Rattle.go_pstmt.specs.declared.simple.Position.{Position}
@@ -44,34 +45,34 @@ pub same_only : {X : Type 0} (xs : List X) (x y : X) → xs ≡ x ∷ [] → xs 
 same_only xs x y e f = sym (ap (first_or x) e) ∙ ap (first_or x) f
 
 -- what a state does with a token of a kind, another does too
-pub does_at : (before s : State) (on : Lexeme → Move) (end : Option trees.File) (k : TokenKind) (ts : List Lexeme) → Does before on end ts → First (Kind k) ts →
-    ((text : List ℕ) (p : Place) → on (record { kind = k; text = text; place = p }) ≡ step s (record { kind = k; text = text; place = p })) → run 250 before ts ≡ run 250 s ts
-does_at before s on end k [] d f e = absurd f
-does_at before s on end k (t ∷ ts) d f e =
-    let P : TokenKind → Type 0 = λ j. on (record { kind = j; text = t.text; place = t.place }) ≡ step s (record { kind = j; text = t.text; place = t.place }) in
-    same_step before s t ts (d ∙ subst P (sym f) (e t.text t.place))
+pub does_at : (ed : Edition) → (before s : State) (on : Lexeme → Move) (end : Option trees.File) (k : TokenKind) (ts : List Lexeme) → Does ed before on end ts → First (Kind k) ts →
+    ((text : List ℕ) (p : Place) → on (record { kind = k; text = text; place = p }) ≡ step ed s (record { kind = k; text = text; place = p })) → run ed 250 before ts ≡ run ed 250 s ts
+does_at ed before s on end k [] d f e = absurd f
+does_at ed before s on end k (t ∷ ts) d f e =
+    let P : TokenKind → Type 0 = λ j. on (record { kind = j; text = t.text; place = t.place }) ≡ step ed s (record { kind = j; text = t.text; place = t.place }) in
+    same_step ed before s t ts (d ∙ subst P (sym f) (e t.text t.place))
 
 -- and with any
-pub does_as : (before s : State) (on : Lexeme → Move) (end : Option trees.File) (ts : List Lexeme) → Does before on end ts → Does s on end ts → run 250 before ts ≡ run 250 s ts
-does_as before s on end [] d e = same_end before s (d ∙ sym e)
-does_as before s on end (t ∷ ts) d e = same_step before s t ts (d ∙ sym e)
+pub does_as : (ed : Edition) → (before s : State) (on : Lexeme → Move) (end : Option trees.File) (ts : List Lexeme) → Does ed before on end ts → Does ed s on end ts → run ed 250 before ts ≡ run ed 250 s ts
+does_as ed before s on end [] d e = same_end ed before s (d ∙ sym e)
+does_as ed before s on end (t ∷ ts) d e = same_step ed before s t ts (d ∙ sym e)
 
-pub does_refuse : (before : State) (on : Lexeme → Move) (x : Expected) (ts : List Lexeme) → Does before (λ t. Fail x) None ts → run 250 before ts ≡ Refused (fault_of x ts) ts
-does_refuse before on x [] d = end_refuses before d
-does_refuse before on x (t ∷ ts) d = refuses before x t ts d
+pub does_refuse : (ed : Edition) → (before : State) (on : Lexeme → Move) (x : Expected) (ts : List Lexeme) → Does ed before (λ t. Fail x) None ts → run ed 250 before ts ≡ Refused (fault_of x ts) ts
+does_refuse ed before on x [] d = end_refuses ed before d
+does_refuse ed before on x (t ∷ ts) d = refuses ed before x t ts d
 
-module _ (m : machine.Position) (h : Bool) (l : ℕ) (next : trees.Simple → State) (alone : trees.Expr → State) (range : trees.Name → trees.Expr → State) where
+module _ (ed : Edition) (m : machine.Position) (h : Bool) (l : ℕ) (next : trees.Simple → State) (alone : trees.Expr → State) (range : trees.Name → trees.Expr → State) where
   pub lefts_comma : (front : List trees.Expr) (ts : List Lexeme) → 1 ≤ length front → First (Kind comma) ts →
-      run 250 (lefts m h l front next alone range) ts ≡ run 250 (token comma 0 another (λ _. expr 5 h l an_operand (λ e. lefts m h l (front ++ e ∷ []) next alone range))) ts
+      run ed 250 (lefts m h l front next alone range) ts ≡ run ed 250 (token comma 0 another (λ _. expr 5 h l an_operand (λ e. lefts m h l (front ++ e ∷ []) next alone range))) ts
   lefts_comma [] ts le f = absurd (omega arith)
-  lefts_comma (e ∷ []) ts le f = same_at _ _ comma ts f (λ text p. refl)
-  lefts_comma (e ∷ d ∷ es) ts le f = same_at _ _ comma ts f (λ text p. refl)
+  lefts_comma (e ∷ []) ts le f = same_at ed _ _ comma ts f (λ text p. refl)
+  lefts_comma (e ∷ d ∷ es) ts le f = same_at ed _ _ comma ts f (λ text p. refl)
 
   pub lefts_assign : (front : List trees.Expr) (ts : List Lexeme) → 1 ≤ length front → First (Kind assign) ts →
-      run 250 (lefts m h l front next alone range) ts ≡ run 250 (token assign 0 another (λ _. expr 5 h l a_value (λ e. more_exprs h l (e ∷ []) (λ es. next (trees.assignment (trees.pack front) (trees.pack es)))))) ts
+      run ed 250 (lefts m h l front next alone range) ts ≡ run ed 250 (token assign 0 another (λ _. expr 5 h l a_value (λ e. more_exprs h l (e ∷ []) (λ es. next (trees.assignment (trees.pack front) (trees.pack es)))))) ts
   lefts_assign [] ts le f = absurd (omega arith)
-  lefts_assign (e ∷ []) ts le f = same_at _ _ assign ts f (λ text p. refl)
-  lefts_assign (e ∷ d ∷ es) ts le f = same_at _ _ assign ts f (λ text p. refl)
+  lefts_assign (e ∷ []) ts le f = same_at ed _ _ assign ts f (λ text p. refl)
+  lefts_assign (e ∷ d ∷ es) ts le f = same_at ed _ _ assign ts f (λ text p. refl)
 
   define_takes : (t : Lexeme) (other : Move) (o : Option (List trees.Name)) (ns : List trees.Name) → same define t.kind ≡ true → may_define m ≡ true → o ≡ Some ns → on_define m h l next range t other o ≡ Take 0 (behind_define m h l ns next range)
   define_takes t other o ns d may e =
@@ -80,10 +81,10 @@ module _ (m : machine.Position) (h : Bool) (l : ℕ) (next : trees.Simple → St
       ∙ ap (λ b. cond b (Take 0 (behind_define m h l ns next range)) other) may
 
   pub lefts_define : (front : List trees.Expr) (ns : List trees.Name) (ts : List Lexeme) → 1 ≤ length front → First (Kind define) ts → may_define m ≡ true → names_if front ≡ Some ns →
-      run 250 (lefts m h l front next alone range) ts ≡ run 250 (token define 0 another (λ _. behind_define m h l ns next range)) ts
+      run ed 250 (lefts m h l front next alone range) ts ≡ run ed 250 (token define 0 another (λ _. behind_define m h l ns next range)) ts
   lefts_define [] ns ts le f may e = absurd (omega arith)
-  lefts_define (a ∷ []) ns ts le f may e = same_at _ _ define ts f (λ text p. define_takes (record { kind = define; text = text; place = p }) _ (names_if (a ∷ [])) ns refl may e)
-  lefts_define (a ∷ b ∷ es) ns ts le f may e = same_at _ _ define ts f (λ text p. define_takes (record { kind = define; text = text; place = p }) _ (names_if (a ∷ b ∷ es)) ns refl may e)
+  lefts_define (a ∷ []) ns ts le f may e = same_at ed _ _ define ts f (λ text p. define_takes (record { kind = define; text = text; place = p }) _ (names_if (a ∷ [])) ns refl may e)
+  lefts_define (a ∷ b ∷ es) ns ts le f may e = same_at ed _ _ define ts f (λ text p. define_takes (record { kind = define; text = text; place = p }) _ (names_if (a ∷ b ∷ es)) ns refl may e)
 
   not_both : (b c : Bool) (x y : Move) → (b ≡ true → c ≡ true → ⊥) → cond (b && c) x y ≡ y
   not_both true true x y never = absurd (never refl refl)
@@ -96,66 +97,66 @@ module _ (m : machine.Position) (h : Bool) (l : ℕ) (next : trees.Simple → St
 
   -- one left side, behind which neither another nor `=` nor a short variable declaration comes
   pub lefts_one : (e : trees.Expr) (ts : List Lexeme) → (First (Kind comma) ts → ⊥) → (First (Kind assign) ts → ⊥) → (First (Kind define) ts → may_define m ≡ true → names_if (e ∷ []) ≡ None) →
-      Does (lefts m h l (e ∷ []) next alone range) (on_one m h l e next alone) (at_one e next) ts
+      Does ed (lefts m h l (e ∷ []) next alone range) (on_one ed m h l e next alone) (at_one e next) ts
   lefts_one e [] c a d = refl
   lefts_one e (t ∷ ts) c a d =
       passed comma t _ _ c ∙ passed assign t _ _ a ∙ not_defined t _ (names_if (e ∷ [])) (λ b may. d (are_same define t.kind b) may)
 
   pub lefts_refused : (front : List trees.Expr) (ts : List Lexeme) → 2 ≤ length front → (First (Kind comma) ts → ⊥) → (First (Kind assign) ts → ⊥) → (First (Kind define) ts → may_define m ≡ true → names_if front ≡ None) →
-      run 250 (lefts m h l front next alone range) ts ≡ Refused (fault_of another ts) ts
+      run ed 250 (lefts m h l front next alone range) ts ≡ Refused (fault_of another ts) ts
   lefts_refused [] ts le c a d = absurd (omega arith)
   lefts_refused (e ∷ []) ts le c a d = absurd (omega arith)
-  lefts_refused (e ∷ f ∷ es) [] le c a d = end_refuses _ refl
+  lefts_refused (e ∷ f ∷ es) [] le c a d = end_refuses ed _ refl
   lefts_refused (e ∷ f ∷ es) (t ∷ ts) le c a d =
-      refuses _ another t ts (passed comma t _ _ c ∙ passed assign t _ _ a ∙ not_defined t _ (names_if (e ∷ f ∷ es)) (λ b may. d (are_same define t.kind b) may))
+      refuses ed _ another t ts (passed comma t _ _ c ∙ passed assign t _ _ a ∙ not_defined t _ (names_if (e ∷ f ∷ es)) (λ b may. d (are_same define t.kind b) may))
 
 -- behind `:=`
-module _ (l : ℕ) (next : trees.Simple → State) (range : trees.Name → trees.Expr → State) (ts : List Lexeme) where
+module _ (ed : Edition) (l : ℕ) (next : trees.Simple → State) (range : trees.Name → trees.Expr → State) (ts : List Lexeme) where
   pub define_range : (p : Position) (ns : List trees.Name) (n : trees.Name) → p ≡ position.For → ns ≡ n ∷ [] → First (Kind (keyword keywords.Range)) ts →
-      run 250 (behind_define (position_of p) (is_bare p) l ns next range) ts ≡ run 250 (token (keyword keywords.Range) 0 another (λ _. expr 5 true l an_operand (λ e. range n e))) ts
+      run ed 250 (behind_define (position_of p) (is_bare p) l ns next range) ts ≡ run ed 250 (token (keyword keywords.Range) 0 another (λ _. expr 5 true l an_operand (λ e. range n e))) ts
   define_range p ns n e f first =
-      ap (λ q. run 250 (behind_define (position_of q) (is_bare q) l ns next range) ts) e
-      ∙ ap (λ xs. run 250 (behind_define machine.in_for true l xs next range) ts) f
-      ∙ optional_some (keyword keywords.Range) 0 another _ _ ts first
+      ap (λ q. run ed 250 (behind_define (position_of q) (is_bare q) l ns next range) ts) e
+      ∙ ap (λ xs. run ed 250 (behind_define machine.in_for true l xs next range) ts) f
+      ∙ optional_some ed (keyword keywords.Range) 0 another _ _ ts first
 
   pub define_values : (p : Position) (ns : List trees.Name) → ((p ≡ position.For) × (length ns ≡ 1) × First (Kind (keyword keywords.Range)) ts → ⊥) →
-      run 250 (behind_define (position_of p) (is_bare p) l ns next range) ts ≡ run 250 (short_var_decl_values (is_bare p) l ns next) ts
+      run ed 250 (behind_define (position_of p) (is_bare p) l ns next range) ts ≡ run ed 250 (short_var_decl_values (is_bare p) l ns next) ts
   define_values position.For [] never = refl
-  define_values position.For (n ∷ []) never = optional_none (keyword keywords.Range) 0 _ _ ts (λ f. never (refl, refl, f))
+  define_values position.For (n ∷ []) never = optional_none ed (keyword keywords.Range) 0 _ _ ts (λ f. never (refl, refl, f))
   define_values position.For (n ∷ k ∷ ns) never = refl
   define_values position.List ns never = refl
   define_values position.Header ns never = refl
   define_values position.Turns ns never = refl
 
 -- behind one left side
-module _ (m : machine.Position) (h : Bool) (l : ℕ) (e : trees.Expr) (next : trees.Simple → State) (alone : trees.Expr → State) (before : State) where
+module _ (ed : Edition) (m : machine.Position) (h : Bool) (l : ℕ) (e : trees.Expr) (next : trees.Simple → State) (alone : trees.Expr → State) (before : State) where
   -- an assignment by an operator
-  pub by_operator : (op : BinaryOperator) (ts : List Lexeme) → Does before (on_one m h l e next alone) (at_one e next) ts →
+  pub by_operator : (op : BinaryOperator) (ts : List Lexeme) → Does ed before (on_one ed m h l e next alone) (at_one e next) ts →
       (First (Kind (kinds.Punctuation marks.Increment)) ts → ⊥) → (First (Kind (kinds.Punctuation marks.Decrement)) ts → ⊥) → assigned (first_kind ts) ≡ Some op →
-      (k : TokenKind) × First (Kind k) ts × (run 250 before ts ≡ run 250 (token k 0 another (λ _. expr 5 h l an_operand (λ r. next (trees.operator_assignment op e r)))) ts)
+      (k : TokenKind) × First (Kind k) ts × (run ed 250 before ts ≡ run ed 250 (token k 0 another (λ _. expr 5 h l an_operand (λ r. next (trees.operator_assignment op e r)))) ts)
   by_operator op [] does i d q = absurd (none_some q)
   by_operator op (t ∷ ts) does i d q = (
     t.kind,
     refl,
-    same_step before _ t ts (does
+    same_step ed before _ t ts (does
         ∙ passed (kinds.Punctuation marks.Increment) t _ _ i ∙ passed (kinds.Punctuation marks.Decrement) t _ _ d
-        ∙ ap (on_assignment h l e next (on_alone m e next alone t)) q
+        ∙ ap (on_assignment h l e next (on_alone ed m e next alone t)) q
         ∙ sym (chosen t.kind t _ _ refl)),
   )
 
-  pub by_none : (ts : List Lexeme) → Does before (on_one m h l e next alone) (at_one e next) ts →
+  pub by_none : (ts : List Lexeme) → Does ed before (on_one ed m h l e next alone) (at_one e next) ts →
       (First (Kind (kinds.Punctuation marks.Increment)) ts → ⊥) → (First (Kind (kinds.Punctuation marks.Decrement)) ts → ⊥) → assigned (first_kind ts) ≡ None →
-      Does before (on_alone m e next alone) (at_one e next) ts
+      Does ed before (on_alone ed m e next alone) (at_one e next) ts
   by_none [] does i d q = does
   by_none (t ∷ ts) does i d q =
       does ∙ passed (kinds.Punctuation marks.Increment) t _ _ i ∙ passed (kinds.Punctuation marks.Decrement) t _ _ d
-      ∙ ap (on_assignment h l e next (on_alone m e next alone t)) q
+      ∙ ap (on_assignment h l e next (on_alone ed m e next alone t)) q
 
   -- an expression in front of a block, a call, and another
-  pub by_block : (ts : List Lexeme) → Does before (on_alone m e next alone) (at_one e next) ts → is_header m ≡ true → First (Kind opening_brace) ts → run 250 before ts ≡ run 250 (alone e) ts
+  pub by_block : (ts : List Lexeme) → Does ed before (on_alone ed m e next alone) (at_one e next) ts → is_header m ≡ true → First (Kind opening_brace) ts → run ed 250 before ts ≡ run ed 250 (alone e) ts
   by_block [] does i f = absurd f
-  by_block (t ∷ ts) does i f = same_step before (alone e) t ts (does
-      ∙ ap (λ b. cond (b && same opening_brace t.kind) (step (alone e) t) (cond (is_call e) (step (next (trees.call_statement e)) t) (Fail (behind_left m e)))) i ∙ chosen opening_brace t _ _ f)
+  by_block (t ∷ ts) does i f = same_step ed before (alone e) t ts (does
+      ∙ ap (λ b. cond (b && same opening_brace t.kind) (step ed (alone e) t) (cond (is_call e) (step ed (next (trees.call_statement e)) t) (Fail (behind_left m e)))) i ∙ chosen opening_brace t _ _ f)
 
   not_block : (t : Lexeme) (x y : Move) → ((is_header m ≡ true) × Kind opening_brace t → ⊥) → cond (is_header m && same opening_brace t.kind) x y ≡ y
   not_block t x y never = both (is_header m) (same opening_brace t.kind) (λ a b. never (a, are_same opening_brace t.kind b))
@@ -165,17 +166,17 @@ module _ (m : machine.Position) (h : Bool) (l : ℕ) (e : trees.Expr) (next : tr
       both true false h = refl
       both false c h = refl
 
-  pub by_call : (ts : List Lexeme) → Does before (on_alone m e next alone) (at_one e next) ts → ((is_header m ≡ true) × First (Kind opening_brace) ts → ⊥) → is_call e ≡ true →
-      run 250 before ts ≡ run 250 (next (trees.call_statement e)) ts
-  by_call [] does never c = same_end before (next (trees.call_statement e)) (does ∙ ap (λ b. final_if b (final (next (trees.call_statement e)))) c)
-  by_call (t ∷ ts) does never c = same_step before (next (trees.call_statement e)) t ts (does ∙ not_block t _ _ never
-      ∙ ap (λ b. cond b (step (next (trees.call_statement e)) t) (Fail (behind_left m e))) c)
+  pub by_call : (ts : List Lexeme) → Does ed before (on_alone ed m e next alone) (at_one e next) ts → ((is_header m ≡ true) × First (Kind opening_brace) ts → ⊥) → is_call e ≡ true →
+      run ed 250 before ts ≡ run ed 250 (next (trees.call_statement e)) ts
+  by_call [] does never c = same_end ed before (next (trees.call_statement e)) (does ∙ ap (λ b. final_if b (final (next (trees.call_statement e)))) c)
+  by_call (t ∷ ts) does never c = same_step ed before (next (trees.call_statement e)) t ts (does ∙ not_block t _ _ never
+      ∙ ap (λ b. cond b (step ed (next (trees.call_statement e)) t) (Fail (behind_left m e))) c)
 
-  pub by_other : (ts : List Lexeme) → Does before (on_alone m e next alone) (at_one e next) ts → ((is_header m ≡ true) × First (Kind opening_brace) ts → ⊥) → is_call e ≡ false →
-      run 250 before ts ≡ Refused (fault_of (behind_left m e) ts) ts
-  by_other [] does never c = end_refuses before (does ∙ ap (λ b. final_if b (final (next (trees.call_statement e)))) c)
-  by_other (t ∷ ts) does never c = refuses before (behind_left m e) t ts (does ∙ not_block t _ _ never
-      ∙ ap (λ b. cond b (step (next (trees.call_statement e)) t) (Fail (behind_left m e))) c)
+  pub by_other : (ts : List Lexeme) → Does ed before (on_alone ed m e next alone) (at_one e next) ts → ((is_header m ≡ true) × First (Kind opening_brace) ts → ⊥) → is_call e ≡ false →
+      run ed 250 before ts ≡ Refused (fault_of (behind_left m e) ts) ts
+  by_other [] does never c = end_refuses ed before (does ∙ ap (λ b. final_if b (final (next (trees.call_statement e)))) c)
+  by_other (t ∷ ts) does never c = refuses ed before (behind_left m e) t ts (does ∙ not_block t _ _ never
+      ∙ ap (λ b. cond b (step ed (next (trees.call_statement e)) t) (Fail (behind_left m e))) c)
 
 -- names
 

@@ -1,17 +1,18 @@
 -- How what a function read follows from what its callees read.
-use Rattle.std.proofs.Common.{◌≡◌, Result, Ok, Err, IfOk, IfErr, Option, Some, None, sym, ap, ◌∙◌, subst}
+use Rattle.std.proofs.Common.{◌≡◌, Result, Ok, Err, IfOk, IfErr, sym, ap, ◌∙◌, subst}
 use Rattle.std.specs.Prelude.{IsErrAnd}
 use Rattle.go_ast.specs.Machine.{State, run}
 use Rattle.go_pexpr.specs.declared.parser.Parser.{Parser}
 use Rattle.go_pexpr.specs.declared.parser.Refusal.{Refusal}
 use Rattle.go_pexpr.specs.declared.parser.Refusal.TheVariants.{Memory}
-use Rattle.go_pexpr.specs.Reads.{Reads, Failing, left, either}
+use Rattle.go_pexpr.specs.Reads.{Reads, Failing, left}
 use Rattle.go_pexpr.proofs.Reading as calls
+pub use Rattle.go_pexpr.proofs.Reading.{took, missed}
 use Rattle.go_pexpr.proofs.Reading.{failing}
 
 -- a call that reads on from where the function came, and one that reads all
 pub then_reads : {A : Type 0} {before mid : State} {after : A → State} {old at new : Parser} {r : Result A Refusal} →
-    run 250 before (left old) ≡ run 250 mid (left at) → Reads mid after at r new → Reads before after old r new
+    run old.edition 250 before (left old) ≡ run at.edition 250 mid (left at) → Reads mid after at r new → Reads before after old r new
 then_reads {r = r} went d = calls.then_reads r went d
 
 -- a call that failed at the function's beginning
@@ -21,7 +22,7 @@ fails {r = r} {e = e} d h = failing r e h d.by
 
 -- what was made, where only memory may fail
 pub then_makes : {A : Type 0} {before : State} {after : A → State} {old new : Parser} {r : Result A Refusal} (s : State) →
-    run 250 before (left old) ≡ run 250 s (left new) → IfOk r (λ a. after a ≡ s) → IfErr r (λ e. e ≡ Memory) → Reads before after old r new
+    run old.edition 250 before (left old) ≡ run new.edition 250 s (left new) → IfOk r (λ a. after a ≡ s) → IfErr r (λ e. e ≡ Memory) → Reads before after old r new
 then_makes {r = r} s went made out = calls.then_makes r s went made out
 
 -- memory ran out
@@ -29,17 +30,10 @@ pub no_memory : {A : Type 0} {before : State} {after : A → State} {old new : P
 no_memory {before = before} {old = old} {new = new} {r = r} {e = e} m h = failing r e h (subst (λ z. Failing z before old new) (sym m) tt)
 
 -- what was read leads to what is due behind it
-pub went : {A : Type 0} {before : State} {after : A → State} {old new : Parser} {a : A} → Reads before after old (Ok a) new → run 250 before (left old) ≡ run 250 (after a) (left new)
+pub went : {A : Type 0} {before : State} {after : A → State} {old new : Parser} {a : A} → Reads before after old (Ok a) new → run old.edition 250 before (left old) ≡ run new.edition 250 (after a) (left new)
 went d = d.by
-
--- what there may be was there, or was missing
-pub took : {A : Type 0} {before none : State} {some : A → State} {old new : Parser} {o : Option A} {a : A} → Reads before (either some none) old (Ok o) new → o ≡ Some a → run 250 before (left old) ≡ run 250 (some a) (left new)
-took {none = none} {some = some} {new = new} d is = d.by ∙ ap (λ x. run 250 (either some none x) (left new)) is
-
-pub missed : {A : Type 0} {before none : State} {some : A → State} {old new : Parser} {o : Option A} → Reads before (either some none) old (Ok o) new → o ≡ None → run 250 before (left old) ≡ run 250 none (left new)
-missed {none = none} {some = some} {new = new} d is = d.by ∙ ap (λ x. run 250 (either some none x) (left new)) is
 
 -- what was made is seen as what the state has
 pub then_sees : {A B : Type 0} {before : State} {after : A → State} {old new : Parser} {a : A} (next : B → State) (x y : B) →
-    run 250 before (left old) ≡ run 250 (next x) (left new) → y ≡ x → next y ≡ after a → Reads before after old (Ok a) new
-then_sees {new = new} next x y there e last = record { by = there ∙ ap (λ z. run 250 (next z) (left new)) (sym e) ∙ ap (λ z. run 250 z (left new)) last }
+    run old.edition 250 before (left old) ≡ run new.edition 250 (next x) (left new) → y ≡ x → next y ≡ after a → Reads before after old (Ok a) new
+then_sees {new = new} next x y there e last = record { by = there ∙ ap (λ z. run new.edition 250 (next z) (left new)) (sym e) ∙ ap (λ z. run new.edition 250 z (left new)) last }

@@ -1,10 +1,11 @@
 -- Where one state goes on as another does.
-use Rattle.std.proofs.Common.{◌≡◌, ℕ, true, false, List, [], ◌∷◌, None, refl, sym, ap, ◌∙◌}
+use Rattle.std.proofs.Common.{◌≡◌, ℕ, true, false, List, [], ◌∷◌, refl, sym, ap, ◌∙◌}
+use Rattle.go_text.specs.declared.edition.Edition.{Edition}
 use Rattle.go_scan.specs.declared.token.TokenKind.{TokenKind}
 use Rattle.go_ast.specs.Kinds.{same}
 use Rattle.go_ast.specs.Expected.{Expected}
 use Rattle.go_ast.specs.Grammar.{Lexeme}
-use Rattle.go_ast.specs.Machine.{State, token, optional, Move, Take, Fail, cond, step, final, by_move, at_end, run}
+use Rattle.go_ast.specs.Machine.{State, token, optional, Move, cond, step, final, by_move, at_end, run}
 use Rattle.go_ast.proofs.Same.{is_same, not_same}
 use Rattle.go_pexpr.specs.Reads.{First}
 
@@ -14,28 +15,28 @@ Kind kind t = t.kind ≡ kind
 pub false_true : false ≡ true → ⊥
 false_true e = cc (e)
 
-pub same_step : (s r : State) (t : Lexeme) (ts : List Lexeme) → step s t ≡ step r t → run 250 s (t ∷ ts) ≡ run 250 r (t ∷ ts)
+pub same_step : (ed : Edition) → (s r : State) (t : Lexeme) (ts : List Lexeme) → step ed s t ≡ step ed r t → run ed 250 s (t ∷ ts) ≡ run ed 250 r (t ∷ ts)
 unfolding run
-same_step s r t ts e = ap (by_move 250 (λ q. run 250 q ts) t.kind (t ∷ ts)) e
+same_step ed s r t ts e = ap (by_move 250 (λ q. run ed 250 q ts) t.kind (t ∷ ts)) e
 
-pub same_end : (s r : State) → final s ≡ final r → run 250 s [] ≡ run 250 r []
+pub same_end : (ed : Edition) → (s r : State) → final s ≡ final r → run ed 250 s [] ≡ run ed 250 r []
 unfolding run
-same_end s r e = ap at_end e
+same_end ed s r e = ap at_end e
 
 -- states that do the same with each token
-pub same_state : (s r : State) (ts : List Lexeme) → ((t : Lexeme) → step s t ≡ step r t) → final s ≡ final r → run 250 s ts ≡ run 250 r ts
-same_state s r [] on end = same_end s r end
-same_state s r (t ∷ ts) on end = same_step s r t ts (on t)
+pub same_state : (ed : Edition) → (s r : State) (ts : List Lexeme) → ((t : Lexeme) → step ed s t ≡ step ed r t) → final s ≡ final r → run ed 250 s ts ≡ run ed 250 r ts
+same_state ed s r [] on end = same_end ed s r end
+same_state ed s r (t ∷ ts) on end = same_step ed s r t ts (on t)
 
 -- states that do the same with the first token, as it is such
-pub same_first : (Is : Lexeme → Type 0) (s r : State) (ts : List Lexeme) → First Is ts → ((t : Lexeme) → Is t → step s t ≡ step r t) → run 250 s ts ≡ run 250 r ts
-same_first Is s r [] h on = absurd h
-same_first Is s r (t ∷ ts) h on = same_step s r t ts (on t h)
+pub same_first : (ed : Edition) → (Is : Lexeme → Type 0) (s r : State) (ts : List Lexeme) → First Is ts → ((t : Lexeme) → Is t → step ed s t ≡ step ed r t) → run ed 250 s ts ≡ run ed 250 r ts
+same_first ed Is s r [] h on = absurd h
+same_first ed Is s r (t ∷ ts) h on = same_step ed s r t ts (on t h)
 
 -- and as it isn't
-pub same_other : (Is : Lexeme → Type 0) (s r : State) (ts : List Lexeme) → (First Is ts → ⊥) → ((t : Lexeme) → (Is t → ⊥) → step s t ≡ step r t) → final s ≡ final r → run 250 s ts ≡ run 250 r ts
-same_other Is s r [] never on end = same_end s r end
-same_other Is s r (t ∷ ts) never on end = same_step s r t ts (on t never)
+pub same_other : (ed : Edition) → (Is : Lexeme → Type 0) (s r : State) (ts : List Lexeme) → (First Is ts → ⊥) → ((t : Lexeme) → (Is t → ⊥) → step ed s t ≡ step ed r t) → final s ≡ final r → run ed 250 s ts ≡ run ed 250 r ts
+same_other ed Is s r [] never on end = same_end ed s r end
+same_other ed Is s r (t ∷ ts) never on end = same_step ed s r t ts (on t never)
 
 -- a test that holds, and one that fails
 pub taken_by : (kind : TokenKind) (t : Lexeme) (m other : Move) → Kind kind t → cond (same kind t.kind) m other ≡ m
@@ -45,8 +46,8 @@ pub passed_by : (kind : TokenKind) (t : Lexeme) (m other : Move) → (Kind kind 
 passed_by kind t m other never = ap (λ x. cond x m other) (not_same kind t.kind never)
 
 -- what may be missing is there, or is missing
-pub is_there : (kind : TokenKind) (need : ℕ) (x : Expected) (some : Lexeme → State) (none : State) (ts : List Lexeme) → First (Kind kind) ts → run 250 (optional kind need some none) ts ≡ run 250 (token kind need x some) ts
-is_there kind need x some none ts h = same_first (Kind kind) _ _ ts h (λ t e. taken_by kind t _ _ e ∙ sym (taken_by kind t _ _ e))
+pub is_there : (ed : Edition) → (kind : TokenKind) (need : ℕ) (x : Expected) (some : Lexeme → State) (none : State) (ts : List Lexeme) → First (Kind kind) ts → run ed 250 (optional kind need some none) ts ≡ run ed 250 (token kind need x some) ts
+is_there ed kind need x some none ts h = same_first ed (Kind kind) _ _ ts h (λ t e. taken_by kind t _ _ e ∙ sym (taken_by kind t _ _ e))
 
-pub is_missing : (kind : TokenKind) (need : ℕ) (some : Lexeme → State) (none : State) (ts : List Lexeme) → (First (Kind kind) ts → ⊥) → run 250 (optional kind need some none) ts ≡ run 250 none ts
-is_missing kind need some none ts never = same_other (Kind kind) _ _ ts never (λ t e. passed_by kind t _ _ e) refl
+pub is_missing : (ed : Edition) → (kind : TokenKind) (need : ℕ) (some : Lexeme → State) (none : State) (ts : List Lexeme) → (First (Kind kind) ts → ⊥) → run ed 250 (optional kind need some none) ts ≡ run ed 250 none ts
+is_missing ed kind need some none ts never = same_other ed (Kind kind) _ _ ts never (λ t e. passed_by kind t _ _ e) refl

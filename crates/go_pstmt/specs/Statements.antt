@@ -1,5 +1,6 @@
 -- What is due behind parts of statements, by what was read.
 use Rattle.std.specs.Prelude.{◌≡◌, ℕ, ◌+◌, Bool, true, false, ◌&&◌, List, [], ◌∷◌, Option, Some, None}
+use Rattle.go_text.specs.declared.edition.Edition.{Edition}
 use Rattle.go_scan.specs.declared.token.TokenKind.{TokenKind}
 use Rattle.go_scan.specs.declared.keyword.Keyword.TheVariants as keywords
 use Rattle.go_ast.specs.declared.expression.BinaryOperator.{BinaryOperator}
@@ -47,17 +48,17 @@ assigned None = None
 assigned (Some k) = assignment_of k
 
 -- What a state does with the first of these tokens, or at their end.
-abbrev pub Does : State → (Lexeme → Move) → Option trees.File → List Lexeme → Type 0
-Does s on end [] = final s ≡ end
-Does s on end (t ∷ ts) = step s t ≡ on t
+abbrev pub Does : Edition → State → (Lexeme → Move) → Option trees.File → List Lexeme → Type 0
+Does ed s on end [] = final s ≡ end
+Does ed s on end (t ∷ ts) = step ed s t ≡ on t
 
 -- behind one left side, where neither another nor `=` nor a short variable declaration follows
-abbrev pub on_alone : machine.Position → trees.Expr → (trees.Simple → State) → (trees.Expr → State) → Lexeme → Move
-on_alone m e next alone t =
-    cond (is_header m && same opening_brace t.kind) (step (alone e) t) (cond (is_call e) (step (next (trees.call_statement e)) t) (Fail (behind_left m e)))
+abbrev pub on_alone : Edition → machine.Position → trees.Expr → (trees.Simple → State) → (trees.Expr → State) → Lexeme → Move
+on_alone ed m e next alone t =
+    cond (is_header m && same opening_brace t.kind) (step ed (alone e) t) (cond (is_call e) (step ed (next (trees.call_statement e)) t) (Fail (behind_left m e)))
 
-abbrev pub on_one : machine.Position → Bool → ℕ → trees.Expr → (trees.Simple → State) → (trees.Expr → State) → Lexeme → Move
-on_one m h l e next alone t = on_left h l e next t (on_alone m e next alone t)
+abbrev pub on_one : Edition → machine.Position → Bool → ℕ → trees.Expr → (trees.Simple → State) → (trees.Expr → State) → Lexeme → Move
+on_one ed m h l e next alone t = on_left h l e next t (on_alone ed m e next alone t)
 
 abbrev pub at_one : trees.Expr → (trees.Simple → State) → Option trees.File
 at_one e next = final_if (is_call e) (final (next (trees.call_statement e)))
@@ -65,11 +66,11 @@ at_one e next = final_if (is_call e) (final (next (trees.call_statement e)))
 -- statements
 
 -- One state is behind an item of a list of statements, behind which this is expected; the other is in front of the next item.
-pub record Between (behind : State) (x : expected.Expected) (front : State) : Type 0 where
+pub record Between (ed : Edition) (behind : State) (x : expected.Expected) (front : State) : Type 0 where
   pub ends : final behind ≡ None
-  pub goes_on : (t : Lexeme) → t.kind ≡ semicolon → step behind t ≡ Take 0 front
-  pub closes : (t : Lexeme) → t.kind ≡ closing_brace → step behind t ≡ step front t
-  pub fails : (t : Lexeme) → (t.kind ≡ semicolon → ⊥) → (t.kind ≡ closing_brace → ⊥) → step behind t ≡ Fail x
+  pub goes_on : (t : Lexeme) → t.kind ≡ semicolon → step ed behind t ≡ Take 0 front
+  pub closes : (t : Lexeme) → t.kind ≡ closing_brace → step ed behind t ≡ step ed front t
+  pub fails : (t : Lexeme) → (t.kind ≡ semicolon → ⊥) → (t.kind ≡ closing_brace → ⊥) → step ed behind t ≡ Fail x
 
 -- an item of a list of statements
 abbrev pub on_item : ℕ → (expected.Expected → trees.Stmt → State) → (trees.Stmt → State) → Lexeme → Move

@@ -111,6 +111,8 @@ fn is_call(operand: &Expr) -> bool
         ExprKind::Conversion(_, _) => false,
         ExprKind::Selector(_, _) => false,
         ExprKind::Index(_, _) => false,
+        ExprKind::Cut(_, _, _) => false,
+        ExprKind::Type(_) => false,
         ExprKind::Unary(_, _) => false,
         ExprKind::Binary(_, _, _) => false,
     }
@@ -130,6 +132,8 @@ fn text_of(operand: &Expr) -> Option<&str>
         ExprKind::Conversion(_, _) => None,
         ExprKind::Selector(_, _) => None,
         ExprKind::Index(_, _) => None,
+        ExprKind::Cut(_, _, _) => None,
+        ExprKind::Type(_) => None,
         ExprKind::Call(_, _) => None,
         ExprKind::Unary(_, _) => None,
         ExprKind::Binary(_, _, _) => None,
@@ -310,7 +314,7 @@ fn behind_one(
 ) -> Result<Header, Refusal>
     requires level { level ≤ 252 }
     requires one { length sides.items ≡ 1 }
-    ensures reads { (side : Expr) (before : State) (next : trees.Simple → State) (alone : trees.Expr → State) (range : trees.Name → trees.Expr → State) → sides.items ≡ side ∷ [] → Does before (on_one (position_of position) (is_bare position) level (expr_of side) next alone) (at_one (expr_of side) next) (left parser.old) → Reads before (by_header next alone range) parser.old result parser.new }
+    ensures reads { (side : Expr) (before : State) (next : trees.Simple → State) (alone : trees.Expr → State) (range : trees.Name → trees.Expr → State) → sides.items ≡ side ∷ [] → Does parser.old.edition before (on_one parser.old.edition (position_of position) (is_bare position) level (expr_of side) next alone) (at_one (expr_of side) next) (left parser.old) → Reads before (by_header next alone range) parser.old result parser.new }
     ensures no_longer { OnOk result (size parser.new ≤ size parser.old) }
 {
     if parser.is_next(INCREMENT) {
@@ -336,7 +340,7 @@ fn behind_one(
 ///
 /// `ExpressionStmt = Expression .`
 fn alone(parser: &mut Parser<'_>, position: Position, side: Expr) -> Result<Header, Refusal>
-    ensures reads { (before : State) (next : trees.Simple → State) (alone : trees.Expr → State) (range : trees.Name → trees.Expr → State) → Does before (on_alone (position_of position) (expr_of side) next alone) (at_one (expr_of side) next) (left parser.old) → Reads before (by_header next alone range) parser.old result parser.new }
+    ensures reads { (before : State) (next : trees.Simple → State) (alone : trees.Expr → State) (range : trees.Name → trees.Expr → State) → Does parser.old.edition before (on_alone parser.old.edition (position_of position) (expr_of side) next alone) (at_one (expr_of side) next) (left parser.old) → Reads before (by_header next alone range) parser.old result parser.new }
     ensures no_longer { OnOk result (size parser.new ≤ size parser.old) }
 {
     if opens_block(parser, position) {

@@ -1,5 +1,6 @@
 //! Reads statements.
 ghost use Rattle.std.specs.Prelude.{◌≡◌, ◌<◌, ◌≤◌, ◌+◌, ◌++◌, ◌∷◌, [], List, map, Option, None, OnOk};
+ghost use Rattle.go_text.specs.declared.edition.Edition.{Edition};
 ghost use Rattle.go_ast.specs.Trees as trees;
 ghost use Rattle.go_text.specs.declared.place.Place.{Place};
 ghost use Rattle.go_scan.specs.declared.keyword.Keyword.TheVariants as keywords;
@@ -26,7 +27,7 @@ use go_pexpr::parser::{Parser, Refusal};
 /// Reads what is behind an item of a list of statements: a semicolon, which may be missing before
 /// a brace.
 fn item_end(parser: &mut Parser<'_>, expected: Expected) -> Result<(), Refusal>
-    ensures reads { (behind front : State) → Between behind (expected_of expected) front → Reads behind (λ _. front) parser.old result parser.new }
+    ensures reads { (behind front : State) → Between parser.old.edition behind (expected_of expected) front → Reads behind (λ _. front) parser.old result parser.new }
     ensures no_longer { OnOk result (size parser.new ≤ size parser.old) }
 {
     if parser.is_next(CLOSING_BRACE) {
@@ -65,7 +66,7 @@ pub fn block(parser: &mut Parser<'_>, level: u32) -> Result<Block, Refusal>
 #[cycle(statement)]
 fn item(parser: &mut Parser<'_>, level: u32, statements: &mut Vec<Stmt>) -> Result<(), Refusal>
     requires { level ≤ 251 }
-    ensures reads { (before : State) (next : expected.Expected → List trees.Stmt → State) (front : List trees.Stmt → State) → Does before (on_item level (λ x s. next x (map stmt_of statements.old.items ++ s ∷ [])) (λ s. front (map stmt_of statements.old.items ++ s ∷ []))) None (left parser.old) → ((x : expected.Expected) (ss : List trees.Stmt) → Between (next x ss) x (front ss)) → Reads before (λ _. front (map stmt_of statements.new.items)) parser.old result parser.new }
+    ensures reads { (before : State) (next : expected.Expected → List trees.Stmt → State) (front : List trees.Stmt → State) → Does parser.old.edition before (on_item level (λ x s. next x (map stmt_of statements.old.items ++ s ∷ [])) (λ s. front (map stmt_of statements.old.items ++ s ∷ []))) None (left parser.old) → ((ed : Edition) (x : expected.Expected) (ss : List trees.Stmt) → Between ed (next x ss) x (front ss)) → Reads before (λ _. front (map stmt_of statements.new.items)) parser.old result parser.new }
     ensures shorter { OnOk result (size parser.new < size parser.old) }
 {
     if parser.is_next(SEMICOLON) {

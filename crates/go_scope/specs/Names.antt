@@ -1,6 +1,6 @@
 -- Which names types and expressions use. They bind none, so that each is looked up where the form stands.
 use Rattle.std.specs.Prelude.{ℕ, Bool, true, false, List, [], ◌∷◌, ◌++◌}
-use Rattle.go_ast.specs.Trees.{TypeExpr, named, qualified, array, struct, Fields, no_fields, field, Expr, name, integer, rune, string, parenthesized, composite_lit, conversion, selector, index, call, unary, binary, Exprs, no_exprs, some_exprs, Elements, no_elements, element, Element, expression_element, value_element}
+use Rattle.go_ast.specs.Trees.{TypeExpr, named, qualified, array, slice, struct, Fields, no_fields, field, Expr, name, integer, rune, string, parenthesized, composite_lit, conversion, selector, index, cut, Bound, no_bound, bound, call, type_operand, unary, binary, Exprs, no_exprs, some_exprs, Elements, no_elements, element, Element, expression_element, value_element}
 use Rattle.go_scope.specs.declared.names.UsedName.{UsedName}
 
 -- the text of a name that is used, and whether a dot follows it
@@ -12,6 +12,7 @@ abbrev mutual
   in_type (named p n) = (n.text, false) ∷ []
   in_type (qualified p m n) = (m.text, true) ∷ []
   in_type (array p e t) = in_expr false e ++ in_type t
+  in_type (slice p t) = in_type t
   in_type (struct p fields) = in_fields fields
 
   pub in_fields : Fields → List Used
@@ -29,9 +30,15 @@ abbrev mutual
   in_expr dotted (conversion p t e) = in_type t ++ in_expr false e
   in_expr dotted (selector p e n) = in_expr true e
   in_expr dotted (index p e i) = in_expr false e ++ in_expr false i
+  in_expr dotted (cut p e a b) = in_expr false e ++ in_bound a ++ in_bound b
+  in_expr dotted (type_operand p t) = in_type t
   in_expr dotted (call p f es) = in_expr false f ++ in_exprs es
   in_expr dotted (unary p op e) = in_expr false e
   in_expr dotted (binary p op a b) = in_expr false a ++ in_expr false b
+
+  pub in_bound : Bound → List Used
+  in_bound no_bound = []
+  in_bound (bound e) = in_expr false e
 
   pub in_exprs : Exprs → List Used
   in_exprs no_exprs = []

@@ -1,10 +1,10 @@
 //! Which names types and expressions use.
 ghost use Rattle.std.specs.Prelude.{◌≡◌, ◌++◌, ◌∷◌, [], map, false, OnOk};
 ghost use Rattle.go_ast.specs.Trees.{pack_elements, pack_fields};
-ghost use Rattle.go_ast.specs.Views.{type_of, expr_of, exprs_in, value_of, element_of, field_of};
-ghost use Rattle.go_scope.specs.Names.{in_type, in_fields, in_expr, in_exprs, in_elements, in_element, used};
+ghost use Rattle.go_ast.specs.Views.{type_of, bound_of, expr_of, exprs_in, value_of, element_of, field_of};
+ghost use Rattle.go_scope.specs.Names.{in_type, in_fields, in_expr, in_bound, in_exprs, in_elements, in_element, used};
 
-use go_ast::expression::{Element, ElementValue, Expr, ExprKind, Field, TypeExpr, TypeKind};
+use go_ast::expression::{Bound, Element, ElementValue, Expr, ExprKind, Field, TypeExpr, TypeKind};
 use std::alloc::AllocError;
 
 /// A name that a form uses: its text, and whether a dot follows it.
@@ -30,6 +30,7 @@ pub fn add_type_names<'a>(t: &'a TypeExpr, names: &mut Vec<UsedName<'a>>) -> Res
             add_operand_names(length, false, names)?;
             add_type_names(item, names)
         }
+        TypeKind::Slice(item) => add_type_names(item, names),
         TypeKind::Struct(fields) => add_field_names(fields, names),
     }
 }
@@ -69,6 +70,12 @@ fn add_operand_names<'a>(
             add_operand_names(operand, false, names)?;
             add_operand_names(index, false, names)
         }
+        ExprKind::Cut(operand, low, high) => {
+            add_operand_names(operand, false, names)?;
+            add_bound_names(low, names)?;
+            add_bound_names(high, names)
+        }
+        ExprKind::Type(of) => add_type_names(of, names),
         ExprKind::Call(callee, arguments) => {
             add_operand_names(callee, false, names)?;
             add_all_names(arguments, names)
@@ -78,6 +85,16 @@ fn add_operand_names<'a>(
             add_operand_names(left, false, names)?;
             add_operand_names(right, false, names)
         }
+    }
+}
+
+#[cycle(names)]
+fn add_bound_names<'a>(bound: &'a Bound, names: &mut Vec<UsedName<'a>>) -> Result<(), AllocError>
+    ensures { OnOk result (map used names.new.items ≡ map used names.old.items ++ in_bound (bound_of bound.now)) }
+{
+    match bound {
+        Bound::Open => Ok(()),
+        Bound::At(e) => add_operand_names(e, false, names),
     }
 }
 

@@ -11,9 +11,9 @@ use Rattle.go_const.specs.declared.operator.ComparisonOperator.TheVariants.{Equa
 use Rattle.go_types.specs.Types.{Type', array}
 use Rattle.go_types.specs.Relations.{underlying, assignable}
 use Rattle.go_typed.specs.declared.expression.Operator.TheVariants.{Arithmetic, Shift}
-use Rattle.go_typed.specs.Trees.{Symbol, Expr, constant, local, global, field, index, binary, call, expr_type, Exprs, no_exprs, Steps, here, to_field, to_element, Left, blank, of_local, of_global, Source, each, results, zeros, Stmt, define, assign, update, run, print, panic, if_statement, for_statement, range_statement, switch_statement, Stmts, return, pack_exprs, pack_stmts, pack_clauses}
+use Rattle.go_typed.specs.Trees.{Symbol, Expr, constant, local, global, field, index, binary, call, expr_type, Exprs, no_exprs, Steps, here, to_field, to_element, Left, blank, of_local, of_global, of_slice, Source, each, results, zeros, Stmt, define, assign, update, run, print, panic, if_statement, for_statement, range_statement, switch_statement, Stmts, return, pack_exprs, pack_stmts, pack_clauses}
 use Rattle.go_expr.specs.Known.{Declared, value, Known, declared, results as call_results, printed, panicked, Verdict, Fine, Breaks, Passed}
-use Rattle.go_expr.specs.Rules.{checked, constant_in, each_unless, least, wrong, value_due, is_integer, assigned, defaulted, as_type, condition, operand_type, binary_of}
+use Rattle.go_expr.specs.Rules.{checked, constant_in, each_unless, least, wrong, value_due, is_integer, slice_element, assigned, defaulted, as_type, condition, operand_type, binary_of}
 use Rattle.go_expr.specs.Verdicts.{asked}
 use Rattle.go_scope.specs.Scopes.{is_blank}
 use Rattle.go_typed.specs.Terminating.{list_terminates}
@@ -125,12 +125,14 @@ performed k = Breaks Mismatch
 abbrev pub is_array : Type' → Bool
 is_array t = elim (underlying t) [ array n u ↦ true | _ ↦ false ]
 
--- the part of a variable that an expression names, in front of some steps
+-- the part of a variable, or of a slice, that an expression names, in front of some steps
 abbrev pub left_to : Steps → Expr → Option Left
 left_to ss (local t n) = Some (of_local t n ss)
 left_to ss (global t x) = Some (of_global t x ss)
 left_to ss (field t e n) = left_to (to_field n ss) e
-left_to ss (index t e i) = if is_array (expr_type e) then left_to (to_element i ss) e else None
+left_to ss (index t e i) =
+    if is_array (expr_type e) then left_to (to_element i ss) e
+    else (if is_some (slice_element (expr_type e)) then Some (of_slice (expr_type e) e (to_element i ss)) else None)
 left_to ss e = None
 
 abbrev pub left_side : Option Expr → Option Left

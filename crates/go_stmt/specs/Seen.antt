@@ -50,7 +50,7 @@ env_of env = record {
 abbrev pub context_of : contexts.Context → Context
 context_of c = record {
   path = c.path.now;
-  outside = λ iota. names_in c.imports.now c.declared.now iota;
+  outside = λ iota. names_in c.edition c.imports.now c.declared.now iota;
   results = option_map (λ ts. map type_of ts.now) c.results;
   breaks = c.breaks;
   continues = c.continues;

@@ -11,6 +11,7 @@ ghost use Rattle.go_stmt.specs.Seen.{context_of, trees_in};
 use go_ast::statement::Stmt;
 use go_expr::known::Names;
 use go_expr::scope::{Import, Scope};
+use go_text::edition::Edition;
 use go_types::types::GoType;
 
 /// Where a statement stands: in a package and a file, in a function, and in statements in which a
@@ -19,6 +20,8 @@ use go_types::types::GoType;
 pub(crate) struct Context<'a> {
     /// The path of the package.
     pub(crate) path: &'a str,
+    /// Its edition.
+    pub(crate) edition: Edition,
     /// What the imports of the file declare.
     pub(crate) imports: &'a [Import<'a>],
     /// What the package declares.
@@ -38,7 +41,7 @@ impl<'a> Context<'a> {
     pub(crate) fn outside(self) -> Scope<'a>
         ensures { scope_of result ≡ scope_in (context_of self.entry) None nothing }
     {
-        Scope::new(self.path, self.imports, self.declared, None)
+        Scope::new(self.path, self.edition, self.imports, self.declared, None)
     }
 
     /// In a function with these results, where they are known.

@@ -53,6 +53,7 @@ impl Env {
     {
         Scope::in_blocks(
             context.path,
+            context.edition,
             context.imports,
             context.declared,
             iota,

@@ -26,6 +26,7 @@ use go_expr::error::ExprError;
 use go_expr::expression::check_type;
 use go_expr::known::Names;
 use go_expr::scope::Import;
+use go_text::edition::Edition;
 use go_text::fault::FaultKind;
 use go_text::place::Place;
 use go_typed::package::TypedFunction;
@@ -239,18 +240,19 @@ fn function_of(
 }
 
 /// A function by its parameters, its results and its body, or the first fault in them. The imports of
-/// its file and what the package declares stand round it.
+/// its file and what the package of an edition declares stand round it.
 #[tactic(auto, unfolding(crate::specs::Functions::function_at))]
 pub fn check_body<'a>(
     alloc: Global,
     path: &'a str,
+    edition: Edition,
     imports: &'a [Import<'a>],
     declared: &'a Names,
     function: &Function,
 ) -> Result<Option<TypedFunction>, ExprError>
     ensures { Answered typed_function result (function_at (record {
       path = path.now;
-      outside = λ iota. names_in imports.now declared.now iota;
+      outside = λ iota. names_in edition imports.now declared.now iota;
       results = None;
       breaks = false;
       continues = false;
@@ -259,6 +261,7 @@ pub fn check_body<'a>(
 {
     let context = Context {
         path,
+        edition,
         imports,
         declared,
         results: None,

@@ -26,6 +26,7 @@ use go_expr::error::{ExprError, RuleError};
 use go_expr::expression::check_expr;
 use go_expr::known::Known;
 use go_expr::node::{constant, type_in};
+use go_expr::slice::slice_element;
 use go_expr::value::is_integer;
 use go_text::fault::FaultKind;
 use go_text::place::Place;
@@ -90,7 +91,7 @@ fn is_array(of: &GoType) -> bool
     matches!(underlying(of), GoType::Array(_, _))
 }
 
-/// Whether a value names a part of a variable, and no byte of a string.
+/// Whether a value names a part of a variable or of a slice, and no byte of a string.
 #[tactic(auto, unfolding(go_typed::specs::Views::expr_of))]
 pub(crate) fn is_left(value: &TypedExpr) -> bool
     ensures { result ≡ is_left (expr_of value.now) }
@@ -98,13 +99,18 @@ pub(crate) fn is_left(value: &TypedExpr) -> bool
     match &value.kind {
         TypedExprKind::Local(_) | TypedExprKind::Global(_) => true,
         TypedExprKind::Field(operand, _) => is_left(operand),
-        TypedExprKind::Index(operand, _) => is_array(type_in(operand)) && is_left(operand),
+        TypedExprKind::Index(operand, _) => {
+            if is_array(type_in(operand)) {
+                return is_left(operand);
+            }
+            slice_element(type_in(operand)).is_some()
+        }
         _ => false,
     }
 }
 
-/// The part of a variable that a value names, in front of some steps, of which the last is the
-/// outermost; `None` where it names none.
+/// The part of a variable or of a slice that a value names, in front of some steps, of which the last
+/// is the outermost; `None` where it names none.
 #[tactic(auto, unfolding(go_typed::specs::Views::expr_of))]
 fn left_to(value: TypedExpr, steps: Vec<TypedStep>) -> Result<Option<TypedLeft>, AllocError>
     ensures { IfOk result (λ l. option_map left_of l ≡ left_to (steps_in (reverse steps.items)) (expr_of value)) }
@@ -125,11 +131,16 @@ fn left_to(value: TypedExpr, steps: Vec<TypedStep>) -> Result<Option<TypedLeft>,
             left_to(Box::into_inner(operand), steps)
         }
         TypedExprKind::Index(operand, index) => {
-            if !is_array(type_in(&operand)) {
+            let operand = Box::into_inner(operand);
+            steps.push(TypedStep::Element(Box::into_inner(index)))?;
+            if is_array(type_in(&operand)) {
+                return left_to(operand, steps);
+            }
+            if slice_element(type_in(&operand)).is_none() {
                 return Ok(None);
             }
-            steps.push(TypedStep::Element(Box::into_inner(index)))?;
-            left_to(Box::into_inner(operand), steps)
+            steps.reverse();
+            Ok(Some(TypedLeft::Slice(type_in(&operand).copy()?, operand, steps)))
         }
         _ => Ok(None),
     }

@@ -1,8 +1,14 @@
 -- Editions of the language.
-use Rattle.std.specs.Prelude.{ℕ}
+use Rattle.std.specs.Prelude.{ℕ, Bool, true, false}
 use Rattle.go_text.specs.declared.edition.Edition.{Edition}
-use Rattle.go_text.specs.declared.edition.Edition.TheVariants.{One}
+use Rattle.go_text.specs.declared.edition.Edition.TheVariants.{One, Two}
 
 -- editions count from 1
 abbrev pub edition_number : Edition → ℕ
 edition_number One = 1
+edition_number Two = 2
+
+-- slices came with the second
+abbrev pub has_slices : Edition → Bool
+has_slices One = false
+has_slices Two = true

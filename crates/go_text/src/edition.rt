@@ -1,12 +1,14 @@
 //! Editions: which rules of the language hold.
 ghost use Rattle.std.specs.Prelude.{◌≡◌};
-ghost use Rattle.go_text.specs.Editions.{edition_number};
+ghost use Rattle.go_text.specs.Editions.{edition_number, has_slices};
 
 /// An edition of the language.
 #[derive(Clone, Copy, PartialEq, Eq, Debug)]
 pub enum Edition {
     /// The first.
     One,
+    /// The second, which has slices.
+    Two,
 }
 
 impl Edition {
@@ -16,6 +18,17 @@ impl Edition {
     {
         match self {
             Edition::One => 1,
+            Edition::Two => 2,
+        }
+    }
+
+    /// Whether the edition has slices.
+    pub fn has_slices(self) -> bool
+        ensures { result ≡ has_slices self }
+    {
+        match self {
+            Edition::One => false,
+            Edition::Two => true,
         }
     }
 }

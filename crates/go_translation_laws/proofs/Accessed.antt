@@ -1,5 +1,5 @@
 -- The machine follows loads and stores at an offset: of parts of local variables and of package variables.
-use Rattle.std.proofs.Common.{◌≡◌, ℕ, ◌+◌, List, [], ◌∷◌, ◌++◌, length, Some, refl, sym, ap, ◌∙◌, append_assoc, pos}
+use Rattle.std.proofs.Common.{◌≡◌, ℕ, ◌+◌, List, [], ◌∷◌, ◌++◌, length, Some, true, refl, sym, ap, ◌∙◌, subst, append_assoc, pos}
 use Rattle.std.specs.Option.{option_map}
 use Rattle.go_code.specs.declared.cell.Cell.{Cell}
 use Rattle.go_code.specs.declared.cell.Cell.TheVariants.{Int}
@@ -14,11 +14,16 @@ use Rattle.go_code.specs.Machine.{Frame}
 use Rattle.go_code.proofs.Follows.{split_row}
 use Rattle.go_code.proofs.FollowsInside.{local_leads, global_leads}
 use Rattle.go_code.proofs.Stands.{stands_next}
-use Rattle.go_meaning.specs.Meaning.{Stored, World}
+use Rattle.go_types.specs.Types.{Type'}
+use Rattle.go_code.specs.Operators as operators
+use Rattle.go_code.specs.Operators.{Operated}
+use Rattle.go_meaning.specs.Values.{Value, is_of, Step, read, updated}
+use Rattle.go_meaning.specs.Meaning.{Stored, World, given, changed}
 use Rattle.go_gen.specs.Translation.{Places}
 use Rattle.go_translation_laws.proofs.Frames.{read_row, write_row}
-use Rattle.go_translation_laws.proofs.Runs.{held, here, Known, On}
-use Rattle.go_translation_laws.proofs.Addresses.{Has}
+use Rattle.go_translation_laws.proofs.Runs.{Onward, onward_given, held, here, Known, On}
+use Rattle.go_translation_laws.proofs.Steps.{Led, update_panics, update_senseless}
+use Rattle.go_translation_laws.proofs.Addresses.{Has, Reach}
 
 -- ---- what such instructions reach
 
@@ -85,3 +90,16 @@ module _ (image : Image) (final : Final) (depth : ℕ) (code : List (Instr ℕ))
       global_leads image (here image final depth code callers starts p place (front ++ high) ((stack ++ row) ++ Int (pos o) ∷ []) w) _ callers (StoreAt first count) (record { cells = held variables; stack = stack }) final (record { frames = refl; rest = k; stands = s })
       (stores_row (held w.variables) (held variables) first count o row stack long write)
       (on sound few (place + 1) high size (stands_next code place _ k s))
+
+  -- ---- parts
+
+  -- what is behind a value that is read, and behind one that is updated
+  pub reach_given : (P : Value → World → Type 0) (Q : ℕ → Type 0) (of : Type') (ss : List Step) (v : Value) (w : World) (r : Operated Value) → Onward final P (given of r w) → ((x : Value) (o : ℕ) → Led ss v x o → is_of of x ≡ true → P x w → Q o) → Reach image final depth code callers starts p Q ss v w r
+  reach_given P Q of ss v w (operators.Gives x) h f = λ o led. let g = onward_given final P of x w h in f x o led g.0 g.1
+  reach_given P Q of ss v w (operators.Panics kind) h f = h
+  reach_given P Q of ss v w operators.Senseless h f = absurd h
+
+  pub reach_changed : (P : Value → World → Type 0) (Q : ℕ → Type 0) (ss : List Step) (v y : Value) (w : World) (r : Operated Value) → read ss v ≡ r → Onward final P (changed (updated ss v y) w) → ((x : Value) (o : ℕ) (led : Led ss v x o) → P (led.renewed y).new w → Q o) → Reach image final depth code callers starts p Q ss v w r
+  reach_changed P Q ss v y w (operators.Gives x) e h f = λ o led. f x o led (subst (λ r. Onward final P (changed r w)) (led.renewed y).is h)
+  reach_changed P Q ss v y w (operators.Panics kind) e h f = subst (λ r. Onward final P (changed r w)) (update_panics ss v y kind e) h
+  reach_changed P Q ss v y w operators.Senseless e h f = absurd (subst (λ r. Onward final P (changed r w)) (update_senseless ss v y e) h)

@@ -1,7 +1,7 @@
 -- The code of steps comes to the offset of the part that they lead to, or panics as they do, where temporaries hold the indexes.
 use Rattle.std.proofs.Common.{◌≡◌, ℕ, ◌+◌, ◌≤◌, true, List, [], ◌∷◌, ◌++◌, length, Option, Some, None, refl, sym, ap, ◌∙◌, subst, arith, length-append, append_assoc, add-zero, zero-add, ℤ, pos}
 use Rattle.std.specs.Prelude.{⊤}
-use Rattle.go_types.specs.Types.{Type', basic, array, struct, named}
+use Rattle.go_types.specs.Types.{Type', basic, array, slice, struct, named}
 use Rattle.go_types.specs.Relations.{underlying}
 use Rattle.go_types.specs.Sizes.{cells}
 use Rattle.go_code.specs.declared.cell.Cell.{Cell}
@@ -19,14 +19,15 @@ use Rattle.go_code.specs.Machine.{Frame, Leads}
 use Rattle.go_code.specs.Operators as operators
 use Rattle.go_code.specs.Operators.{Operated}
 use Rattle.go_code.specs.Parts.{part, part_cells}
+use Rattle.go_code.specs.Rows.{most_room}
 use Rattle.go_code.proofs.Follows.{push_leads}
 use Rattle.go_code.proofs.FollowsInside.{part_leads, part_panics}
 use Rattle.go_code.proofs.Stands.{stands_next}
 use Rattle.go_typed.specs.Trees as trees
 use Rattle.go_typed.specs.Trees.{Expr}
-use Rattle.go_meaning.specs.Values.{Value, flat, is_of, Step, to_field, to_element, part_of, read, if_gives}
+use Rattle.go_meaning.specs.Values.{Value, single, parts, flat, is_of, Step, to_field, to_element, part_of, read, if_gives}
 use Rattle.go_meaning.specs.Choices.{field_type, element_type}
-use Rattle.go_meaning.specs.Meaning.{World, most_cells}
+use Rattle.go_meaning.specs.Meaning.{World}
 use Rattle.go_gen.specs.Translation.{Places, load, offset, field_offset, or_type, elements_count, expr_temps, steps_code, address_code}
 use Rattle.go_meaning_laws.proofs.Values.{flat_long}
 use Rattle.go_translation_laws.proofs.Shapes.{underlying_cells, underlying_values}
@@ -64,6 +65,11 @@ has_behind first all n at row long h =
     let place : length (first ++ h.before) ≡ n + at = omega (arith, length-append first h.before, h.place, long) in
     record { before = first ++ h.before; after = h.after; is = ap (λ l. first ++ l) h.is ∙ sym (append_assoc first h.before (row ++ h.after)); place = place }
 
+-- rows that are all that differs are as long where the wholes are
+pub same_size : (whole other before x y after : List Cell) → whole ≡ before ++ (x ++ after) → other ≡ before ++ (y ++ after) → length other ≡ length whole → length y ≡ length x
+same_size whole other before x y after a b e =
+    omega (arith, ap length a, ap length b, e, length-append before (x ++ after), length-append x after, length-append before (y ++ after), length-append y after)
+
 -- ---- indexes in their temporaries
 
 -- a row begins with so many cells, behind which there is an index
@@ -99,12 +105,12 @@ module _ (image : Image) (final : Final) (depth : ℕ) (code : List (Instr ℕ))
       (loads image final depth code callers starts p t at count has.before row has.after k m stack w has.place long
       (on_front image final depth code callers starts p t k front (has.before ++ (row ++ has.after)) m (stack ++ row) w has.is on))
 
-  part_goes : (t : ℕ) (i : PartInstr) (row got : List Cell) (k : List (Instr ℕ)) (front : List Cell) (m : ℕ) (stack : List Cell) (w : World) → length row ≡ part_cells i → part i row ≡ operators.Gives got → Onto t k front m (stack ++ got) w → Onto t (On_part i ∷ k) front m (stack ++ row) w
+  pub part_goes : (t : ℕ) (i : PartInstr) (row got : List Cell) (k : List (Instr ℕ)) (front : List Cell) (m : ℕ) (stack : List Cell) (w : World) → length row ≡ part_cells i → part i row ≡ operators.Gives got → Onto t k front m (stack ++ got) w → Onto t (On_part i ∷ k) front m (stack ++ row) w
   part_goes t i row got k front m stack w long e on known few place high size s =
       part_leads image (here image final depth code callers starts p place (front ++ high) (stack ++ row) w) _ callers i stack row got final (record { frames = refl; rest = k; stands = s }) (record { is = refl; long = long }) e
       (on known few (place + 1) high size (stands_next code place _ k s))
 
-  part_stops : (t : ℕ) (i : PartInstr) (row : List Cell) (kind : PanicKind) (k : List (Instr ℕ)) (front : List Cell) (m : ℕ) (stack : List Cell) (w : World) → length row ≡ part_cells i → part i row ≡ operators.Panics kind → final ≡ Ends_with (Panicked kind) w.output → Onto t (On_part i ∷ k) front m (stack ++ row) w
+  pub part_stops : (t : ℕ) (i : PartInstr) (row : List Cell) (kind : PanicKind) (k : List (Instr ℕ)) (front : List Cell) (m : ℕ) (stack : List Cell) (w : World) → length row ≡ part_cells i → part i row ≡ operators.Panics kind → final ≡ Ends_with (Panicked kind) w.output → Onto t (On_part i ∷ k) front m (stack ++ row) w
   part_stops t i row kind k front m stack w long e over known few place high size s =
       subst (Leads image (here image final depth code callers starts p place (front ++ high) (stack ++ row) w)) (sym over)
       (part_panics image (here image final depth code callers starts p place (front ++ high) (stack ++ row) w) _ callers i stack row kind (record { frames = refl; rest = k; stands = s }) (record { is = refl; long = long }) e)
@@ -121,7 +127,7 @@ module _ (image : Image) (final : Final) (depth : ℕ) (code : List (Instr ℕ))
   abbrev pub From : ℕ → List (Instr ℕ) → List Cell → ℕ → List Cell → World → ℕ → List Step → Value → Operated Value → Type 0
   From t k front m stack w base ss v r = Reach (λ o. Onto t k front m (stack ++ Int (pos (base + o)) ∷ []) w) ss v w r
 
-  from_next : (t : ℕ) (k : List (Instr ℕ)) (front : List Cell) (m : ℕ) (stack : List Cell) (w : World) (base : ℕ) (s : Step) (ss : List Step) (u : Type') (v inner : Value) (at : ℕ) → part_of v s ≡ operators.Gives inner → Parted v s u inner at → (r : Operated Value) → From t k front m stack w base (s ∷ ss) v r → From t k front m stack w (base + at) ss inner r
+  pub from_next : (t : ℕ) (k : List (Instr ℕ)) (front : List Cell) (m : ℕ) (stack : List Cell) (w : World) (base : ℕ) (s : Step) (ss : List Step) (u : Type') (v inner : Value) (at : ℕ) → part_of v s ≡ operators.Gives inner → Parted v s u inner at → (r : Operated Value) → From t k front m stack w base (s ∷ ss) v r → From t k front m stack w (base + at) ss inner r
   from_next t k front m stack w base s ss u v inner at e one (operators.Gives x) h = λ o led.
       let same : base + (at + o) ≡ base + at + o = omega arith in
       on_stack image final depth code callers starts p t k front m _ _ w (ap (λ n. stack ++ Int (pos n) ∷ []) same) (h (at + o) (led_next s ss u v inner x at o e one led))
@@ -129,10 +135,10 @@ module _ (image : Image) (final : Final) (depth : ℕ) (code : List (Instr ℕ))
   from_next t k front m stack w base s ss u v inner at e one operators.Senseless h = absurd h
 
   -- one step, by an instruction that finds the part, and then the others
-  step_runs : (t : ℕ) (k : List (Instr ℕ)) (front : List Cell) (m : ℕ) (stack : List Cell) (w : World) (base : ℕ) (s : Step) (ss : List Step) (u : Type') (v : Value) (i : PartInstr) (row : List Cell) (behind : List (Instr ℕ)) → length row ≡ part_cells i → base + length (flat v) ≤ most_cells → ((inner : Value) (base1 : ℕ) → is_of u inner ≡ true → base1 + cells u ≤ most_cells → From t k front m stack w base1 ss inner (read ss inner) → Onto t behind front m (stack ++ Int (pos base1) ∷ []) w) → (o : Operated Value) → part_of v s ≡ o → Finds v s u base (part i row) o → From t k front m stack w base (s ∷ ss) v (if_gives o (read ss)) → Onto t (On_part i ∷ behind) front m (stack ++ row) w
+  step_runs : (t : ℕ) (k : List (Instr ℕ)) (front : List Cell) (m : ℕ) (stack : List Cell) (w : World) (base : ℕ) (s : Step) (ss : List Step) (u : Type') (v : Value) (i : PartInstr) (row : List Cell) (behind : List (Instr ℕ)) → length row ≡ part_cells i → base + length (flat v) ≤ most_room → ((inner : Value) (base1 : ℕ) → is_of u inner ≡ true → base1 + cells u ≤ most_room → From t k front m stack w base1 ss inner (read ss inner) → Onto t behind front m (stack ++ Int (pos base1) ∷ []) w) → (o : Operated Value) → part_of v s ≡ o → Finds v s u base (part i row) o → From t k front m stack w base (s ∷ ss) v (if_gives o (read ss)) → Onto t (On_part i ∷ behind) front m (stack ++ row) w
   step_runs t k front m stack w base s ss u v i row behind long small next (operators.Gives inner) e finds h =
       let at : ℕ = finds.at in
-      let within : base + at + cells u ≤ most_cells = omega (arith, small, part_within v s u inner at finds.parted) in
+      let within : base + at + cells u ≤ most_room = omega (arith, small, part_within v s u inner at finds.parted) in
       part_goes t i row (Int (pos (base + at)) ∷ []) behind front m stack w long finds.got_is
       (next inner (base + at) finds.parted.typed within (from_next t k front m stack w base s ss u v inner at e finds.parted (read ss inner) h))
   step_runs t k front m stack w base s ss u v i row behind long small next (operators.Panics kind) e finds h = part_stops t i row kind behind front m stack w long finds h
@@ -142,27 +148,30 @@ module _ (image : Image) (final : Final) (depth : ℕ) (code : List (Instr ℕ))
   abbrev pub StepsRun : trees.Steps → Type 0
   StepsRun q =
       (ss : List Step) (of : Type') (v : Value) (row : List Cell) (base at t : ℕ) (k : List (Instr ℕ)) (front : List Cell) (m : ℕ) (stack : List Cell) (w : World) →
-      Has front at row → Kept of q ss row → is_of of v ≡ true → base + cells of ≤ most_cells → From t k front m stack w base ss v (read ss v) →
+      Has front at row → Kept of q ss row → is_of of v ≡ true → base + cells of ≤ most_room → From t k front m stack w base ss v (read ss v) →
       Onto t (steps_code of at q ++ k) front m (stack ++ Int (pos base) ∷ []) w
 
-  field_step : (n : ℕ) (q : trees.Steps) → StepsRun q → (s : Type') (ss : List Step) (of : Type') (v : Value) (row : List Cell) (base at t : ℕ) (k : List (Instr ℕ)) (front : List Cell) (m : ℕ) (stack : List Cell) (w : World) → Has front at row → (o : Option Type') → field_type s n ≡ o → WithType o (λ u. Kept u q ss row) → is_of s v ≡ true → base + cells s ≤ most_cells → From t k front m stack w base (to_field n ∷ ss) v (read (to_field n ∷ ss) v) → Onto t (On_part (Move (offset s n)) ∷ (steps_code (or_type of o) at q ++ k)) front m (stack ++ Int (pos base) ∷ []) w
+  field_step : (n : ℕ) (q : trees.Steps) → StepsRun q → (s : Type') (ss : List Step) (of : Type') (v : Value) (row : List Cell) (base at t : ℕ) (k : List (Instr ℕ)) (front : List Cell) (m : ℕ) (stack : List Cell) (w : World) → Has front at row → (o : Option Type') → field_type s n ≡ o → WithType o (λ u. Kept u q ss row) → is_of s v ≡ true → base + cells s ≤ most_room → From t k front m stack w base (to_field n ∷ ss) v (read (to_field n ∷ ss) v) → Onto t (On_part (Move (offset s n)) ∷ (steps_code (or_type of o) at q ++ k)) front m (stack ++ Int (pos base) ∷ []) w
   field_step n q runs s ss of v row base at t k front m stack w has None found kept typed small h = absurd kept
   field_step n q runs (basic b) ss of v row base at t k front m stack w has (Some u) found kept typed small h = cc
   field_step n q runs (array c x) ss of v row base at t k front m stack w has (Some u) found kept typed small h = cc
+  field_step n q runs (slice x) ss of v row base at t k front m stack w has (Some u) found kept typed small h = cc
   field_step n q runs (named path name x) ss of v row base at t k front m stack w has (Some u) found kept typed small h = cc
   field_step n q runs (struct fs) ss of v row base at t k front m stack w has (Some u) found kept typed small h =
-      let whole : base + length (flat v) ≤ most_cells = omega (arith, small, flat_long (struct fs) v typed) in
+      let whole : base + length (flat v) ≤ most_room = omega (arith, small, flat_long (struct fs) v typed) in
       step_runs t k front m stack w base (to_field n) ss u v (Move (field_offset fs n)) (Int (pos base) ∷ []) (steps_code u at q ++ k) refl whole
       (λ inner base1 typed1 small1 h1. runs ss u inner row base1 at t k front m stack w has kept typed1 small1 h1)
       (part_of v (to_field n)) refl (field_finds fs n u v base typed found small (part_of v (to_field n)) refl) h
 
-  element_step : (e : Expr) (q : trees.Steps) → StepsRun q → (s : Type') (z : ℤ) (ss : List Step) (of : Type') (v : Value) (row : List Cell) (base at t : ℕ) (k : List (Instr ℕ)) (front : List Cell) (m : ℕ) (stack : List Cell) (w : World) → Has front at row → (o : Option Type') → element_type s ≡ o → WithType o (λ u. Split (λ others. Kept u q ss others) (expr_temps e) z row) → is_of s v ≡ true → base + cells s ≤ most_cells → From t k front m stack w base (to_element z ∷ ss) v (read (to_element z ∷ ss) v) → Onto t (load (at + expr_temps e) 1 ∷ On_part (Index (elements_count s) (cells (or_type of o))) ∷ (steps_code (or_type of o) (at + expr_temps e + 1) q ++ k)) front m (stack ++ Int (pos base) ∷ []) w
+  element_step : (e : Expr) (q : trees.Steps) → StepsRun q → (s : Type') (z : ℤ) (ss : List Step) (of : Type') (v : Value) (row : List Cell) (base at t : ℕ) (k : List (Instr ℕ)) (front : List Cell) (m : ℕ) (stack : List Cell) (w : World) → Has front at row → (o : Option Type') → element_type s ≡ o → WithType o (λ u. Split (λ others. Kept u q ss others) (expr_temps e) z row) → is_of s v ≡ true → base + cells s ≤ most_room → From t k front m stack w base (to_element z ∷ ss) v (read (to_element z ∷ ss) v) → Onto t (load (at + expr_temps e) 1 ∷ On_part (Index (elements_count s) (cells (or_type of o))) ∷ (steps_code (or_type of o) (at + expr_temps e + 1) q ++ k)) front m (stack ++ Int (pos base) ∷ []) w
   element_step e q runs (basic b) z ss of v row base at t k front m stack w has None found kept typed small h = absurd kept
   element_step e q runs (basic b) z ss of v row base at t k front m stack w has (Some u) found kept typed small h = cc
   element_step e q runs (struct fs) z ss of v row base at t k front m stack w has None found kept typed small h = absurd kept
   element_step e q runs (struct fs) z ss of v row base at t k front m stack w has (Some u) found kept typed small h = cc
   element_step e q runs (named path name x) z ss of v row base at t k front m stack w has None found kept typed small h = absurd kept
   element_step e q runs (named path name x) z ss of v row base at t k front m stack w has (Some u) found kept typed small h = cc
+  element_step e q runs (slice x) z ss of (single c) row base at t k front m stack w has o found kept typed small h = absurd h
+  element_step e q runs (slice x) z ss of (parts vs) row base at t k front m stack w has o found kept typed small h = cc
   element_step e q runs (array c x) z ss of v row base at t k front m stack w has None found kept typed small h = absurd kept
   element_step e q runs (array c x) z ss of v row base at t k front m stack w has (Some u) found kept typed small h =
       subst (λ y. Onto t (load (at + expr_temps e) 1 ∷ On_part (Index c (cells y)) ∷ (steps_code y (at + expr_temps e + 1) q ++ k)) front m (stack ++ Int (pos base) ∷ []) w) same
@@ -178,7 +187,7 @@ module _ (image : Image) (final : Final) (depth : ℕ) (code : List (Instr ℕ))
           let index : Has front (at + expr_temps e) (Int z ∷ [] ++ split.others) = has_second front at (expr_temps e) split.first (Int z ∷ [] ++ split.others) split.long there in
           let one : Has front (at + expr_temps e) (Int z ∷ []) = has_first front (at + expr_temps e) (Int z ∷ []) split.others index in
           let rest : Has front (at + expr_temps e + 1) split.others = has_second front (at + expr_temps e) 1 (Int z ∷ []) split.others refl index in
-          let whole : base + length (flat v) ≤ most_cells = omega (arith, small, flat_long (array c x) v typed) in
+          let whole : base + length (flat v) ≤ most_room = omega (arith, small, flat_long (array c x) v typed) in
           has_loads t (at + expr_temps e) 1 (Int z ∷ []) (On_part (Index c (cells x)) ∷ behind) front m (stack ++ Int (pos base) ∷ []) w one refl
           (on_stack image final depth code callers starts p t (On_part (Index c (cells x)) ∷ behind) front m _ _ w (sym (append_assoc stack (Int (pos base) ∷ []) (Int z ∷ [])))
           (step_runs t k front m stack w base (to_element z) ss x v (Index c (cells x)) (Int (pos base) ∷ Int z ∷ []) behind refl whole
@@ -192,13 +201,13 @@ module _ (image : Image) (final : Final) (depth : ℕ) (code : List (Instr ℕ))
   steps_run (trees.to_field n q) [] of v row base at t k front m stack w has kept typed small h = absurd kept
   steps_run (trees.to_field n q) (to_element z ∷ ss) of v row base at t k front m stack w has kept typed small h = absurd kept
   steps_run (trees.to_field n q) (to_field j ∷ ss) of v row base at t k front m stack w has kept typed small h =
-      let within : base + cells (underlying of) ≤ most_cells = omega (arith, small, underlying_cells of) in
+      let within : base + cells (underlying of) ≤ most_room = omega (arith, small, underlying_cells of) in
       field_step n q (steps_run q) (underlying of) ss of v row base at t k front m stack w has (field_type (underlying of) n) refl kept.1 (underlying_values of v ∙ typed) within
       (subst (λ i. From t k front m stack w base (to_field i ∷ ss) v (read (to_field i ∷ ss) v)) kept.0 h)
   steps_run (trees.to_element e q) [] of v row base at t k front m stack w has kept typed small h = absurd kept
   steps_run (trees.to_element e q) (to_field j ∷ ss) of v row base at t k front m stack w has kept typed small h = absurd kept
   steps_run (trees.to_element e q) (to_element z ∷ ss) of v row base at t k front m stack w has kept typed small h =
-      let within : base + cells (underlying of) ≤ most_cells = omega (arith, small, underlying_cells of) in
+      let within : base + cells (underlying of) ≤ most_room = omega (arith, small, underlying_cells of) in
       element_step e q (steps_run q) (underlying of) z ss of v row base at t k front m stack w has (element_type (underlying of)) refl kept (underlying_values of v ∙ typed) within h
 
   from_start : (t : ℕ) (k : List (Instr ℕ)) (front : List Cell) (m : ℕ) (stack : List Cell) (w : World) (ss : List Step) (v : Value) (r : Operated Value) → Reach (λ o. Onto t k front m (stack ++ Int (pos o) ∷ []) w) ss v w r → From t k front m stack w 0 ss v r
@@ -208,8 +217,8 @@ module _ (image : Image) (final : Final) (depth : ℕ) (code : List (Instr ℕ))
   from_start t k front m stack w ss v operators.Senseless h = absurd h
 
   -- the offset among a variable's cells comes on the stack
-  pub address_runs : (q : trees.Steps) (ss : List Step) (of : Type') (v : Value) (row : List Cell) (at t : ℕ) (k : List (Instr ℕ)) (front : List Cell) (m : ℕ) (stack : List Cell) (w : World) → Has front at row → Kept of q ss row → is_of of v ≡ true → cells of ≤ most_cells → Reach (λ o. Onto t k front m (stack ++ Int (pos o) ∷ []) w) ss v w (read ss v) → Onto t (address_code of at q ++ k) front m stack w
+  pub address_runs : (q : trees.Steps) (ss : List Step) (of : Type') (v : Value) (row : List Cell) (at t : ℕ) (k : List (Instr ℕ)) (front : List Cell) (m : ℕ) (stack : List Cell) (w : World) → Has front at row → Kept of q ss row → is_of of v ≡ true → cells of ≤ most_room → Reach (λ o. Onto t k front m (stack ++ Int (pos o) ∷ []) w) ss v w (read ss v) → Onto t (address_code of at q ++ k) front m stack w
   address_runs q ss of v row at t k front m stack w has kept typed small h known few place high long s =
-      let within : 0 + cells of ≤ most_cells = omega (arith, small) in
+      let within : 0 + cells of ≤ most_room = omega (arith, small) in
       push_leads image (here image final depth code callers starts p place (front ++ high) stack w) _ callers (Int (pos 0)) (steps_code of at q ++ k) final refl s refl
       (steps_run q ss of v row 0 at t k front m stack w has kept typed within (from_start t k front m stack w ss v (read ss v) h) known few (place + 1) high long (stands_next code place _ (steps_code of at q ++ k) s))

@@ -13,7 +13,7 @@ use Rattle.go_code.specs.Images.{Image}
 use Rattle.go_code.specs.Machine.{Frame}
 use Rattle.go_typed.specs.declared.expression.Operator.{Operator}
 use Rattle.go_typed.specs.Trees as trees
-use Rattle.go_typed.specs.Trees.{Expr, Left, blank, of_local, of_global, Source}
+use Rattle.go_typed.specs.Trees.{Expr, Left, blank, of_local, of_global, of_slice, Source}
 use Rattle.go_meaning.specs.Values.{Value, flat, is_of}
 use Rattle.go_meaning.specs.Choices.{operated, binary_operators}
 use Rattle.go_meaning.specs.Meaning.{World, Stuck, Locals, Calls, Target, and_then, given, normal, eval, source, aim, aim_all, taken, give, give_all}
@@ -43,6 +43,7 @@ kept_value_long : (l : Left) (v : Value) → length (kept_value l v) ≡ value_t
 kept_value_long blank v = refl
 kept_value_long (of_local t n q) v = refl
 kept_value_long (of_global t s q) v = refl
+kept_value_long (of_slice t e q) v = refl
 
 kept_values_long : (ls : List Left) (vs : List Value) → length (kept_values ls vs) ≡ values_temps ls (lengths vs)
 kept_values_long [] vs = refl
@@ -70,6 +71,8 @@ module _ (image : Image) (final : Final) (depth : ℕ) (code : List (Instr ℕ))
   keep_runs (of_local u n q) v count t at k locals low m stack w same long size le on =
       follows_keeps image final depth code callers starts p types t at count (flat v) k locals low m stack w same long size le on
   keep_runs (of_global u s q) v count t at k locals low m stack w same long size le on =
+      follows_keeps image final depth code callers starts p types t at count (flat v) k locals low m stack w same long size le on
+  keep_runs (of_slice u e q) v count t at k locals low m stack w same long size le on =
       follows_keeps image final depth code callers starts p types t at count (flat v) k locals low m stack w same long size le on
 
   -- all values, from the last to the first
@@ -180,6 +183,7 @@ module _ (image : Image) (final : Final) (depth : ℕ) (code : List (Instr ℕ))
       value_room blank n = omega arith
       value_room (of_local u v q) n = omega arith
       value_room (of_global u s q) n = omega arith
+      value_room (of_slice u e q) n = omega arith
 
       operators_follow : (of : Type') (op : Operator) (s : Type') (x y : Value) (t : ℕ) (k : List (Instr ℕ)) (locals : Locals) (low : List Cell) (m : ℕ) (w : World) → Onward final (λ z w1. is_of of z ≡ true → Goes_on t k locals low m (flat z) w1) (given of (operated (binary_operators s op) (x ∷ y ∷ [])) w) → Goes_on t (operators_code (binary_operators s op) ++ k) locals low m (flat x ++ flat y) w
       operators_follow of op s x y t k locals low m w h rows fits =

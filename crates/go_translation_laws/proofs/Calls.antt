@@ -30,6 +30,7 @@ use Rattle.go_translation_laws.proofs.Shapes.{both_true}
 use Rattle.go_translation_laws.proofs.Runs.{Onward, onward_then, onward_map, held, Sized, global_at, here, Known, On}
 use Rattle.go_translation_laws.proofs.Expressions.{AllCalled}
 use Rattle.go_translation_laws.proofs.Following.{past_none, Follows, back_in, Back, After, StmtsRun}
+use Rattle.go_translation_laws.proofs.RowLemmas.{rows as held_rows}
 
 -- ---- the cells that a function begins with
 
@@ -157,7 +158,7 @@ module _ (image : Image) (final : Final) (starts : List Start) (packages : List 
       AllCalled image final depth (translated globals functions f).code callers starts (local_places (local_types f)) calls →
       are_of f.parameters vs ≡ true → w.ticks ≤ t → Known image final depth (translated globals functions f).code callers starts (local_places (local_types f)) w →
       Onward final (λ rs w1. Back image final depth (translated globals functions f).code callers starts (local_places (local_types f)) (local_types f) t rs w1) (and_then (exec_all calls f.body (first_locals f vs) w) results_of) →
-      Leads image (record { frames = opened depth (translated globals functions f).code (translated globals functions f).cells (flat_map flat vs) ∷ callers; starts = starts; globals = held w.variables; ticks = w.ticks; output = w.output }) final
+      Leads image (record { frames = opened depth (translated globals functions f).code (translated globals functions f).cells (flat_map flat vs) ∷ callers; starts = starts; globals = held w.variables; rows = held_rows w.arrays; ticks = w.ticks; output = w.output }) final
   function_follows bodies calls f depth callers vs t w called typed few known h =
       let code : List (Instr ℕ) = (translated globals functions f).code in
       let p : Places ℕ = local_places (local_types f) in
@@ -248,7 +249,7 @@ module _ (image : Image) (final : Final) (packages : List Package) (globals : Sy
 
   -- between two instructions, or two start steps
   abbrev pub state : List Frame → List Start → World → State
-  state frames starts w = record { frames = frames; starts = starts; globals = held w.variables; ticks = w.ticks; output = w.output }
+  state frames starts w = record { frames = frames; starts = starts; globals = held w.variables; rows = held_rows w.arrays; ticks = w.ticks; output = w.output }
 
   -- a function that is entered, with so many calls open, so that n more may be
   pub body_leads : ((s : Symbol) (f : Function) → function_at packages s ≡ Some f → slice_get image.functions (functions s) ≡ Some (translated globals functions f)) → ((starts : List Start) → BodiesRun image final starts packages globals functions) → (n depth : ℕ) → depth + n ≡ most_open → (t : ℕ) (callers : List Frame) (starts : List Start) (f : Function) (vs : List Value) (w : World) → are_of f.parameters vs ≡ true → Lies w → w.ticks ≤ t →

@@ -41,7 +41,7 @@ abbrev prints : List Expr → Stmt
 prints es = print (pack_exprs es)
 
 -- a function main with these local variables
-abbrev main_of : List Type' → List Stmt → Function
+abbrev pub main_of : List Type' → List Stmt → Function
 main_of locals body = record { name = codes "main"; parameters = []; results = []; locals = locals; body = pack_stmts body }
 
 abbrev package_of : Function → List Package
@@ -58,7 +58,7 @@ package_of f = record {
 } ∷ []
 
 -- its image, in which each call is of itself
-abbrev image_of : Function → Image
+abbrev pub image_of : Function → Image
 image_of f = record { edition = One; globals = []; functions = translated (λ s. 0) (λ s. 0) f ∷ []; starts = Run 0 ∷ [] }
 
 -- how a program is over, as the machine says it

@@ -12,7 +12,7 @@ use Rattle.go_const.specs.declared.operator.ArithmeticOperator.TheVariants.{Add}
 use Rattle.go_const.specs.declared.operator.ComparisonOperator.TheVariants.{Less}
 use Rattle.go_types.specs.declared.types.Basic.TheVariants as basics
 use Rattle.go_types.specs.declared.types.Untyped.TheVariants as untypeds
-use Rattle.go_types.specs.Types.{Type', basic, array, struct, named}
+use Rattle.go_types.specs.Types.{Type', basic, array, slice, struct, named}
 use Rattle.go_types.specs.Relations.{underlying}
 use Rattle.go_code.specs.declared.cell.Cell.{Cell}
 use Rattle.go_code.specs.declared.cell.Cell.TheVariants.{Int, Bool as Truth}
@@ -54,6 +54,7 @@ integer_type (basic (basics.Untyped untypeds.Int)) z e = cc
 integer_type (basic (basics.Untyped untypeds.Rune)) z e = cc
 integer_type (basic (basics.Untyped untypeds.String)) z e = cc
 integer_type (array n t) z e = cc
+integer_type (slice t) z e = cc
 integer_type (struct fs) z e = cc
 integer_type (named path name t) z e = let h = integer_type t z e in record { kind = h.kind; is = h.is; fit = h.fit }
 

@@ -13,7 +13,7 @@ use Rattle.go_code.specs.Finals.{Final}
 use Rattle.go_code.specs.Images.{Image}
 use Rattle.go_code.specs.Machine.{Frame}
 use Rattle.go_typed.specs.Trees as trees
-use Rattle.go_typed.specs.Trees.{Symbol, Expr, Exprs, no_exprs, some_exprs, Parts, no_parts, part, Source, each, results, zeros}
+use Rattle.go_typed.specs.Trees.{Symbol, Expr, Exprs, no_exprs, some_exprs, Perhaps, absent, present, Parts, no_parts, part, Source, each, results, zeros}
 use Rattle.go_meaning.specs.Values.{Value, flat, is_of, are_of, zero_of}
 use Rattle.go_meaning.specs.Meaning.{World, Gives, Stuck, Locals, Calls, all_given, eval_all, source}
 use Rattle.go_gen.specs.Translation.{Places, zero_code, exprs_code, source_counts, source_temps, source_code}
@@ -22,6 +22,7 @@ use Rattle.go_translation_laws.proofs.Shapes.{both_true}
 use Rattle.go_translation_laws.proofs.Runs.{Onward, onward_then, onward_map, On, on_as, on_stack, Sits}
 use Rattle.go_translation_laws.proofs.Exprs as forms
 use Rattle.go_translation_laws.proofs.Exprs.{Runs, AllRun, Called, lengths}
+use Rattle.go_translation_laws.proofs.Cuts.{PerhapsRuns, cut_runs, make_runs, append_runs}
 use Rattle.go_translation_laws.proofs.Literals.{PartsRun, no_parts_run, part_runs, literal_runs}
 use Rattle.go_translation_laws.proofs.Zeros.{zero_long, zero_runs}
 
@@ -62,6 +63,10 @@ module _ (image : Image) (final : Final) (depth : ℕ) (code : List (Instr ℕ))
     expr_runs called (trees.field t e n) = forms.field_runs image final depth code callers starts p calls t e n (expr_runs called e)
     expr_runs called (trees.index t e i) = forms.index_runs image final depth code callers starts p calls t e i (expr_runs called e) (expr_runs called i)
     expr_runs called (trees.length t e) = forms.length_runs image final depth code callers starts p calls t e (expr_runs called e)
+    expr_runs called (trees.capacity t e) = forms.capacity_runs image final depth code callers starts p calls t e (expr_runs called e)
+    expr_runs called (trees.cut t e low o) = cut_runs image final depth code callers starts p calls t e low o (expr_runs called e) (expr_runs called low) (perhaps_runs called o)
+    expr_runs called (trees.make t e o) = make_runs image final depth code callers starts p calls t e o (expr_runs called e) (perhaps_runs called o)
+    expr_runs called (trees.append t o es) = append_runs image final depth code callers starts p calls t o es (perhaps_runs called o) (exprs_run called es)
     expr_runs called (trees.unary t op e) = forms.unary_runs image final depth code callers starts p calls t op e (expr_runs called e)
     expr_runs called (trees.binary t op a b) = forms.binary_runs image final depth code callers starts p calls t op a b (expr_runs called a) (expr_runs called b)
     expr_runs called (trees.both t a b) = forms.both_runs image final depth code callers starts p calls t a b (expr_runs called a) (expr_runs called b)
@@ -69,6 +74,10 @@ module _ (image : Image) (final : Final) (depth : ℕ) (code : List (Instr ℕ))
     expr_runs called (trees.conversion t e) = forms.conversion_runs image final depth code callers starts p calls t e (expr_runs called e)
     expr_runs called (trees.literal t ps) = literal_runs image final depth code callers starts p calls t ps (parts_run called t ps)
     expr_runs called (trees.call t s es) = forms.call_runs image final depth code callers starts p calls t s es (called s) (exprs_run called es)
+
+    perhaps_runs : AllCalled → (o : Perhaps) → PerhapsRuns image final depth code callers starts p calls o
+    perhaps_runs called absent = tt
+    perhaps_runs called (present e) = expr_runs called e
 
     pub exprs_run : AllCalled → (es : Exprs) → AllRun image final depth code callers starts p calls es
     exprs_run called no_exprs = forms.none_run image final depth code callers starts p calls

@@ -1,46 +1,52 @@
 -- The machine follows expressions, form by form (Runs says how this is built).
 use Rattle.std.proofs.Common.{◌≡◌, ℕ, ◌+◌, ◌-◌, ◌≤◌, Bool, true, false, List, [], ◌∷◌, ◌++◌, length, map, take, drop, Option, Some, None, ◌*◌, refl, sym, ap, ◌∙◌, ◌&&◌, subst, arith, length-append, append_assoc, append-nil, pos, negsuc}
 use Rattle.std.proofs.lemmas.List.{length-take-le, length-drop, take-append-drop}
-use Rattle.std.specs.Prelude.{if◌then◌else◌}
-use Rattle.std.specs.List.{flat_map}
+use Rattle.std.specs.Prelude.{if◌then◌else◌, nat_le}
+use Rattle.std.specs.List.{flat_map, list_all}
 use Rattle.go_const.specs.declared.constant.Const.{Const}
 use Rattle.go_const.specs.declared.operator.UnaryOperator.{UnaryOperator}
-use Rattle.go_types.specs.Types.{Type', basic, array, struct, named, Fields}
+use Rattle.go_types.specs.Types.{Type', basic, array, slice, struct, named, Fields}
 use Rattle.go_types.specs.Sizes.{cells}
 use Rattle.go_types.specs.Relations.{underlying}
 use Rattle.go_code.specs.declared.cell.Cell.{Cell}
-use Rattle.go_code.specs.declared.cell.Cell.TheVariants.{Int, Bool as Truth, Text}
+use Rattle.go_code.specs.declared.cell.Cell.TheVariants.{Int, Bool as Truth, Text, Slice}
 use Rattle.go_code.specs.declared.ending.Ending.TheVariants.{Panicked}
 use Rattle.go_code.specs.declared.ending.PanicKind.{PanicKind}
 use Rattle.go_code.specs.declared.ending.PanicKind.TheVariants.{Index as Out_of_range}
 use Rattle.go_code.specs.declared.image.Start.{Start}
 use Rattle.go_code.specs.declared.instr.PartInstr.{PartInstr}
 use Rattle.go_code.specs.declared.instr.PartInstr.TheVariants.{Pick, Part}
+use Rattle.go_code.specs.declared.instr.RowInstr.{RowInstr}
+use Rattle.go_code.specs.declared.instr.RowInstr.TheVariants.{Get}
+use Rattle.go_code.specs.Rows.{row_cells, row_step, row_of, has_room}
 use Rattle.go_code.specs.Parts.{part, part_cells}
 use Rattle.go_code.specs.declared.instr.Instr.{Instr}
-use Rattle.go_code.specs.declared.instr.Instr.TheVariants.{Frame as In_frame, Part as On_part, Jump as Go_to, Calls as By_call}
+use Rattle.go_code.specs.declared.instr.Instr.TheVariants.{Frame as In_frame, Part as On_part, Row as In_row, Jump as Go_to, Calls as By_call}
 use Rattle.go_code.specs.declared.instr.FrameInstr.TheVariants.{Push}
 use Rattle.go_code.specs.declared.instr.JumpInstr.TheVariants.{Jump, JumpIf, JumpIfNot}
 use Rattle.go_code.specs.declared.instr.CallInstr.TheVariants.{Call}
 use Rattle.go_code.specs.declared.operator.Operator as operator
 use Rattle.go_code.specs.declared.operator.Operator.TheVariants as operator_variants
-use Rattle.go_code.specs.declared.operator.TextOperator.TheVariants.{At, Length}
+use Rattle.go_code.specs.declared.operator.TextOperator.TheVariants.{At}
 use Rattle.go_code.specs.Finals.{Final, Ends as Ends_with}
 use Rattle.go_code.specs.Images.{Image}
 use Rattle.go_code.specs.Machine.{Frame, Leads}
 use Rattle.go_code.specs.Operators as operators
 use Rattle.go_code.proofs.Follows.{push_leads}
-use Rattle.go_code.proofs.FollowsInside.{part_leads, part_panics, jump_leads, jump_if_leads, jump_if_stays, jump_if_not_leads, jump_if_not_stays}
+use Rattle.go_code.proofs.FollowsInside.{part_leads, part_panics, row_leads, row_panics, jump_leads, jump_if_leads, jump_if_stays, jump_if_not_leads, jump_if_not_stays}
 use Rattle.go_code.proofs.Stands.{Stands, stands_next, stands_at, stands_skip}
 use Rattle.go_typed.specs.declared.expression.Operator.{Operator}
 use Rattle.go_typed.specs.Trees as trees
 use Rattle.go_typed.specs.Trees.{Symbol, Expr, Exprs, no_exprs, some_exprs, expr_type}
-use Rattle.go_meaning.specs.Values.{Value, single, parts, Values, flat, flat_all, is_of, or_else, to_field, part_of, nth}
-use Rattle.go_meaning.specs.Choices.{cell_of, field_at, operated, unary_operators, binary_operators, conversion_operators}
-use Rattle.go_meaning.specs.Meaning.{World, Gives, Stuck, Locals, Calls, and_then, given, selected, indexed, all_given, one_value, if_true, eval, eval_all}
+use Rattle.go_meaning.specs.Values.{Value, single, parts, Values, pack, flat, flat_all, is_of, or_else, to_field, part_of, nth}
+use Rattle.go_meaning.specs.Choices.{cell_of, field_at, operated, unary_operators, binary_operators, conversion_operators, length_operators, capacity_operators}
+use Rattle.go_meaning.specs.Meaning.{World, Outcome, Gives, Ends, Stuck, Locals, Calls, and_then, given, selected, indexed, elements, found, all_given, one_value, if_true, eval, eval_all}
 use Rattle.go_gen.specs.Translation.{Places, offset, field_offset, index_code, expr_temps, exprs_temps, expr_counts, operators_code, expr_code, exprs_code}
 use Rattle.go_meaning_laws.proofs.Values.{flat_long}
-use Rattle.go_translation_laws.proofs.Shapes.{cell_known, underlying_values, field_among, part_reads, element_picked, element_missed, element_below}
+use Rattle.go_translation_laws.proofs.RowLemmas.{rows}
+use Rattle.go_translation_laws.proofs.RowSteps.{Tells}
+use Rattle.go_translation_laws.proofs.RowReads.{get_tells}
+use Rattle.go_translation_laws.proofs.Shapes.{constant_known, underlying_values, field_among, part_reads, element_picked, element_missed, element_below}
 use Rattle.go_translation_laws.proofs.Runs.{Onward, onward_then, onward_map, onward_given, here, On, on_as, on_stack, Sits, local_runs, global_runs, operators_run}
 
 -- how many cells each value has
@@ -141,7 +147,7 @@ module _ (image : Image) (final : Final) (depth : ℕ) (code : List (Instr ℕ))
     pub constant_runs : (of : Type') (c : Const) → Runs (trees.constant of c)
     constant_runs of c t locals at k front m stack w long le sits h known few place high size s =
         let g = onward_given final (λ v w1. is_of of v ≡ true → Onto t k front m (stack ++ flat v) w1) of (single (cell_of c)) w h in
-        push_leads image (here image final depth code callers starts p place (front ++ high) stack w) _ callers (cell_of c) k final refl s (cell_known of (cell_of c) g.0)
+        push_leads image (here image final depth code callers starts p place (front ++ high) stack w) _ callers (cell_of c) k final refl s (constant_known of c g.0)
         (g.1 g.0 known few (place + 1) high size (stands_next code place _ k s))
 
     pub local_is_run : (of : Type') (n : ℕ) → Runs (trees.local of n)
@@ -164,7 +170,10 @@ module _ (image : Image) (final : Final) (depth : ℕ) (code : List (Instr ℕ))
         (onward_map final _ _ (eval calls e locals w) (λ v w1 more typed. one_operand t of ops v k front m stack w1 more) (onward_then final _ (eval calls e locals w) _ h)))
 
     pub length_runs : (of : Type') (e : Expr) → Runs e → Runs (trees.length of e)
-    length_runs of e runs t locals at k front m stack w long le sits h = operated_run e of (operator_variants.Text Length ∷ []) runs t locals at k front m stack w long le sits h
+    length_runs of e runs t locals at k front m stack w long le sits h = operated_run e of (length_operators (underlying (expr_type e))) runs t locals at k front m stack w long le sits h
+
+    pub capacity_runs : (of : Type') (e : Expr) → Runs e → Runs (trees.capacity of e)
+    capacity_runs of e runs t locals at k front m stack w long le sits h = operated_run e of capacity_operators runs t locals at k front m stack w long le sits h
 
     pub unary_runs : (of : Type') (op : UnaryOperator) (e : Expr) → Runs e → Runs (trees.unary of op e)
     unary_runs of op e runs t locals at k front m stack w long le sits h = operated_run e of (unary_operators (underlying of) op) runs t locals at k front m stack w long le sits h
@@ -268,6 +277,7 @@ module _ (image : Image) (final : Final) (depth : ℕ) (code : List (Instr ℕ))
         both_goes t false (expr_code p (at + d) b) k front m stack w (λ e. cc) (λ e. g.1 g.0)
     behind_both of b d runs (single (Int z)) t locals at k front m stack w long le sits h = absurd h
     behind_both of b d runs (single (Text s)) t locals at k front m stack w long le sits h = absurd h
+    behind_both of b d runs (single (Slice row start n c)) t locals at k front m stack w long le sits h = absurd h
     behind_both of b d runs (parts vs) t locals at k front m stack w long le sits h = absurd h
 
     pub both_runs : (of : Type') (a b : Expr) → Runs a → Runs b → Runs (trees.both of a b)
@@ -287,6 +297,7 @@ module _ (image : Image) (final : Final) (depth : ℕ) (code : List (Instr ℕ))
         either_goes t true (expr_code p (at + d) b) k front m stack w (λ e. cc) (λ e. g.1 g.0)
     behind_either of b d runs (single (Int z)) t locals at k front m stack w long le sits h = absurd h
     behind_either of b d runs (single (Text s)) t locals at k front m stack w long le sits h = absurd h
+    behind_either of b d runs (single (Slice row start n c)) t locals at k front m stack w long le sits h = absurd h
     behind_either of b d runs (parts vs) t locals at k front m stack w long le sits h = absurd h
 
     pub either_runs : (of : Type') (a b : Expr) → Runs a → Runs b → Runs (trees.either of a b)
@@ -341,6 +352,7 @@ module _ (image : Image) (final : Final) (depth : ℕ) (code : List (Instr ℕ))
     selects : (P : Value → World → Type 0) (s : Type') (v : Value) (of : Type') (n : ℕ) (w : World) → is_of s v ≡ true → Onward final P (given of (selected s v n) w) → Selects P s v of n w
     selects P (basic b) v of n w typed h = absurd h
     selects P (array m t) v of n w typed h = absurd h
+    selects P (slice t) v of n w typed h = absurd h
     selects P (struct fs) v of n w typed h = struct_selects P fs v of n w (field_at fs n) refl typed h
     selects P (named path name t) v of n w typed h = absurd h
 
@@ -373,7 +385,72 @@ module _ (image : Image) (final : Final) (depth : ℕ) (code : List (Instr ℕ))
         on_stack image final depth code callers starts p t (operators_code (operator_variants.Text At ∷ []) ++ k) front m _ _ w (ap (λ l. stack ++ (flat v ++ l)) (append-nil (flat j)))
         (operators_run image final depth code callers starts p t of (operator_variants.Text At ∷ []) (v ∷ j ∷ []) k front m stack w h)
 
-    indexed_runs : (of s : Type') (v j : Value) → is_of s v ≡ true → (t : ℕ) (k : List (Instr ℕ)) (front : List Cell) (m : ℕ) (stack : List Cell) (w : World) → Onward final (λ x w1. is_of of x ≡ true → Onto t k front m (stack ++ flat x) w1) (given of (indexed s v j) w) → Onto t (index_code s ++ k) front m (stack ++ (flat v ++ flat j)) w
+    -- what rows give, or a panic
+    pub told_runs : (t : ℕ) (i : RowInstr) (cells : List Cell) (o : Outcome Value) (k : List (Instr ℕ)) (front : List Cell) (m : ℕ) (stack : List Cell) (w : World) → length cells ≡ row_cells i →
+        Tells o w (row_step i (rows w.arrays) cells) → Onward final (λ v w1. Onto t k front m (stack ++ flat v) w1) o → Onto t (In_row i ∷ k) front m (stack ++ cells) w
+    told_runs t i cells (Gives v w1) k front m stack w long tells on known few place high size s =
+        row_leads image (here image final depth code callers starts p place (front ++ high) (stack ++ cells) w) _ callers i stack cells (record { rows = rows w1.arrays; cells = flat v }) final
+        (record { frames = refl; rest = k; stands = s }) (record { is = refl; long = long }) tells.1
+        (subst (λ x. Onto t k front m (stack ++ flat v) x) tells.0 on known few (place + 1) high size (stands_next code place _ k s))
+    told_runs t i cells (Ends ending output) k front m stack w long tells over known few place high size s =
+        let kind = tells.0 in
+        let end : final ≡ Ends_with (Panicked kind) w.output = over ∙ ap (λ e. Ends_with e output) tells.1 ∙ ap (Ends_with (Panicked kind)) tells.2 in
+        subst (Leads image (here image final depth code callers starts p place (front ++ high) (stack ++ cells) w)) (sym end)
+        (row_panics image (here image final depth code callers starts p place (front ++ high) (stack ++ cells) w) _ callers i stack cells kind
+        (record { frames = refl; rest = k; stands = s }) (record { is = refl; long = long }) tells.3)
+    told_runs t i cells Stuck k front m stack w long tells h known few place high size s = absurd h
+
+    -- what is given is of the type
+    given_typed : (P : Value → World → Type 0) (of : Type') (o : operators.Operated Value) (w : World) → Onward final (λ x w1. is_of of x ≡ true → P x w1) (given of o w) → Onward final P (given of o w)
+    given_typed P of (operators.Gives x) w h = by_test (is_of of x) refl h
+      where
+        by_test : (b : Bool) → is_of of x ≡ b → Onward final (λ y w1. is_of of y ≡ true → P y w1) (if b then Gives x w else Stuck) → Onward final P (if b then Gives x w else Stuck)
+        by_test true e h = h e
+        by_test false e h = absurd h
+    given_typed P of (operators.Panics kind) w h = h
+    given_typed P of operators.Senseless w h = absurd h
+
+    then_typed : (P : Value → World → Type 0) (of : Type') (o : Outcome Value) (f : Value → operators.Operated Value) → Onward final (λ x w1. is_of of x ≡ true → P x w1) (and_then o (λ v. given of (f v))) → Onward final P (and_then o (λ v. given of (f v)))
+    then_typed P of (Gives v w) f h = given_typed P of (f v) w h
+    then_typed P of (Ends ending output) f h = h
+    then_typed P of Stuck f h = absurd h
+
+    -- the elements of a slice end nothing, and behind them stands no other index than a number
+    abbrev EndsNot : Outcome Value → Type 0
+    EndsNot (Gives v w) = Unit {0}
+    EndsNot (Ends ending output) = ⊥
+    EndsNot Stuck = Unit {0}
+
+    stuck : {A : Type 0} (P : Value → World → Type 0) (of : Type') (o : Outcome Value) → EndsNot o → Onward final P (and_then o (λ v. given of operators.Senseless)) → A
+    stuck P of (Gives v w) never h = absurd h
+    stuck P of (Ends ending output) never h = absurd never
+    stuck P of Stuck never h = absurd h
+
+    elements_never : (u : Type') (at start n c : ℕ) (w : World) → EndsNot (elements u (single (Slice at start n c)) w)
+    elements_never u at start n c w =
+        let all : List Value = row_of w.arrays at in
+        by_test (list_all (is_of u) all && (nat_le n c && (nat_le (start + c) (length all) && has_room (cells u) (length all))))
+      where
+        by_test : (b : Bool) → EndsNot (and_then (if b then Gives (row_of w.arrays at) w else Stuck) (λ all. Gives (parts (pack (take n (drop start all))))))
+        by_test true = tt
+        by_test false = tt
+
+    -- an element of a slice
+    slice_runs : (of u : Type') (v j : Value) (t : ℕ) (k : List (Instr ℕ)) (front : List Cell) (m : ℕ) (stack : List Cell) (w : World) → Onward final (λ x w1. is_of of x ≡ true → Onto t k front m (stack ++ flat x) w1) (found of (slice u) v j w) →
+        Onto t (In_row (Get (cells u)) ∷ k) front m (stack ++ (flat v ++ flat j)) w
+    slice_runs of u (single (Slice at start n c)) (single (Int z)) t k front m stack w h =
+        told_runs t (Get (cells u)) (Slice at start n c ∷ Int z ∷ []) (found of (slice u) (single (Slice at start n c)) (single (Int z)) w) k front m stack w refl (get_tells u of (λ x e. flat_long u x e) at start n c w z)
+        (then_typed (λ x w1. Onto t k front m (stack ++ flat x) w1) of (elements u (single (Slice at start n c)) w) (λ whole. indexed (slice u) whole (single (Int z))) h)
+    slice_runs of u (single (Int y)) j t k front m stack w h = absurd h
+    slice_runs of u (single (Truth b)) j t k front m stack w h = absurd h
+    slice_runs of u (single (Text x)) j t k front m stack w h = absurd h
+    slice_runs of u (parts vs) j t k front m stack w h = absurd h
+    slice_runs of u (single (Slice at start n c)) (single (Truth b)) t k front m stack w h = stuck _ of (elements u (single (Slice at start n c)) w) (elements_never u at start n c w) h
+    slice_runs of u (single (Slice at start n c)) (single (Text x)) t k front m stack w h = stuck _ of (elements u (single (Slice at start n c)) w) (elements_never u at start n c w) h
+    slice_runs of u (single (Slice at start n c)) (single (Slice r s l d)) t k front m stack w h = stuck _ of (elements u (single (Slice at start n c)) w) (elements_never u at start n c w) h
+    slice_runs of u (single (Slice at start n c)) (parts vs) t k front m stack w h = stuck _ of (elements u (single (Slice at start n c)) w) (elements_never u at start n c w) h
+
+    indexed_runs : (of s : Type') (v j : Value) → is_of s v ≡ true → (t : ℕ) (k : List (Instr ℕ)) (front : List Cell) (m : ℕ) (stack : List Cell) (w : World) → Onward final (λ x w1. is_of of x ≡ true → Onto t k front m (stack ++ flat x) w1) (found of s v j w) → Onto t (index_code s ++ k) front m (stack ++ (flat v ++ flat j)) w
     indexed_runs of (array count u) (single c) j typed t k front m stack w h = cc
     indexed_runs of (array count u) (parts vs) (single (Int (pos n))) typed t k front m stack w h = element_runs of u count vs n (nth vs n) refl typed t k front m stack w h
     indexed_runs of (array count u) (parts vs) (single (Int (negsuc n))) typed t k front m stack w h =
@@ -381,7 +458,9 @@ module _ (image : Image) (final : Final) (depth : ℕ) (code : List (Instr ℕ))
         part_ends t (Pick count (cells u)) (flat_all vs ++ Int (negsuc n) ∷ []) Out_of_range k front m stack w long (element_below count u vs n typed) h
     indexed_runs of (array count u) (parts vs) (single (Truth b)) typed t k front m stack w h = absurd h
     indexed_runs of (array count u) (parts vs) (single (Text s)) typed t k front m stack w h = absurd h
+    indexed_runs of (array count u) (parts vs) (single (Slice row start n c)) typed t k front m stack w h = absurd h
     indexed_runs of (array count u) (parts vs) (parts us) typed t k front m stack w h = absurd h
+    indexed_runs of (slice u) v j typed t k front m stack w h = slice_runs of u v j t k front m stack w h
     indexed_runs of (basic b) v j typed t k front m stack w h = text_runs of v j t k front m stack w h
     indexed_runs of (struct fs) v j typed t k front m stack w h = text_runs of v j t k front m stack w h
     indexed_runs of (named path name u) v j typed t k front m stack w h = text_runs of v j t k front m stack w h

@@ -8,7 +8,7 @@ use Rattle.std.proofs.lemmas.List.{map-append}
 use Rattle.std.proofs.lemmas.List.Concat.{flat_map-append}
 use Rattle.std.proofs.lemmas.List.Folds.{list_all-append}
 use Rattle.std.proofs.lemmas.Slice.Eq.{bytes_eq-Decides}
-use Rattle.go_types.specs.Types.{Type', basic, array, struct, named, Fields, no_fields, field}
+use Rattle.go_types.specs.Types.{Type', basic, array, slice, struct, named, Fields, no_fields, field}
 use Rattle.go_types.specs.Sizes.{cells}
 use Rattle.go_code.specs.declared.cell.Cell.{Cell}
 use Rattle.go_code.specs.Lines.{cell_fits}
@@ -40,6 +40,7 @@ mutual
   zero_known : (t : Type') → list_all cell_fits (flat (zero_of t)) ≡ true
   zero_known (basic b) = ap (λ c. c && true) (zero_fits b)
   zero_known (array n t) = copies_fit n (zero_of t) (zero_known t)
+  zero_known (slice t) = refl
   zero_known (struct fs) = zeros_known fs
   zero_known (named path name t) = zero_known t
 

@@ -2,7 +2,7 @@
 use Rattle.std.proofs.Common.{◌≡◌, ℕ, ◌+◌, true, false, List, [], ◌∷◌, ◌++◌, length, refl, sym, subst, arith, append_assoc}
 use Rattle.go_types.specs.Types.{Type'}
 use Rattle.go_code.specs.declared.cell.Cell.{Cell}
-use Rattle.go_code.specs.declared.cell.Cell.TheVariants.{Int, Bool as Truth, Text}
+use Rattle.go_code.specs.declared.cell.Cell.TheVariants.{Int, Bool as Truth, Text, Slice}
 use Rattle.go_code.specs.declared.image.Start.{Start}
 use Rattle.go_code.specs.declared.instr.Instr.{Instr}
 use Rattle.go_code.specs.declared.instr.Instr.TheVariants.{Jump as Go_to, Output as To_output}
@@ -58,6 +58,7 @@ module _ (image : Image) (final : Final) (depth : ℕ) (code : List (Instr ℕ))
       jump_if_not_leads image (here image final depth code callers starts p place (front ++ high) (stack ++ Truth false ∷ []) w) _ callers n stack final (record { frames = refl; rest = k; stands = s }) refl s1.within
       (second h known few (place + 1 + n) high long s1)
   branches {A} P chosen other t n k target front m stack w (single (Int z)) past first second h = absurd h
+  branches {A} P chosen other t n k target front m stack w (single (Slice r1 r2 r3 r4)) past first second h = absurd h
   branches {A} P chosen other t n k target front m stack w (single (Text s)) past first second h = absurd h
   branches {A} P chosen other t n k target front m stack w (parts vs) past first second h = absurd h
 
@@ -129,6 +130,7 @@ module _ (image : Image) (final : Final) (depth : ℕ) (code : List (Instr ℕ))
         subst (Leads image (here image final depth code callers starts p place ((together rows ++ low) ++ high) (Text text ∷ []) w)) (sym h)
         (panic_leads image (here image final depth code callers starts p place ((together rows ++ low) ++ high) (Text text ∷ []) w) _ callers [] text (record { frames = refl; rest = k; stands = s }) refl)
     panics (single (Int z)) t rest brk next k locals low m w h = absurd h
+    panics (single (Slice r1 r2 r3 r4)) t rest brk next k locals low m w h = absurd h
     panics (single (Truth b)) t rest brk next k locals low m w h = absurd h
     panics (parts vs) t rest brk next k locals low m w h = absurd h
 

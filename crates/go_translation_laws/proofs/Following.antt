@@ -20,6 +20,7 @@ use Rattle.go_gen.specs.Translation.{Places, slots, total, expr_temps, expr_code
 use Rattle.go_translation_laws.proofs.Frames.{Fits, together, types_of}
 use Rattle.go_translation_laws.proofs.Runs.{Onward, onward_map, held, here, Known, On, on_as, Sits}
 use Rattle.go_translation_laws.proofs.Exprs.{deeper, shallower, Runs}
+use Rattle.go_translation_laws.proofs.RowLemmas.{rows as held_rows}
 
 -- ---- places further on in a code
 
@@ -81,7 +82,7 @@ module _ (image : Image) (final : Final) (depth : ℕ) (code : List (Instr ℕ))
 
   -- the machine comes to the end from where the newest frame has given these values back
   abbrev pub Back : ℕ → List Value → World → Type 0
-  Back t vs w = KnownIn w → w.ticks ≤ t → Leads image (record { frames = back_in callers (flat_map flat vs); starts = starts; globals = held w.variables; ticks = w.ticks; output = w.output }) final
+  Back t vs w = KnownIn w → w.ticks ≤ t → Leads image (record { frames = back_in callers (flat_map flat vs); starts = starts; globals = held w.variables; rows = held_rows w.arrays; ticks = w.ticks; output = w.output }) final
 
   -- a statement leaves off for what stands behind it, for the end of the loop or switch round it, for the next turn, or for the caller
   abbrev pub After : ℕ → List (Instr ℕ) → List (Instr ℕ) → List (Instr ℕ) → List Cell → ℕ → Flow → World → Type 0

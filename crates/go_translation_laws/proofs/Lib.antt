@@ -5,8 +5,11 @@ pub mod Calls
 pub mod Computed
 pub mod ComputedPackages
 pub mod ComputedSetups
+pub mod ComputedSlices
 pub mod Counters
+pub mod Cuts
 pub mod Defines
+pub mod Elements
 pub mod Expressions
 pub mod Exprs
 pub mod FirstVariables
@@ -27,6 +30,9 @@ pub mod Ranges
 pub mod Referred
 pub mod ReferredBodies
 pub mod Refusals
+pub mod RowLemmas
+pub mod RowReads
+pub mod RowSteps
 pub mod Rows
 pub mod Runs
 pub mod Setups

@@ -1,6 +1,6 @@
 -- The machine follows composite literals: the zero value lies in temporaries, and each part is stored among its cells.
 use Rattle.std.proofs.Common.{◌≡◌, ℕ, ◌+◌, ◌-◌, ◌≤◌, true, List, [], ◌∷◌, ◌++◌, length, Option, Some, None, refl, sym, ap, ◌∙◌, arith, length-append, append_assoc, append-nil, add-zero}
-use Rattle.go_types.specs.Types.{Type', basic, array, struct, named}
+use Rattle.go_types.specs.Types.{Type', basic, array, slice, struct, named}
 use Rattle.go_types.specs.Sizes.{cells}
 use Rattle.go_types.specs.Relations.{underlying}
 use Rattle.go_code.specs.declared.cell.Cell.{Cell}
@@ -71,6 +71,7 @@ updates final P of n (single c) x w typed h = absurd h
 updates final P (basic b) n (parts vs) x w typed h = cc
 updates final P (array count u) n (parts vs) x w typed h =
     part_updates final P (array count u) n vs x w (nth vs n) refl typed (λ inner e. element_among u vs n inner (both_true _ _ typed).1 e) h
+updates final P (slice u) n (parts vs) x w typed h = cc
 updates final P (struct fs) n (parts vs) x w typed h =
     part_updates final P (struct fs) n vs x w (nth vs n) refl typed (λ inner e. field_among fs vs n inner typed e) h
 updates final P (named path name u) n (parts vs) x w typed h = declared_updates P path name u n (parts vs) x w (updates final P u n (parts vs) x w typed h)

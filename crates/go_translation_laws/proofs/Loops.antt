@@ -3,7 +3,7 @@ use Rattle.std.proofs.Common.{◌≡◌, ℕ, zero, suc, ◌+◌, ◌-◌, ◌�
 use Rattle.std.specs.Prelude.{⊤}
 use Rattle.go_types.specs.Types.{Type'}
 use Rattle.go_code.specs.declared.cell.Cell.{Cell}
-use Rattle.go_code.specs.declared.cell.Cell.TheVariants.{Int, Bool as Truth, Text}
+use Rattle.go_code.specs.declared.cell.Cell.TheVariants.{Int, Bool as Truth, Text, Slice}
 use Rattle.go_code.specs.declared.ending.Ending.TheVariants.{Cut}
 use Rattle.go_code.specs.declared.image.Start.{Start}
 use Rattle.go_code.specs.declared.instr.Instr.{Instr}
@@ -181,6 +181,7 @@ module _ (image : Image) (final : Final) (depth : ℕ) (code : List (Instr ℕ))
           h
       turn_follows n t q few start tests ls same (single (Truth false)) w h = λ rows fits. loop_stops (suc n) size rest (together rows ++ low) m [] w (on_fewer image final depth code callers starts p types t (suc n) rest (together rows ++ low) m [] w few (h same rows fits))
       turn_follows n t q few start tests ls same (single (Int z)) w h = absurd h
+      turn_follows n t q few start tests ls same (single (Slice r1 r2 r3 r4)) w h = absurd h
       turn_follows n t q few start tests ls same (single (Text s)) w h = absurd h
       turn_follows n t q few start tests ls same (parts vs) w h = absurd h
 
@@ -192,6 +193,7 @@ module _ (image : Image) (final : Final) (depth : ℕ) (code : List (Instr ℕ))
           let few : 0 ≤ t = omega arith in
           loop_stops 0 size rest (together rows ++ low) m [] w (on_fewer image final depth code callers starts p types t 0 rest (together rows ++ low) m [] w few (h same rows fits))
       none_follows t q start ls same (single (Int z)) w h = absurd h
+      none_follows t q start ls same (single (Slice r1 r2 r3 r4)) w h = absurd h
       none_follows t q start ls same (single (Text s)) w h = absurd h
       none_follows t q start ls same (parts vs) w h = absurd h
 

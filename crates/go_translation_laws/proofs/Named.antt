@@ -2,7 +2,7 @@
 use Rattle.std.proofs.Common.{◌≡◌, ℕ, ◌+◌, Bool, true, false, ◌||◌, List, [], ◌∷◌, ◌++◌, length, Option, Some, None, refl, ap, ◌∙◌}
 use Rattle.std.specs.List.{flat_map, list_any}
 use Rattle.std.proofs.lemmas.List.Folds.{list_any-append}
-use Rattle.go_types.specs.Types.{Type', basic, array, struct, named, Fields, no_fields, field}
+use Rattle.go_types.specs.Types.{Type', basic, array, slice, struct, named, Fields, no_fields, field}
 use Rattle.go_types.specs.Relations.{underlying}
 use Rattle.go_types.specs.Sizes.{cells}
 use Rattle.go_code.specs.declared.instr.Instr.{Instr}
@@ -17,10 +17,10 @@ use Rattle.go_symbol.specs.Symbols as symbols
 use Rattle.go_symbol.specs.Symbols.{same_symbol}
 use Rattle.go_link.specs.Links.{Held, is_missing}
 use Rattle.go_typed.specs.Trees as trees
-use Rattle.go_typed.specs.Trees.{Symbol, Expr, Exprs, no_exprs, some_exprs, Parts, no_parts, part, Steps, here, to_field, to_element, Left, blank, of_local, of_global, Source, each, results, zeros, expr_type}
-use Rattle.go_meaning.specs.Choices.{unary_operators, binary_operators, conversion_operators, field_type, element_type}
-use Rattle.go_gen.specs.Translation.{Places, expr_temps, zero_code, zeros_code, operators_code, index_code, decided_code, expr_code, exprs_code, parts_code, source_code, operands_code, or_type, steps_code, address_code, left_temps, left_operands, take_code, give_code, lefts_operands, keep_code, keeps_code, gives_code, define_code, defines_code, values_temps}
-use Rattle.go_meaning_laws.specs.WellTyped.{Signature, Setting, IsExpr, AreExprs, AreParts, IsSource, IsPart, LeadsTo, AreLefts}
+use Rattle.go_typed.specs.Trees.{Symbol, Expr, Exprs, no_exprs, some_exprs, Perhaps, absent, present, Parts, no_parts, part, Steps, here, to_field, to_element, Left, blank, of_local, of_global, of_slice, Source, each, results, zeros, expr_type}
+use Rattle.go_meaning.specs.Choices.{unary_operators, binary_operators, conversion_operators, length_operators, cut_operators, field_type, element_type}
+use Rattle.go_gen.specs.Translation.{Places, expr_temps, perhaps_temps, load, store, zero_code, zeros_code, operators_code, index_code, decided_code, expr_code, perhaps_code, exprs_code, parts_code, source_code, operands_code, or_type, steps_code, address_code, row_code, left_temps, left_operands, take_code, give_code, lefts_operands, keep_code, keeps_code, gives_code, define_code, defines_code, values_temps}
+use Rattle.go_meaning_laws.specs.WellTyped.{Signature, Setting, IsExpr, IsSize, IsAppended, AreElements, AreExprs, AreParts, IsSource, IsPart, LeadsTo, LeadsInto, AreLefts}
 
 -- the functions and the package variables that there are
 abbrev pub Present : Type 0
@@ -48,6 +48,7 @@ module _ (all : Present) where
     zero_named : (t : Type') → Named all (zero_code t)
     zero_named (basic b) = refl
     zero_named (array n t) = both_named (zero_code t) _ (zero_named t) refl
+    zero_named (slice t) = refl
     zero_named (struct fs) = zeros_named fs
     zero_named (named path name t) = zero_named t
 
@@ -66,6 +67,7 @@ module _ (all : Present) where
   index_named : (t : Type') → Named all (index_code t)
   index_named (basic b) = refl
   index_named (array n t) = refl
+  index_named (slice t) = refl
   index_named (struct fs) = refl
   index_named (named path name t) = refl
 
@@ -93,7 +95,25 @@ module _ (all : Present) where
           both_named (expr_code p k e ++ expr_code p (k + expr_temps e) i) _
           (both_named (expr_code p k e) _ (expr_named k e h.0) (expr_named (k + expr_temps e) i h.1))
           (index_named (underlying (expr_type e)))
-      expr_named k (trees.length t e) h = both_named (expr_code p k e) _ (expr_named k e h.0) refl
+      expr_named k (trees.length t e) h = both_named (expr_code p k e) _ (expr_named k e h.0) (operators_named (length_operators (underlying (expr_type e))))
+      expr_named k (trees.capacity t e) h = both_named (expr_code p k e) _ (expr_named k e h.0) refl
+      expr_named k (trees.cut t e low o) h =
+          let s : Type' = underlying (expr_type e) in
+          let at : ℕ = k + expr_temps e in
+          let bound : List (Instr symbols.Symbol) = store at 1 ∷ load at 1 ∷ expr_code p (at + 1) low in
+          let other : List (Instr symbols.Symbol) = load at 1 ∷ operators_code (length_operators s) in
+          both_named (expr_code p k e ++ bound ++ perhaps_code p (at + 1 + expr_temps low) other o) _
+          (both_named (expr_code p k e ++ bound) _ (both_named (expr_code p k e) bound (expr_named k e h.0) (expr_named (at + 1) low h.3)) (size_named (at + 1 + expr_temps low) other o (operators_named (length_operators s)) h.5))
+          (operators_named (cut_operators s))
+      expr_named k (trees.make t e o) h =
+          let at : ℕ = k + expr_temps e in
+          let of : Type' = or_type t (element_type (underlying t)) in
+          let rest : List (Instr symbols.Symbol) = store at 1 ∷ load at 1 ∷ perhaps_code p (at + 1) (load at 1 ∷ []) o in
+          both_named (zero_code of ++ expr_code p k e ++ rest) _
+          (both_named (zero_code of ++ expr_code p k e) rest (both_named (zero_code of) _ (zero_named of) (expr_named k e h.2)) (size_named (at + 1) (load at 1 ∷ []) o refl h.4)) refl
+      expr_named k (trees.append t o es) h =
+          both_named (perhaps_code p k (zero_code t) o ++ exprs_code p (k + perhaps_temps o) es) _
+          (both_named (perhaps_code p k (zero_code t) o) _ (appended_named k t o h.1) (elements_named (k + perhaps_temps o) (h.2).0 es (h.2).2)) refl
       expr_named k (trees.unary t op e) h = both_named (expr_code p k e) _ (expr_named k e h.0) (operators_named (unary_operators (underlying t) op))
       expr_named k (trees.binary t op a b) h =
           both_named (expr_code p k a ++ expr_code p (k + expr_temps a) b) _
@@ -106,6 +126,18 @@ module _ (all : Present) where
           let parts : List (Instr symbols.Symbol) = parts_code p (underlying t) k (k + cells t) ps in
           both_named (zero_code t ++ _ ∷ parts) _ (both_named (zero_code t) (_ ∷ parts) (zero_named t) (parts_named (underlying t) t k (k + cells t) ps h.1)) refl
       expr_named k (trees.call t s es) h = both_named (exprs_code p k es) _ (exprs_named k es h.0) (call_named (p.functions s) (there.0 s _ h.1))
+
+      size_named : (k : ℕ) (other : List (Instr symbols.Symbol)) (o : Perhaps) → Named all other → IsSize g d o → Named all (perhaps_code p k other o)
+      size_named k other absent e h = e
+      size_named k other (present x) e h = expr_named k x h.0
+
+      appended_named : (k : ℕ) (t : Type') (o : Perhaps) → IsAppended g d t o → Named all (perhaps_code p k (zero_code t) o)
+      appended_named k t absent h = zero_named t
+      appended_named k t (present x) h = expr_named k x h.0
+
+      elements_named : (k : ℕ) (u : Type') (es : Exprs) → AreElements g d u es → Named all (exprs_code p k es)
+      elements_named k u no_exprs h = refl
+      elements_named k u (some_exprs e es) h = both_named (expr_code p k e) (exprs_code p (k + expr_temps e) es) (expr_named k e h.0) (elements_named (k + expr_temps e) u es h.2)
 
       pub exprs_named : (k : ℕ) (es : Exprs) → AreExprs g d es → Named all (exprs_code p k es)
       exprs_named k no_exprs h = refl
@@ -127,10 +159,16 @@ module _ (all : Present) where
     operands_named k (to_field n ss) t u h = operands_named k ss h.0 u h.2
     operands_named k (to_element e ss) t u h = both_named (expr_code p k e) _ (expr_named k e h.2) (operands_named (k + expr_temps e + 1) ss h.0 u h.4)
 
+    into_named : (k : ℕ) (ss : Steps) (t u : Type') → LeadsInto g d t ss u → Named all (operands_code p k ss)
+    into_named k here t u h = absurd h
+    into_named k (to_field n ss) t u h = absurd h
+    into_named k (to_element e ss) t u h = both_named (expr_code p k e) _ (expr_named k e h.0) (operands_named (k + expr_temps e + 1) ss t u h.2)
+
     pub left_named : (k : ℕ) (l : Left) (u : Type') → IsPart g d l u → Named all (left_operands p k l)
     left_named k blank u h = refl
     left_named k (of_local t n ss) u h = operands_named k ss t u h.2
     left_named k (of_global t s ss) u h = operands_named k ss t u h.2
+    left_named k (of_slice t e ss) u h = both_named (expr_code p k e) _ (expr_named k e h.0) (into_named (k + expr_temps e + 1) ss (h.2).0 u (h.2).3)
 
     pub lefts_named : (k : ℕ) (ls : List Left) (ts : List Type') → AreLefts g d ls ts → Named all (lefts_operands p k ls)
     lefts_named k [] ts h = refl
@@ -140,6 +178,8 @@ module _ (all : Present) where
         both_named (left_operands p k (of_local s n ss)) _ (left_named k (of_local s n ss) t h.0) (lefts_named (k + left_temps (of_local s n ss)) ls ts h.1)
     lefts_named k (of_global s x ss ∷ ls) (t ∷ ts) h =
         both_named (left_operands p k (of_global s x ss)) _ (left_named k (of_global s x ss) t h.0) (lefts_named (k + left_temps (of_global s x ss)) ls ts h.1)
+    lefts_named k (of_slice s e ss ∷ ls) (t ∷ ts) h =
+        both_named (left_operands p k (of_slice s e ss)) _ (left_named k (of_slice s e ss) t h.0) (lefts_named (k + left_temps (of_slice s e ss)) ls ts h.1)
 
   -- ---- where values come from and go to
 
@@ -148,21 +188,29 @@ module _ (all : Present) where
   steps_named t k (to_field n ss) = steps_named (or_type t (field_type (underlying t) n)) k ss
   steps_named t k (to_element e ss) = steps_named (or_type t (element_type (underlying t))) (k + expr_temps e + 1) ss
 
+  row_named : (t : Type') (at k : ℕ) (ss : Steps) → Named all (row_code t at k ss)
+  row_named t at k here = refl
+  row_named t at k (to_field n ss) = refl
+  row_named t at k (to_element e ss) = steps_named (or_type t (element_type (underlying t))) (k + expr_temps e + 1) ss
+
   module _ (p : Places symbols.Symbol) where
     pub take_named : (g : Setting) (d : List ℕ) → Callable all p.globals p.functions g → (k : ℕ) (l : Left) (n : ℕ) (u : Type') → IsPart g d l u → Named all (take_code p k l n)
     take_named g d there k blank n u h = refl
     take_named g d there k (of_local t v ss) n u h = both_named (address_code t k ss) _ (steps_named t k ss) refl
     take_named g d there k (of_global t s ss) n u h = both_named (address_code t k ss) _ (steps_named t k ss) (global_named (LoadAt (p.globals s) n) (there.1 s t h.0))
+    take_named g d there k (of_slice t e ss) n u h = both_named (row_code t (k + expr_temps e) (k + expr_temps e + 1) ss) _ (row_named t (k + expr_temps e) (k + expr_temps e + 1) ss) refl
 
     pub give_named : (g : Setting) (d : List ℕ) → Callable all p.globals p.functions g → (k : ℕ) (l : Left) (temp n : ℕ) (u : Type') → IsPart g d l u → Named all (give_code p k l temp n)
     give_named g d there k blank temp n u h = refl
     give_named g d there k (of_local t v ss) temp n u h = both_named (address_code t k ss) _ (steps_named t k ss) refl
     give_named g d there k (of_global t s ss) temp n u h = both_named (address_code t k ss) _ (steps_named t k ss) (global_named (StoreAt (p.globals s) n) (there.1 s t h.0))
+    give_named g d there k (of_slice t e ss) temp n u h = both_named (row_code t (k + expr_temps e) (k + expr_temps e + 1) ss) _ (row_named t (k + expr_temps e) (k + expr_temps e + 1) ss) refl
 
     pub keep_named : (l : Left) (n temp : ℕ) → is_missing all.0 all.1 (keep_code l n temp) ≡ false
     keep_named blank n temp = refl
     keep_named (of_local t v ss) n temp = refl
     keep_named (of_global t s ss) n temp = refl
+    keep_named (of_slice t e ss) n temp = refl
 
     pub keeps_named : (ls : List Left) (counts : List ℕ) (k : ℕ) → Named all (keeps_code ls counts k)
     keeps_named [] counts k = refl
@@ -177,6 +225,7 @@ module _ (all : Present) where
     gives_named g d there k (blank ∷ ls) [] temps (t ∷ ts) h = refl
     gives_named g d there k (of_local u v ss ∷ ls) [] temps (t ∷ ts) h = refl
     gives_named g d there k (of_global u s ss ∷ ls) [] temps (t ∷ ts) h = refl
+    gives_named g d there k (of_slice u e ss ∷ ls) [] temps (t ∷ ts) h = refl
     gives_named g d there k (blank ∷ ls) (n ∷ counts) temps (t ∷ ts) h = gives_named g d there (k + left_temps blank) ls counts temps ts h
     gives_named g d there k (of_local u v ss ∷ ls) (n ∷ counts) temps (t ∷ ts) h =
         both_named (give_code p k (of_local u v ss) (temps + values_temps ls counts) n) _
@@ -186,6 +235,10 @@ module _ (all : Present) where
         both_named (give_code p k (of_global u s ss) (temps + values_temps ls counts) n) _
         (give_named g d there k (of_global u s ss) (temps + values_temps ls counts) n t h.0)
         (gives_named g d there (k + left_temps (of_global u s ss)) ls counts temps ts h.1)
+    gives_named g d there k (of_slice u e ss ∷ ls) (n ∷ counts) temps (t ∷ ts) h =
+        both_named (give_code p k (of_slice u e ss) (temps + values_temps ls counts) n) _
+        (give_named g d there k (of_slice u e ss) (temps + values_temps ls counts) n t h.0)
+        (gives_named g d there (k + left_temps (of_slice u e ss)) ls counts temps ts h.1)
 
     define_named : (v : Option ℕ) (n : ℕ) → is_missing all.0 all.1 (define_code p v n) ≡ false
     define_named None n = refl

@@ -6,23 +6,24 @@ use Rattle.go_types.specs.Types.{Type'}
 use Rattle.go_types.specs.Relations.{underlying}
 use Rattle.go_types.specs.Sizes.{cells}
 use Rattle.go_code.specs.declared.cell.Cell.{Cell}
-use Rattle.go_code.specs.declared.cell.Cell.TheVariants.{Int, Bool as Truth, Text}
+use Rattle.go_code.specs.declared.cell.Cell.TheVariants.{Int, Bool as Truth, Text, Slice}
 use Rattle.go_code.specs.declared.image.Start.{Start}
 use Rattle.go_code.specs.declared.instr.Instr.{Instr}
 use Rattle.go_code.specs.Finals.{Final}
 use Rattle.go_code.specs.Images.{Image}
 use Rattle.go_code.specs.Machine.{Frame}
 use Rattle.go_typed.specs.Trees as trees
-use Rattle.go_typed.specs.Trees.{Symbol, Expr, Left, blank, of_local, of_global}
+use Rattle.go_typed.specs.Trees.{Symbol, Expr, Left, blank, of_local, of_global, of_slice}
 use Rattle.go_meaning.specs.Values.{Value, single, parts, flat, Step, to_field}
 use Rattle.go_meaning.specs.Choices.{field_type, element_type}
-use Rattle.go_meaning.specs.Meaning.{World, Gives, Stuck, Locals, Calls, Target, in_local, in_global, most_cells, and_then, with_type, with_index, eval, steps, aim, aim_all}
+use Rattle.go_meaning.specs.Meaning.{World, Gives, Stuck, Locals, Calls, Target, in_local, in_global, in_elements, most_cells, and_then, with_cell, with_type, with_index, eval, steps, aim, aim_all}
 use Rattle.go_gen.specs.Translation.{Places, total, store, expr_temps, steps_temps, operands_code, expr_code, left_temps, left_operands, lefts_temps, lefts_operands}
 use Rattle.go_translation_laws.proofs.Frames.{together, types_of}
 use Rattle.go_translation_laws.proofs.Runs.{Onward, onward_then, onward_map}
 use Rattle.go_translation_laws.proofs.Exprs.{Runs}
 use Rattle.go_translation_laws.proofs.Rows.{keeps, on_front}
 use Rattle.go_translation_laws.proofs.Following.{Placed, Follows, follows_as, follows_low, follows_deeper, expr_follows, row_long}
+use Rattle.go_translation_laws.proofs.Steps.{value_room}
 use Rattle.go_translation_laws.proofs.Addresses.{Split, WithType, Kept}
 use Rattle.go_translation_laws.proofs.Lefts.{KeptLeft}
 
@@ -91,6 +92,7 @@ module _ (image : Image) (final : Final) (depth : ℕ) (code : List (Instr ℕ))
         by_index : (u : Type') → element_type (underlying of) ≡ Some u → (v : Value) (w1 : World) → Onward final (Behind of e q t k locals low m stack) (with_index v w1 (λ s. and_then (steps calls u q locals w1) (λ ss w2. Gives (s ∷ ss) w2))) → Goes_on t (store (at + expr_temps e) 1 ∷ (operands_code p (at + expr_temps e + 1) q ++ k)) locals low m (stack ++ flat v) w1
         by_index u found (single (Truth b)) w1 h = absurd h
         by_index u found (single (Text s)) w1 h = absurd h
+        by_index u found (single (Slice r s n c)) w1 h = absurd h
         by_index u found (parts vs) w1 h = absurd h
         by_index u found (single (Int z)) w1 h =
             let within : expr_temps e ≤ m = omega (arith, le) in
@@ -141,7 +143,7 @@ module _ (image : Image) (final : Final) (depth : ℕ) (code : List (Instr ℕ))
         by_test true e h =
             operands_run q u t locals at k low m stack w same long le
             (onward_map final _ _ (steps calls u q locals w)
-            (λ ss w1 more row size kept. more row size (refl, refl, leb-true (cells u) most_cells e, kept))
+            (λ ss w1 more row size kept. more row size (refl, refl, value_room (cells u) (leb-true (cells u) most_cells e), kept))
             (onward_then final _ (steps calls u q locals w) _ h))
 
     global_aim : (u : Type') (s : Symbol) (q : trees.Steps) → AimRuns (of_global u s q)
@@ -152,13 +154,64 @@ module _ (image : Image) (final : Final) (depth : ℕ) (code : List (Instr ℕ))
         by_test true e h =
             operands_run q u t locals at k low m stack w same long le
             (onward_map final _ _ (steps calls u q locals w)
-            (λ ss w1 more row size kept. more row size (refl, refl, leb-true (cells u) most_cells e, kept))
+            (λ ss w1 more row size kept. more row size (refl, refl, value_room (cells u) (leb-true (cells u) most_cells e), kept))
             (onward_then final _ (steps calls u q locals w) _ h))
+
+    -- an index comes first into the elements of a slice
+    sliced_goes : (u v : Type') (e : Expr) (q : trees.Steps) (c : Cell) (n : ℕ) (Q : List Cell → World → Type 0) (w : World) → element_type (underlying u) ≡ Some v → (ss : List Step) (more row : List Cell) → length more ≡ expr_temps e → length (more ++ c ∷ row) ≡ n → Onward final (λ target w1. (r : List Cell) → length r ≡ n → KeptLeft (of_slice u e q) target r → Q r w1) (in_elements v (single c) ss w) → Kept u q ss row → Q (more ++ c ∷ row) w
+    sliced_goes u v e q c n Q w found [] more row size whole goes kept = absurd goes
+    sliced_goes u v e q c n Q w found (s ∷ ss) more row size whole goes kept =
+        goes (more ++ c ∷ row) whole (found, record { first = more; cell = c; others = row; value = refl; is = refl; long = size; holds = kept })
+
+    -- behind the slice, whose cell comes into its temporary first
+    slice_kept : (u v : Type') (e : Expr) (q : trees.Steps) → element_type (underlying u) ≡ Some v → (t : ℕ) (locals : Locals) (at : ℕ) (k : List (Instr ℕ)) (low : List Cell) (m : ℕ) (stack : List Cell) (w : World) → types_of locals ≡ types → total types + length low ≡ at → expr_temps e + 1 + steps_temps q ≤ m → (x : Value) →
+        Onward final (λ target w1. (row : List Cell) → length row ≡ expr_temps e + 1 + steps_temps q → KeptLeft (of_slice u e q) target row → Goes_on t k locals (low ++ row) (m - (expr_temps e + 1 + steps_temps q)) stack w1) (with_cell x (and_then (steps calls u q locals w) (in_elements v x))) →
+        Goes_on t (store (at + expr_temps e) 1 ∷ (operands_code p (at + expr_temps e + 1) q ++ k)) locals low m (stack ++ flat x) w
+    slice_kept u v e q found t locals at k low m stack w same long le (parts vs) h = absurd h
+    slice_kept u v e q found t locals at k low m stack w same long le (single c) h =
+        let within : expr_temps e ≤ m = omega (arith, le) in
+        follows_deeper image final depth code callers starts p types t (store (at + expr_temps e) 1 ∷ (operands_code p (at + expr_temps e + 1) q ++ k)) locals low m (expr_temps e) (stack ++ c ∷ []) w within (λ more size.
+        let there : total types + length (low ++ more) ≡ at + expr_temps e = omega (arith, long, size, length-append low more) in
+        let one : 1 ≤ m - expr_temps e = omega (arith, le) in
+        follows_keeps t (at + expr_temps e) 1 (c ∷ []) (operands_code p (at + expr_temps e + 1) q ++ k) locals (low ++ more) (m - expr_temps e) stack w same there refl one
+        (let next : total types + length ((low ++ more) ++ c ∷ []) ≡ at + expr_temps e + 1 = omega (arith, there, length-append (low ++ more) (c ∷ [])) in
+        let left : steps_temps q ≤ m - expr_temps e - 1 = omega (arith, le) in
+        let room : m - (expr_temps e + 1 + steps_temps q) ≡ m - expr_temps e - 1 - steps_temps q = omega (arith, le) in
+        operands_run q u t locals (at + expr_temps e + 1) k ((low ++ more) ++ c ∷ []) (m - expr_temps e - 1) stack w same next left
+        (onward_map final _ _ (steps calls u q locals w)
+        (λ ss w2 goes row rest kept.
+        let whole : length (more ++ c ∷ row) ≡ expr_temps e + 1 + steps_temps q = omega (arith, size, rest, length-append more (c ∷ row)) in
+        let shape : low ++ (more ++ c ∷ row) ≡ ((low ++ more) ++ c ∷ []) ++ row = simp append_assoc in
+        follows_low image final depth code callers starts p types t k locals (low ++ (more ++ c ∷ row)) _ (m - expr_temps e - 1 - steps_temps q) stack w2 shape
+        (follows_room t k locals (low ++ (more ++ c ∷ row)) _ _ stack w2 room
+        (sliced_goes u v e q c (expr_temps e + 1 + steps_temps q) (λ r w3. Goes_on t k locals (low ++ r) (m - (expr_temps e + 1 + steps_temps q)) stack w3) w2 found ss more row size whole goes kept)))
+        (onward_then final _ (steps calls u q locals w) _ h))))
+
+    slice_aim : (u : Type') (e : Expr) (q : trees.Steps) → AimRuns (of_slice u e q)
+    slice_aim u e q t locals at k low m stack w same long le h = by_type (element_type (underlying u)) refl h
+      where
+        -- what is to hold behind the target
+        Aimed : Target → World → Type 0
+        Aimed target w1 = (row : List Cell) → length row ≡ expr_temps e + 1 + steps_temps q → KeptLeft (of_slice u e q) target row → Goes_on t k locals (low ++ row) (m - (expr_temps e + 1 + steps_temps q)) stack w1
+
+        by_room : (v : Type') → element_type (underlying u) ≡ Some v → (b : Bool) → Onward final Aimed (if b then and_then (eval calls e locals w) (λ x w1. with_cell x (and_then (steps calls u q locals w1) (in_elements v x))) else Stuck) → Goes_on t ((expr_code p at e ++ store (at + expr_temps e) 1 ∷ operands_code p (at + expr_temps e + 1) q) ++ k) locals low m stack w
+        by_room v found false h = absurd h
+        by_room v found true h =
+            let enough : expr_temps e ≤ m = omega (arith, le) in
+            let behind : List (Instr ℕ) = store (at + expr_temps e) 1 ∷ (operands_code p (at + expr_temps e + 1) q ++ k) in
+            follows_as image final depth code callers starts p types t (expr_code p at e ++ behind) _ locals low m stack w (sym (append_assoc (expr_code p at e) (store (at + expr_temps e) 1 ∷ operands_code p (at + expr_temps e + 1) q) k))
+            (expr_follows image final depth code callers starts p types placed calls e (every e) t locals at behind low m stack w same long enough
+            (onward_map final _ _ (eval calls e locals w) (λ x w1 more typed. slice_kept u v e q found t locals at k low m stack w1 same long le x more) (onward_then final _ (eval calls e locals w) _ h)))
+
+        by_type : (o : Option Type') → element_type (underlying u) ≡ o → Onward final Aimed (with_type o (λ v. if nat_le (cells v) most_cells then and_then (eval calls e locals w) (λ x w1. with_cell x (and_then (steps calls u q locals w1) (in_elements v x))) else Stuck)) → Goes_on t ((expr_code p at e ++ store (at + expr_temps e) 1 ∷ operands_code p (at + expr_temps e + 1) q) ++ k) locals low m stack w
+        by_type None found h = absurd h
+        by_type (Some v) found h = by_room v found (nat_le (cells v) most_cells) h
 
     pub aim_runs : (l : Left) → AimRuns l
     aim_runs blank t locals at k low m stack w same long le h = follows_same t k locals low m stack w (h [] refl tt)
     aim_runs (of_local u n q) t locals at k low m stack w same long le h = local_aim u n q t locals at k low m stack w same long le h
     aim_runs (of_global u s q) t locals at k low m stack w same long le h = global_aim u s q t locals at k low m stack w same long le h
+    aim_runs (of_slice u e q) t locals at k low m stack w same long le h = slice_aim u e q t locals at k low m stack w same long le h
 
     abbrev pub AimsRun : List Left → Type 0
     AimsRun ls =

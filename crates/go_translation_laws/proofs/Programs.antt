@@ -11,6 +11,7 @@ use Rattle.go_code.specs.Finals.{Final, Ends as Ends_with, BadCode}
 use Rattle.go_code.specs.Images.{Image}
 use Rattle.go_code.specs.Lines.{cell_fits}
 use Rattle.go_code.specs.Machine.{State, Goes, Stops, Leads, LeadsFrom, MachineMeaning, opened, started}
+use Rattle.go_code.specs.Rows.{first_rows}
 use Rattle.go_code.proofs.Follows.{start_leads, start_cut, ended_leads}
 use Rattle.go_code.proofs.Steps.{meaning_once}
 use Rattle.go_link.specs.Links.{linked}
@@ -22,12 +23,13 @@ use Rattle.go_gen.specs.Translation.{total, translated}
 use Rattle.go_translation_laws.proofs.Runs.{Onward, onward_then, onward_map, Sized, held, global_at}
 use Rattle.go_translation_laws.proofs.Images.{objects_of, start_of, Starts, slot_in, linked_number, links_starts}
 use Rattle.go_translation_laws.proofs.FirstVariables.{variables_known, variables_sized, variables_lie}
+use Rattle.go_translation_laws.proofs.RowLemmas.{rows as held_rows}
 
 -- ---- start steps
 
 -- between two start steps
 abbrev pub between : List Start → World → State
-between starts w = record { frames = []; starts = starts; globals = held w.variables; ticks = w.ticks; output = w.output }
+between starts w = record { frames = []; starts = starts; globals = held w.variables; rows = held_rows w.arrays; ticks = w.ticks; output = w.output }
 
 -- the package variables lie where these places say
 abbrev pub Lies : (Symbol → ℕ) → World → Type 0
@@ -42,6 +44,7 @@ BodiesLead image final packages globals numbers n =
       frames = opened 1 (translated globals numbers f).code (translated globals numbers f).cells [] ∷ [];
       starts = starts;
       globals = held w.variables;
+      rows = held_rows w.arrays;
       ticks = w.ticks;
       output = w.output;
     }) final
@@ -122,7 +125,7 @@ module _ (packages : List Package) (image : Image) (bodies : (final : Final) →
       let w : World = first_world packages ticks in
       let meant : IsOver (step_all (call_at packages (suc 999)) (start_steps packages) w) ending output = subst (λ n. IsOver (step_all (call_at packages n) (start_steps packages) w) ending output) same_bound h in
       begins image ticks final (ap (list_all cell_fits) s.globals_held ∙ variables_known packages)
-      (subst (λ globals. Leads image (record { frames = []; starts = image.starts; globals = globals; ticks = ticks; output = [] }) final) (sym s.globals_held)
+      (subst (λ globals. Leads image (record { frames = []; starts = image.starts; globals = globals; rows = first_rows; ticks = ticks; output = [] }) final) (sym s.globals_held)
       (subst (λ starts. Leads image (between starts w) final) (sym s.starts)
       (steps_run image final packages (slot_in packages) (linked_number packages) s.found 999 (bodies final) (setups final) ticks (start_steps packages) w
       (over_onward (step_all (call_at packages (suc 999)) (start_steps packages) w) ending output meant)

@@ -10,7 +10,7 @@ use Rattle.go_const.specs.declared.operator.ComparisonOperator.TheVariants.{Less
 use Rattle.go_types.specs.Types.{Type'}
 use Rattle.go_types.specs.Relations.{underlying}
 use Rattle.go_code.specs.declared.cell.Cell.{Cell}
-use Rattle.go_code.specs.declared.cell.Cell.TheVariants.{Int, Bool as Truth, Text}
+use Rattle.go_code.specs.declared.cell.Cell.TheVariants.{Int, Bool as Truth, Text, Slice}
 use Rattle.go_code.specs.declared.ending.Ending.TheVariants.{Cut}
 use Rattle.go_code.specs.declared.image.Start.{Start}
 use Rattle.go_code.specs.declared.instr.Instr.{Instr}
@@ -268,6 +268,7 @@ module _ (image : Image) (final : Final) (depth : ℕ) (code : List (Instr ℕ))
         follows_as image final depth code callers starts p types t (range_code there o body (Arithmetic Add i.kind ∷ []) ++ rest) _ ls low m (Int (negsuc h) ∷ []) w (ap (λ s. range_code there o body (binary_operators s (arithmetic Add)) ++ rest) (sym i.is))
         (number_follows o body runs i.kind (negsuc h) 0 (λ n. compares_negative n h) (λ n less. let l : suc n ≤ 0 = leb-true (suc n) 0 less in absurd (omega (arith, l))) d t ls at there b c rest brk next low m w behind same long le on)
     value_follows o of body runs (single (Truth b1)) typed d t ls at there b c rest brk next low m w behind same long le on = absurd on
+    value_follows o of body runs (single (Slice r1 r2 r3 r4)) typed d t ls at there b c rest brk next low m w behind same long le on = absurd on
     value_follows o of body runs (single (Text s)) typed d t ls at there b c rest brk next low m w behind same long le on = absurd on
     value_follows o of body runs (parts vs) typed d t ls at there b c rest brk next low m w behind same long le on = absurd on
 

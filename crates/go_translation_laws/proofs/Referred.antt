@@ -2,21 +2,21 @@
 use Rattle.std.proofs.Common.{◌≡◌, ℕ, ◌+◌, Bool, List, [], ◌∷◌, ◌++◌, length, map, pos, Option, Some, None, refl, sym, ap, ◌∙◌}
 use Rattle.std.specs.List.{flat_map}
 use Rattle.std.proofs.lemmas.List.{map-append, length-map}
-use Rattle.go_types.specs.Types.{Type', basic, array, struct, named, Fields, no_fields, field}
+use Rattle.go_types.specs.Types.{Type', basic, array, slice, struct, named, Fields, no_fields, field}
 use Rattle.go_types.specs.Relations.{underlying}
 use Rattle.go_types.specs.Sizes.{cells}
 use Rattle.go_code.specs.declared.cell.Cell.TheVariants.{Int}
 use Rattle.go_code.specs.declared.instr.Instr.{Instr}
 use Rattle.go_code.specs.declared.instr.Instr.TheVariants.{Frame as In_frame, Part as On_part, Operate, Jump as Go_to}
 use Rattle.go_code.specs.declared.instr.FrameInstr.TheVariants.{Push}
-use Rattle.go_code.specs.declared.instr.PartInstr.TheVariants.{Move, Index}
+use Rattle.go_code.specs.declared.instr.PartInstr.TheVariants.{Move, Index, Reach}
 use Rattle.go_code.specs.declared.instr.JumpInstr.TheVariants.{JumpIf, JumpIfNot}
 use Rattle.go_code.specs.declared.operator.Operator as operators
 use Rattle.go_code.specs.Referred.{Changes, refer}
 use Rattle.go_typed.specs.Trees as trees
-use Rattle.go_typed.specs.Trees.{Expr, Exprs, no_exprs, some_exprs, Parts, no_parts, part, Steps, here, to_field, to_element, Left, blank, of_local, of_global, Source, each, results, zeros, expr_type}
-use Rattle.go_meaning.specs.Choices.{unary_operators, binary_operators, conversion_operators, field_type, element_type}
-use Rattle.go_gen.specs.Translation.{Places, offset, expr_temps, zero_code, zeros_code, operators_code, index_code, load, store, decided_code, expr_code, exprs_code, parts_code, source_code, operands_code, or_type, elements_count, steps_code, address_code, left_temps, left_operands, take_code, give_code, lefts_operands, values_temps, keep_code, keeps_code, gives_code, define_code, defines_code}
+use Rattle.go_typed.specs.Trees.{Expr, Exprs, no_exprs, some_exprs, Perhaps, absent, present, Parts, no_parts, part, Steps, here, to_field, to_element, Left, blank, of_local, of_global, of_slice, Source, each, results, zeros, expr_type}
+use Rattle.go_meaning.specs.Choices.{unary_operators, binary_operators, conversion_operators, length_operators, cut_operators, field_type, element_type}
+use Rattle.go_gen.specs.Translation.{Places, offset, expr_temps, perhaps_temps, element_cells, zero_code, zeros_code, operators_code, index_code, load, store, decided_code, expr_code, perhaps_code, exprs_code, parts_code, source_code, operands_code, or_type, elements_count, steps_code, address_code, row_code, left_temps, left_operands, take_code, give_code, lefts_operands, values_temps, keep_code, keeps_code, gives_code, define_code, defines_code}
 
 -- the same places, where functions and package variables are referred to by other things
 abbrev pub referred : {R S : Type 0} → Changes R S → Places R → Places S
@@ -42,6 +42,7 @@ module _ {R S : Type 0} (g : Changes R S) where
     pub zero_referred : (t : Type') → Refers (zero_code t) (zero_code t)
     zero_referred (basic b) = refl
     zero_referred (array n t) = joins (refer g) (zero_code t) _ (zero_referred t) refl
+    zero_referred (slice t) = refl
     zero_referred (struct fs) = zeros_referred fs
     zero_referred (named path name t) = zero_referred t
 
@@ -60,6 +61,7 @@ module _ {R S : Type 0} (g : Changes R S) where
   index_referred : (t : Type') → Refers (index_code t) (index_code t)
   index_referred (basic b) = refl
   index_referred (array n t) = refl
+  index_referred (slice t) = refl
   index_referred (struct fs) = refl
   index_referred (named path name t) = refl
 
@@ -83,7 +85,27 @@ module _ {R S : Type 0} (g : Changes R S) where
           joins (refer g) (expr_code p k e ++ expr_code p (k + expr_temps e) i) _
           (joins (refer g) (expr_code p k e) _ (expr_referred k e) (expr_referred (k + expr_temps e) i))
           (index_referred (underlying (expr_type e)))
-      expr_referred k (trees.length t e) = joins (refer g) (expr_code p k e) _ (expr_referred k e) refl
+      expr_referred k (trees.length t e) = joins (refer g) (expr_code p k e) _ (expr_referred k e) (operators_referred (length_operators (underlying (expr_type e))))
+      expr_referred k (trees.capacity t e) = joins (refer g) (expr_code p k e) _ (expr_referred k e) refl
+      expr_referred k (trees.cut t e low o) =
+          let s : Type' = underlying (expr_type e) in
+          let at : ℕ = k + expr_temps e in
+          joins (refer g) (expr_code p k e ++ store at 1 ∷ load at 1 ∷ expr_code p (at + 1) low ++ perhaps_code p (at + 1 + expr_temps low) (load at 1 ∷ operators_code (length_operators s)) o) _
+          (joins (refer g) (expr_code p k e ++ store at 1 ∷ load at 1 ∷ expr_code p (at + 1) low) _
+          (joins (refer g) (expr_code p k e) _ (expr_referred k e) (ap (λ l. store at 1 ∷ load at 1 ∷ l) (expr_referred (at + 1) low)))
+          (perhaps_referred (at + 1 + expr_temps low) (load at 1 ∷ operators_code (length_operators s)) (load at 1 ∷ operators_code (length_operators s)) o (ap (λ l. load at 1 ∷ l) (operators_referred (length_operators s)))))
+          (operators_referred (cut_operators s))
+      expr_referred k (trees.make t e o) =
+          let at : ℕ = k + expr_temps e in
+          let of : Type' = or_type t (element_type (underlying t)) in
+          joins (refer g) (zero_code of ++ expr_code p k e ++ store at 1 ∷ load at 1 ∷ perhaps_code p (at + 1) (load at 1 ∷ []) o) _
+          (joins (refer g) (zero_code of ++ expr_code p k e) _ (joins (refer g) (zero_code of) _ (zero_referred of) (expr_referred k e))
+          (ap (λ l. store at 1 ∷ load at 1 ∷ l) (perhaps_referred (at + 1) (load at 1 ∷ []) (load at 1 ∷ []) o refl)))
+          refl
+      expr_referred k (trees.append t o es) =
+          joins (refer g) (perhaps_code p k (zero_code t) o ++ exprs_code p (k + perhaps_temps o) es) _
+          (joins (refer g) (perhaps_code p k (zero_code t) o) _ (perhaps_referred k (zero_code t) (zero_code t) o (zero_referred t)) (exprs_referred (k + perhaps_temps o) es))
+          refl
       expr_referred k (trees.unary t op e) = joins (refer g) (expr_code p k e) _ (expr_referred k e) (operators_referred (unary_operators (underlying t) op))
       expr_referred k (trees.binary t op a b) =
           joins (refer g) (expr_code p k a ++ expr_code p (k + expr_temps a) b) _
@@ -97,6 +119,10 @@ module _ {R S : Type 0} (g : Changes R S) where
           (joins (refer g) (zero_code t) _ (zero_referred t) (ap (λ l. store k (cells t) ∷ l) (parts_referred (underlying t) k (k + cells t) ps)))
           refl
       expr_referred k (trees.call t s es) = joins (refer g) (exprs_code p k es) _ (exprs_referred k es) refl
+
+      perhaps_referred : (k : ℕ) (other : List (Instr R)) (other' : List (Instr S)) (o : Perhaps) → Refers other other' → Refers (perhaps_code p k other o) (perhaps_code q k other' o)
+      perhaps_referred k other other' absent e = e
+      perhaps_referred k other other' (present x) e = expr_referred k x
 
       pub exprs_referred : (k : ℕ) (es : Exprs) → Refers (exprs_code p k es) (exprs_code q k es)
       exprs_referred k no_exprs = refl
@@ -131,20 +157,32 @@ module _ {R S : Type 0} (g : Changes R S) where
     address_referred : (t : Type') (k : ℕ) (ss : Steps) → Refers (address_code t k ss) (address_code t k ss)
     address_referred t k ss = ap (λ l. In_frame (Push (Int (pos 0))) ∷ l) (steps_referred t k ss)
 
+    row_referred : (t : Type') (at k : ℕ) (ss : Steps) → Refers (row_code t at k ss) (row_code t at k ss)
+    row_referred t at k here = refl
+    row_referred t at k (to_field n ss) = refl
+    row_referred t at k (to_element e ss) =
+        ap (λ l. load at 1 ∷ load (k + expr_temps e) 1 ∷ On_part (Reach (element_cells (underlying t))) ∷ l) (steps_referred (or_type t (element_type (underlying t))) (k + expr_temps e + 1) ss)
+
     pub left_referred : (k : ℕ) (l : Left) → Refers (left_operands p k l) (left_operands q k l)
     left_referred k blank = refl
     left_referred k (of_local t n ss) = operands_referred k ss
     left_referred k (of_global t s ss) = operands_referred k ss
+    left_referred k (of_slice t e ss) =
+        joins (refer g) (expr_code p k e) _ (expr_referred k e) (ap (λ l. store (k + expr_temps e) 1 ∷ l) (operands_referred (k + expr_temps e + 1) ss))
 
     pub take_referred : (k : ℕ) (l : Left) (n : ℕ) → Refers (take_code p k l n) (take_code q k l n)
     take_referred k blank n = refl
     take_referred k (of_local t v ss) n = joins (refer g) (address_code t k ss) _ (address_referred t k ss) refl
     take_referred k (of_global t s ss) n = joins (refer g) (address_code t k ss) _ (address_referred t k ss) refl
+    take_referred k (of_slice t e ss) n =
+        joins (refer g) (row_code t (k + expr_temps e) (k + expr_temps e + 1) ss) _ (row_referred t (k + expr_temps e) (k + expr_temps e + 1) ss) refl
 
     pub give_referred : (k : ℕ) (l : Left) (temp n : ℕ) → Refers (give_code p k l temp n) (give_code q k l temp n)
     give_referred k blank temp n = refl
     give_referred k (of_local t v ss) temp n = ap (λ l. load temp n ∷ l) (joins (refer g) (address_code t k ss) _ (address_referred t k ss) refl)
     give_referred k (of_global t s ss) temp n = ap (λ l. load temp n ∷ l) (joins (refer g) (address_code t k ss) _ (address_referred t k ss) refl)
+    give_referred k (of_slice t e ss) temp n =
+        ap (λ l. load temp n ∷ l) (joins (refer g) (row_code t (k + expr_temps e) (k + expr_temps e + 1) ss) _ (row_referred t (k + expr_temps e) (k + expr_temps e + 1) ss) refl)
 
     pub lefts_referred : (k : ℕ) (ls : List Left) → Refers (lefts_operands p k ls) (lefts_operands q k ls)
     lefts_referred k [] = refl
@@ -154,6 +192,7 @@ module _ {R S : Type 0} (g : Changes R S) where
     keep_referred blank n temp = refl
     keep_referred (of_local t v ss) n temp = refl
     keep_referred (of_global t s ss) n temp = refl
+    keep_referred (of_slice t e ss) n temp = refl
 
     pub keeps_referred : (ls : List Left) (counts : List ℕ) (k : ℕ) → Refers (keeps_code ls counts k) (keeps_code ls counts k)
     keeps_referred [] counts k = refl

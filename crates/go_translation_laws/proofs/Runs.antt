@@ -51,11 +51,12 @@ use Rattle.go_typed.specs.Trees.{Symbol}
 use Rattle.go_meaning.specs.Values.{Value, single, flat, is_of, or_else, if_gives}
 use Rattle.go_meaning.specs.Choices.{applied, operated}
 use Rattle.go_symbol.specs.Symbols.{same_symbol}
-use Rattle.go_meaning.specs.Meaning.{Stored, World, Outcome, Gives, Ends, Stuck, Local, Locals, and_then, given, local_value, global_value}
+use Rattle.go_meaning.specs.Meaning.{Stored, World, Outcome, Gives, Ends, Stuck, Local, Locals, and_then, given, changed, local_value, global_value}
 use Rattle.go_gen.specs.Translation.{Places, slots, load, operators_code}
 use Rattle.go_translation_laws.proofs.Frames.{RowOf, Fits, lies, together, types_of, read_row}
 use Rattle.go_meaning_laws.proofs.Values.{flat_long}
 use Rattle.go_translation_laws.proofs.Shapes.{same_number}
+use Rattle.go_translation_laws.proofs.RowLemmas.{rows as held_rows}
 
 -- ---- what the machine does behind an outcome
 
@@ -104,7 +105,7 @@ global_at (x ∷ xs) s = if same_symbol s x.symbol then 0 else cells x.of + glob
 module _ (image : Image) (final : Final) (depth : ℕ) (code : List (Instr ℕ)) (callers : List Frame) (starts : List Start) (p : Places ℕ) where
   -- the frame at a place, with its cells and a stack
   abbrev pub here : ℕ → List Cell → List Cell → World → State
-  here place cells stack w = record { frames = record { depth = depth; code = code; place = place; cells = cells; stack = stack } ∷ callers; starts = starts; globals = held w.variables; ticks = w.ticks; output = w.output }
+  here place cells stack w = record { frames = record { depth = depth; code = code; place = place; cells = cells; stack = stack } ∷ callers; starts = starts; globals = held w.variables; rows = held_rows w.arrays; ticks = w.ticks; output = w.output }
 
   -- the package variables lie where the code looks for them
   abbrev pub Known : World → Type 0
@@ -226,11 +227,6 @@ module _ (image : Image) (final : Final) (depth : ℕ) (code : List (Instr ℕ))
 
   -- ---- operators, one behind the other
 
-  one_cell : (t : ℕ) (of : Type') (c : Cell) (k : List (Instr ℕ)) (front : List Cell) (m : ℕ) (stack : List Cell) (w : World) → Onward final (λ v w1. is_of of v ≡ true → On t k front m (stack ++ flat v) w1) (given of (operators.Gives (single c)) w) → On t k front m (stack ++ c ∷ []) w
-  one_cell t of c k front m stack w h =
-      let g = onward_given final (λ v w1. is_of of v ≡ true → On t k front m (stack ++ flat v) w1) of (single c) w h in
-      g.1 g.0
-
   -- an operator that has as many cells as it takes
   record AppliedTo (operator : on_cells.Operator) (row : List Cell) (o : Operated Cell) : Type 0 where
     long : length row ≡ operands operator
@@ -244,22 +240,31 @@ module _ (image : Image) (final : Final) (depth : ℕ) (code : List (Instr ℕ))
   applied_panics operator row true kind e is = record { long = same_number (length row) (operands operator) e; is = is }
   applied_panics operator row false kind e is = cc
 
-  operator_runs : (t : ℕ) (of : Type') (operator : on_cells.Operator) (ops : List on_cells.Operator) (row : List Cell) (o : Operated Cell) → applied operator row ≡ o → (k : List (Instr ℕ)) (front : List Cell) (m : ℕ) (stack : List Cell) (w : World) → ((c : Cell) → Onward final (λ v w1. is_of of v ≡ true → On t k front m (stack ++ flat v) w1) (given of (operated ops (single c ∷ [])) w) → On t (operators_code ops ++ k) front m (stack ++ c ∷ []) w) → Onward final (λ v w1. is_of of v ≡ true → On t k front m (stack ++ flat v) w1) (given of (if_gives o (λ c. operated ops (single c ∷ []))) w) → On t (Operate operator ∷ (operators_code ops ++ k)) front m (stack ++ row) w
-  operator_runs t of operator ops row (operators.Gives c) e k front m stack w next h known few place high long s =
+  operator_runs : (t : ℕ) (operator : on_cells.Operator) (ops : List on_cells.Operator) (row : List Cell) (o : Operated Cell) → applied operator row ≡ o → (k : List (Instr ℕ)) (front : List Cell) (m : ℕ) (stack : List Cell) (w : World) → ((c : Cell) → Onward final (λ v w1. On t k front m (stack ++ flat v) w1) (changed (operated ops (single c ∷ [])) w) → On t (operators_code ops ++ k) front m (stack ++ c ∷ []) w) → Onward final (λ v w1. On t k front m (stack ++ flat v) w1) (changed (if_gives o (λ c. operated ops (single c ∷ []))) w) → On t (Operate operator ∷ (operators_code ops ++ k)) front m (stack ++ row) w
+  operator_runs t operator ops row (operators.Gives c) e k front m stack w next h known few place high long s =
       let a = applied_gives operator row (nat_eq (length row) (operands operator)) c refl e in
       operate_leads image (here place (front ++ high) (stack ++ row) w) _ callers operator stack row c final (record { frames = refl; rest = operators_code ops ++ k; stands = s }) (record { is = refl; long = a.long }) a.is
       (next c h known few (place + 1) high long (stands_next code place _ _ s))
-  operator_runs t of operator ops row (operators.Panics kind) e k front m stack w next h known few place high long s =
+  operator_runs t operator ops row (operators.Panics kind) e k front m stack w next h known few place high long s =
       let a = applied_panics operator row (nat_eq (length row) (operands operator)) kind refl e in
       subst (Leads image (here place (front ++ high) (stack ++ row) w)) (sym h)
       (operate_panics image (here place (front ++ high) (stack ++ row) w) _ callers operator stack row kind (record { frames = refl; rest = operators_code ops ++ k; stands = s }) (record { is = refl; long = a.long }) a.is)
-  operator_runs t of operator ops row operators.Senseless e k front m stack w next h known few place high long s = absurd h
+  operator_runs t operator ops row operators.Senseless e k front m stack w next h known few place high long s = absurd h
+
+  -- whatever type the value has
+  pub operators_change : (t : ℕ) (ops : List on_cells.Operator) (vs : List Value) (k : List (Instr ℕ)) (front : List Cell) (m : ℕ) (stack : List Cell) (w : World) → Onward final (λ v w1. On t k front m (stack ++ flat v) w1) (changed (operated ops vs) w) → On t (operators_code ops ++ k) front m (stack ++ flat_map flat vs) w
+  operators_change t [] [] k front m stack w h = absurd h
+  operators_change t [] (v ∷ []) k front m stack w h = on_stack t k front m _ _ w (ap (λ l. stack ++ l) (sym (append-nil (flat v)))) h
+  operators_change t [] (v ∷ u ∷ us) k front m stack w h = absurd h
+  operators_change t (operator ∷ ops) vs k front m stack w h =
+      operator_runs t operator ops (flat_map flat vs) (applied operator (flat_map flat vs)) refl k front m stack w (λ c. operators_change t ops (single c ∷ []) k front m stack w) h
+
+  -- what is known of a value of the type is known of what is given
+  changed_given : (P : Value → World → Type 0) (of : Type') (o : Operated Value) (w : World) → Onward final (λ v w1. is_of of v ≡ true → P v w1) (given of o w) → Onward final P (changed o w)
+  changed_given P of (operators.Gives v) w h = (let g = onward_given final (λ v w1. is_of of v ≡ true → P v w1) of v w h in g.1 g.0)
+  changed_given P of (operators.Panics kind) w h = h
+  changed_given P of operators.Senseless w h = absurd h
 
   pub operators_run : (t : ℕ) (of : Type') (ops : List on_cells.Operator) (vs : List Value) (k : List (Instr ℕ)) (front : List Cell) (m : ℕ) (stack : List Cell) (w : World) → Onward final (λ v w1. is_of of v ≡ true → On t k front m (stack ++ flat v) w1) (given of (operated ops vs) w) → On t (operators_code ops ++ k) front m (stack ++ flat_map flat vs) w
-  operators_run t of [] [] k front m stack w h = absurd h
-  operators_run t of [] (v ∷ []) k front m stack w h =
-      let g = onward_given final (λ v w1. is_of of v ≡ true → On t k front m (stack ++ flat v) w1) of v w h in
-      on_stack t k front m _ _ w (ap (λ l. stack ++ l) (sym (append-nil (flat v)))) (g.1 g.0)
-  operators_run t of [] (v ∷ u ∷ us) k front m stack w h = absurd h
-  operators_run t of (operator ∷ ops) vs k front m stack w h =
-      operator_runs t of operator ops (flat_map flat vs) (applied operator (flat_map flat vs)) refl k front m stack w (λ c. operators_run t of ops (single c ∷ []) k front m stack w) h
+  operators_run t of ops vs k front m stack w h =
+      operators_change t ops vs k front m stack w (changed_given (λ v w1. On t k front m (stack ++ flat v) w1) of (operated ops vs) w h)

@@ -34,6 +34,7 @@ use Rattle.go_translation_laws.proofs.Expressions.{AllCalled, source_runs}
 use Rattle.go_translation_laws.proofs.Referred.{referred, joins, Refers, source_referred}
 use Rattle.go_translation_laws.proofs.Sources.{gives_back}
 use Rattle.go_translation_laws.proofs.Calls.{nought, replicate_long, BodiesRun, Lies, called_within}
+use Rattle.go_translation_laws.proofs.RowLemmas.{rows as held_rows}
 
 -- the meaning: the last first, for the variables of the package at a path
 abbrev pub all_set : List ℕ → List (Option (List ℕ)) → List Value → List Stored → Option (List Stored)
@@ -116,12 +117,12 @@ variables_set calls path s ss w = and_then (source calls s [] w) (λ vs w1. and_
 module _ (image : Image) (final : Final) (starts : List Start) (packages : List Package) (globals functions : Symbol → ℕ) where
   -- between two start steps
   abbrev over : World → State
-  over w = record { frames = []; starts = starts; globals = held w.variables; ticks = w.ticks; output = w.output }
+  over w = record { frames = []; starts = starts; globals = held w.variables; rows = held_rows w.arrays; ticks = w.ticks; output = w.output }
 
   -- from the first instruction of a setup's frame
   pub setup_follows : (calls : Calls) (path : List ℕ) (s : Source) (ss : List (Option (List ℕ))) → AllCalled image final 0 (setup_code (no_locals globals functions) path s ss) [] starts (no_locals globals functions) calls → (t : ℕ) (w : World) → Lies image final packages globals functions w → w.ticks ≤ t →
       Onward final (λ done w1. Lies image final packages globals functions w1 → w1.ticks ≤ t → Leads image (over w1) final) (variables_set calls path s ss w) →
-      Leads image (record { frames = opened 0 (setup_code (no_locals globals functions) path s ss) (source_temps s) [] ∷ []; starts = starts; globals = held w.variables; ticks = w.ticks; output = w.output }) final
+      Leads image (record { frames = opened 0 (setup_code (no_locals globals functions) path s ss) (source_temps s) [] ∷ []; starts = starts; globals = held w.variables; rows = held_rows w.arrays; ticks = w.ticks; output = w.output }) final
   setup_follows calls path s ss called t w known few h =
       let p : Places ℕ = no_locals globals functions in
       let code : List (Instr ℕ) = setup_code p path s ss in
@@ -146,10 +147,10 @@ module _ (image : Image) (final : Final) (starts : List Start) (packages : List 
   -- from the start step, where the image has each function's code by its number; a setup is no open call
   pub sets_lead : ((f : Symbol) (g : Function) → function_at packages f ≡ Some g → slice_get image.functions (functions f) ≡ Some (translated globals functions g)) → BodiesRun image final starts packages globals functions → (left : ℕ) → left ≡ most_open → (path : List ℕ) (s : Source) (ss : List (Option (List ℕ))) (t : ℕ) (w : World) → Lies image final packages globals functions w → w.ticks ≤ t →
       Onward final (λ done w1. Lies image final packages globals functions w1 → w1.ticks ≤ t → Leads image (over w1) final) (variables_set (call_at packages left) path s ss w) →
-      Leads image (record { frames = []; starts = Set_up (record { cells = source_temps s; code = setup_code (no_locals globals functions) path s ss }) ∷ starts; globals = held w.variables; ticks = w.ticks; output = w.output }) final
+      Leads image (record { frames = []; starts = Set_up (record { cells = source_temps s; code = setup_code (no_locals globals functions) path s ss }) ∷ starts; globals = held w.variables; rows = held_rows w.arrays; ticks = w.ticks; output = w.output }) final
   sets_lead found bodies left same path s ss t w known few h =
       let code : List (Instr ℕ) = setup_code (no_locals globals functions) path s ss in
-      setup_leads image (record { frames = []; starts = Set_up (record { cells = source_temps s; code = code }) ∷ starts; globals = held w.variables; ticks = w.ticks; output = w.output }) (record { cells = source_temps s; code = code }) starts final refl refl
+      setup_leads image (record { frames = []; starts = Set_up (record { cells = source_temps s; code = code }) ∷ starts; globals = held w.variables; rows = held_rows w.arrays; ticks = w.ticks; output = w.output }) (record { cells = source_temps s; code = code }) starts final refl refl
       (setup_follows (call_at packages left) path s ss
       (called_within image final starts packages globals functions found bodies left 0 code [] (slice_index (slots 0 [])) (omega (arith, same)))
       t w known few h)

@@ -7,10 +7,12 @@ use Rattle.std.proofs.lemmas.Bool.{le-leb, lt-leb, leb-true, eqb-true}
 use Rattle.go_const.specs.Constants.{sizes, fits}
 use Rattle.go_const.specs.declared.kind.IntKind.{IntKind}
 use Rattle.go_const.specs.declared.kind.IntKind.TheVariants as kinds
+use Rattle.go_const.specs.declared.constant.Const.{Const}
+use Rattle.go_const.specs.declared.constant.Const.TheVariants as consts
 use Rattle.go_types.specs.declared.types.Basic.{Basic}
 use Rattle.go_types.specs.declared.types.Basic.TheVariants as basics
 use Rattle.go_types.specs.declared.types.Untyped.TheVariants as untypeds
-use Rattle.go_types.specs.Types.{Type', basic, array, struct, named, Fields, no_fields, field}
+use Rattle.go_types.specs.Types.{Type', basic, array, slice, struct, named, Fields, no_fields, field}
 use Rattle.go_types.specs.Relations.{underlying}
 use Rattle.go_types.specs.Sizes.{cells}
 use Rattle.go_code.specs.declared.cell.Cell.{Cell}
@@ -22,9 +24,10 @@ use Rattle.go_code.specs.declared.instr.PartInstr.TheVariants.{Pick, Part}
 use Rattle.go_code.specs.Operators as operators
 use Rattle.go_code.specs.Parts.{part, picked, with_index, index_below}
 use Rattle.go_translation_laws.proofs.Frames.{if_true}
+use Rattle.go_meaning.specs.Choices.{cell_of, element_type}
 use Rattle.go_meaning.specs.Values.{Value, single, parts, Values, no_values, some_values, unpack, flat, flat_all, is_of, is_basic, are_of_fields, nth, with_nth}
 use Rattle.go_meaning_laws.proofs.Values.{flat_long}
-use Rattle.go_gen.specs.Translation.{field_offset}
+use Rattle.go_gen.specs.Translation.{field_offset, element_cells}
 
 pub both_true : (p q : Bool) → (p && q) ≡ true → (p ≡ true) × (q ≡ true)
 both_true true q e = (refl, e)
@@ -37,14 +40,24 @@ same_number m n e = eqb-true m n e
 pub underlying_cells : (t : Type') → cells (underlying t) ≡ cells t
 underlying_cells (basic b) = refl
 underlying_cells (array n t) = refl
+underlying_cells (slice t) = refl
 underlying_cells (struct fs) = refl
 underlying_cells (named path name t) = underlying_cells t
 
 pub underlying_values : (t : Type') (v : Value) → is_of (underlying t) v ≡ is_of t v
 underlying_values (basic b) v = refl
 underlying_values (array n t) v = refl
+underlying_values (slice t) v = refl
 underlying_values (struct fs) v = refl
 underlying_values (named path name t) v = underlying_values t v
+
+-- an element has as many cells as its type says
+pub element_cells_are : (s u : Type') → element_type s ≡ Some u → element_cells s ≡ cells u
+element_cells_are (array n t) u e = (let same : t ≡ u = cc in ap cells same)
+element_cells_are (slice t) u e = (let same : t ≡ u = cc in ap cells same)
+element_cells_are (basic b) u e = absurd (cc)
+element_cells_are (struct fs) u e = absurd (cc)
+element_cells_are (named p x t) u e = absurd (cc)
 
 -- ---- parts
 
@@ -129,13 +142,18 @@ basic_known (basics.Untyped untypeds.Int) z e = cc
 basic_known (basics.Untyped untypeds.Rune) z e = cc
 basic_known (basics.Untyped untypeds.String) z e = cc
 
-pub cell_known : (t : Type') (c : Cell) → is_of t (single c) ≡ true → cell_fits c ≡ true
-cell_known t (Truth b) e = refl
-cell_known t (Text s) e = refl
-cell_known (basic b) (Int z) e = basic_known b z e
-cell_known (array n t) (Int z) e = cc
-cell_known (struct fs) (Int z) e = cc
-cell_known (named path name t) (Int z) e = cell_known t (Int z) e
+int_known : (t : Type') (z : ℤ) → is_of t (single (Int z)) ≡ true → number_fits z ≡ true
+int_known (basic b) z e = basic_known b z e
+int_known (array n t) z e = cc
+int_known (slice t) z e = cc
+int_known (struct fs) z e = cc
+int_known (named path name t) z e = int_known t z e
+
+-- the machine knows the cells of constants
+pub constant_known : (t : Type') (c : Const) → is_of t (single (cell_of c)) ≡ true → cell_fits (cell_of c) ≡ true
+constant_known t (consts.Integer z) e = int_known t z e
+constant_known t (consts.Text s) e = refl
+constant_known t (consts.Bool b) e = refl
 
 -- ---- parts, as instructions read them
 

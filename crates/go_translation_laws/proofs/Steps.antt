@@ -16,6 +16,7 @@ use Rattle.go_code.specs.Operators.{Operated}
 use Rattle.go_code.specs.Parts.{part, with_index, offset_of}
 use Rattle.go_meaning.specs.Values.{Value, single, parts, Values, no_values, some_values, unpack, flat, is_of, are_of_fields, Step, to_field, to_element, nth, part_of, with_part, read, updated, or_else, if_gives}
 use Rattle.go_meaning.specs.Choices.{field_at}
+use Rattle.go_code.specs.Rows.{most_room}
 use Rattle.go_meaning.specs.Meaning.{most_cells}
 use Rattle.go_gen.specs.Translation.{field_offset}
 use Rattle.go_translation_laws.proofs.Frames.{if_true}
@@ -72,9 +73,14 @@ element_parted count u vs n x typed is =
 
 -- ---- offsets, as the machine finds them
 
--- no offset among the cells of a value is too large for it
-offset_gives : (n : ℕ) → n ≤ most_cells → offset_of (pos n) ≡ operators.Gives (Int (pos n) ∷ [])
-unfolding most_cells
+-- a row has room for the cells of a value
+pub value_room : (n : ℕ) → n ≤ most_cells → n ≤ most_room
+unfolding most_cells most_room
+value_room n small = omega (arith, small)
+
+-- no offset among the cells of a value or of a row is too large for it
+pub offset_gives : (n : ℕ) → n ≤ most_room → offset_of (pos n) ≡ operators.Gives (Int (pos n) ∷ [])
+unfolding most_room
 offset_gives n small =
     let below : n < 2 ^ 64 = omega (arith, small) in
     if_true (nat_lt n (2 ^ 64)) (operators.Gives (Int (pos n) ∷ [])) operators.Senseless (le-leb (suc n) (2 ^ 64) below)
@@ -91,21 +97,21 @@ Finds v s u base got (operators.Gives x) = Offset v s u x base got
 Finds v s u base got (operators.Panics kind) = got ≡ operators.Panics kind
 Finds v s u base got operators.Senseless = ⊤
 
-pub field_finds : (fs : Fields) (n : ℕ) (u : Type') (v : Value) (base : ℕ) → is_of (struct fs) v ≡ true → field_at fs n ≡ Some u → base + cells (struct fs) ≤ most_cells → (o : Operated Value) → part_of v (to_field n) ≡ o → Finds v (to_field n) u base (part (Move (field_offset fs n)) (Int (pos base) ∷ [])) o
+pub field_finds : (fs : Fields) (n : ℕ) (u : Type') (v : Value) (base : ℕ) → is_of (struct fs) v ≡ true → field_at fs n ≡ Some u → base + cells (struct fs) ≤ most_room → (o : Operated Value) → part_of v (to_field n) ≡ o → Finds v (to_field n) u base (part (Move (field_offset fs n)) (Int (pos base) ∷ [])) o
 field_finds fs n u v base typed found small (operators.Gives x) e =
     let at = field_parted fs n u v x typed found e in
-    let within : base + field_offset fs n ≤ most_cells = omega (arith, small, part_within v (to_field n) u x (field_offset fs n) at, flat_long (struct fs) v typed) in
+    let within : base + field_offset fs n ≤ most_room = omega (arith, small, part_within v (to_field n) u x (field_offset fs n) at, flat_long (struct fs) v typed) in
     record { at = field_offset fs n; parted = at; got_is = offset_gives (base + field_offset fs n) within }
 field_finds fs n u v base typed found small (operators.Panics kind) e = absurd (field_calm v n kind e)
 field_finds fs n u v base typed found small operators.Senseless e = tt
 
 -- by whether there is an element of that number
-element_found : (count : ℕ) (u : Type') (vs : Values) (n base : ℕ) (o : Option Value) → nth vs n ≡ o → is_of (array count u) (parts vs) ≡ true → base + count * cells u ≤ most_cells → Finds (parts vs) (to_element (pos n)) u base (part (Index count (cells u)) (Int (pos base) ∷ Int (pos n) ∷ [])) (or_else (operators.Panics Out_of_range) o)
+element_found : (count : ℕ) (u : Type') (vs : Values) (n base : ℕ) (o : Option Value) → nth vs n ≡ o → is_of (array count u) (parts vs) ≡ true → base + count * cells u ≤ most_room → Finds (parts vs) (to_element (pos n)) u base (part (Index count (cells u)) (Int (pos base) ∷ Int (pos n) ∷ [])) (or_else (operators.Panics Out_of_range) o)
 element_found count u vs n base (Some x) e typed small =
     let many = same_number (length (unpack vs)) count (both_true _ (list_all (is_of u) (unpack vs)) typed).0 in
     let below : n < count = omega (arith, nth_within vs n x e, many) in
     let at = element_parted count u vs n x typed e in
-    let within : base + n * cells u ≤ most_cells = omega (arith, small, part_within (parts vs) (to_element (pos n)) u x (n * cells u) at, flat_long (array count u) (parts vs) typed) in
+    let within : base + n * cells u ≤ most_room = omega (arith, small, part_within (parts vs) (to_element (pos n)) u x (n * cells u) at, flat_long (array count u) (parts vs) typed) in
     let test : nat_lt n count ≡ true = le-leb (suc n) count below in
     record {
       at = n * cells u;
@@ -118,7 +124,7 @@ element_found count u vs n base None e typed small =
     let test : nat_lt n count ≡ false = lt-leb (suc n) count beyond in
     ap (λ b. with_index (if b then operators.Gives n else operators.Panics Out_of_range) (λ index. offset_of (pos (base + index * cells u)))) test
 
-pub element_finds : (count : ℕ) (u : Type') (v : Value) (z : ℤ) (base : ℕ) → is_of (array count u) v ≡ true → base + cells (array count u) ≤ most_cells → (o : Operated Value) → part_of v (to_element z) ≡ o → Finds v (to_element z) u base (part (Index count (cells u)) (Int (pos base) ∷ Int z ∷ [])) o
+pub element_finds : (count : ℕ) (u : Type') (v : Value) (z : ℤ) (base : ℕ) → is_of (array count u) v ≡ true → base + cells (array count u) ≤ most_room → (o : Operated Value) → part_of v (to_element z) ≡ o → Finds v (to_element z) u base (part (Index count (cells u)) (Int (pos base) ∷ Int z ∷ [])) o
 element_finds count u (single c) z base typed small o e = cc
 element_finds count u (parts vs) (pos n) base typed small o e =
     subst (Finds (parts vs) (to_element (pos n)) u base (part (Index count (cells u)) (Int (pos base) ∷ Int (pos n) ∷ []))) e (element_found count u vs n base (nth vs n) refl typed small)

@@ -7,7 +7,7 @@ use Rattle.go_types.specs.Types.{Type', basic}
 use Rattle.go_types.specs.Relations.{underlying}
 use Rattle.go_types.specs.Sizes.{cells}
 use Rattle.go_code.specs.declared.cell.Cell.{Cell}
-use Rattle.go_code.specs.declared.cell.Cell.TheVariants.{Int, Bool as Truth, Text}
+use Rattle.go_code.specs.declared.cell.Cell.TheVariants.{Int, Bool as Truth, Text, Slice}
 use Rattle.go_code.specs.declared.image.Start.{Start}
 use Rattle.go_code.specs.declared.instr.Instr.{Instr}
 use Rattle.go_code.specs.declared.instr.Instr.TheVariants.{Jump as Go_to}
@@ -71,6 +71,7 @@ as_truth : {A : Type 0} (final : Final) (P : A → World → Type 0) (o : Operat
 as_truth {A} final P (operators.Gives (single (Truth true))) w x y h = h
 as_truth {A} final P (operators.Gives (single (Truth false))) w x y h = h
 as_truth {A} final P (operators.Gives (single (Int z))) w x y h = absurd h
+as_truth {A} final P (operators.Gives (single (Slice r1 r2 r3 r4))) w x y h = absurd h
 as_truth {A} final P (operators.Gives (single (Text s))) w x y h = absurd h
 as_truth {A} final P (operators.Gives (parts vs)) w x y h = absurd h
 as_truth {A} final P (operators.Panics kind) w x y h = h
@@ -93,6 +94,7 @@ module _ (image : Image) (final : Final) (depth : ℕ) (code : List (Instr ℕ))
       jump_if_stays image (here image final depth code callers starts p place (front ++ high) (stack ++ Truth false ∷ []) w) _ callers n stack final (record { frames = refl; rest = k; stands = s }) refl
       (second h known few (place + 1) high long (stands_next code place _ k s))
   jumps_if {A} P x y t n k target front m stack w (single (Int z)) past first second h = absurd h
+  jumps_if {A} P x y t n k target front m stack w (single (Slice r1 r2 r3 r4)) past first second h = absurd h
   jumps_if {A} P x y t n k target front m stack w (single (Text s)) past first second h = absurd h
   jumps_if {A} P x y t n k target front m stack w (parts vs) past first second h = absurd h
 

@@ -6,9 +6,10 @@ use Rattle.std.specs.Option.{option_map}
 use Rattle.go_types.specs.declared.types.Basic.{Basic}
 use Rattle.go_types.specs.declared.types.Basic.TheVariants as basics
 use Rattle.go_types.specs.declared.types.Untyped.TheVariants as untypeds
-use Rattle.go_types.specs.Types.{Type', basic, array, struct, named, Fields, no_fields, field}
+use Rattle.go_types.specs.Types.{Type', basic, array, slice, struct, named, Fields, no_fields, field}
 use Rattle.go_types.specs.Sizes.{cells, cells_of}
 use Rattle.go_code.specs.declared.cell.Cell.{Cell}
+use Rattle.go_code.specs.declared.cell.Cell.TheVariants.{Slice}
 use Rattle.go_code.specs.declared.image.Start.{Start}
 use Rattle.go_code.specs.declared.instr.Instr.{Instr}
 use Rattle.go_code.specs.declared.instr.Instr.TheVariants.{Frame as In_frame}
@@ -50,6 +51,7 @@ mutual
   pub zero_long : (t : Type') → length (flat (zero_of t)) ≡ cells t
   zero_long (basic b) = refl
   zero_long (array n t) = copies_long n (cells t) (zero_of t) (zero_long t)
+  zero_long (slice t) = refl
   zero_long (struct fs) = zeros_long fs
   zero_long (named path name t) = zero_long t
 
@@ -81,6 +83,8 @@ module _ (image : Image) (final : Final) (depth : ℕ) (code : List (Instr ℕ))
     zero_runs (array n u) t k front m stack w on =
         on_as image final depth code callers starts p t _ _ front m stack w (sym (append_assoc (zero_code u) (In_frame (Repeat (cells u) n) ∷ []) k))
         (zero_runs u t (In_frame (Repeat (cells u) n) ∷ k) front m stack w (repeats t n (cells u) (zero_of u) k front m stack w (zero_long u) on))
+    zero_runs (slice u) t k front m stack w on = λ known few place high long s.
+        push_leads image (here image final depth code callers starts p place (front ++ high) stack w) _ callers (Slice 0 0 0 0) k final refl s refl (on known few (place + 1) high long (stands_next code place _ k s))
     zero_runs (struct fs) t k front m stack w on = zeros_run fs t k front m stack w on
     zero_runs (named path name u) t k front m stack w on = zero_runs u t k front m stack w on
 

@@ -7,7 +7,7 @@ use Rattle.go_types.specs.Views.{type_of}
 use Rattle.go_typed.specs.Trees as trees
 use Rattle.go_typed.specs.declared.expression.TypedExpr.{TypedExpr}
 use Rattle.go_typed.specs.declared.expression.TypedPart.{TypedPart}
-use Rattle.go_typed.specs.declared.expression.TypedExprKind.{TypedExprKind, Constant, Field, Index, Length, Unary, Binary, Both, Either, Conversion, Literal, Literal', Call, Call', Row_of-TypedExpr, end_of-TypedExpr, more_of-TypedExpr, items-the_row-TypedExpr, items_hidden-the_row-TypedExpr-1, Row_of-TypedPart, end_of-TypedPart, more_of-TypedPart, items-the_row-TypedPart, items_hidden-the_row-TypedPart-0}
+use Rattle.go_typed.specs.declared.expression.TypedExprKind.{TypedExprKind, Constant, Field, Index, Length, Capacity, Tail, Cut, Make, MakeWithin, Elements, Elements', Append, Append', Unary, Binary, Both, Either, Conversion, Literal, Literal', Call, Call', Row_of-TypedExpr, end_of-TypedExpr, more_of-TypedExpr, items-the_row-TypedExpr, items_hidden-the_row-TypedExpr-1, Row_of-TypedPart, end_of-TypedPart, more_of-TypedPart, items-the_row-TypedPart, items_hidden-the_row-TypedPart-0}
 use Rattle.go_typed.specs.Views.{expr_at, exprs_of, parts_of, expr_of, exprs_in, parts_in}
 
 expr_items : (n : _) (row : Row_of-TypedExpr n) → exprs_of row ≡ exprs_in (items-the_row-TypedExpr n row)
@@ -21,6 +21,8 @@ part_items n end_of-TypedPart = refl
 part_items n (more_of-TypedPart k u e rest) = ap (trees.part k (expr_at e u)) (part_items _ rest)
 
 abbrev expr_row : TypedExprKind → (n : Count) × Row_of-TypedExpr n
+expr_row (Elements' n row) = (_, row)
+expr_row (Append' x u e n row) = (_, row)
 expr_row (Call' s n row) = (_, row)
 expr_row _ = (_, end_of-TypedExpr)
 
@@ -42,6 +44,51 @@ pub length_seen : (t : GoType) (inner : Box TypedExpr Global) (e : TypedExpr) �
     expr_of (record { of = t; kind = Length inner }) ≡ trees.length (type_of t) (expr_of e)
 unfolding expr_of
 length_seen t inner e i = ap (λ x. trees.length (type_of t) (expr_of x)) i
+
+pub capacity_seen : (t : GoType) (inner : Box TypedExpr Global) (e : TypedExpr) → inner.value ≡ e →
+    expr_of (record { of = t; kind = Capacity inner }) ≡ trees.capacity (type_of t) (expr_of e)
+unfolding expr_of
+capacity_seen t inner e i = ap (λ x. trees.capacity (type_of t) (expr_of x)) i
+
+pub tail_seen : (t : GoType) (operand low : Box TypedExpr Global) (e a : TypedExpr) → operand.value ≡ e → low.value ≡ a →
+    expr_of (record { of = t; kind = Tail operand low }) ≡ trees.cut (type_of t) (expr_of e) (expr_of a) trees.absent
+unfolding expr_of
+tail_seen t operand low e a o l =
+    ap (λ x. trees.cut (type_of t) (expr_of x) (expr_of low.value) trees.absent) o ∙ ap (λ x. trees.cut (type_of t) (expr_of e) (expr_of x) trees.absent) l
+
+pub cut_seen : (t : GoType) (operand low high : Box TypedExpr Global) (e a b : TypedExpr) → operand.value ≡ e → low.value ≡ a → high.value ≡ b →
+    expr_of (record { of = t; kind = Cut operand low high }) ≡ trees.cut (type_of t) (expr_of e) (expr_of a) (trees.present (expr_of b))
+unfolding expr_of
+cut_seen t operand low high e a b o l h =
+    ap (λ x. trees.cut (type_of t) (expr_of x) (expr_of low.value) (trees.present (expr_of high.value))) o
+    ∙ ap (λ x. trees.cut (type_of t) (expr_of e) (expr_of x) (trees.present (expr_of high.value))) l
+    ∙ ap (λ x. trees.cut (type_of t) (expr_of e) (expr_of a) (trees.present (expr_of x))) h
+
+pub make_seen : (t : GoType) (inner : Box TypedExpr Global) (n : TypedExpr) → inner.value ≡ n →
+    expr_of (record { of = t; kind = Make inner }) ≡ trees.make (type_of t) (expr_of n) trees.absent
+unfolding expr_of
+make_seen t inner n i = ap (λ x. trees.make (type_of t) (expr_of x) trees.absent) i
+
+pub make_within_seen : (t : GoType) (length room : Box TypedExpr Global) (n c : TypedExpr) → length.value ≡ n → room.value ≡ c →
+    expr_of (record { of = t; kind = MakeWithin length room }) ≡ trees.make (type_of t) (expr_of n) (trees.present (expr_of c))
+unfolding expr_of
+make_within_seen t length room n c l r =
+    ap (λ x. trees.make (type_of t) (expr_of x) (trees.present (expr_of room.value))) l ∙ ap (λ x. trees.make (type_of t) (expr_of n) (trees.present (expr_of x))) r
+
+pub elements_seen : (t : GoType) (es : Vec TypedExpr Global) →
+    expr_of (record { of = t; kind = Elements es }) ≡ trees.append (type_of t) trees.absent (exprs_in es.items)
+unfolding expr_of
+elements_seen t es =
+    let row = expr_row (Elements es) in
+    ap (trees.append (type_of t) trees.absent) (expr_items row.0 row.1 ∙ ap exprs_in (items_hidden-the_row-TypedExpr-1 es))
+
+pub append_seen : (t : GoType) (inner : Box TypedExpr Global) (e : TypedExpr) (es : Vec TypedExpr Global) → inner.value ≡ e →
+    expr_of (record { of = t; kind = Append inner es }) ≡ trees.append (type_of t) (trees.present (expr_of e)) (exprs_in es.items)
+unfolding expr_of
+append_seen t inner e es i =
+    let row = expr_row (Append inner es) in
+    ap (trees.append (type_of t) (trees.present (expr_of inner.value))) (expr_items row.0 row.1 ∙ ap exprs_in (items_hidden-the_row-TypedExpr-1 es))
+    ∙ ap (λ x. trees.append (type_of t) (trees.present (expr_of x)) (exprs_in es.items)) i
 
 pub unary_seen : (t : GoType) (op : UnaryOperator) (inner : Box TypedExpr Global) (e : TypedExpr) → inner.value ≡ e →
     expr_of (record { of = t; kind = Unary op inner }) ≡ trees.unary (type_of t) op (expr_of e)

@@ -17,10 +17,16 @@ mutual
     -- a local variable by its number, which counts through the function from the parameters on; a package's variable
     local : Type' → ℕ → Expr
     global : Type' → Symbol → Expr
-    -- the field of that number; an element of an array, or a byte of a string; the length of a string
+    -- the field of that number; an element of an array or a slice, or a byte of a string; the length of a slice or a string
     field : Type' → Expr → ℕ → Expr
     index : Type' → Expr → Expr → Expr
     length : Type' → Expr → Expr
+    -- the capacity of a slice; a part of a slice or a string, from one bound to another or to the length
+    capacity : Type' → Expr → Expr
+    cut : Type' → Expr → Expr → Perhaps → Expr
+    -- a slice that is made with a length, and a capacity or as much; a slice with elements appended, which in a literal stand alone
+    make : Type' → Expr → Perhaps → Expr
+    append : Type' → Perhaps → Exprs → Expr
     unary : Type' → UnaryOperator → Expr → Expr
     binary : Type' → Operator → Expr → Expr → Expr
     both : Type' → Expr → Expr → Expr
@@ -35,12 +41,17 @@ mutual
     no_exprs : Exprs
     some_exprs : Expr → Exprs → Exprs
 
+  -- an operand that may be left out
+  pub data Perhaps : Type 0 where
+    absent : Perhaps
+    present : Expr → Perhaps
+
   -- parts of a literal by their numbers
   pub data Parts : Type 0 where
     no_parts : Parts
     part : ℕ → Expr → Parts → Parts
 
--- the way from a variable to the part of it that is assigned, outermost first
+-- the way from a variable, or from the elements of a slice, to the part of it that is assigned, outermost first
 pub data Steps : Type 0 where
   here : Steps
   to_field : ℕ → Steps → Steps
@@ -51,6 +62,8 @@ pub data Left : Type 0 where
   blank : Left
   of_local : Type' → ℕ → Steps → Left
   of_global : Type' → Symbol → Steps → Left
+  -- a part of a slice that is a value, whose type stands first
+  of_slice : Type' → Expr → Steps → Left
 
 -- values that are due: each by an expression, or all by one call, whose results have these types; or the zero values of these types
 pub data Source : Type 0 where
@@ -134,6 +147,10 @@ expr_type (global t s) = t
 expr_type (field t e n) = t
 expr_type (index t e i) = t
 expr_type (length t e) = t
+expr_type (capacity t e) = t
+expr_type (cut t e low high) = t
+expr_type (make t n c) = t
+expr_type (append t e es) = t
 expr_type (unary t op e) = t
 expr_type (binary t op a b) = t
 expr_type (both t a b) = t

@@ -36,6 +36,13 @@ abbrev mutual
   expr_at (kinds.Field' x u e n) t = trees.field (type_of t) (expr_at e u) n
   expr_at (kinds.Index' x u e y v i) t = trees.index (type_of t) (expr_at e u) (expr_at i v)
   expr_at (kinds.Length' x u e) t = trees.length (type_of t) (expr_at e u)
+  expr_at (kinds.Capacity' x u e) t = trees.capacity (type_of t) (expr_at e u)
+  expr_at (kinds.Tail' x u e y v a) t = trees.cut (type_of t) (expr_at e u) (expr_at a v) trees.absent
+  expr_at (kinds.Cut' x u e y v a z w b) t = trees.cut (type_of t) (expr_at e u) (expr_at a v) (trees.present (expr_at b w))
+  expr_at (kinds.Make' x u n) t = trees.make (type_of t) (expr_at n u) trees.absent
+  expr_at (kinds.MakeWithin' x u n y v c) t = trees.make (type_of t) (expr_at n u) (trees.present (expr_at c v))
+  expr_at (kinds.Elements' m row) t = trees.append (type_of t) trees.absent (exprs_of row)
+  expr_at (kinds.Append' x u e m row) t = trees.append (type_of t) (trees.present (expr_at e u)) (exprs_of row)
   expr_at (kinds.Unary' op x u e) t = trees.unary (type_of t) op (expr_at e u)
   expr_at (kinds.Binary' op x u a y v b) t = trees.binary (type_of t) op (expr_at a u) (expr_at b v)
   expr_at (kinds.Both' x u a y v b) t = trees.both (type_of t) (expr_at a u) (expr_at b v)
@@ -74,6 +81,7 @@ abbrev pub left_of : TypedLeft → trees.Left
 left_of lefts.Blank = trees.blank
 left_of (lefts.Local t n ss) = trees.of_local (type_of t) n (steps_in ss.items)
 left_of (lefts.Global t s ss) = trees.of_global (type_of t) s (steps_in ss.items)
+left_of (lefts.Slice t e ss) = trees.of_slice (type_of t) (expr_of e) (steps_in ss.items)
 
 abbrev pub source_of : TypedSource → trees.Source
 source_of (sources.Each es) = trees.each (exprs_in es.items)

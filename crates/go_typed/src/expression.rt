@@ -40,11 +40,23 @@ pub enum TypedExprKind {
     Global(Symbol),
     /// The field of that number. [Selectors](https://go.dev/ref/spec#Selectors)
     Field(Box<TypedExpr>, usize),
-    /// An element of an array, or a byte of a string.
+    /// An element of an array or a slice, or a byte of a string.
     /// [Index expressions](https://go.dev/ref/spec#Index_expressions)
     Index(Box<TypedExpr>, Box<TypedExpr>),
-    /// The length of a string. [Length and capacity](https://go.dev/ref/spec#Length_and_capacity)
+    /// The length of a slice or a string. [Length and capacity](https://go.dev/ref/spec#Length_and_capacity)
     Length(Box<TypedExpr>),
+    /// The capacity of a slice.
+    Capacity(Box<TypedExpr>),
+    /// A part of a slice or a string, from one bound to its end.
+    /// [Slice expressions](https://go.dev/ref/spec#Slice_expressions)
+    Tail(Box<TypedExpr>, Box<TypedExpr>),
+    /// A part of a slice or a string, from one bound to another.
+    Cut(Box<TypedExpr>, Box<TypedExpr>, Box<TypedExpr>),
+    /// A slice that is made with a length.
+    /// [Making slices](https://go.dev/ref/spec#Making_slices_maps_and_channels)
+    Make(Box<TypedExpr>),
+    /// A slice that is made with a length and a capacity.
+    MakeWithin(Box<TypedExpr>, Box<TypedExpr>),
     /// An operator before its operand. [Operators](https://go.dev/ref/spec#Operators)
     Unary(UnaryOperator, Box<TypedExpr>),
     /// An operator between two operands.
@@ -59,6 +71,12 @@ pub enum TypedExprKind {
     /// An array or a struct: some of its parts, the others are zero.
     /// [Composite literals](https://go.dev/ref/spec#Composite_literals)
     Literal(Vec<TypedPart>),
+    /// A slice literal: its elements.
+    /// [Composite literals](https://go.dev/ref/spec#Composite_literals)
+    Elements(Vec<TypedExpr>),
+    /// A slice with elements appended.
+    /// [Appending](https://go.dev/ref/spec#Appending_and_copying_slices)
+    Append(Box<TypedExpr>, Vec<TypedExpr>),
     /// A call of a function that has one result. [Calls](https://go.dev/ref/spec#Calls)
     Call(Symbol, Vec<TypedExpr>),
 }

@@ -4,7 +4,7 @@ use crate::expression::{Operator, TypedExpr};
 use go_symbol::Symbol;
 use go_types::types::GoType;
 
-/// A step from a variable to a part of it.
+/// A step from a variable, or from the elements of a slice, to a part.
 #[derive(Drop)]
 pub enum TypedStep {
     /// To the field of that number. [Selectors](https://go.dev/ref/spec#Selectors)
@@ -24,6 +24,9 @@ pub enum TypedLeft {
     Local(GoType, usize, Vec<TypedStep>),
     /// A part of a package's variable: the variable's type, the variable and the steps to the part.
     Global(GoType, Symbol, Vec<TypedStep>),
+    /// A part of a slice that is a value: the slice's type, the slice, and the steps to the part, of
+    /// which the first is to an element.
+    Slice(GoType, TypedExpr, Vec<TypedStep>),
 }
 
 /// Values that are due.

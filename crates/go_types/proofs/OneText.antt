@@ -1,14 +1,14 @@
 -- The text of a type tells the type.
-use Rattle.std.proofs.Common.{◌≡◌, ℕ, ◌<◌, ◌^◌, Bool, true, false, not, ◌&&◌, ◌||◌, cond, List, [], ◌∷◌, ◌++◌, append_assoc, append-nil, Option, Some, None, codes, bytes_eq, refl, ap, sym, ◌∙◌, subst, arith}
+use Rattle.std.proofs.Common.{◌≡◌, ℕ, ◌<◌, ◌^◌, Bool, true, false, not, ◌&&◌, ◌||◌, cond, List, [], ◌∷◌, ◌++◌, length, append_assoc, append-nil, Option, Some, None, codes, bytes_eq, refl, ap, sym, ◌∙◌, subst, arith}
 use Rattle.std.specs.Prelude.{◌==◌}
 use Rattle.std.specs.Fmt.{decimal}
-use Rattle.std.proofs.lemmas.Fmt.{decimal_by_steps, decimal_injective}
+use Rattle.std.proofs.lemmas.Fmt.{decimal_by_steps, decimal_injective, decimal_nonempty}
 use Rattle.std.proofs.lemmas.List.{append_cancel_left}
 use Rattle.go_const.specs.declared.kind.IntKind.TheVariants as integers
 use Rattle.go_types.specs.declared.types.Basic.{Basic}
 use Rattle.go_types.specs.declared.types.Basic.TheVariants as basics
 use Rattle.go_types.specs.declared.types.Untyped.TheVariants as kinds
-use Rattle.go_types.specs.Types.{Type', basic, array, struct, named, Fields, no_fields, field}
+use Rattle.go_types.specs.Types.{Type', basic, array, slice, struct, named, Fields, no_fields, field}
 use Rattle.go_types.specs.Texts.{basic_text, name_text, type_text, fields_text, Lacks, IsWritable, AreWritable}
 
 -- bytes that begin what stands behind a word: ( ) ; [ {
@@ -144,6 +144,9 @@ lacks_decimal n small =
 array_text : (n : ℕ) (t : Type') (x : List ℕ) → type_text (array n t) ++ x ≡ 91 ∷ (decimal n ++ 93 ∷ (type_text t ++ x))
 array_text n t x = simp append_assoc
 
+slice_text : (t : Type') (x : List ℕ) → type_text (slice t) ++ x ≡ 91 ∷ 93 ∷ (type_text t ++ x)
+slice_text t x = simp append_assoc
+
 struct_text : (f : Fields) (x : List ℕ) → type_text (struct f) ++ x ≡ codes "struct{" ++ (fields_text f ++ 125 ∷ x)
 struct_text f x = simp append_assoc
 
@@ -172,12 +175,24 @@ no_empty b c x y m h e = not_basic b [] refl (split_word (basic_text b) [] x (c 
 no_struct : (b : Basic) (x y : List ℕ) → is_marked x ≡ true → basic_text b ++ x ≡ codes "struct{" ++ y → ⊥
 no_struct b x y h e = not_basic b (codes "struct") refl (split_word (basic_text b) (codes "struct") x (123 ∷ y) (basic_is b).1 refl h refl e).0
 
+not_empty : (l : List ℕ) → l ≡ [] → 0 < length l → ⊥
+not_empty [] e some = omega arith
+not_empty (c ∷ l) e some = cc
+
+-- a length is written, so no array begins as a slice does
+no_length : (n : ℕ) (x y : List ℕ) → n < 2 ^ 32 → 91 ∷ (decimal n ++ 93 ∷ x) ≡ 91 ∷ 93 ∷ y → ⊥
+no_length n x y small e =
+    let none : decimal n ≡ [] = (split_first 93 (decimal n) [] x y (lacks_decimal n small) tt (tail_same 91 _ _ e)).0 in
+    let some : 0 < length (decimal n) = decimal_nonempty n (omega (arith, small)) in
+    absurd (not_empty (decimal n) none some)
+
 mutual
   one_type : (a b : Type') (x y : List ℕ) → IsWritable a → IsWritable b → is_marked x ≡ true → is_marked y ≡ true → type_text a ++ x ≡ type_text b ++ y → (a ≡ b) × (x ≡ y)
   one_type (basic b) (basic c) x y p q h k e =
       let both = split_word (basic_text b) (basic_text c) x y (basic_is b).1 (basic_is c).1 h k e in
       (ap basic (basic_one b c both.0), both.1)
   one_type (basic b) (array n t) x y p q h k e = absurd (no_empty b 91 x _ refl h (e ∙ array_text n t y))
+  one_type (basic b) (slice t) x y p q h k e = absurd (no_empty b 91 x _ refl h (e ∙ slice_text t y))
   one_type (basic b) (struct g) x y p q h k e = absurd (no_struct b x _ h (e ∙ struct_text g y))
   one_type (basic b) (named path name t) x y p q h k e = absurd (no_empty b 40 x _ refl h (e ∙ named_text path name t y))
   one_type (array n t) (basic c) x y p q h k e = absurd (no_empty c 91 y _ refl k (sym e ∙ array_text n t x))
@@ -187,16 +202,26 @@ mutual
       let length : m ≡ n = decimal_injective m n (omega (arith, p.0)) (omega (arith, q.0)) lengths.0 in
       let inside = one_type a b x y p.1 q.1 h k lengths.1 in
       (let same = inside.0 in cc, inside.1)
+  one_type (array n a) (slice b) x y p q h k e = absurd (no_length n _ _ p.0 (sym (array_text n a x) ∙ e ∙ slice_text b y))
   one_type (array n t) (struct g) x y p q h k e = absurd (unlike 91 115 _ _ refl refl (sym (array_text n t x) ∙ e ∙ struct_text g y))
   one_type (array n t) (named path name b) x y p q h k e = absurd (unlike 91 40 _ _ refl refl (sym (array_text n t x) ∙ e ∙ named_text path name b y))
+  one_type (slice t) (basic c) x y p q h k e = absurd (no_empty c 91 y _ refl k (sym e ∙ slice_text t x))
+  one_type (slice a) (array n b) x y p q h k e = absurd (no_length n _ _ q.0 (sym (array_text n b y) ∙ sym e ∙ slice_text a x))
+  one_type (slice a) (slice b) x y p q h k e =
+      let inside = one_type a b x y p q h k (tail_same 93 _ _ (tail_same 91 _ _ (sym (slice_text a x) ∙ e ∙ slice_text b y))) in
+      (ap slice inside.0, inside.1)
+  one_type (slice t) (struct g) x y p q h k e = absurd (unlike 91 115 _ _ refl refl (sym (slice_text t x) ∙ e ∙ struct_text g y))
+  one_type (slice t) (named path name b) x y p q h k e = absurd (unlike 91 40 _ _ refl refl (sym (slice_text t x) ∙ e ∙ named_text path name b y))
   one_type (struct f) (basic c) x y p q h k e = absurd (no_struct c y _ k (sym e ∙ struct_text f x))
   one_type (struct f) (array n t) x y p q h k e = absurd (unlike 91 115 _ _ refl refl (sym (array_text n t y) ∙ sym e ∙ struct_text f x))
+  one_type (struct f) (slice t) x y p q h k e = absurd (unlike 91 115 _ _ refl refl (sym (slice_text t y) ∙ sym e ∙ struct_text f x))
   one_type (struct f) (struct g) x y p q h k e =
       let inside = one_fields f g x y p q (append_cancel_left (codes "struct{") (fields_text f ++ 125 ∷ x) (fields_text g ++ 125 ∷ y) (sym (struct_text f x) ∙ e ∙ struct_text g y)) in
       (ap struct inside.0, inside.1)
   one_type (struct f) (named path name t) x y p q h k e = absurd (unlike 40 115 _ _ refl refl (sym (named_text path name t y) ∙ sym e ∙ struct_text f x))
   one_type (named path name t) (basic c) x y p q h k e = absurd (no_empty c 40 y _ refl k (sym e ∙ named_text path name t x))
   one_type (named path name a) (array n t) x y p q h k e = absurd (unlike 91 40 _ _ refl refl (sym (array_text n t y) ∙ sym e ∙ named_text path name a x))
+  one_type (named path name a) (slice t) x y p q h k e = absurd (unlike 91 40 _ _ refl refl (sym (slice_text t y) ∙ sym e ∙ named_text path name a x))
   one_type (named path name t) (struct g) x y p q h k e = absurd (unlike 40 115 _ _ refl refl (sym (named_text path name t x) ∙ e ∙ struct_text g y))
   one_type (named path name a) (named other word b) x y p q h k e =
       let behind = tail_same 40 _ _ (sym (named_text path name a x) ∙ e ∙ named_text other word b y) in

@@ -4,7 +4,7 @@ use Rattle.std.specs.Coded.{Coded, code_by, coded_ℕ, coded_list, coded_option,
 use mathlib.Core.Path.{sym, ap, ◌∙◌}
 use base.Stored.{Gv, gnum, gcons, gnil}
 use Rattle.go_types.specs.contracts.types.Basic as basics
-use Rattle.go_types.specs.Types.{Type', basic, array, struct, named, Fields, no_fields, field, Declared}
+use Rattle.go_types.specs.Types.{Type', basic, array, slice, struct, named, Fields, no_fields, field, Declared}
 
 abbrev pub bytes_code : Coded (List ℕ)
 bytes_code = coded_list coded_ℕ
@@ -13,6 +13,7 @@ abbrev mutual
   pub type_tree : Type' → Gv
   type_tree (basic b) = gcons (gnum 0) (basics.the_row.coded.code b)
   type_tree (array n t) = gcons (gnum 1) (gcons (gnum n) (type_tree t))
+  type_tree (slice t) = gcons (gnum 4) (type_tree t)
   type_tree (struct fields) = gcons (gnum 2) (fields_tree fields)
   type_tree (named path name t) = gcons (gnum 3) (gcons (bytes_code.code path) (gcons (bytes_code.code name) (type_tree t)))
 
@@ -31,6 +32,7 @@ mutual
   pub one_type : (s t : Type') → type_tree s ≡ type_tree t → s ≡ t
   one_type (basic b) (basic c) e = let parts : basics.the_row.coded.code b ≡ basics.the_row.coded.code c = cc in ap basic (basics.the_row.coded.inj b c parts)
   one_type (basic b) (array n t) e = absurd (apart 0 1 _ _ refl refl e)
+  one_type (basic b) (slice t) e = absurd (apart 0 4 _ _ refl refl e)
   one_type (basic b) (struct f) e = absurd (apart 0 2 _ _ refl refl e)
   one_type (basic b) (named p x t) e = absurd (apart 0 3 _ _ refl refl e)
   one_type (array n t) (basic b) e = absurd (apart 1 0 _ _ refl refl e)
@@ -39,14 +41,22 @@ mutual
       let parts : type_tree s ≡ type_tree t = cc in
       let inside : s ≡ t = one_type s t parts in
       cc
+  one_type (array n s) (slice t) e = absurd (apart 1 4 _ _ refl refl e)
   one_type (array n t) (struct f) e = absurd (apart 1 2 _ _ refl refl e)
   one_type (array n s) (named p x t) e = absurd (apart 1 3 _ _ refl refl e)
+  one_type (slice t) (basic b) e = absurd (apart 4 0 _ _ refl refl e)
+  one_type (slice s) (array n t) e = absurd (apart 4 1 _ _ refl refl e)
+  one_type (slice s) (slice t) e = let parts : type_tree s ≡ type_tree t = cc in ap slice (one_type s t parts)
+  one_type (slice t) (struct f) e = absurd (apart 4 2 _ _ refl refl e)
+  one_type (slice s) (named p x t) e = absurd (apart 4 3 _ _ refl refl e)
   one_type (struct f) (basic b) e = absurd (apart 2 0 _ _ refl refl e)
   one_type (struct f) (array n t) e = absurd (apart 2 1 _ _ refl refl e)
+  one_type (struct f) (slice t) e = absurd (apart 2 4 _ _ refl refl e)
   one_type (struct f) (struct g) e = let parts : fields_tree f ≡ fields_tree g = cc in ap struct (one_fields f g parts)
   one_type (struct f) (named p x t) e = absurd (apart 2 3 _ _ refl refl e)
   one_type (named p x t) (basic b) e = absurd (apart 3 0 _ _ refl refl e)
   one_type (named p x s) (array n t) e = absurd (apart 3 1 _ _ refl refl e)
+  one_type (named p x s) (slice t) e = absurd (apart 3 4 _ _ refl refl e)
   one_type (named p x t) (struct f) e = absurd (apart 3 2 _ _ refl refl e)
   one_type (named p x s) (named q y t) e =
       let paths : bytes_code.code p ≡ bytes_code.code q = cc in

@@ -4,7 +4,7 @@ use Rattle.std.proofs.Common.{arith}
 use denote.Param.Weighed.{most}
 use Rattle.go_types.specs.declared.types.Field.{Field}
 use Rattle.go_types.specs.declared.types.GoType.{GoType}
-use Rattle.go_types.specs.declared.types.GoType.TheVariants.{Basic, Array, Struct, Named}
+use Rattle.go_types.specs.declared.types.GoType.TheVariants.{Basic, Array, Slice, Struct, Named}
 use Rattle.go_types.specs.declared.types.Element.TheDeep.{deep-GoType, deep-Field}
 use Rattle.go_types.specs.Views.{type_of, fields_in}
 use Rattle.go_types.specs.Sizes.{nodes, nodes_of}
@@ -12,6 +12,7 @@ use Rattle.go_types.specs.Sizes.{nodes, nodes_of}
 pub parts_fall : (t : GoType) → max (deep-GoType t) 0 ≤ nodes (type_of t)
 parts_fall (Basic b) = omega arith
 parts_fall (Array n e) = omega arith
+parts_fall (Slice e) = omega arith
 parts_fall (Struct f) = omega arith
 parts_fall (Named n) = omega arith
 

@@ -3,13 +3,14 @@ use Rattle.std.specs.Prelude.{Bool, true, false, ◌==◌, ◌&&◌, ◌||◌, b
 use Rattle.std.specs.Option.{option_eq}
 use Rattle.go_types.specs.declared.types.Basic.TheVariants as basics
 use Rattle.go_types.specs.declared.types.Untyped.TheVariants as kinds
-use Rattle.go_types.specs.Types.{Type', basic, array, struct, named, Fields, no_fields, field}
+use Rattle.go_types.specs.Types.{Type', basic, array, slice, struct, named, Fields, no_fields, field}
 use Rattle.go_types.specs.Texts.{basic_text}
 
 -- the underlying type: of a declared type, that of the type that it is declared as
 abbrev pub underlying : Type' → Type'
 underlying (basic b) = basic b
 underlying (array n t) = array n t
+underlying (slice t) = slice t
 underlying (struct fields) = struct fields
 underlying (named path name t) = underlying t
 
@@ -18,6 +19,7 @@ abbrev mutual
   pub identical : Type' → Type' → Bool
   identical (basic b) (basic c) = bytes_eq (basic_text b) (basic_text c)
   identical (array m a) (array n b) = (m == n) && identical a b
+  identical (slice a) (slice b) = identical a b
   identical (struct f) (struct g) = all_identical f g
   identical (named p x a) (named q y b) = bytes_eq p q && bytes_eq x y
   identical a b = false
@@ -31,6 +33,7 @@ abbrev mutual
 abbrev pub is_literal : Type' → Bool
 is_literal (basic _) = false
 is_literal (array _ _) = true
+is_literal (slice _) = true
 is_literal (struct _) = true
 is_literal (named _ _ _) = false
 
@@ -54,3 +57,17 @@ are_integers a b = false
 -- a value of the first type that isn't constant may be converted to the second
 abbrev pub convertible : Type' → Type' → Bool
 convertible v t = identical (underlying v) (underlying t) || are_integers (underlying v) (underlying t) || fits v (underlying t)
+
+-- https://go.dev/ref/spec#Comparison_operators
+-- values of the type may be compared: no slice is a part of it
+abbrev mutual
+  pub is_comparable : Type' → Bool
+  is_comparable (basic b) = true
+  is_comparable (array n t) = is_comparable t
+  is_comparable (slice t) = false
+  is_comparable (struct fields) = are_comparable fields
+  is_comparable (named path name t) = is_comparable t
+
+  pub are_comparable : Fields → Bool
+  are_comparable no_fields = true
+  are_comparable (field p x t fields) = is_comparable t && are_comparable fields

@@ -1,13 +1,14 @@
 -- How large types are.
 use Rattle.std.specs.Prelude.{◌≡◌, ℕ, ◌+◌, ◌*◌, min}
 use Rattle.go_types.specs.declared.types.Size.{Size}
-use Rattle.go_types.specs.Types.{Type', basic, array, struct, named, Fields, no_fields, field}
+use Rattle.go_types.specs.Types.{Type', basic, array, slice, struct, named, Fields, no_fields, field}
 
 -- how many cells a value of the type has
 abbrev mutual
   pub cells : Type' → ℕ
   cells (basic b) = 1
   cells (array n t) = n * cells t
+  cells (slice t) = 1
   cells (struct fields) = cells_of fields
   cells (named path name t) = cells t
 
@@ -20,6 +21,7 @@ abbrev mutual
   pub nodes : Type' → ℕ
   nodes (basic b) = 1
   nodes (array n t) = 1 + nodes t
+  nodes (slice t) = 1 + nodes t
   nodes (struct fields) = 1 + nodes_of fields
   nodes (named path name t) = 1 + nodes t
 

@@ -5,7 +5,7 @@ use Rattle.go_const.specs.declared.kind.IntKind.TheVariants as integers
 use Rattle.go_types.specs.declared.types.Basic.{Basic}
 use Rattle.go_types.specs.declared.types.Basic.TheVariants as basics
 use Rattle.go_types.specs.declared.types.Untyped.TheVariants as kinds
-use Rattle.go_types.specs.Types.{Type', basic, array, struct, named, Fields, no_fields, field}
+use Rattle.go_types.specs.Types.{Type', basic, array, slice, struct, named, Fields, no_fields, field}
 
 -- the name of a basic type
 abbrev pub basic_text : Basic → List ℕ
@@ -36,6 +36,7 @@ abbrev mutual
   pub type_text : Type' → List ℕ
   type_text (basic b) = basic_text b
   type_text (array n t) = codes "[" ++ decimal n ++ codes "]" ++ type_text t
+  type_text (slice t) = codes "[]" ++ type_text t
   type_text (struct fields) = codes "struct{" ++ fields_text fields ++ codes "}"
   type_text (named path name t) = codes "(" ++ name_text (Some path) name ++ codes " " ++ type_text t ++ codes ")"
 
@@ -57,6 +58,7 @@ abbrev mutual
   pub IsWritable : Type' → Type 0
   IsWritable (basic b) = ⊤
   IsWritable (array n t) = (n < 2 ^ 32) × IsWritable t
+  IsWritable (slice t) = IsWritable t
   IsWritable (struct fields) = AreWritable fields
   IsWritable (named path name t) = IsSpelled (Some path) name × IsWritable t
 

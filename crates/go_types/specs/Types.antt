@@ -3,11 +3,12 @@ use Rattle.std.specs.Prelude.{ℕ, List, Option}
 use Rattle.go_types.specs.declared.types.Basic.{Basic}
 
 mutual
-  -- A type without parts; an array of a length; a struct; a declared type by its package's path, its name, and the type that it
+  -- A type without parts; an array of a length; a slice of elements; a struct; a declared type by its package's path, its name, and the type that it
   -- is declared as, written out.
   pub data Type' : Type 0 where
     basic : Basic → Type'
     array : ℕ → Type' → Type'
+    slice : Type' → Type'
     struct : Fields → Type'
     named : List ℕ → List ℕ → Type' → Type'
 

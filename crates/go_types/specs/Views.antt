@@ -11,6 +11,7 @@ declared d = types.named d.path d.name d.type
 abbrev pub type_of : GoType → types.Type'
 type_of (rust.Basic b) = types.basic b
 type_of (rust.Array n element) = types.array n element.value
+type_of (rust.Slice element) = types.slice element.value
 type_of (rust.Struct fields) = types.struct fields.value
 type_of (rust.Named named) = declared named.value
 

@@ -2,7 +2,7 @@
 ghost use Rattle.std.specs.Prelude.{◌≡◌, bytes_eq};
 ghost use Rattle.go_types.specs.Views.{type_of, fields_in};
 ghost use Rattle.go_types.specs.Texts.{basic_text};
-ghost use Rattle.go_types.specs.Relations.{underlying, identical, all_identical, is_literal, fits, assignable, are_integers, convertible};
+ghost use Rattle.go_types.specs.Relations.{underlying, identical, all_identical, is_literal, fits, assignable, are_integers, convertible, is_comparable, are_comparable};
 
 use crate::types::{Basic, Field, GoType, Untyped};
 
@@ -32,6 +32,7 @@ pub fn identical(a: &GoType, b: &GoType) -> bool
     match (a, b) {
         (GoType::Basic(a), GoType::Basic(b)) => is_same(*a, *b),
         (GoType::Array(m, a), GoType::Array(n, b)) => m == n && identical(&a.of, &b.of),
+        (GoType::Slice(a), GoType::Slice(b)) => identical(&a.of, &b.of),
         (GoType::Struct(a), GoType::Struct(b)) => all_identical(&a.list, &b.list),
         (GoType::Named(a), GoType::Named(b)) => a.path == b.path && a.name == b.name,
         _ => false,
@@ -64,7 +65,10 @@ fn all_identical(a: &[Field], b: &[Field]) -> bool
 fn is_literal(of: &GoType) -> bool
     ensures { result ≡ is_literal (type_of of.now) }
 {
-    matches!(of, GoType::Array(_, _) | GoType::Struct(_))
+    matches!(
+        of,
+        GoType::Array(_, _) | GoType::Slice(_) | GoType::Struct(_)
+    )
 }
 
 /// Whether a value of a type is untyped, and of a kind that fits a basic type.
@@ -114,4 +118,32 @@ pub fn convertible(value: &GoType, target: &GoType) -> bool
 {
     let (from, to) = (underlying(value), underlying(target));
     identical(from, to) || are_integers(from, to) || fits(value, to)
+}
+
+/// Whether values of a type may be compared: no slice is a part of it.
+/// [Comparison operators](https://go.dev/ref/spec#Comparison_operators)
+#[cycle(comparable)]
+pub fn is_comparable(of: &GoType) -> bool
+    ensures { result ≡ is_comparable (type_of of.now) }
+{
+    match of {
+        GoType::Basic(_) => true,
+        GoType::Array(_, element) => is_comparable(&element.of),
+        GoType::Slice(_) => false,
+        GoType::Struct(fields) => are_comparable(&fields.list),
+        GoType::Named(named) => is_comparable(&named.underlying),
+    }
+}
+
+/// Whether values of the types of some fields may be.
+#[cycle(comparable)]
+fn are_comparable(fields: &[Field]) -> bool
+    ensures { result ≡ are_comparable (fields_in fields.now) }
+{
+    for field in fields {
+        if !is_comparable(&field.of) {
+            return false;
+        }
+    }
+    true
 }

@@ -48,6 +48,17 @@ fn array_size(length: u32, element: Size) -> Size
     }
 }
 
+/// The size of slices of elements of a size.
+fn slice_size(element: Size) -> Size
+    ensures cells { result.cells ≡ 1 }
+    ensures nodes { result.nodes ≡ kept (1 + element.nodes) }
+{
+    Size {
+        cells: 1,
+        nodes: kept(1 + u64::from(element.nodes)),
+    }
+}
+
 /// The size of a type. What has parts keeps theirs, so that no tree is walked.
 pub(crate) fn size_of(of: &GoType) -> Size
     ensures { IsSized (type_of of.now) result }
@@ -55,6 +66,7 @@ pub(crate) fn size_of(of: &GoType) -> Size
     match of {
         GoType::Basic(_) => Size { cells: 1, nodes: 1 },
         GoType::Array(length, element) => array_size(*length, element.size),
+        GoType::Slice(element) => slice_size(element.size),
         GoType::Struct(fields) => fields.size,
         GoType::Named(named) => named.size,
     }
@@ -86,8 +98,8 @@ pub(crate) fn named_size(underlying: &GoType) -> Size
     }
 }
 
-/// How many cells a value of a type has: one of a basic type has 1, an array those of all its
-/// elements, a struct those of all its fields. An `Err` where they are more than `SIZE_LIMIT`.
+/// How many cells a value of a type has: one of a basic type and a slice have 1, an array those of
+/// all its elements, a struct those of all its fields. An `Err` where they are more than `SIZE_LIMIT`.
 pub fn cells(of: &GoType) -> Result<u32, SizeError>
     ensures ok { IfOk result (λ n. n ≡ cells (type_of of.now)) }
     ensures within { IfOk result (λ n. n ≤ 65536) }
@@ -96,8 +108,8 @@ pub fn cells(of: &GoType) -> Result<u32, SizeError>
     within(size_of(of).cells)
 }
 
-/// How many nodes the tree of a type has: a basic type is 1 node, an array and a declared type
-/// are 1 more than what is inside, a struct is 1 more than the types of its fields. An `Err` where
+/// How many nodes the tree of a type has: a basic type is 1 node, an array, a slice and a declared
+/// type are 1 more than what is inside, a struct is 1 more than the types of its fields. An `Err` where
 /// they are more than `SIZE_LIMIT`.
 pub fn nodes(of: &GoType) -> Result<u32, SizeError>
     ensures ok { IfOk result (λ n. n ≡ nodes (type_of of.now)) }

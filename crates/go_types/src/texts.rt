@@ -97,6 +97,10 @@ fn push_type(alloc: Global, text: &mut Vec<u8>, of: &GoType) -> Result<(), Alloc
             push_length(alloc, text, *length)?;
             push_type(alloc, text, &element.of)
         }
+        GoType::Slice(element) => {
+            push_part(text, b"[]")?;
+            push_type(alloc, text, &element.of)
+        }
         GoType::Struct(fields) => {
             push_part(text, b"struct{")?;
             push_fields(alloc, text, &fields.list)?;
@@ -123,7 +127,7 @@ fn push_fields(alloc: Global, text: &mut Vec<u8>, fields: &[Field]) -> Result<()
     Ok(())
 }
 
-/// The text of a type: the name of a basic one; `[N]` and the element's; `struct{`, for each field
+/// The text of a type: the name of a basic one; `[N]` or `[]` and the element's; `struct{`, for each field
 /// its name, a space, its type's text and `;`, and `}`; of a declared type `(`, its name with the
 /// package's path, a space, the text of what it is declared as, and `)`. An `Err` only where memory
 /// ran out.

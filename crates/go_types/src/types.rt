@@ -49,6 +49,8 @@ pub enum GoType {
     Basic(Basic),
     /// Arrays of a length, of elements of a type.
     Array(u32, Arc<Element>),
+    /// Slices of elements of a type.
+    Slice(Arc<Element>),
     /// Structs of some fields, in their order.
     Struct(Arc<Fields>),
     /// A declared type.
@@ -67,7 +69,7 @@ pub struct Field {
     pub of: GoType,
 }
 
-/// The type of an array's elements, which keeps how large it is.
+/// The type of an array's or a slice's elements, which keeps how large it is.
 #[cycle(types)]
 #[derive(Drop)]
 pub struct Element {
@@ -175,6 +177,7 @@ impl GoType {
         Ok(match self {
             GoType::Basic(basic) => GoType::Basic(*basic),
             GoType::Array(length, element) => GoType::Array(*length, Arc::try_clone(element)?),
+            GoType::Slice(element) => GoType::Slice(Arc::try_clone(element)?),
             GoType::Struct(fields) => GoType::Struct(Arc::try_clone(fields)?),
             GoType::Named(named) => GoType::Named(Arc::try_clone(named)?),
         })

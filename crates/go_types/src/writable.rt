@@ -56,6 +56,7 @@ fn is_written(of: &GoType) -> bool
             let _length = *length;
             is_written(&element.of)
         }
+        GoType::Slice(element) => is_written(&element.of),
         GoType::Struct(fields) => are_written(&fields.list),
         GoType::Named(named) => {
             is_named(&named.path, &named.name) && is_written(&named.underlying)

@@ -3,6 +3,7 @@ pub mod Coming
 pub mod Decoding
 pub mod Going
 pub mod Handed
+pub mod Jumps
 pub mod Lifting
 pub mod Moving
 pub mod Numbers
@@ -13,5 +14,6 @@ pub mod Rows
 pub mod Settled
 pub mod Shells
 pub mod Sinks
+pub mod Slices
 pub mod Together
 pub mod Views

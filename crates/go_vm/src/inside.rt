@@ -15,6 +15,7 @@ ghost use Rattle.go_vm.specs.Told.{Does, framed, on_locals, on_globals, on_top, 
 use crate::arithmetic::between;
 use crate::frames::Frames;
 use crate::machine::{Exit, Flow, World};
+use crate::on_rows::reach_offset;
 use go_cells::operate::{Operated, operand_count, operate};
 use go_cells::part::{Indexed, element_offset, index_below, moved, picked_cells};
 use go_cells::slot::Slot;
@@ -358,6 +359,7 @@ pub(crate) fn obey_part(
     match instr {
         PartInstr::Move(by) => move_offset(frames, world, by),
         PartInstr::Index { count, size } => index_offset(frames, world, count, size),
+        PartInstr::Reach(size) => reach_offset(frames, world, size),
         PartInstr::Pick { count, size } => Ok(pick_element(frames, world, count, size)),
         PartInstr::Part {
             whole,

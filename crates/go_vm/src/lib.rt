@@ -11,6 +11,7 @@ mod inside;
 mod line;
 mod machine;
 mod number;
+mod on_rows;
 mod place;
 mod program;
 mod row;

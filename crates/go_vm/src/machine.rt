@@ -9,6 +9,7 @@ ghost use Rattle.go_vm.specs.Told.{Does, Opens};
 use crate::frames::Frames;
 use crate::inside::{obey_frame, obey_global, obey_jump, obey_local, obey_operator, obey_part};
 use crate::line::push_line;
+use crate::on_rows::obey_row;
 use crate::program::Program;
 use go_cells::slot::Slot;
 use go_code::ending::{Ending, PanicKind};
@@ -18,11 +19,12 @@ use std::alloc::{AllocError, Global};
 /// How many calls may be open.
 pub(crate) const MOST_OPEN: usize = 1000;
 
-/// What outlives frames: the cells of the package variables, the ticks left, and the output so
-/// far.
+/// What outlives frames: the cells of the package variables, the rows that slices are parts of, the ticks left, and the output
+/// so far.
 #[derive(Drop)]
 pub(crate) struct World {
     pub(crate) globals: Vec<Slot>,
+    pub(crate) rows: Vec<Vec<Slot>>,
     pub(crate) ticks: u64,
     pub(crate) output: Vec<u8>,
 }
@@ -167,6 +169,7 @@ fn perform<'a>(
         Instr::Local(instr) => obey_local(frames, world, instr),
         Instr::Global(instr) => obey_global(frames, world, instr),
         Instr::Part(instr) => obey_part(frames, world, *instr),
+        Instr::Row(instr) => obey_row(alloc, frames, world, *instr),
         Instr::Operate(operator) => obey_operator(alloc, frames, world, *operator),
         Instr::Jump(instr) => Ok(obey_jump(frames, world, *instr)),
         Instr::Output(instr) => obey_output(frames, world, instr),

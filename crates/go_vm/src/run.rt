@@ -2,10 +2,11 @@
 ghost use Rattle.std.specs.Prelude.{◌≡◌, ◌∷◌, true, false, IfOk, MatchOption};
 ghost use Rattle.std.specs.List.{list_all};
 ghost use Rattle.go_code.specs.Lines.{cell_fits};
+ghost use Rattle.go_code.specs.Rows.{first_rows};
 ghost use Rattle.go_code.specs.declared.image.Start.TheVariants.{Setup as Set_up, Function as Run};
 ghost use Rattle.go_vm.specs.Ahead.{Advances};
 ghost use Rattle.go_vm.specs.Answers.{Answers, AnswersFrom};
-ghost use Rattle.go_vm.specs.Told.{state_of, between, IsLeft};
+ghost use Rattle.go_vm.specs.Told.{state_of, between, rows_of, IsLeft};
 ghost use Rattle.go_vm.specs.declared.run.RunError.TheVariants.{Memory};
 
 use crate::ahead::obey_ahead;
@@ -173,6 +174,16 @@ fn slots_of(alloc: Global, cells: &[Cell]) -> Result<Option<Vec<Slot>>, AllocErr
     Ok(Some(slots))
 }
 
+/// The rows that there are from the start: that of the slice without a row, which has nothing. An
+/// `Err` only where memory ran out.
+fn opening_rows(alloc: Global) -> Result<Vec<Vec<Slot>>, AllocError>
+    ensures { IfOk result (λ rows. rows_of rows.items ≡ first_rows) }
+{
+    let mut rows = Vec::new(alloc);
+    rows.push(Vec::new(alloc))?;
+    Ok(rows)
+}
+
 /// Runs the start steps, one behind the other.
 fn run_starts(
     alloc: Global,
@@ -203,6 +214,7 @@ pub fn run(alloc: Global, image: &Image, ticks: u64) -> Result<Outcome, RunError
     };
     let world = World {
         globals,
+        rows: opening_rows(alloc)?,
         ticks,
         output: Vec::new(alloc),
     };
@@ -216,6 +228,7 @@ fn outcome_of(ending: Ending, world: World) -> Outcome
 {
     let World {
         globals: _,
+        rows: _,
         ticks: _,
         output,
     } = world;

@@ -7,6 +7,7 @@ mod words;
 
 use failure::Failure;
 use files::{Workspace, read_workspace};
+use go_text::edition::Edition;
 use std::alloc::Global;
 use std::io::Write;
 use std::process::ExitCode;
@@ -38,10 +39,11 @@ fn words_of(rt: &HostRuntime) -> Result<Vec<String>, Failure> {
     }
 }
 
-/// What is to be run, and for how many ticks.
+/// What is to be run, by which edition's rules, and for how many ticks.
 #[derive(Drop)]
 struct Task {
     workspace: Workspace,
+    edition: Edition,
     ticks: u64,
 }
 
@@ -55,11 +57,22 @@ fn asked(rt: &HostRuntime) -> Result<Option<Task>, Failure> {
         rt.stdout().write_all(text.as_bytes())?;
         return Ok(None);
     }
-    let Some(Request { ticks, files }) = read_words(words) else {
+    let Some(
+        Request {
+            edition,
+            ticks,
+            files,
+        },
+    ) = read_words(words)
+    else {
         return Err(Failure::Words);
     };
     let workspace = read_workspace(rt, files)?;
-    Ok(Some(Task { workspace, ticks }))
+    Ok(Some(Task {
+        workspace,
+        edition,
+        ticks,
+    }))
 }
 
 /// Says why nothing is run or told, as far as standard error takes it, and returns the status.
@@ -82,13 +95,25 @@ fn answer<R: Threads + Wait + Sync>(
     alloc: Global,
     task: Task,
 ) -> Result<(Answer, Vec<Folder>), Failure> {
-    let Task { workspace, ticks } = task;
+    let Task {
+        workspace,
+        edition,
+        ticks,
+    } = task;
     let Workspace {
         files,
         directory,
         folders,
     } = workspace;
-    let answer = run_files(rt, alloc, files, directory.as_str(), ticks, WORKERS)?;
+    let answer = run_files(
+        rt,
+        alloc,
+        edition,
+        files,
+        directory.as_str(),
+        ticks,
+        WORKERS,
+    )?;
     Ok((answer, folders))
 }
 

@@ -9,3 +9,4 @@ mod ImportPaths
 mod Mapped
 mod Walks
 pub mod Crossing
+pub mod Editions

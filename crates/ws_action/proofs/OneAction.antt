@@ -7,6 +7,9 @@ use Rattle.std.proofs.lemmas.Fmt.{decimal_injective, length-decimal-le}
 use Rattle.std.proofs.lemmas.List.{append_assoc}
 use Rattle.std.proofs.lemmas.List.Elements.{All-head, All-tail, Contains-append_left, Contains-append_right}
 use Rattle.sha2.specs.Sha256.{sha256}
+use Rattle.go_text.specs.declared.edition.Edition.{Edition}
+use Rattle.go_text.specs.Editions.{edition_number}
+use Rattle.ws_action.proofs.Editions.{number_small, one_number}
 use Rattle.go_export.specs.Fields.{be, field}
 use Rattle.go_export.proofs.Fields.{split_alike, be_parts, field_parts, digest_fits}
 use Rattle.ws_action.specs.Actions.{Named, Action, named_text, list_text, action_text, action_id, AreSized, IsSized}
@@ -57,15 +60,15 @@ pub text_tells : (T : List (List ℕ)) → NoClash T → (a b : Action) → IsSi
 unfolding action_text
 text_tells T clear a b p q i j e =
     let tag : List ℕ = field (codes "goset action") in
-    let whole = sym (five tag (field (decimal a.edition)) (field a.path) (list_text a.files) (list_text a.imports)) ∙ e ∙ five tag (field (decimal b.edition)) (field b.path) (list_text b.files) (list_text b.imports) in
+    let whole = sym (five tag (field (decimal (edition_number a.edition))) (field a.path) (list_text a.files) (list_text a.imports)) ∙ e ∙ five tag (field (decimal (edition_number b.edition))) (field b.path) (list_text b.files) (list_text b.imports) in
     let tags = split_alike tag tag _ _ refl whole in
-    let editions = field_parts (decimal a.edition) (decimal b.edition) _ _ (decimal_fits a.edition p.edition) (decimal_fits b.edition q.edition) tags.1 in
+    let editions = field_parts (decimal (edition_number a.edition)) (decimal (edition_number b.edition)) _ _ (decimal_fits (edition_number a.edition) (number_small a.edition)) (decimal_fits (edition_number b.edition) (number_small b.edition)) tags.1 in
     let paths = field_parts a.path b.path _ _ p.path q.path editions.1 in
     let files = list_parts T clear a.files b.files (list_text a.imports) (list_text b.imports) (λ x c. i x (Contains-append_left (texts_of a.files) (texts_of a.imports) x c)) (λ x c. j x (Contains-append_left (texts_of b.files) (texts_of b.imports) x c)) p.files q.files paths.1 in
     let ends : list_text a.imports ++ [] ≡ list_text b.imports ++ [] = ap (λ r. r ++ []) files.1 in
     let imports = list_parts T clear a.imports b.imports [] [] (λ x c. i x (Contains-append_right (texts_of a.files) (texts_of a.imports) x c)) (λ x c. j x (Contains-append_right (texts_of b.files) (texts_of b.imports) x c)) p.imports q.imports ends in
-    let numbers : a.edition ≡ b.edition = decimal_injective a.edition b.edition (omega (arith, p.edition)) (omega (arith, q.edition)) editions.0 in
-    ap (λ (n : ℕ). record { edition = n; path = a.path; files = a.files; imports = a.imports }) numbers
+    let numbers : edition_number a.edition ≡ edition_number b.edition = decimal_injective (edition_number a.edition) (edition_number b.edition) (omega (arith, number_small a.edition)) (omega (arith, number_small b.edition)) editions.0 in
+    ap (λ (n : Edition). record { edition = n; path = a.path; files = a.files; imports = a.imports }) (one_number a.edition b.edition numbers)
     ∙ ap (λ (n : List ℕ). record { edition = b.edition; path = n; files = a.files; imports = a.imports }) paths.0
     ∙ ap (λ (n : List Named). record { edition = b.edition; path = b.path; files = n; imports = a.imports }) files.0
     ∙ ap (λ (n : List Named). record { edition = b.edition; path = b.path; files = b.files; imports = n }) imports.0

@@ -6,7 +6,10 @@ use Rattle.std.specs.Cmp.Lexicographic.{slice_cmp}
 use Rattle.std.specs.FinMap.{IsAntisymmetric, nat_cmp-IsAntisymmetric, slice_cmp-IsAntisymmetric}
 use Rattle.std.proofs.lemmas.Cmp.{on_total, then_total, lists_total, nat_list_cmp_total}
 use Rattle.std.proofs.lemmas.Map.Lookups.{exact_pairs, exact_bytes}
-use Rattle.std.proofs.Common.{ap}
+use Rattle.std.proofs.Common.{ap, ◌∙◌}
+use Rattle.go_text.specs.declared.edition.Edition.{Edition}
+use Rattle.go_text.specs.Editions.{edition_number}
+use Rattle.ws_action.proofs.Editions.{one_number}
 use Rattle.ws_action.specs.Actions.{Named, bytes_cmp, named_cmp, action_cmp}
 
 named_cmp_total : IsTotalOrder named_cmp
@@ -14,7 +17,7 @@ named_cmp_total = then_total (on_total (λ n. n.0) nat_list_cmp_total) (on_total
 
 pub action_cmp_total : IsTotalOrder action_cmp
 action_cmp_total =
-    then_total (on_total (λ a. a.edition) nat_cmp_total)
+    then_total (on_total (λ a. edition_number a.edition) nat_cmp_total)
     (then_total (on_total (λ a. a.path) nat_list_cmp_total)
     (then_total (on_total (λ a. a.files) (lists_total named_cmp_total)) (on_total (λ a. a.imports) (lists_total named_cmp_total))))
 
@@ -24,8 +27,10 @@ named_cmp-IsAntisymmetric = exact_pairs bytes_cmp bytes_cmp exact_bytes exact_by
 pub action_cmp-IsAntisymmetric : IsAntisymmetric action_cmp
 action_cmp-IsAntisymmetric a b e =
     let lists = slice_cmp-IsAntisymmetric named_cmp-IsAntisymmetric in
-    let parts : ◌≡◌ {A = ℕ × (List ℕ × (List Named × List Named))} (a.edition, (a.path, (a.files, a.imports))) (b.edition, (b.path, (b.files, b.imports))) =
+    let parts : ◌≡◌ {A = ℕ × (List ℕ × (List Named × List Named))} (edition_number a.edition, (a.path, (a.files, a.imports))) (edition_number b.edition, (b.path, (b.files, b.imports))) =
     exact_pairs nat_cmp (λ p q. ordering_then (bytes_cmp p.0 q.0) (ordering_then (slice_cmp named_cmp p.1.0 q.1.0) (slice_cmp named_cmp p.1.1 q.1.1))) nat_cmp-IsAntisymmetric
     (exact_pairs bytes_cmp (λ p q. ordering_then (slice_cmp named_cmp p.0 q.0) (slice_cmp named_cmp p.1 q.1)) exact_bytes (exact_pairs (slice_cmp named_cmp) (slice_cmp named_cmp) lists lists))
-    (a.edition, (a.path, (a.files, a.imports))) (b.edition, (b.path, (b.files, b.imports))) e in
-    ap (λ (p : ℕ × (List ℕ × (List Named × List Named))). record { edition = p.0; path = p.1.0; files = p.1.1.0; imports = p.1.1.1 }) parts
+    (edition_number a.edition, (a.path, (a.files, a.imports))) (edition_number b.edition, (b.path, (b.files, b.imports))) e in
+    let edition = one_number a.edition b.edition (ap (λ (p : ℕ × (List ℕ × (List Named × List Named))). p.0) parts) in
+    ap (λ (n : Edition). record { edition = n; path = a.path; files = a.files; imports = a.imports }) edition
+    ∙ ap (λ (p : ℕ × (List ℕ × (List Named × List Named))). record { edition = b.edition; path = p.1.0; files = p.1.1.0; imports = p.1.1.1 }) parts

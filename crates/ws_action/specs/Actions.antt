@@ -9,20 +9,22 @@ use Rattle.std.specs.Cmp.Lexicographic.{slice_cmp}
 use Rattle.sha2.specs.Sha256.{sha256}
 use Rattle.go_text.specs.Named.{Source}
 use Rattle.go_ast.specs.Trees.{Name, File, ImportSpec}
-use Rattle.go_text.specs.declared.edition.Edition.TheVariants.{One}
+use Rattle.go_text.specs.contracts.edition.Edition as editions
+use Rattle.go_text.specs.declared.edition.Edition.{Edition}
+use Rattle.go_text.specs.Editions.{edition_number}
 use Rattle.go_ast.specs.Parse.{Parsed, Derived, IsParse, IsPackage, IsNamed, IsOther}
 use Rattle.go_export.specs.Fields.{be, field}
 use Rattle.go_export.specs.Summaries.{Summary, summary_text}
 use Rattle.ws_action.specs.declared.ActionError.{ActionError}
-use Rattle.ws_action.specs.declared.ActionError.TheVariants.{NoFile, Unordered, MixedNames, NotImports}
+use Rattle.ws_action.specs.declared.ActionError.TheVariants.{NoFile, Unordered, MixedNames, NotImports, OtherEdition}
 
 -- a name and a text
 abbrev pub Named : Type 0
 Named = List ℕ × List ℕ
 
--- the number of the edition, the package's directory, its files by name and text, and its imports by path and their summary's text
+-- the edition, the package's directory, its files by name and text, and its imports by path and their summary's text
 pub record Action : Type 0 where
-  pub edition : ℕ
+  pub edition : Edition
   pub path : List ℕ
   pub files : List Named
   pub imports : List Named
@@ -32,16 +34,16 @@ coded_named = coded_list (coded× (coded_list coded_ℕ) (coded_list coded_ℕ))
 
 -- as a pair of pairs
 abbrev pub action_code : Coded Action
-action_code = code_by (ℕ × (List ℕ × (List Named × List Named))) (coded× coded_ℕ (coded× (coded_list coded_ℕ) (coded× coded_named coded_named)))
+action_code = code_by (Edition × (List ℕ × (List Named × List Named))) (coded× editions.the_row.coded (coded× (coded_list coded_ℕ) (coded× coded_named coded_named)))
     (λ a. (a.edition, (a.path, (a.files, a.imports)))) (λ p. record { edition = p.0; path = p.1.0; files = p.1.1.0; imports = p.1.1.1 }) (λ _. refl)
 
 -- a file's name and text
 abbrev pub source_of : Parsed → Named
 source_of file = (file.name, file.text)
 
--- and back
-abbrev pub parsed_of : Named → Parsed
-parsed_of n = record { name = n.0; text = n.1; edition = One }
+-- and back, in an edition
+abbrev pub parsed_of : Edition → Named → Parsed
+parsed_of edition n = record { name = n.0; text = n.1; edition = edition }
 
 -- so is a source's
 abbrev pub named_source : Source → Named
@@ -52,7 +54,7 @@ abbrev pub import_of : Summary → Named
 import_of summary = (summary.path, summary_text summary)
 
 -- the action of an edition, a directory, its parsed files and the summaries of its imports
-abbrev pub action_of : ℕ → List ℕ → List Parsed → List Summary → Action
+abbrev pub action_of : Edition → List ℕ → List Parsed → List Summary → Action
 action_of edition path files summaries = record { edition = edition; path = path; files = map source_of files; imports = map import_of summaries }
 
 -- ---- refusals
@@ -78,16 +80,16 @@ are_ordered files summaries = ascends (map source_of files) && ascends (map impo
 -- each has the package name of the first
 pub record HaveName (first : Parsed) (files : List Parsed) : Type 0 where
   pub clause : Name
-  pub package_is : IsPackage first.text clause
-  pub named : All (λ file. IsNamed clause.text file.text) files
+  pub package_is : IsPackage first.edition first.text clause
+  pub named : All (λ file. IsNamed file.edition clause.text file.text) files
 
 -- or one of them has another
 pub record HaveOther (first : Parsed) (files : List Parsed) : Type 0 where
   pub clause : Name
   pub other : Parsed
-  pub package_is : IsPackage first.text clause
+  pub package_is : IsPackage first.edition first.text clause
   pub among : Contains files other
-  pub differs : IsOther clause.text other.text
+  pub differs : IsOther other.edition clause.text other.text
 
 abbrev pub HaveOneName : List Parsed → Type 0
 HaveOneName [] = Unit {0}
@@ -97,10 +99,10 @@ abbrev pub HaveOtherName : List Parsed → Type 0
 HaveOtherName [] = ⊥
 HaveOtherName (first ∷ files) = HaveOther first files
 
--- the file that a text is imports a package at this path, other than the library
-pub record Imports (text path : List ℕ) : Type 0 where
+-- the file that a text is in an edition imports a package at this path, other than the library
+pub record Imports (edition : Edition) (text path : List ℕ) : Type 0 where
   pub tree : File
-  pub parse : IsParse text (Derived tree)
+  pub parse : IsParse edition text (Derived tree)
   pub spec : ImportSpec
   pub among : Contains tree.imports spec
   pub is : spec.path ≡ path
@@ -108,7 +110,7 @@ pub record Imports (text path : List ℕ) : Type 0 where
 
 -- one of the files does
 abbrev pub IsImported : List Parsed → List ℕ → Type 0
-IsImported files path = (file : Parsed) × Contains files file × Imports file.text path
+IsImported files path = (file : Parsed) × Contains files file × Imports file.edition file.text path
 
 -- one of the summaries has the path
 abbrev pub HasSummary : List Summary → List ℕ → Type 0
@@ -119,20 +121,27 @@ pub record AreImports (files : List Parsed) (summaries : List Summary) : Type 0 
   pub all : (path : List ℕ) → IsImported files path → HasSummary summaries path
   pub only : (path : List ℕ) → HasSummary summaries path → IsImported files path
 
--- they make an action: there is a file, names and paths are strictly ascending, the files have one package name, and the summaries are
--- exactly those of their imports
-pub record MakeAction (files : List Parsed) (summaries : List Summary) : Type 0 where
+-- all files and summaries are of this edition
+pub record HaveEdition (edition : Edition) (files : List Parsed) (summaries : List Summary) : Type 0 where
+  pub of_files : All (λ file. file.edition ≡ edition) files
+  pub of_summaries : All (λ summary. summary.edition ≡ edition) summaries
+
+-- they make an action of an edition: there is a file, names and paths are strictly ascending, the files have one package name, the summaries
+-- are exactly those of their imports, and all of them are of that edition
+pub record MakeAction (edition : Edition) (files : List Parsed) (summaries : List Summary) : Type 0 where
   pub some : files ≢ []
   pub ordered : are_ordered files summaries ≡ true
   pub named : HaveOneName files
   pub imported : AreImports files summaries
+  pub alike : HaveEdition edition files summaries
 
 -- or the first of these holds
-abbrev pub AreRefused : List Parsed → List Summary → ActionError → Type 0
-AreRefused files summaries NoFile = files ≡ []
-AreRefused files summaries Unordered = (files ≢ []) × (are_ordered files summaries ≡ false)
-AreRefused files summaries MixedNames = (are_ordered files summaries ≡ true) × HaveOtherName files
-AreRefused files summaries NotImports = (are_ordered files summaries ≡ true) × HaveOneName files × (AreImports files summaries → ⊥)
+abbrev pub AreRefused : Edition → List Parsed → List Summary → ActionError → Type 0
+AreRefused edition files summaries NoFile = files ≡ []
+AreRefused edition files summaries Unordered = (files ≢ []) × (are_ordered files summaries ≡ false)
+AreRefused edition files summaries MixedNames = (are_ordered files summaries ≡ true) × HaveOtherName files
+AreRefused edition files summaries NotImports = (are_ordered files summaries ≡ true) × HaveOneName files × (AreImports files summaries → ⊥)
+AreRefused edition files summaries OtherEdition = (are_ordered files summaries ≡ true) × HaveOneName files × AreImports files summaries × (HaveEdition edition files summaries → ⊥)
 
 -- ---- texts
 
@@ -144,9 +153,9 @@ named_text n = field n.0 ++ field (sha256 n.1)
 abbrev pub list_text : List Named → List ℕ
 list_text ns = be (length ns) ++ flat_map named_text ns
 
--- the text that stands for an action: the edition in decimal, the path, the files and the imports
+-- the text that stands for an action: the number of the edition in decimal, the path, the files and the imports
 unfoldable pub action_text : Action → List ℕ
-action_text a = field (codes "goset action") ++ field (decimal a.edition) ++ field a.path ++ list_text a.files ++ list_text a.imports
+action_text a = field (codes "goset action") ++ field (decimal (edition_number a.edition)) ++ field a.path ++ list_text a.files ++ list_text a.imports
 
 -- its digest
 unfoldable pub action_id : Action → List ℕ
@@ -158,7 +167,6 @@ pub record AreSized (ns : List Named) : Type 0 where
   pub names : All (λ n. length n.0 < 2 ^ 64) ns
 
 pub record IsSized (a : Action) : Type 0 where
-  pub edition : a.edition < 2 ^ 32
   pub path : length a.path < 2 ^ 64
   pub files : AreSized a.files
   pub imports : AreSized a.imports
@@ -169,6 +177,6 @@ pub record IsSized (a : Action) : Type 0 where
 abbrev pub named_cmp : Named → Named → Ordering
 named_cmp m n = ordering_then (bytes_cmp m.0 n.0) (bytes_cmp m.1 n.1)
 
--- by contents: the edition, then the path, then the files and the imports by name and text
+-- by contents: the edition's number, then the path, then the files and the imports by name and text
 abbrev pub action_cmp : Action → Action → Ordering
-action_cmp a b = ordering_then (nat_cmp a.edition b.edition) (ordering_then (bytes_cmp a.path b.path) (ordering_then (slice_cmp named_cmp a.files b.files) (slice_cmp named_cmp a.imports b.imports)))
+action_cmp a b = ordering_then (nat_cmp (edition_number a.edition) (edition_number b.edition)) (ordering_then (bytes_cmp a.path b.path) (ordering_then (slice_cmp named_cmp a.files b.files) (slice_cmp named_cmp a.imports b.imports)))

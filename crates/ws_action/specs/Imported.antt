@@ -2,14 +2,15 @@
 use Rattle.std.specs.Prelude.{ℕ, List, ◌⊎◌}
 use Rattle.std.specs.List.{Contains}
 use Rattle.std.specs.List.Sorted.{IsStrictlySortedBy}
+use Rattle.go_text.specs.declared.edition.Edition.{Edition}
 use Rattle.go_ast.specs.Parse.{Parsed}
 use Rattle.ws_action.specs.Actions.{Imports, IsImported, bytes_cmp}
 
--- those that one file imports come to some paths
-pub record AddsImports (text : List ℕ) (old new : List (List ℕ)) : Type 0 where
+-- those that one file of an edition imports come to some paths
+pub record AddsImports (edition : Edition) (text : List ℕ) (old new : List (List ℕ)) : Type 0 where
   pub kept : (path : List ℕ) → Contains old path → Contains new path
-  pub added : (path : List ℕ) → Imports text path → Contains new path
-  pub only : (path : List ℕ) → Contains new path → Contains old path ⊎ Imports text path
+  pub added : (path : List ℕ) → Imports edition text path → Contains new path
+  pub only : (path : List ℕ) → Contains new path → Contains old path ⊎ Imports edition text path
 
 -- all that files import, and nothing else
 pub record AreImported (files : List Parsed) (paths : List (List ℕ)) : Type 0 where

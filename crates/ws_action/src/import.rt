@@ -36,7 +36,7 @@ fn all_imports(alloc: Global, files: &[Parsed]) -> Result<Vec<&[u8]>, AllocError
 
 /// Adds the paths that a file imports, `fmt` aside.
 fn add_imports<'a>(file: &'a Parsed, paths: &mut Vec<&'a [u8]>) -> Result<(), AllocError>
-    ensures { IfOk result (λ _. AddsImports file.now.text (map (λ p. p.now) paths.old.items) (map (λ p. p.now) paths.new.items)) }
+    ensures { IfOk result (λ _. AddsImports file.now.edition file.now.text (map (λ p. p.now) paths.old.items) (map (λ p. p.now) paths.new.items)) }
 {
     let specs = file.file().imports.as_slice();
     for spec in specs {

@@ -5,7 +5,6 @@ ghost use Rattle.std.specs.Prelude.{◌≡◌, ℕ, List, map, OnOk, IfOk, IfErr
 ghost use Rattle.std.specs.Arc.{arc_value};
 ghost use Rattle.std.specs.Bool.{OnTrue, OnFalse};
 ghost use Rattle.std.specs.List.{All, Contains};
-ghost use Rattle.go_text.specs.Editions.{edition_number};
 ghost use Rattle.go_ast.specs.Parse.{IsNamed, IsOther};
 ghost use Rattle.go_export.specs.Writable.{IsWritten};
 ghost use Rattle.ws_action.specs.Clash.{NoClash, Includes, hashed_actions, AllSized};
@@ -15,8 +14,10 @@ mod files;
 mod import;
 mod origin;
 mod part;
+mod same_edition;
 
 use crate::part::{ascend, cmp_lists, measure, push_parts};
+use crate::same_edition::have_edition;
 pub use files::Files;
 use go_ast::parsed::Parsed;
 use go_export::field::{digest, push_field};
@@ -44,6 +45,9 @@ pub enum ActionError {
     /// The summaries aren't exactly those of the packages that the files import, `fmt` aside.
     #[error("summaries and imports differ")]
     NotImports,
+    /// A file or a summary is of another edition.
+    #[error("a file or a summary of another edition")]
+    OtherEdition,
 }
 
 /// What a package is compiled from: the edition, the package's directory, its parsed files, of
@@ -61,25 +65,24 @@ pub struct Action {
 impl Model for Action {
     ghost use Rattle.std.specs.Prelude.{string_bytes, map};
     ghost use Rattle.std.specs.Arc.{arc_value};
-    ghost use Rattle.go_text.specs.Editions.{edition_number};
     ghost use Rattle.ws_action.specs.Actions as actions;
 
     ghost Value = { actions.Action };
 
     ghost coded = { actions.action_code };
 
-    ghost view = { λ a. actions.action_of (edition_number a.edition) (string_bytes a.path) (arc_value a.files) (map arc_value a.imports.items) };
+    ghost view = { λ a. actions.action_of a.edition (string_bytes a.path) (arc_value a.files) (map arc_value a.imports.items) };
 
     ghost use Rattle.std.specs.List.{All};
     ghost use Rattle.go_export.specs.Writable.{IsWritten};
 
-    ghost invariant = { λ a. actions.MakeAction (arc_value a.files) (map arc_value a.imports.items) × All IsWritten (map arc_value a.imports.items) };
+    ghost invariant = { λ a. actions.MakeAction a.edition (arc_value a.files) (map arc_value a.imports.items) × All IsWritten (map arc_value a.imports.items) };
 }
 
 impl Action {
     /// The action of an edition, a package's directory, its parsed files and the summaries of its
     /// imports. An `Err` says why they make none: the first that holds of `NoFile`, `Unordered`,
-    /// `MixedNames` and `NotImports`.
+    /// `MixedNames`, `NotImports` and `OtherEdition`.
     pub fn new(
         alloc: Global,
         edition: Edition,
@@ -87,12 +90,12 @@ impl Action {
         files: Arc<Files>,
         imports: Vec<Arc<Summary>>,
     ) -> Result<Action, ActionError>
-        ensures ok { let summaries = map arc_value imports.items in IfOk result (λ a. a ≡ action_of (edition_number edition) (string_bytes path) (arc_value files) summaries) }
-        ensures allowed { OnOk result (MakeAction (arc_value files) (map arc_value imports.items)) }
-        ensures refused { IfErr result (λ e. AreRefused (arc_value files) (map arc_value imports.items) e) }
+        ensures ok { let summaries = map arc_value imports.items in IfOk result (λ a. a ≡ action_of edition (string_bytes path) (arc_value files) summaries) }
+        ensures allowed { OnOk result (MakeAction edition (arc_value files) (map arc_value imports.items)) }
+        ensures refused { IfErr result (λ e. AreRefused edition (arc_value files) (map arc_value imports.items) e) }
         ensures sized { IfOk result (λ a. IsSized a) }
     {
-        check_parts(&files, &imports)?;
+        check_parts(edition, &files, &imports)?;
         let _ = path.len();
         measure(files.parsed());
         measure(&imports);
@@ -108,7 +111,7 @@ impl Action {
 
     /// The edition that the package is compiled by.
     pub fn edition(&self) -> Edition
-        ensures { edition_number result ≡ self.now.edition }
+        ensures { result ≡ self.now.edition }
     {
         self.edition
     }
@@ -124,6 +127,7 @@ impl Action {
     pub fn files(&self) -> &[Parsed]
         ensures value { map source_of result.now ≡ self.now.files }
         ensures named { HaveOneName result.now }
+        ensures edition { All (λ file. file.edition ≡ self.now.edition) result.now }
     {
         self.files.parsed()
     }
@@ -132,6 +136,7 @@ impl Action {
     pub fn imports(&self) -> &[Arc<Summary>]
         ensures value { map import_of (map arc_value result.now) ≡ self.now.imports }
         ensures written { All IsWritten (map arc_value result.now) }
+        ensures edition { All (λ summary. summary.edition ≡ self.now.edition) (map arc_value result.now) }
     {
         self.imports.as_slice()
     }
@@ -197,9 +202,9 @@ impl Action {
 }
 
 /// What keeps files and summaries from making an action: the first that holds.
-fn check_parts(files: &Files, imports: &[Arc<Summary>]) -> Result<(), ActionError>
-    ensures ok { OnOk result (MakeAction files.now (map arc_value imports.now)) }
-    ensures err { IfErr result (λ e. AreRefused files.now (map arc_value imports.now) e) }
+fn check_parts(edition: Edition, files: &Files, imports: &[Arc<Summary>]) -> Result<(), ActionError>
+    ensures ok { OnOk result (MakeAction edition files.now (map arc_value imports.now)) }
+    ensures err { IfErr result (λ e. AreRefused edition files.now (map arc_value imports.now) e) }
 {
     let parsed = files.parsed();
     if parsed.is_empty() {
@@ -214,6 +219,9 @@ fn check_parts(files: &Files, imports: &[Arc<Summary>]) -> Result<(), ActionErro
     if !files.are_imports(imports) {
         return Err(ActionError::NotImports);
     }
+    if !have_edition(edition, parsed, imports) {
+        return Err(ActionError::OtherEdition);
+    }
     Ok(())
 }
 
@@ -226,8 +234,8 @@ fn are_ordered(files: &[Parsed], imports: &[Arc<Summary>]) -> bool
 
 /// Whether a file's package has that name.
 fn is_named(name: &str, file: &Parsed) -> bool
-    ensures named { OnTrue result (IsNamed name.now file.now.text) }
-    ensures other { OnFalse result (IsOther name.now file.now.text) }
+    ensures named { OnTrue result (IsNamed file.now.edition name.now file.now.text) }
+    ensures other { OnFalse result (IsOther file.now.edition name.now file.now.text) }
 {
     file.package().text() == name
 }

@@ -1,7 +1,6 @@
 //! What a package was compiled from, when its trees are given up.
 ghost use Rattle.std.specs.Prelude.{◌≡◌, IfOk, map};
 ghost use Rattle.std.specs.Arc.{arc_value};
-ghost use Rattle.go_text.specs.Editions.{edition_number};
 ghost use Rattle.ws_action.specs.Actions.{named_source, source_of, import_of, action_cmp};
 
 use crate::part::cmp_lists;
@@ -28,14 +27,13 @@ pub struct Origin {
 impl Model for Origin {
     ghost use Rattle.std.specs.Prelude.{string_bytes, map};
     ghost use Rattle.std.specs.Arc.{arc_value};
-    ghost use Rattle.go_text.specs.Editions.{edition_number};
     ghost use Rattle.ws_action.specs.Actions as actions;
 
     ghost Value = { actions.Action };
 
     ghost coded = { actions.action_code };
 
-    ghost view = { λ a. record { edition = edition_number a.edition; path = string_bytes a.path; files = map actions.named_source a.files.items; imports = map actions.import_of (map arc_value a.imports.items) } };
+    ghost view = { λ a. record { edition = a.edition; path = string_bytes a.path; files = map actions.named_source a.files.items; imports = map actions.import_of (map arc_value a.imports.items) } };
 }
 
 impl Origin {
@@ -57,7 +55,7 @@ impl Origin {
 
     /// The edition that the package is compiled by.
     pub fn edition(&self) -> Edition
-        ensures { edition_number result ≡ self.now.edition }
+        ensures { result ≡ self.now.edition }
     {
         self.edition
     }

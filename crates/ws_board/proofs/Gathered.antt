@@ -81,11 +81,11 @@ module _ (h : Held) (now : Standings) where
 
   -- ---- what is formed of them
 
-  pub forms : (work : Work) (ks : List ℕ) (ss : List Summary) (a : Action) → Are ks ss → All IsWritten ss → a ≡ acted work ss → MakeAction work.files ss → IsSized a → IsFormed h now work ks a
+  pub forms : (work : Work) (ks : List ℕ) (ss : List Summary) (a : Action) → Are ks ss → All IsWritten ss → a ≡ acted work ss → MakeAction work.edition work.files ss → IsSized a → IsFormed h now work ks a
   forms work ks ss a are written is make sized = record { may = record { summaries = ss; have = are; make = make; is = is }; written = written; sized = sized }
 
-  pub forms_none : (work : Work) (ks : List ℕ) (ss : List Summary) → Are ks ss → ¬ (MakeAction work.files ss) → (a : Action) → ¬ (MayForm h now work ks a)
-  forms_none work ks ss are not a may = not (subst (MakeAction work.files) (one_gathered ks may.summaries ss may.have are) may.make)
+  pub forms_none : (work : Work) (ks : List ℕ) (ss : List Summary) → Are ks ss → ¬ (MakeAction work.edition work.files ss) → (a : Action) → ¬ (MayForm h now work ks a)
+  forms_none work ks ss are not a may = not (subst (MakeAction work.edition work.files) (one_gathered ks may.summaries ss may.have are) may.make)
 
   pub lacks_none : (work : Work) (ks : List ℕ) → ((ss : List Summary) → ¬ (Are ks ss)) → (a : Action) → ¬ (MayForm h now work ks a)
   lacks_none work ks none a may = none may.summaries may.have

@@ -127,7 +127,7 @@ module _ (jobs : List Job) (h : Held) (now : Standings) (ends : List End) (rank 
         result = r;
         end = at ∙ ap (λ z. Came z r) same;
         sized = formed.sized;
-        one = λ q c. held_is_result work.edition work.path work.files formed.may.summaries formed.written q r (subst (λ z. Compiles z q) formed.may.is c) result;
+        one = λ q c. held_is_result work.edition work.path work.files formed.may.summaries formed.may.make.alike formed.written q r (subst (λ z. Compiles z q) formed.may.is c) result;
       }
 
   comes_step : (k : ℕ) → ((i : ℕ) → rank i < rank k → ComesAt i) → ComesAt k

@@ -40,7 +40,7 @@ pub record HasAction (ends : List End) (job : Job) (action : Action) : Type 0 wh
   pub its : job.work ≡ Some work
   pub summaries : List Summary
   pub have : AllZip (λ k summary. summary_in (end_at ends k) ≡ Some summary) job.imports summaries
-  pub make : MakeAction work.files summaries
+  pub make : MakeAction work.edition work.files summaries
   pub is : action ≡ acted work summaries
 
 -- Where the jobs end so, this job ends so: it is blocked where it has no action, and else it comes to what its files come to by its imports' summaries.

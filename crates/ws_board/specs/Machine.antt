@@ -87,7 +87,7 @@ pub record HasSummary (held : Held) (now : Standings) (job : ℕ) (summary : Sum
 pub record MayForm (held : Held) (now : Standings) (work : Work) (imports : List ℕ) (action : Action) : Type 0 where
   pub summaries : List Summary
   pub have : AllZip (HasSummary held now) imports summaries
-  pub make : MakeAction work.files summaries
+  pub make : MakeAction work.edition work.files summaries
   pub is : action ≡ acted work summaries
 
 -- this action is formed: its text tells the summaries, and the numbers in it fit

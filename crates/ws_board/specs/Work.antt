@@ -3,8 +3,8 @@ use Rattle.std.specs.Prelude.{◌≡◌, ℕ, Bool, List, Option, Some, None, �
 use Rattle.std.specs.Coded.{Coded, code_by, coded×, coded⊎, coded_ℕ, coded_bool, coded_list, coded_option}
 use Rattle.std.specs.FinMap.{FinMap, code}
 use mathlib.Core.Logic.{inl, inr}
+use Rattle.go_text.specs.contracts.edition.Edition as editions
 use Rattle.go_text.specs.declared.edition.Edition.{Edition}
-use Rattle.go_text.specs.declared.edition.Edition.TheVariants.{One}
 use Rattle.go_ast.specs.Parse.{Parsed}
 use Rattle.go_export.specs.Summaries.{Summary}
 use Rattle.ws_action.specs.Actions.{Action, action_of, action_code}
@@ -14,9 +14,9 @@ use Rattle.ws_board.specs.declared.work.Status.TheVariants.{Waiting, Ready, Runn
 use Rattle.ws_board.specs.declared.work.Event.{Event}
 use Rattle.ws_board.specs.declared.work.Event.TheVariants.{Take, Finish, Back, Idle}
 
--- what is to be compiled: the number of the edition, the package's directory and its files
+-- what is to be compiled: the edition, the package's directory and its files
 pub record Work : Type 0 where
-  pub edition : ℕ
+  pub edition : Edition
   pub path : List ℕ
   pub files : List Parsed
 
@@ -115,18 +115,12 @@ abbrev pub event_code : Coded Event
 event_code = code_by EventTold (coded⊎ (coded× coded_ℕ coded_ℕ) (coded⊎ (coded× coded_ℕ coded_ℕ) (coded⊎ (coded× coded_ℕ coded_ℕ) coded_ℕ)))
     event_out event_in event_same
 
-pub parsed_same : (f : Parsed) → record { name = f.name; text = f.text; edition = One } ≡ f
-parsed_same f = λ i. record { name = f.name; text = f.text; edition = only_one f.edition i }
-  where
-    only_one : (e : Edition) → One ≡ e
-    only_one One = refl
-
 abbrev pub parsed_code : Coded Parsed
-parsed_code = code_by (List ℕ × List ℕ) (coded× (coded_list coded_ℕ) (coded_list coded_ℕ))
-    (λ f. (f.name, f.text)) (λ p. record { name = p.0; text = p.1; edition = One }) parsed_same
+parsed_code = code_by (List ℕ × (List ℕ × Edition)) (coded× (coded_list coded_ℕ) (coded× (coded_list coded_ℕ) editions.the_row.coded))
+    (λ f. (f.name, (f.text, f.edition))) (λ p. record { name = p.0; text = p.1.0; edition = p.1.1 }) (λ _. refl)
 
 abbrev pub work_code : Coded Work
-work_code = code_by (ℕ × (List ℕ × List Parsed)) (coded× coded_ℕ (coded× (coded_list coded_ℕ) (coded_list parsed_code)))
+work_code = code_by (Edition × (List ℕ × List Parsed)) (coded× editions.the_row.coded (coded× (coded_list coded_ℕ) (coded_list parsed_code)))
     (λ w. (w.edition, (w.path, w.files))) (λ p. record { edition = p.0; path = p.1.0; files = p.1.1 }) (λ _. refl)
 
 abbrev pub job_code : Coded Job

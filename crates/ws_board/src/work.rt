@@ -1,7 +1,6 @@
 //! What a board works with: jobs, hands, tasks and events.
 ghost use Rattle.std.specs.Prelude.{◌≡◌, ℕ, IfOk, IfSome, IfNone, IsTrue, ◌↔◌, map, option_copied, string_bytes};
 ghost use Rattle.std.specs.Arc.{arc_value};
-ghost use Rattle.go_text.specs.Editions.{edition_number};
 ghost use Rattle.ws_action.specs.Actions.{action_id, MakeAction, IsSized};
 ghost use Rattle.ws_board.specs.Work.{acted};
 ghost use Rattle.ws_board.specs.Machine.{is_waiting, is_ready, is_running, is_active, is_open};
@@ -182,20 +181,19 @@ pub struct Work {
 impl Model for Work {
     ghost use Rattle.std.specs.Prelude.{string_bytes};
     ghost use Rattle.std.specs.Arc.{arc_value};
-    ghost use Rattle.go_text.specs.Editions.{edition_number};
     ghost use Rattle.ws_board.specs.Work as work;
 
     ghost Value = { work.Work };
 
     ghost coded = { work.work_code };
 
-    ghost view = { λ a. record { edition = edition_number a.edition; path = string_bytes a.path; files = arc_value a.files } };
+    ghost view = { λ a. record { edition = a.edition; path = string_bytes a.path; files = arc_value a.files } };
 }
 
 impl Work {
     /// The files of a package's directory, to be compiled by that edition.
     pub fn new(edition: Edition, path: String, files: Arc<Files>) -> Work
-        ensures { result ≡ record { edition = edition_number edition; path = string_bytes path; files = arc_value files } }
+        ensures { result ≡ record { edition = edition; path = string_bytes path; files = arc_value files } }
     {
         Work {
             edition,
@@ -212,9 +210,9 @@ impl Work {
         imports: Vec<Arc<Summary>>,
     ) -> Result<Option<Action>, AllocError>
         ensures is { let summaries = map arc_value imports.items in IfOk result (λ made. IfSome made (λ action. action ≡ acted self.now summaries)) }
-        ensures make { IfOk result (λ made. IfSome made (λ action. MakeAction self.now.files (map arc_value imports.items))) }
+        ensures make { IfOk result (λ made. IfSome made (λ action. MakeAction self.now.edition self.now.files (map arc_value imports.items))) }
         ensures sized { IfOk result (λ made. IfSome made (λ action. IsSized action)) }
-        ensures none { IfOk result (λ made. IfNone made (¬ (MakeAction self.now.files (map arc_value imports.items)))) }
+        ensures none { IfOk result (λ made. IfNone made (¬ (MakeAction self.now.edition self.now.files (map arc_value imports.items)))) }
     {
         let path = self.path.clone()?;
         let files = Arc::try_clone(&self.files)?;

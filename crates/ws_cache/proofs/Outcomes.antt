@@ -1,6 +1,7 @@
 -- Files come to one thing, and so does compiling an action; what is held for an action is what its files come to.
 use Rattle.std.proofs.Common.{◌≡◌, ℕ, List, [], ◌∷◌, map, sym, ap, subst, ◌∙◌, inl, inr}
 use Rattle.std.specs.List.{All}
+use Rattle.go_text.specs.declared.edition.Edition.{Edition}
 use Rattle.go_text.specs.Faults.{Fault}
 use Rattle.go_text.specs.declared.fault.FaultKind.{FaultKind}
 use Rattle.go_text.specs.declared.place.Place.{Place}
@@ -13,7 +14,7 @@ use Rattle.go_import.specs.Names.{importable_by}
 use Rattle.go_export.specs.Summaries.{Summary, summary_of}
 use Rattle.go_export.specs.Writable.{IsWritten}
 use Rattle.go_check.proofs.One as front
-use Rattle.ws_action.specs.Actions.{Action, action_of, parsed_of, source_of}
+use Rattle.ws_action.specs.Actions.{Action, action_of, parsed_of, source_of, HaveEdition}
 use Rattle.ws_action.proofs.Imports.{same_imports, parsed_again}
 use Rattle.ws_cache.specs.Compiles.{AreGood, AreCircular, AreFaulty, Compiled, Good, Faulty, IsResult, Compiles}
 
@@ -77,14 +78,14 @@ moved path files a b result same h = subst (λ (ss : List Summary). IsResult pat
 -- compiling an action gives one thing
 pub one_outcome : (action : Action) (a b : Compiled) → Compiles action a → Compiles action b → a ≡ b
 one_outcome action a b g h =
-    let same = same_imports h.summaries g.summaries (h.imports).written (g.imports).written ((h.imports).texts ∙ sym (g.imports).texts) in
-    one_result action.path (map parsed_of action.files) (map importable_by g.summaries) a b g.is
-    (moved action.path (map parsed_of action.files) h.summaries g.summaries b same h.is)
+    let same = same_imports action.edition h.summaries g.summaries (h.imports).written (g.imports).written (h.imports).alike (g.imports).alike ((h.imports).texts ∙ sym (g.imports).texts) in
+    one_result action.path (map (parsed_of action.edition) action.files) (map importable_by g.summaries) a b g.is
+    (moved action.path (map (parsed_of action.edition) action.files) h.summaries g.summaries b same h.is)
 
 -- whatever summaries an action was compiled against, it came to what its files come to by these, if it has their texts
-pub held_is_result : (edition : ℕ) (path : List ℕ) (files : List Parsed) (summaries : List Summary) → All IsWritten summaries → (a b : Compiled) →
+pub held_is_result : (edition : Edition) (path : List ℕ) (files : List Parsed) (summaries : List Summary) → HaveEdition edition files summaries → All IsWritten summaries → (a b : Compiled) →
     Compiles (action_of edition path files summaries) a → IsResult path files (map importable_by summaries) b → a ≡ b
-held_is_result edition path files summaries written a b g h =
-    let same = same_imports g.summaries summaries (g.imports).written written (g.imports).texts in
-    let its = moved path (map parsed_of (map source_of files)) g.summaries summaries a same g.is in
-    one_result path files (map importable_by summaries) a b (subst (λ (fs : List Parsed). IsResult path fs (map importable_by summaries) a) (parsed_again files) its) h
+held_is_result edition path files summaries have written a b g h =
+    let same = same_imports edition g.summaries summaries (g.imports).written written (g.imports).alike have.of_summaries (g.imports).texts in
+    let its = moved path (map (parsed_of edition) (map source_of files)) g.summaries summaries a same g.is in
+    one_result path files (map importable_by summaries) a b (subst (λ (fs : List Parsed). IsResult path fs (map importable_by summaries) a) (parsed_again edition files have.of_files) its) h

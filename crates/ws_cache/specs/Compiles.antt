@@ -53,13 +53,14 @@ IsResult path files imports (Faulty fault) = AreFaulty path files imports fault
 
 -- ---- actions
 
--- the texts of the action's imports are those of these summaries, which their texts tell
+-- the texts of the action's imports are those of these summaries of its edition, which their texts tell
 pub record AreImportsOf (action : Action) (summaries : List Summary) : Type 0 where
   pub texts : map import_of summaries ≡ action.imports
   pub written : All IsWritten summaries
+  pub alike : All (λ summary. summary.edition ≡ action.edition) summaries
 
--- Compiling the action gives this, by its path, its files and its imports alone.
+-- Compiling the action gives this, by its edition, its path, its files and its imports alone.
 pub record Compiles (action : Action) (result : Compiled) : Type 0 where
   pub summaries : List Summary
   pub imports : AreImportsOf action summaries
-  pub is : IsResult action.path (map parsed_of action.files) (map importable_by summaries) result
+  pub is : IsResult action.path (map (parsed_of action.edition) action.files) (map importable_by summaries) result

@@ -5,6 +5,7 @@ ghost use Rattle.std.specs.Prelude.{◌≡◌, ℕ, ◌++◌, ◌∷◌, [], Lis
 ghost use Rattle.std.specs.Arc.{arc_value};
 ghost use Rattle.std.specs.FinMap as map;
 ghost use Rattle.std.specs.List.{All, Contains};
+ghost use Rattle.go_text.specs.declared.edition.Edition.{Edition};
 ghost use Rattle.go_text.specs.Faults.{Fault as AFault};
 ghost use Rattle.go_ast.specs.Trees.{File};
 ghost use Rattle.go_ast.specs.Parse.{Parsed};
@@ -15,7 +16,7 @@ ghost use Rattle.go_package.specs.Imports.{Importable};
 ghost use Rattle.go_import.specs.Names.{importable_by};
 ghost use Rattle.go_check.specs.Checked.{AreTrees};
 ghost use Rattle.ws_map.specs.Kept.{SameMembers, taken, joined as joined_by};
-ghost use Rattle.ws_action.specs.Actions.{Action as AnAction, action_of, action_id};
+ghost use Rattle.ws_action.specs.Actions.{Action as AnAction, action_of, action_id, HaveEdition};
 ghost use Rattle.ws_action.specs.Clash.{NoClash, Includes, hashed_actions, AllSized};
 ghost use Rattle.ws_cache.specs.Compiles.{AreGood, AreFaulty, Compiled, IsResult, Compiles, compiled_of};
 ghost use Rattle.ws_cache.specs.Count.{compiled_count, new_actions_count};
@@ -269,9 +270,10 @@ pub fn law_one_result()
 {}
 
 /// What is held for an action is what its files come to by the summaries that it was formed of,
-/// whatever summaries with the same texts it was compiled against.
+/// which are of its edition as its files are, whatever summaries with the same texts it was
+/// compiled against.
 pub fn law_held_is_result()
-    ensures { (edition : ℕ) (path : List ℕ) (files : List Parsed) (summaries : List ASummary) → All IsWritten summaries → (a b : Compiled) → Compiles (action_of edition path files summaries) a → IsResult path files (map_list importable_by summaries) b → a ≡ b }
+    ensures { (edition : Edition) (path : List ℕ) (files : List Parsed) (summaries : List ASummary) → HaveEdition edition files summaries → All IsWritten summaries → (a b : Compiled) → Compiles (action_of edition path files summaries) a → IsResult path files (map_list importable_by summaries) b → a ≡ b }
 {}
 
 /// Caches that stand for the same actions are one, however each came about.

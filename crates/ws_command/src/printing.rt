@@ -159,6 +159,8 @@ fn panic_word(kind: &PanicKind) -> &'static [u8]
     match kind {
         PanicKind::Divide => b"divide",
         PanicKind::Index => b"index",
+        PanicKind::Slice => b"slice",
+        PanicKind::Make => b"make",
         PanicKind::Shift => b"shift",
         PanicKind::Depth => b"depth",
         PanicKind::Long => b"long",

@@ -10,7 +10,7 @@ use Rattle.go_import.specs.Names.{importable_by}
 use Rattle.go_export.specs.Summaries.{Summary, summary_of}
 use Rattle.go_export.specs.Writable.{IsWritten}
 use Rattle.go_check.specs.Checked.{AreTyped}
-use Rattle.ws_action.specs.Actions.{Action, source_of, parsed_of, import_of}
+use Rattle.ws_action.specs.Actions.{Action, source_of, parsed_of, import_of, HaveEdition}
 use Rattle.ws_action.proofs.Imports.{parsed_again}
 use Rattle.ws_cache.specs.Compiles.{Compiled, Good, Faulty, IsResult, Compiles}
 use Rattle.ws_compile.specs.Ordered.{ComesTo}
@@ -28,23 +28,23 @@ pub good_comes : (typed : Package) (order : List ℕ) → in_order typed order �
 good_comes typed order is whole result e = subst (ComesTo typed) (sym e) (whole, refl, ap (λ is. object_in is typed) is)
 
 pub compiles : (action : Action) (path : List ℕ) (files : List Parsed) (summaries : List Summary) (result : Compiled) → path ≡ action.path → map source_of files ≡ action.files → map import_of summaries ≡ action.imports
-    → All IsWritten summaries → IsResult path files (map importable_by summaries) result → Compiles action result
-compiles action path files summaries result at named texts written is =
+    → All IsWritten summaries → HaveEdition action.edition files summaries → IsResult path files (map importable_by summaries) result → Compiles action result
+compiles action path files summaries result at named texts written have is =
     let imports : List Importable = map importable_by summaries in
-    let again = subst (λ (fs : List Parsed). IsResult path fs imports result) (sym (parsed_again files)) is in
+    let again = subst (λ (fs : List Parsed). IsResult path fs imports result) (sym (parsed_again action.edition files have.of_files)) is in
     record {
       summaries = summaries;
-      imports = record { texts = texts; written = written };
-      is = subst (λ p. IsResult p (map parsed_of action.files) imports result) at (subst (λ ns. IsResult path (map parsed_of ns) imports result) named again);
+      imports = record { texts = texts; written = written; alike = have.of_summaries };
+      is = subst (λ p. IsResult p (map (parsed_of action.edition) action.files) imports result) at (subst (λ ns. IsResult path (map (parsed_of action.edition) ns) imports result) named again);
     }
 
 pub unshown : (action : Action) (path : List ℕ) (files : List Parsed) (summaries : List Summary) → path ≡ action.path → map source_of files ≡ action.files → map import_of summaries ≡ action.imports
-    → All IsWritten summaries → AreUnshown path files (map importable_by summaries) → IsUnshown action
-unshown action path files summaries at named texts written are =
+    → All IsWritten summaries → HaveEdition action.edition files summaries → AreUnshown path files (map importable_by summaries) → IsUnshown action
+unshown action path files summaries at named texts written have are =
     let imports : List Importable = map importable_by summaries in
-    let again = subst (λ (fs : List Parsed). AreUnshown path fs imports) (sym (parsed_again files)) are in
+    let again = subst (λ (fs : List Parsed). AreUnshown path fs imports) (sym (parsed_again action.edition files have.of_files)) are in
     record {
       summaries = summaries;
-      imports = record { texts = texts; written = written };
-      are = subst (λ p. AreUnshown p (map parsed_of action.files) imports) at (subst (λ ns. AreUnshown path (map parsed_of ns) imports) named again);
+      imports = record { texts = texts; written = written; alike = have.of_summaries };
+      are = subst (λ p. AreUnshown p (map (parsed_of action.edition) action.files) imports) at (subst (λ ns. AreUnshown path (map (parsed_of action.edition) ns) imports) named again);
     }

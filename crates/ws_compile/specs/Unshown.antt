@@ -24,4 +24,4 @@ AreUnshown path files imports = (typed : Package) × AreGood path files imports 
 pub record IsUnshown (action : Action) : Type 0 where
   pub summaries : List Summary
   pub imports : AreImportsOf action summaries
-  pub are : AreUnshown action.path (map parsed_of action.files) (map importable_by summaries)
+  pub are : AreUnshown action.path (map (parsed_of action.edition) action.files) (map importable_by summaries)

@@ -41,7 +41,7 @@ adds_next all name specs i spec old mid new is lt h more =
     ∙ ap (imports_in name) (map-append_one (take i specs) spec) ∙ imports_in-append name front (import_of spec ∷ []) in
     subst (λ is. AddsTargets all is old new) (sym whole) (adds_through all (imports_in name front) (imports_in name (import_of spec ∷ [])) old mid new h more)
 
-imports_more : (ps : List Parsed) (p : Parsed) (is : List Import) (file : File) → AreImports ps is → IsParse p.text (Derived file) → AreImports (ps ++ p ∷ []) (is ++ imports_in p.name file.imports)
+imports_more : (ps : List Parsed) (p : Parsed) (is : List Import) (file : File) → AreImports ps is → IsParse p.edition p.text (Derived file) → AreImports (ps ++ p ∷ []) (is ++ imports_in p.name file.imports)
 imports_more [] p is file are parse = (file, [], parse, refl, ap (λ l. l ++ imports_in p.name file.imports) are ∙ sym (append-nil (imports_in p.name file.imports)))
 imports_more (q ∷ ps) p is file are parse =
     (are.0, are.1 ++ imports_in p.name file.imports, are.2, imports_more ps p are.1 file are.3 parse, ap (λ l. l ++ imports_in p.name file.imports) are.4 ∙ append_assoc (imports_in q.name are.0.imports) are.1 (imports_in p.name file.imports))
@@ -51,7 +51,7 @@ have_none all targets e = record { imports = []; are = refl; targets_are = subst
 
 -- one more file
 pub have_next : (all : List (List ℕ)) (ps : List Parsed) (i : ℕ) (p : Parsed) (old new : List Target) → p ≡ get_or ps i p → i < length ps → HaveTargets all (take i ps) old
-    → ((file : File) × IsParse p.text (Derived file) × AddsTargets all (imports_in p.name file.imports) old new) → HaveTargets all (take (i + 1) ps) new
+    → ((file : File) × IsParse p.edition p.text (Derived file) × AddsTargets all (imports_in p.name file.imports) old new) → HaveTargets all (take (i + 1) ps) new
 have_next all ps i p old new is lt h (file, parse, (more, e, z)) =
     let whole : take (i + 1) ps ≡ take i ps ++ p ∷ [] = take_more ps i p lt ∙ ap (λ s. take i ps ++ s ∷ []) (sym is) in
     record {

@@ -8,6 +8,7 @@ use Rattle.ws_version.proofs.Writes.{path_cmp_total}
 use Rattle.ws_reach.specs.Reach.{Reaches}
 use Rattle.ws_reach.proofs.Reached.{reaches_stay}
 use Rattle.ws_reach.proofs.Closure.{IsOneOf}
+use Rattle.go_text.specs.declared.edition.Edition.{Edition}
 use Rattle.ws_graph.specs.BuildPlan.{Sources, HasNoFiles, Imports}
 use Rattle.ws_graph.proofs.Filed.{built_directories, to_directory}
 use Rattle.ws_graph.proofs.Sorted.{among_all, not_both, contained}
@@ -62,8 +63,8 @@ pub one_more : (x : Path) (old new : List Path) → IsStrictlySortedBy path_cmp 
 one_more x old new sorted fresh h = fewer (x ∷ old) new ((λ one. fresh (contained old x one)), differ old sorted) h
 
 -- what one with files reaches has files
-pub reached_files : (sources : Sources) (target path : Path) → (HasNoFiles sources target → ⊥) → Reaches (Imports sources) target path → HasNoFiles sources path → ⊥
-reached_files sources target path files way = reaches_stay (Imports sources) (λ p. HasNoFiles sources p → ⊥) (λ y x some i. i.files) target path way files
+pub reached_files : (ed : Edition) (sources : Sources) (target path : Path) → (HasNoFiles sources target → ⊥) → Reaches (Imports ed sources) target path → HasNoFiles sources path → ⊥
+reached_files ed sources target path files way = reaches_stay (Imports ed sources) (λ p. HasNoFiles sources p → ⊥) (λ y x some i. i.files) target path way files
 
 pub few_directories : (sources : Sources) (paths : List Path) → IsStrictlySortedBy path_cmp paths → ((p : Path) → IsOneOf p paths → HasNoFiles sources p → ⊥) → length paths ≤ length (built_directories sources)
 few_directories sources paths sorted files = fewer paths (built_directories sources) (differ paths sorted) (λ p one. to_directory p sources (files p one))

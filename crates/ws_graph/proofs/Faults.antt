@@ -3,6 +3,7 @@ use Rattle.std.proofs.Common.{◌≡◌, ℕ, Bool, true, List, [], ◌∷◌, �
 use Rattle.std.specs.Prelude.{string_bytes}
 use Rattle.std.specs.List.{AllZip, slice_get}
 use Rattle.std.specs.List.Sorted.{IsStrictlySortedBy}
+use Rattle.go_text.specs.declared.edition.Edition.{Edition}
 use Rattle.go_text.specs.Faults.{Fault}
 use Rattle.go_text.specs.declared.fault.FaultKind.{FaultKind}
 use Rattle.go_text.specs.declared.fault.FaultKind.TheVariants.{NoImport, Cycle, Program}
@@ -67,29 +68,29 @@ first_moved P Q imports targets kind target fault z first is =
     }
 
 -- what the three kinds are, of a directory's imports and their targets
-pub record AllAgree (sources : Sources) (path : List ℕ) (closing : List (List ℕ)) (programs : List Bool) (here : ℕ) (imports : List Import) (targets : List Target) : Type 0 where
+pub record AllAgree (ed : Edition) (sources : Sources) (path : List ℕ) (closing : List (List ℕ)) (programs : List Bool) (here : ℕ) (imports : List Import) (targets : List Target) : Type 0 where
   pub missing : AllZip (Agree (HasNoFiles sources) (HasFault closing programs here NoImport)) imports targets
-  pub cycle : NoneHas (HasFault closing programs here NoImport) targets → AllZip (Agree (LeadsBack sources path) (HasFault closing programs here Cycle)) imports targets
-  pub program : NoneHas (HasFault closing programs here NoImport) targets → AllZip (Agree (IsProgram sources) (HasFault closing programs here Program)) imports targets
+  pub cycle : NoneHas (HasFault closing programs here NoImport) targets → AllZip (Agree (LeadsBack ed sources path) (HasFault closing programs here Cycle)) imports targets
+  pub program : NoneHas (HasFault closing programs here NoImport) targets → AllZip (Agree (IsProgram ed sources) (HasFault closing programs here Program)) imports targets
 
-module _ (sources : Sources) (path : List ℕ) (closing : List (List ℕ)) (programs : List Bool) (here : ℕ) (imports : List Import) (targets : List Target) (all : AllAgree sources path closing programs here imports targets) where
-  pub fault_moved : (target : Target) (fault : Fault) → IsFaultAt closing programs here targets target fault → IsImportFault sources path imports fault
+module _ (ed : Edition) (sources : Sources) (path : List ℕ) (closing : List (List ℕ)) (programs : List Bool) (here : ℕ) (imports : List Import) (targets : List Target) (all : AllAgree ed sources path closing programs here imports targets) where
+  pub fault_moved : (target : Target) (fault : Fault) → IsFaultAt closing programs here targets target fault → IsImportFault ed sources path imports fault
   fault_moved target fault (of_missing first is) = plan.of_missing (first_moved (HasNoFiles sources) (HasFault closing programs here NoImport) imports targets NoImport target fault all.missing first is)
   fault_moved target fault (of_cycle n first is) = plan.of_cycle
       (none_moved (HasNoFiles sources) (HasFault closing programs here NoImport) imports targets all.missing n)
-      (first_moved (LeadsBack sources path) (HasFault closing programs here Cycle) imports targets Cycle target fault (all.cycle n) first is)
+      (first_moved (LeadsBack ed sources path) (HasFault closing programs here Cycle) imports targets Cycle target fault (all.cycle n) first is)
   fault_moved target fault (of_program n m first is) = plan.of_program
       (none_moved (HasNoFiles sources) (HasFault closing programs here NoImport) imports targets all.missing n)
-      (none_moved (LeadsBack sources path) (HasFault closing programs here Cycle) imports targets (all.cycle n) m)
-      (first_moved (IsProgram sources) (HasFault closing programs here Program) imports targets Program target fault (all.program n) first is)
+      (none_moved (LeadsBack ed sources path) (HasFault closing programs here Cycle) imports targets (all.cycle n) m)
+      (first_moved (IsProgram ed sources) (HasFault closing programs here Program) imports targets Program target fault (all.program n) first is)
 
-  pub sound_moved : HasImports sources path imports → TargetFault closing programs here targets None → ImportsAreSound sources path
+  pub sound_moved : HasImports ed sources path imports → TargetFault closing programs here targets None → ImportsAreSound ed sources path
   sound_moved has (n, m, l) = record {
     imports = imports;
     has = has;
     none_missing = none_moved (HasNoFiles sources) (HasFault closing programs here NoImport) imports targets all.missing n;
-    none_leads_back = none_moved (LeadsBack sources path) (HasFault closing programs here Cycle) imports targets (all.cycle n) m;
-    none_program = none_moved (IsProgram sources) (HasFault closing programs here Program) imports targets (all.program n) l;
+    none_leads_back = none_moved (LeadsBack ed sources path) (HasFault closing programs here Cycle) imports targets (all.cycle n) m;
+    none_program = none_moved (IsProgram ed sources) (HasFault closing programs here Program) imports targets (all.program n) l;
   }
 
 -- ---- that they agree
@@ -102,19 +103,19 @@ same_number : (m n : ℕ) (o : Option ℕ) → o ≡ Some m → o ≡ Some n →
 same_number m n o e f = let both : Some m ≡ Some n = sym e ∙ f in cc
 
 -- all that is known of the directories by number
-pub record Numbered (sources : Sources) (paths : List (List ℕ)) (rows closing : List (List ℕ)) (programs : List Bool) : Type 0 where
+pub record Numbered (ed : Edition) (sources : Sources) (paths : List (List ℕ)) (rows closing : List (List ℕ)) (programs : List Bool) : Type 0 where
   pub sorted : IsStrictlySortedBy path_cmp paths
-  pub closed : IsClosed sources paths
-  pub rows_lead : (p q : ℕ) → Edge rows p q → Leads sources paths p q
-  pub lead_rows : (p q : ℕ) → Leads sources paths p q → Edge rows p q
+  pub closed : IsClosed ed sources paths
+  pub rows_lead : (p q : ℕ) → Edge rows p q → Leads ed sources paths p q
+  pub lead_rows : (p q : ℕ) → Leads ed sources paths p q → Edge rows p q
   pub closing_from : (q p : ℕ) → Edge closing q p → Edge rows p q × Reaches (Edge rows) q p
   pub closing_to : (q p : ℕ) → Edge rows p q → Reaches (Edge rows) q p → Edge closing q p
-  pub program_from : (k : ℕ) (q : List ℕ) → slice_get paths k ≡ Some q → slice_get programs k ≡ Some true → IsProgram sources q
-  pub program_to : (k : ℕ) (q : List ℕ) → slice_get paths k ≡ Some q → IsProgram sources q → slice_get programs k ≡ Some true
+  pub program_from : (k : ℕ) (q : List ℕ) → slice_get paths k ≡ Some q → slice_get programs k ≡ Some true → IsProgram ed sources q
+  pub program_to : (k : ℕ) (q : List ℕ) → slice_get paths k ≡ Some q → IsProgram ed sources q → slice_get programs k ≡ Some true
 
-module _ (sources : Sources) (paths : List (List ℕ)) (rows closing : List (List ℕ)) (programs : List Bool) (known : Numbered sources paths rows closing programs) (path : List ℕ) (here : ℕ) (at : slice_get paths here ≡ Some path) (of : HasImported sources paths path)
-    (imports : List Import) (targets : List Target) (has : HasImports sources path imports) (zip : AreTargets paths imports targets) where
-  import_of : (i : Import) → IsOneOf i imports → HasImport sources path i.spec.path
+module _ (ed : Edition) (sources : Sources) (paths : List (List ℕ)) (rows closing : List (List ℕ)) (programs : List Bool) (known : Numbered ed sources paths rows closing programs) (path : List ℕ) (here : ℕ) (at : slice_get paths here ≡ Some path) (of : HasImported ed sources paths path)
+    (imports : List Import) (targets : List Target) (has : HasImports ed sources path imports) (zip : AreTargets paths imports targets) where
+  import_of : (i : Import) → IsOneOf i imports → HasImport ed sources path i.spec.path
   import_of i one = record { imports = imports; has = has; import = i; among = contained imports i one; path = refl }
 
   missing_agrees : (i : Import) (t : Target) → IsOneOf i imports → IsOneOf t targets → IsTarget paths i t → Agree (HasNoFiles sources) (HasFault closing programs here NoImport) i t
@@ -134,25 +135,25 @@ module _ (sources : Sources) (paths : List (List ℕ)) (rows closing : List (Lis
     ];
   }
 
-  cycle_agrees : NoneHas (HasFault closing programs here NoImport) targets → (i : Import) (t : Target) → IsOneOf i imports → IsOneOf t targets → IsTarget paths i t → Agree (LeadsBack sources path) (HasFault closing programs here Cycle) i t
+  cycle_agrees : NoneHas (HasFault closing programs here NoImport) targets → (i : Import) (t : Target) → IsOneOf i imports → IsOneOf t targets → IsTarget paths i t → Agree (LeadsBack ed sources path) (HasFault closing programs here Cycle) i t
   cycle_agrees none i t in_imports in_targets h = record {
     file = h.file;
     place = h.place;
     to = λ back. elim (number_cases paths i.spec.path t.number h.number) [
       | inl n ↦ absurd (none t (contained targets t in_targets) n.0)
       | inr some ↦ (
-          let there = lead_numbers sources paths known.closed back.0 some.0 i.spec.path path back.1 some.2 in
+          let there = lead_numbers ed sources paths known.closed back.0 some.0 i.spec.path path back.1 some.2 in
           let place = one_place path_cmp path_cmp_total paths known.sorted path there.0 here there.1 at in
-          let way : Reaches (Leads sources paths) some.0 here = subst (Reaches (Leads sources paths) some.0) place there.2 in
-          let lead : Leads sources paths here some.0 = record { from = path; to = i.spec.path; at_from = at; at_to = some.2; imports = record { import = import_of i in_imports; files = of.filed i.spec.path (import_of i in_imports) (get_contains paths some.0 i.spec.path some.2) } } in
-          (some.0, some.1, known.closing_to some.0 here (known.lead_rows here some.0 lead) (way.0, reaches_turn (Leads sources paths) (Edge rows) known.lead_rows way.0 some.0 here way.1)))
+          let way : Reaches (Leads ed sources paths) some.0 here = subst (Reaches (Leads ed sources paths) some.0) place there.2 in
+          let lead : Leads ed sources paths here some.0 = record { from = path; to = i.spec.path; at_from = at; at_to = some.2; imports = record { import = import_of i in_imports; files = of.filed i.spec.path (import_of i in_imports) (get_contains paths some.0 i.spec.path some.2) } } in
+          (some.0, some.1, known.closing_to some.0 here (known.lead_rows here some.0 lead) (way.0, reaches_turn (Leads ed sources paths) (Edge rows) known.lead_rows way.0 some.0 here way.1)))
     ];
     back = λ closes. (
         let way = (known.closing_from closes.0 here closes.2).1 in
-        lead_paths sources paths way.0 closes.0 here i.spec.path path (reaches_turn (Edge rows) (Leads sources paths) known.rows_lead way.0 closes.0 here way.1) (number_at paths i.spec.path t.number closes.0 h.number closes.1) at);
+        lead_paths ed sources paths way.0 closes.0 here i.spec.path path (reaches_turn (Edge rows) (Leads ed sources paths) known.rows_lead way.0 closes.0 here way.1) (number_at paths i.spec.path t.number closes.0 h.number closes.1) at);
   }
 
-  program_agrees : NoneHas (HasFault closing programs here NoImport) targets → (i : Import) (t : Target) → IsOneOf i imports → IsOneOf t targets → IsTarget paths i t → Agree (IsProgram sources) (HasFault closing programs here Program) i t
+  program_agrees : NoneHas (HasFault closing programs here NoImport) targets → (i : Import) (t : Target) → IsOneOf i imports → IsOneOf t targets → IsTarget paths i t → Agree (IsProgram ed sources) (HasFault closing programs here Program) i t
   program_agrees none i t in_imports in_targets h = record {
     file = h.file;
     place = h.place;
@@ -163,9 +164,9 @@ module _ (sources : Sources) (paths : List (List ℕ)) (rows closing : List (Lis
     back = λ is. known.program_from is.0 i.spec.path (number_at paths i.spec.path t.number is.0 h.number is.1) is.2;
   }
 
-  pub all_agree : AllAgree sources path closing programs here imports targets
+  pub all_agree : AllAgree ed sources path closing programs here imports targets
   all_agree = record {
     missing = zip_turn (IsTarget paths) (Agree (HasNoFiles sources) (HasFault closing programs here NoImport)) imports targets missing_agrees zip;
-    cycle = λ none. zip_turn (IsTarget paths) (Agree (LeadsBack sources path) (HasFault closing programs here Cycle)) imports targets (cycle_agrees none) zip;
-    program = λ none. zip_turn (IsTarget paths) (Agree (IsProgram sources) (HasFault closing programs here Program)) imports targets (program_agrees none) zip;
+    cycle = λ none. zip_turn (IsTarget paths) (Agree (LeadsBack ed sources path) (HasFault closing programs here Cycle)) imports targets (cycle_agrees none) zip;
+    program = λ none. zip_turn (IsTarget paths) (Agree (IsProgram ed sources) (HasFault closing programs here Program)) imports targets (program_agrees none) zip;
   }

@@ -2,6 +2,7 @@
 use Rattle.std.proofs.Common.{◌≡◌, ◌<◌, ◌+◌, ℕ, List, [], ◌∷◌, ◌++◌, take, length, get_or, sym, ap, ◌∙◌, subst, inl, inr, append-nil, append_assoc}
 use Rattle.std.specs.List.{Contains}
 use Rattle.std.proofs.lemmas.List.Elements.{Contains-append_left, Contains-push, Contains-push_cases}
+use Rattle.go_text.specs.declared.edition.Edition.{Edition}
 use Rattle.ws_graph.specs.Packages.{package_files}
 use Rattle.ws_graph.specs.Plan.{Planned, NoFiles, Faulty, Sound, IsPlan}
 use Rattle.ws_graph.specs.BuildPlan.{Sources, Import, HasImports, HasNoFiles, Imports}
@@ -53,30 +54,30 @@ more_paths sources ts t old mid new h (inr (none, same)) = record {
 pub paths_next : (sources : Sources) (ts : List Target) (i : ℕ) (t : Target) (old mid new : List Path) → t ≡ get_or ts i t → i < length ts → AddsPaths sources (take i ts) old mid → AddsPath sources t.path.items mid new → AddsPaths sources (take (i + 1) ts) old new
 paths_next sources ts i t old mid new is lt h more = subst (λ l. AddsPaths sources l old new) (sym (taken_next ts i t is lt)) (more_paths sources (take i ts) t old mid new h more)
 
-no_paths : (sources : Sources) (planned : Planned) (targets : List Target) (old new : List Path) → targets ≡ [] → ((p q : Path) → IsPlan (package_files p sources) planned → Imports sources p q → ⊥) → AddsPaths sources targets old new → AddsImported sources planned old new
+no_paths : (sources : Sources) (planned : Planned) (targets : List Target) (old new : List Path) → targets ≡ [] → ((ed : Edition) (p q : Path) → IsPlan ed (package_files p sources) planned → Imports ed sources p q → ⊥) → AddsPaths sources targets old new → AddsImported sources planned old new
 no_paths sources planned targets old new none never h = record {
   more = h.more;
   is = h.is;
-  from = λ p q plan c. (let f = h.from q c in absurd (one_of [] f.0 (subst (λ (l : List Target). Contains l f.0) none f.1)));
-  all = λ p q plan i. absurd (never p q plan i);
+  from = λ ed p q plan c. (let f = h.from q c in absurd (one_of [] f.0 (subst (λ (l : List Target). Contains l f.0) none f.1)));
+  all = λ ed p q plan i. absurd (never ed p q plan i);
 }
 
 pub imported : (sources : Sources) (all : List Path) (planned : Planned) (targets : List Target) (old new : List Path) → AreTargetsOf all planned targets → AddsPaths sources targets old new → AddsImported sources planned old new
 imported sources all NoFiles targets old new none h =
-    no_paths sources NoFiles targets old new none (λ p q plan i. (let imp = i.import in none_not_sound imp.has.parsed (one_plan (package_files p sources) NoFiles (Sound imp.has.parsed) plan imp.has.sound))) h
+    no_paths sources NoFiles targets old new none (λ ed p q plan i. (let imp = i.import in none_not_sound imp.has.parsed (one_plan ed (package_files p sources) NoFiles (Sound imp.has.parsed) plan imp.has.sound))) h
 imported sources all (Faulty f) targets old new none h =
-    no_paths sources (Faulty f) targets old new none (λ p q plan i. (let imp = i.import in fault_not_sound f imp.has.parsed (one_plan (package_files p sources) (Faulty f) (Sound imp.has.parsed) plan imp.has.sound))) h
+    no_paths sources (Faulty f) targets old new none (λ ed p q plan i. (let imp = i.import in fault_not_sound f imp.has.parsed (one_plan ed (package_files p sources) (Faulty f) (Sound imp.has.parsed) plan imp.has.sound))) h
 imported sources all (Sound parsed) targets old new are h = record {
   more = h.more;
   is = h.is;
-  from = λ p q plan c. (
+  from = λ ed p q plan c. (
       let f = h.from q c in
       let i = zip_from (IsTarget all) are.imports targets are.targets_are f.0 (one_of targets f.0 f.1) in
-      let has : HasImports sources p are.imports = record { parsed = parsed; sound = plan; are = are.are } in
+      let has : HasImports ed sources p are.imports = record { parsed = parsed; sound = plan; are = are.are } in
       record { imports = are.imports; has = has; import = i.0; among = contained are.imports i.0 i.1; path = sym i.2.path ∙ f.2 });
-  all = λ p q plan imp. (
-      let has : HasImports sources p are.imports = record { parsed = parsed; sound = plan; are = are.are } in
-      let same = same_imports sources p imp.import.imports are.imports imp.import.has has in
+  all = λ ed p q plan imp. (
+      let has : HasImports ed sources p are.imports = record { parsed = parsed; sound = plan; are = are.are } in
+      let same = same_imports ed sources p imp.import.imports are.imports imp.import.has has in
       let import = imp.import.import in
       let t = zip_to (IsTarget all) are.imports targets are.targets_are import (one_of are.imports import (subst (λ (l : List Import). Contains l import) same imp.import.among)) in
       let path : t.0.path.items ≡ q = t.2.path ∙ imp.import.path in

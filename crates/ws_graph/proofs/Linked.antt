@@ -3,6 +3,7 @@ use Rattle.std.proofs.Common.{◌≡◌, ℕ, zero, suc, ◌+◌, ◌<◌, Bool,
 use Rattle.std.specs.List.{AllZip, Contains, slice_get}
 use Rattle.std.specs.List.Sorted.{IsStrictlySortedBy}
 use Rattle.std.specs.Global.{Vec}
+use Rattle.go_text.specs.declared.edition.Edition.{Edition}
 use Rattle.go_text.specs.Faults.{Fault}
 use Rattle.ws_version.specs.Writes.{path_cmp}
 use Rattle.ws_reach.specs.Reach.{Edge, rows_of}
@@ -105,39 +106,39 @@ none_first closing programs here targets target fault e (of_missing a is) = noth
 none_first closing programs here targets target fault e (of_cycle n a is) = nothing_first a.front target a.rest (sym a.whole ∙ e)
 none_first closing programs here targets target fault e (of_program n m a is) = nothing_first a.front target a.rest (sym a.whole ∙ e)
 
-module _ (sources : Sources) (targets : List (List ℕ)) (paths : List (List ℕ)) (founds : List Found) (links : Links) (all : AreAll sources targets paths founds) (are : AreLinks paths founds links) where
+module _ (ed : Edition) (sources : Sources) (targets : List (List ℕ)) (paths : List (List ℕ)) (founds : List Found) (links : Links) (all : AreAll ed sources targets paths founds) (are : AreLinks paths founds links) where
   reached_files : (q : List ℕ) → Contains paths q → HasNoFiles sources q → ⊥
   reached_files q c =
       let way = (all.reached q).0 c in
-      reaches_stay (Imports sources) (λ p. HasNoFiles sources p → ⊥) (λ y x h i. i.files) way.0 q way.2 (all.files way.0 way.1)
+      reaches_stay (Imports ed sources) (λ p. HasNoFiles sources p → ⊥) (λ y x h i. i.files) way.0 q way.2 (all.files way.0 way.1)
 
-  closed : IsClosed sources paths
+  closed : IsClosed ed sources paths
   closed a b here imports =
       let way = (all.reached a).0 here in
-      (all.reached b).1 (way.0, way.1, reaches_more (Imports sources) way.0 a b way.2 imports)
+      (all.reached b).1 (way.0, way.1, reaches_more (Imports ed sources) way.0 a b way.2 imports)
 
-  imported : (p : List ℕ) → Contains paths p → HasImported sources paths p
+  imported : (p : List ℕ) → Contains paths p → HasImported ed sources paths p
   imported p here = record { filed = λ q import c. reached_files q c; listed = λ q import files. closed p q here (record { import = import; files = files }) }
 
   -- the row at a number
-  row_numbers : (k : ℕ) (path : List ℕ) (found : Found) (targets : Vec Target) (row : Vec ℕ) → slice_get paths k ≡ Some path → IsFound sources path found → AreTargetsOf paths (planned_of found.node) targets.items → AreNumbersOf targets row
-      → (q : ℕ) → (Contains row.items q → ToNumber sources paths path q) × (ToNumber sources paths path q → Contains row.items q)
+  row_numbers : (k : ℕ) (path : List ℕ) (found : Found) (targets : Vec Target) (row : Vec ℕ) → slice_get paths k ≡ Some path → IsFound ed sources path found → AreTargetsOf paths (planned_of found.node) targets.items → AreNumbersOf targets row
+      → (q : ℕ) → (Contains row.items q → ToNumber ed sources paths path q) × (ToNumber ed sources paths path q → Contains row.items q)
   row_numbers k path found targets row at is of numbers q =
-      let lead = numbers_lead sources paths path (planned_of found.node) targets.items is.plan of all.ascending (imported path (get_contains paths k path at)) q in
+      let lead = numbers_lead ed sources paths path (planned_of found.node) targets.items is.plan of all.ascending (imported path (get_contains paths k path at)) q in
       (λ c. lead.0 ((numbers.are q).0 c), λ t. (numbers.are q).1 (lead.1 t))
 
-  rows_lead : (p q : ℕ) → Edge (rows_of links.rows.items) p q → Leads sources paths p q
+  rows_lead : (p q : ℕ) → Edge (rows_of links.rows.items) p q → Leads ed sources paths p q
   rows_lead p q (row, at, c) =
       let v = map_left (λ (x : Vec ℕ). x.items) links.rows.items p row at in
       let targets = zip_right AreNumbersOf links.targets.items links.rows.items are.rows p v.0 v.1 in
       let found = zip_right (λ (f : Found) (ts : Vec Target). AreTargetsOf paths (planned_of f.node) ts.items) founds links.targets.items are.targets p targets.0 targets.1 in
-      let path = zip_right (IsFound sources) paths founds all.founds_are p found.0 found.1 in
+      let path = zip_right (IsFound ed sources) paths founds all.founds_are p found.0 found.1 in
       let to = (row_numbers p path.0 found.0 targets.0 v.0 path.1 path.2 found.2 targets.2 q).0 (subst (λ (l : List ℕ). Contains l q) v.2 c) in
       record { from = path.0; to = to.0; at_from = path.1; at_to = to.1; imports = to.2 }
 
-  lead_rows : (p q : ℕ) → Leads sources paths p q → Edge (rows_of links.rows.items) p q
+  lead_rows : (p q : ℕ) → Leads ed sources paths p q → Edge (rows_of links.rows.items) p q
   lead_rows p q lead =
-      let found = zip_left (IsFound sources) paths founds all.founds_are p lead.from lead.at_from in
+      let found = zip_left (IsFound ed sources) paths founds all.founds_are p lead.from lead.at_from in
       let targets = zip_left (λ (f : Found) (ts : Vec Target). AreTargetsOf paths (planned_of f.node) ts.items) founds links.targets.items are.targets p found.0 found.1 in
       let row = zip_left AreNumbersOf links.targets.items links.rows.items are.rows p targets.0 targets.1 in (
         row.0.items,
@@ -145,7 +146,7 @@ module _ (sources : Sources) (targets : List (List ℕ)) (paths : List (List ℕ
         (row_numbers p lead.from found.0 targets.0 row.0 lead.at_from found.2 targets.2 row.2 q).1 (lead.to, lead.at_to, lead.imports),
       )
 
-  numbered : Numbered sources paths (rows_of links.rows.items) (rows_of links.closing.items) links.programs.items
+  numbered : Numbered ed sources paths (rows_of links.rows.items) (rows_of links.closing.items) links.programs.items
   numbered = record {
     sorted = all.ascending;
     closed = closed;
@@ -155,38 +156,38 @@ module _ (sources : Sources) (targets : List (List ℕ)) (paths : List (List ℕ
     closing_to = λ q p e r. (are.closing q p).1 (e, r);
     program_from = λ k q at is. (
         let f = map_left (λ (x : Found). x.program) founds k true (ap (λ (l : List Bool). slice_get l k) (sym are.programs) ∙ is) in
-        let path = zip_right (IsFound sources) paths founds all.founds_are k f.0 f.1 in
+        let path = zip_right (IsFound ed sources) paths founds all.founds_are k f.0 f.1 in
         let same = same_some path.0 q (slice_get paths k) path.1 at in
-        subst (IsProgram sources) same (path.2.program.0 (sym f.2)));
+        subst (IsProgram ed sources) same (path.2.program.0 (sym f.2)));
     program_to = λ k q at is. (
-        let f = zip_left (IsFound sources) paths founds all.founds_are k q at in
+        let f = zip_left (IsFound ed sources) paths founds all.founds_are k q at in
         ap (λ (l : List Bool). slice_get l k) are.programs ∙ map_right (λ (x : Found). x.program) founds k f.0 f.1 ∙ ap Some (f.2.program.1 is));
   }
 
-  planned_right : (here : ℕ) (path : List ℕ) → slice_get paths here ≡ Some path → (planned : Planned) (targets : List Target) (fault : Option Fault) → IsPlan (package_files path sources) planned → AreTargetsOf paths planned targets
-      → TargetFault (rows_of links.closing.items) links.programs.items here targets fault → IsPlannedAs sources path (planned_with planned fault)
+  planned_right : (here : ℕ) (path : List ℕ) → slice_get paths here ≡ Some path → (planned : Planned) (targets : List Target) (fault : Option Fault) → IsPlan ed (package_files path sources) planned → AreTargetsOf paths planned targets
+      → TargetFault (rows_of links.closing.items) links.programs.items here targets fault → IsPlannedAs ed sources path (planned_with planned fault)
   planned_right here path at NoFiles targets fault plan of is = absurd (reached_files path (get_contains paths here path at) plan)
   planned_right here path at (Faulty f) targets None plan of is = inl plan
   planned_right here path at (Faulty f) targets (Some g) plan of is = absurd (none_first (rows_of links.closing.items) links.programs.items here targets is.0 g of is.1)
   planned_right here path at (Sound parsed) targets None plan of is =
-      let has : HasImports sources path of.imports = record { parsed = parsed; sound = plan; are = of.are } in
-      let agree = all_agree sources paths (rows_of links.rows.items) (rows_of links.closing.items) links.programs.items numbered path here at (imported path (get_contains paths here path at)) of.imports targets has of.targets_are in
-      (plan, sound_moved sources path (rows_of links.closing.items) links.programs.items here of.imports targets agree has is)
+      let has : HasImports ed sources path of.imports = record { parsed = parsed; sound = plan; are = of.are } in
+      let agree = all_agree ed sources paths (rows_of links.rows.items) (rows_of links.closing.items) links.programs.items numbered path here at (imported path (get_contains paths here path at)) of.imports targets has of.targets_are in
+      (plan, sound_moved ed sources path (rows_of links.closing.items) links.programs.items here of.imports targets agree has is)
   planned_right here path at (Sound parsed) targets (Some fault) plan of is =
-      let has : HasImports sources path of.imports = record { parsed = parsed; sound = plan; are = of.are } in
-      let agree = all_agree sources paths (rows_of links.rows.items) (rows_of links.closing.items) links.programs.items numbered path here at (imported path (get_contains paths here path at)) of.imports targets has of.targets_are in
-      inr (record { imports = of.imports; has = has; is = fault_moved sources path (rows_of links.closing.items) links.programs.items here of.imports targets agree is.0 fault is.1 })
+      let has : HasImports ed sources path of.imports = record { parsed = parsed; sound = plan; are = of.are } in
+      let agree = all_agree ed sources paths (rows_of links.rows.items) (rows_of links.closing.items) links.programs.items numbered path here at (imported path (get_contains paths here path at)) of.imports targets has of.targets_are in
+      inr (record { imports = of.imports; has = has; is = fault_moved ed sources path (rows_of links.closing.items) links.programs.items here of.imports targets agree is.0 fault is.1 })
 
   -- one directory
   record IsRight (d : Directory) : Type 0 where
-    planned : IsPlannedAs sources d.path d.planned
-    numbers : AreNumbers sources paths d.path d.imports
+    planned : IsPlannedAs ed sources d.path d.planned
+    numbers : AreNumbers ed sources paths d.path d.imports
 
   right_at : (k : ℕ) (found : Found) (d : Directory) → slice_get founds k ≡ Some found → IsLinkedAt paths links k (planned_of found.node) d → IsRight d
   right_at k found d at h =
-      let path = zip_right (IsFound sources) paths founds all.founds_are k found at in
+      let path = zip_right (IsFound ed sources) paths founds all.founds_are k found at in
       let same = same_some path.0 d.path (slice_get paths k) path.1 h.path in
-      let is : IsFound sources d.path found = subst (λ p. IsFound sources p found) same path.2 in
+      let is : IsFound ed sources d.path found = subst (λ p. IsFound ed sources p found) same path.2 in
       let targets = zip_left (λ (f : Found) (ts : Vec Target). AreTargetsOf paths (planned_of f.node) ts.items) founds links.targets.items are.targets k found at in
       let same_targets = same_some targets.0 h.targets (slice_get links.targets.items k) targets.1 h.targets_at in
       let of : AreTargetsOf paths (planned_of found.node) h.targets.items = subst (λ (ts : Vec Target). AreTargetsOf paths (planned_of found.node) ts.items) same_targets targets.2 in
@@ -194,21 +195,21 @@ module _ (sources : Sources) (targets : List (List ℕ)) (paths : List (List ℕ
       let same_row = same_some row.0 h.row (slice_get links.rows.items k) row.1 h.row_at in
       let numbers : AreNumbersOf h.targets h.row = subst (AreNumbersOf h.targets) same_row row.2 in
       record {
-        planned = subst (IsPlannedAs sources d.path) (sym h.planned_is) (planned_right k d.path h.path (planned_of found.node) h.targets.items h.fault is.plan of h.fault_is);
-        numbers = subst (AreNumbers sources paths d.path) (sym h.imports_are) (record {
+        planned = subst (IsPlannedAs ed sources d.path) (sym h.planned_is) (planned_right k d.path h.path (planned_of found.node) h.targets.items h.fault is.plan of h.fault_is);
+        numbers = subst (AreNumbers ed sources paths d.path) (sym h.imports_are) (record {
           ascending = numbers.ascending;
           are = λ q. row_numbers k d.path found h.targets h.row h.path is of numbers q;
         });
       }
 
-  pub build_plan : (ds : List Directory) → AreLinkedFrom paths links 0 founds ds → IsJointPlan sources targets ds
+  pub build_plan : (ds : List Directory) → AreLinkedFrom paths links 0 founds ds → IsJointPlan ed sources targets ds
   build_plan ds linked =
       let same : paths_of ds ≡ paths = same_list (paths_of ds) paths (λ k p at. (
       let d = map_left (λ (x : Directory). x.path) ds k p at in
       let f = linked_at paths links 0 k founds ds d.0 linked d.1 in
       let place : 0 + k ≡ k = omega arith in
       subst (λ n. slice_get paths n ≡ Some p) place (f.2.path ∙ ap Some (sym d.2))))
-      (length-paths ds ∙ linked_length paths links 0 founds ds linked ∙ sym (zip_length (IsFound sources) paths founds all.founds_are)) in
+      (length-paths ds ∙ linked_length paths links 0 founds ds linked ∙ sym (zip_length (IsFound ed sources) paths founds all.founds_are)) in
       let right : (d : Directory) → Contains ds d → IsRight d = λ d c. (
       let f = linked_at paths links 0 c.0 founds ds d linked (contains_get ds d c) in
       let place : 0 + c.0 ≡ c.0 = omega arith in
@@ -216,9 +217,9 @@ module _ (sources : Sources) (targets : List (List ℕ)) (paths : List (List ℕ
       record {
         files = all.files;
         ascending = subst (IsStrictlySortedBy path_cmp) (sym same) all.ascending;
-        reached = subst (λ (ps : List (List ℕ)). (q : List ℕ) → (Contains ps q → ReachedFrom sources targets q) × (ReachedFrom sources targets q → Contains ps q)) (sym same) all.reached;
+        reached = subst (λ (ps : List (List ℕ)). (q : List ℕ) → (Contains ps q → ReachedFrom ed sources targets q) × (ReachedFrom ed sources targets q → Contains ps q)) (sym same) all.reached;
         planned = λ d c. (right d c).planned;
-        imports = λ d c. subst (λ (ps : List (List ℕ)). AreNumbers sources ps d.path d.imports) (sym same) (right d c).numbers;
+        imports = λ d c. subst (λ (ps : List (List ℕ)). AreNumbers ed sources ps d.path d.imports) (sym same) (right d c).numbers;
       }
 
 -- ---- the directories of the code

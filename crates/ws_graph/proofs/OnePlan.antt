@@ -1,7 +1,6 @@
 -- Files have one plan, and writes with the same members one.
 use Rattle.std.proofs.Common.{◌≡◌, ℕ, List, [], ◌∷◌, ◌++◌, map, sym, ap, subst, ◌∙◌, refl, inl, inr}
 use Rattle.go_text.specs.declared.edition.Edition.{Edition}
-use Rattle.go_text.specs.declared.edition.Edition.TheVariants.{One}
 use Rattle.go_text.specs.Faults.{Fault}
 use Rattle.go_text.specs.declared.place.Place.{Place}
 use Rattle.go_text.specs.declared.fault.FaultKind.{FaultKind}
@@ -12,7 +11,7 @@ use Rattle.ws_graph.specs.Packages.{package_files}
 use Rattle.ws_register.proofs.Laws.{same_sources}
 use Rattle.go_ast.specs.Trees.{Name, File}
 use Rattle.go_ast.specs.Parse.{Parse, Parsed, Derived, Stopped, IsParse, IsPackage, IsNamed, IsOther}
-use Rattle.ws_graph.specs.Plan.{Planned, NoFiles, Faulty, Sound, source_of, AllParsed, AreParsed, AllNamed, StopsIn, DiffersIn, IsSound, IsPlan, IsPlanOf}
+use Rattle.ws_graph.specs.Plan.{Planned, NoFiles, Faulty, Sound, source_of, IsFileIn, AllParsed, AreParsed, AllNamed, StopsIn, DiffersIn, IsSound, IsPlan, IsPlanOf}
 use Rattle.go_ast.proofs.Once.{one_parse}
 
 -- a file's name and text
@@ -31,40 +30,44 @@ file_in : File → Parse → File
 file_in other (Derived file) = file
 file_in other (Stopped kind place) = other
 
-one_kind : (t : List ℕ) (k l : FaultKind) (p q : Place) → IsParse t (Stopped k p) → IsParse t (Stopped l q) → k ≡ l
+one_kind : (ed : Edition) (t : List ℕ) (k l : FaultKind) (p q : Place) → IsParse ed t (Stopped k p) → IsParse ed t (Stopped l q) → k ≡ l
 unfolding kind_in
-one_kind t k l p q g h = ap (kind_in k) (one_parse t (Stopped k p) (Stopped l q) g h)
+one_kind ed t k l p q g h = ap (kind_in k) (one_parse ed t (Stopped k p) (Stopped l q) g h)
 
-one_place : (t : List ℕ) (k l : FaultKind) (p q : Place) → IsParse t (Stopped k p) → IsParse t (Stopped l q) → p ≡ q
+one_place : (ed : Edition) (t : List ℕ) (k l : FaultKind) (p q : Place) → IsParse ed t (Stopped k p) → IsParse ed t (Stopped l q) → p ≡ q
 unfolding place_in
-one_place t k l p q g h = ap (place_in p) (one_parse t (Stopped k p) (Stopped l q) g h)
+one_place ed t k l p q g h = ap (place_in p) (one_parse ed t (Stopped k p) (Stopped l q) g h)
 
-pub one_file : (t : List ℕ) (a b : File) → IsParse t (Derived a) → IsParse t (Derived b) → a ≡ b
+pub one_file : (ed : Edition) (t : List ℕ) (a b : File) → IsParse ed t (Derived a) → IsParse ed t (Derived b) → a ≡ b
 unfolding file_in
-one_file t a b g h = ap (file_in a) (one_parse t (Derived a) (Derived b) g h)
+one_file ed t a b g h = ap (file_in a) (one_parse ed t (Derived a) (Derived b) g h)
 
-not_both : (t : List ℕ) (k : FaultKind) (p : Place) (file : File) → IsParse t (Stopped k p) → IsParse t (Derived file) → ⊥
-not_both t k p file g h = let e = one_parse t (Stopped k p) (Derived file) g h in cc
+not_both : (ed : Edition) (t : List ℕ) (k : FaultKind) (p : Place) (file : File) → IsParse ed t (Stopped k p) → IsParse ed t (Derived file) → ⊥
+not_both ed t k p file g h = let e = one_parse ed t (Stopped k p) (Derived file) g h in cc
 
 -- a text has one package name
-pub one_package : (t : List ℕ) (m n : Name) → IsPackage t m → IsPackage t n → m ≡ n
-one_package t m n g h = g.2 ∙ ap (λ (f : File). f.package) (one_file t g.0 h.0 g.1 h.1) ∙ sym h.2
+pub one_package : (ed : Edition) (t : List ℕ) (m n : Name) → IsPackage ed t m → IsPackage ed t n → m ≡ n
+one_package ed t m n g h = g.2 ∙ ap (λ (f : File). f.package) (one_file ed t g.0 h.0 g.1 h.1) ∙ sym h.2
 
 -- it isn't one and another
-pub named_so : (name t : List ℕ) → IsNamed name t → IsOther name t → ⊥
-named_so name t g h = h.other (ap (λ (n : Name). n.text) (one_package t h.clause g.clause h.package_is g.package_is) ∙ g.same)
+pub named_so : (ed : Edition) (name t : List ℕ) → IsNamed ed name t → IsOther ed name t → ⊥
+named_so ed name t g h = h.other (ap (λ (n : Name). n.text) (one_package ed t h.clause g.clause h.package_is g.package_is) ∙ g.same)
+
+-- what a text of the edition parses to
+parsed_in : (ed : Edition) (p : Parsed) (in_it : IsFileIn ed p) → IsParse ed p.text (Derived in_it.file)
+parsed_in ed p in_it = subst (λ e. IsParse e p.text (Derived in_it.file)) in_it.of in_it.parse
 
 -- a text that stops is not among texts that parse
-no_stop : (front ps : List Parsed) (n t : List ℕ) (rest : List Pair) (kind : FaultKind) (place : Place) → map source_of ps ≡ map source_of front ++ (n, t) ∷ rest → AllParsed ps → IsParse t (Stopped kind place) → ⊥
-no_stop [] [] n t rest kind place e all stops = cc
-no_stop [] (p ∷ ps) n t rest kind place e all stops =
+no_stop : (ed : Edition) (front ps : List Parsed) (n t : List ℕ) (rest : List Pair) (kind : FaultKind) (place : Place) → map source_of ps ≡ map source_of front ++ (n, t) ∷ rest → AllParsed ed ps → IsParse ed t (Stopped kind place) → ⊥
+no_stop ed [] [] n t rest kind place e all stops = cc
+no_stop ed [] (p ∷ ps) n t rest kind place e all stops =
     let heads : source_of p ≡ (n, t) = cc in
     let texts : p.text ≡ t = ap (λ (s : Pair). s.1) heads in
-    not_both t kind place all.0.0 stops (subst (λ z. IsParse z (Derived all.0.0)) texts all.0.1)
-no_stop (f ∷ front) [] n t rest kind place e all stops = cc
-no_stop (f ∷ front) (p ∷ ps) n t rest kind place e all stops =
+    not_both ed t kind place all.0.file stops (subst (λ z. IsParse ed z (Derived all.0.file)) texts (parsed_in ed p all.0))
+no_stop ed (f ∷ front) [] n t rest kind place e all stops = cc
+no_stop ed (f ∷ front) (p ∷ ps) n t rest kind place e all stops =
     let tails : map source_of ps ≡ map source_of front ++ (n, t) ∷ rest = cc in
-    no_stop front ps n t rest kind place tails all.1 stops
+    no_stop ed front ps n t rest kind place tails all.1 stops
 
 -- where the first texts stop is one place, for one fault
 pub record SameStop (n m : List ℕ) (k l : FaultKind) (p q : Place) : Type 0 where
@@ -72,53 +75,51 @@ pub record SameStop (n m : List ℕ) (k l : FaultKind) (p q : Place) : Type 0 wh
   pub kinds : k ≡ l
   pub places : p ≡ q
 
-one_stop : (front back : List Parsed) (n t m s : List ℕ) (rest left : List Pair) (k l : FaultKind) (p q : Place) → map source_of front ++ (n, t) ∷ rest ≡ map source_of back ++ (m, s) ∷ left → AllParsed front → AllParsed back → IsParse t (Stopped k p) → IsParse s (Stopped l q) → SameStop n m k l p q
-one_stop [] [] n t m s rest left k l p q e f b g h =
+one_stop : (ed : Edition) (front back : List Parsed) (n t m s : List ℕ) (rest left : List Pair) (k l : FaultKind) (p q : Place) → map source_of front ++ (n, t) ∷ rest ≡ map source_of back ++ (m, s) ∷ left → AllParsed ed front → AllParsed ed back → IsParse ed t (Stopped k p) → IsParse ed s (Stopped l q) → SameStop n m k l p q
+one_stop ed [] [] n t m s rest left k l p q e f b g h =
     let heads : ◌≡◌ {A = Pair} (n, t) (m, s) = cc in
-    let there : IsParse s (Stopped k p) = subst (λ z. IsParse z (Stopped k p)) (ap (λ (z : Pair). z.1) heads) g in
-    record { names = ap (λ (z : Pair). z.0) heads; kinds = one_kind s k l p q there h; places = one_place s k l p q there h }
-one_stop [] (x ∷ back) n t m s rest left k l p q e f b g h =
+    let there : IsParse ed s (Stopped k p) = subst (λ z. IsParse ed z (Stopped k p)) (ap (λ (z : Pair). z.1) heads) g in
+    record { names = ap (λ (z : Pair). z.0) heads; kinds = one_kind ed s k l p q there h; places = one_place ed s k l p q there h }
+one_stop ed [] (x ∷ back) n t m s rest left k l p q e f b g h =
     let heads : (n, t) ≡ source_of x = cc in
-    absurd (not_both x.text k p b.0.0 (subst (λ z. IsParse z (Stopped k p)) (ap (λ (z : Pair). z.1) heads) g) b.0.1)
-one_stop (x ∷ front) [] n t m s rest left k l p q e f b g h =
+    absurd (not_both ed x.text k p b.0.file (subst (λ z. IsParse ed z (Stopped k p)) (ap (λ (z : Pair). z.1) heads) g) (parsed_in ed x b.0))
+one_stop ed (x ∷ front) [] n t m s rest left k l p q e f b g h =
     let heads : source_of x ≡ (m, s) = cc in
-    absurd (not_both x.text l q f.0.0 (subst (λ z. IsParse z (Stopped l q)) (sym (ap (λ (z : Pair). z.1) heads)) h) f.0.1)
-one_stop (x ∷ front) (y ∷ back) n t m s rest left k l p q e f b g h =
+    absurd (not_both ed x.text l q f.0.file (subst (λ z. IsParse ed z (Stopped l q)) (sym (ap (λ (z : Pair). z.1) heads)) h) (parsed_in ed x f.0))
+one_stop ed (x ∷ front) (y ∷ back) n t m s rest left k l p q e f b g h =
     let tails : map source_of front ++ (n, t) ∷ rest ≡ map source_of back ++ (m, s) ∷ left = cc in
-    one_stop front back n t m s rest left k l p q tails f.1 b.1 g h
+    one_stop ed front back n t m s rest left k l p q tails f.1 b.1 g h
 
-editions : (a b : Edition) → a ≡ b
-editions One One = refl
-
--- files parse to one list
-one_list : (ps qs : List Parsed) → map source_of ps ≡ map source_of qs → ps ≡ qs
-one_list [] [] e = refl
-one_list [] (q ∷ qs) e = cc
-one_list (p ∷ ps) [] e = cc
-one_list (p ∷ ps) (q ∷ qs) e =
+-- files of an edition parse to one list
+one_list : (ed : Edition) (ps qs : List Parsed) → AllParsed ed ps → AllParsed ed qs → map source_of ps ≡ map source_of qs → ps ≡ qs
+one_list ed [] [] g h e = refl
+one_list ed [] (q ∷ qs) g h e = cc
+one_list ed (p ∷ ps) [] g h e = cc
+one_list ed (p ∷ ps) (q ∷ qs) g h e =
     let heads : source_of p ≡ source_of q = cc in
     let tails : map source_of ps ≡ map source_of qs = cc in
     let names : p.name ≡ q.name = ap (λ (z : Pair). z.0) heads in
     let texts : p.text ≡ q.text = ap (λ (z : Pair). z.1) heads in
-    let same : p ≡ q = λ i. record { name = names i; text = texts i; edition = editions p.edition q.edition i } in
-    ap (λ z. z ∷ ps) same ∙ ap (λ z. q ∷ z) (one_list ps qs tails)
+    let editions : p.edition ≡ q.edition = g.0.of ∙ sym h.0.of in
+    let same : p ≡ q = λ i. record { name = names i; text = texts i; edition = editions i } in
+    ap (λ z. z ∷ ps) same ∙ ap (λ z. q ∷ z) (one_list ed ps qs g.1 h.1 tails)
 
-pub one_parsed : (files : List Pair) (ps qs : List Parsed) → AreParsed files ps → AreParsed files qs → ps ≡ qs
-one_parsed files ps qs g h = one_list ps qs (g.sources ∙ sym h.sources)
+pub one_parsed : (ed : Edition) (files : List Pair) (ps qs : List Parsed) → AreParsed ed files ps → AreParsed ed files qs → ps ≡ qs
+one_parsed ed files ps qs g h = one_list ed ps qs g.parses h.parses (g.sources ∙ sym h.sources)
 
 -- the first that is named otherwise is one
-one_other : (name : List ℕ) (front back : List Parsed) (p q : Parsed) (rest left : List Parsed) → front ++ p ∷ rest ≡ back ++ q ∷ left → AllNamed name front → AllNamed name back → IsOther name p.text → IsOther name q.text → p ≡ q
+one_other : (name : List ℕ) (front back : List Parsed) (p q : Parsed) (rest left : List Parsed) → front ++ p ∷ rest ≡ back ++ q ∷ left → AllNamed name front → AllNamed name back → IsOther p.edition name p.text → IsOther q.edition name q.text → p ≡ q
 one_other name [] [] p q rest left e f b g h = cc
 one_other name [] (y ∷ back) p q rest left e f b g h =
-    let heads : p ≡ y = cc in absurd (named_so name y.text b.0 (subst (λ (z : Parsed). IsOther name z.text) heads g))
+    let heads : p ≡ y = cc in absurd (named_so y.edition name y.text b.0 (subst (λ (z : Parsed). IsOther z.edition name z.text) heads g))
 one_other name (x ∷ front) [] p q rest left e f b g h =
-    let heads : x ≡ q = cc in absurd (named_so name x.text f.0 (subst (λ (z : Parsed). IsOther name z.text) (sym heads) h))
+    let heads : x ≡ q = cc in absurd (named_so x.edition name x.text f.0 (subst (λ (z : Parsed). IsOther z.edition name z.text) (sym heads) h))
 one_other name (x ∷ front) (y ∷ back) p q rest left e f b g h =
     let tails : front ++ p ∷ rest ≡ back ++ q ∷ left = cc in
     one_other name front back p q rest left tails f.1 b.1 g h
 
 -- none is named otherwise where all have the name
-named_among : (name : List ℕ) (front : List Parsed) (p : Parsed) (rest : List Parsed) → AllNamed name (front ++ p ∷ rest) → IsNamed name p.text
+named_among : (name : List ℕ) (front : List Parsed) (p : Parsed) (rest : List Parsed) → AllNamed name (front ++ p ∷ rest) → IsNamed p.edition name p.text
 named_among name [] p rest h = h.0
 named_among name (x ∷ front) p rest h = named_among name front p rest h.1
 
@@ -128,66 +129,66 @@ no_cons : (xs : List Pair) (y : Pair) (ys : List Pair) → [] ≡ xs ++ y ∷ ys
 no_cons [] y ys e = cc
 no_cons (x ∷ xs) y ys e = cc
 
-none_stops : (files : List Pair) (fault : Fault) → files ≡ [] → StopsIn files fault → ⊥
-none_stops files fault e h = no_cons (map source_of h.front) (h.name, h.text) h.rest (sym e ∙ h.whole)
+none_stops : (ed : Edition) (files : List Pair) (fault : Fault) → files ≡ [] → StopsIn ed files fault → ⊥
+none_stops ed files fault e h = no_cons (map source_of h.front) (h.name, h.text) h.rest (sym e ∙ h.whole)
 
-none_parsed : (files : List Pair) (p : Parsed) (ps : List Parsed) → files ≡ [] → AreParsed files (p ∷ ps) → ⊥
-none_parsed files p ps e h = let c : source_of p ∷ map source_of ps ≡ [] = h.sources ∙ e in cc
+none_parsed : (ed : Edition) (files : List Pair) (p : Parsed) (ps : List Parsed) → files ≡ [] → AreParsed ed files (p ∷ ps) → ⊥
+none_parsed ed files p ps e h = let c : source_of p ∷ map source_of ps ≡ [] = h.sources ∙ e in cc
 
-stops_once : (files : List Pair) (f g : Fault) → StopsIn files f → StopsIn files g → f ≡ g
-stops_once files f g a b =
-    let same = one_stop a.front b.front a.name a.text b.name b.text a.rest b.rest a.kind b.kind a.place b.place (sym a.whole ∙ b.whole) a.parses b.parses a.stops b.stops in
+stops_once : (ed : Edition) (files : List Pair) (f g : Fault) → StopsIn ed files f → StopsIn ed files g → f ≡ g
+stops_once ed files f g a b =
+    let same = one_stop ed a.front b.front a.name a.text b.name b.text a.rest b.rest a.kind b.kind a.place b.place (sym a.whole ∙ b.whole) a.parses b.parses a.stops b.stops in
     a.is ∙ (λ i. record { file = same.names i; place = same.places i; kind = same.kinds i }) ∙ sym b.is
 
-pub stops_or_parses : (files : List Pair) (f : Fault) (ps : List Parsed) → StopsIn files f → AreParsed files ps → ⊥
-stops_or_parses files f ps a b = no_stop a.front ps a.name a.text a.rest a.kind a.place (b.sources ∙ a.whole) b.parses a.stops
+pub stops_or_parses : (ed : Edition) (files : List Pair) (f : Fault) (ps : List Parsed) → StopsIn ed files f → AreParsed ed files ps → ⊥
+stops_or_parses ed files f ps a b = no_stop ed a.front ps a.name a.text a.rest a.kind a.place (b.sources ∙ a.whole) b.parses a.stops
 
 -- first files that are one have one package name
-one_clause : (p q : Parsed) (m n : Name) → p ≡ q → IsPackage p.text m → IsPackage q.text n → m ≡ n
-one_clause p q m n e g h = one_package q.text m n (subst (λ (z : Parsed). IsPackage z.text m) e g) h
+one_clause : (p q : Parsed) (m n : Name) → p ≡ q → IsPackage p.edition p.text m → IsPackage q.edition q.text n → m ≡ n
+one_clause p q m n e g h = one_package q.edition q.text m n (subst (λ (z : Parsed). IsPackage z.edition z.text m) e g) h
 
 misnamed : Parsed → Name → Fault
 misnamed p n = record { file = p.name; place = n.place; kind = PackageName }
 
-differs_once : (files : List Pair) (f g : Fault) → DiffersIn files f → DiffersIn files g → f ≡ g
+differs_once : (ed : Edition) (files : List Pair) (f g : Fault) → DiffersIn ed files f → DiffersIn ed files g → f ≡ g
 unfolding misnamed
-differs_once files f g a b =
-    let same : a.first ∷ (a.front ++ a.other ∷ a.rest) ≡ b.first ∷ (b.front ++ b.other ∷ b.rest) = one_parsed files _ _ a.parsed b.parsed in
+differs_once ed files f g a b =
+    let same : a.first ∷ (a.front ++ a.other ∷ a.rest) ≡ b.first ∷ (b.front ++ b.other ∷ b.rest) = one_parsed ed files _ _ a.parsed b.parsed in
     let heads : a.first ≡ b.first = cc in
     let tails : a.front ++ a.other ∷ a.rest ≡ b.front ++ b.other ∷ b.rest = cc in
     let names : b.clause.text ≡ a.clause.text = ap (λ (n : Name). n.text) (sym (one_clause a.first b.first a.clause b.clause heads a.package_is b.package_is)) in
-    let other : a.other ≡ b.other = one_other a.clause.text a.front b.front a.other b.other a.rest b.rest tails a.named (subst (λ n. AllNamed n b.front) names b.named) a.differs (subst (λ n. IsOther n b.other.text) names b.differs) in
+    let other : a.other ≡ b.other = one_other a.clause.text a.front b.front a.other b.other a.rest b.rest tails a.named (subst (λ n. AllNamed n b.front) names b.named) a.differs (subst (λ n. IsOther b.other.edition n b.other.text) names b.differs) in
     let clause : a.differs.clause ≡ b.differs.clause = one_clause a.other b.other a.differs.clause b.differs.clause other a.differs.package_is b.differs.package_is in
     a.is ∙ ap (λ (p : Parsed). misnamed p a.differs.clause) other ∙ ap (misnamed b.other) clause ∙ sym b.is
 
-differs_or_sound : (files : List Pair) (f : Fault) (ps : List Parsed) → DiffersIn files f → IsSound files ps → ⊥
-differs_or_sound files f ps a b =
-    let same : a.first ∷ (a.front ++ a.other ∷ a.rest) ≡ b.first ∷ b.rest = one_parsed files _ _ a.parsed b.parses ∙ b.is in
+differs_or_sound : (ed : Edition) (files : List Pair) (f : Fault) (ps : List Parsed) → DiffersIn ed files f → IsSound ed files ps → ⊥
+differs_or_sound ed files f ps a b =
+    let same : a.first ∷ (a.front ++ a.other ∷ a.rest) ≡ b.first ∷ b.rest = one_parsed ed files _ _ a.parsed b.parses ∙ b.is in
     let heads : a.first ≡ b.first = cc in
     let tails : a.front ++ a.other ∷ a.rest ≡ b.rest = cc in
     let clause : b.clause ≡ a.clause = sym (one_clause a.first b.first a.clause b.clause heads a.package_is b.package_is) in
     let names : AllNamed a.clause.text (a.front ++ a.other ∷ a.rest) = subst (λ (n : Name). AllNamed n.text (a.front ++ a.other ∷ a.rest)) clause (subst (AllNamed b.clause.text) (sym tails) b.named) in
-    named_so a.clause.text a.other.text (named_among a.clause.text a.front a.other a.rest names) a.differs
+    named_so a.other.edition a.clause.text a.other.text (named_among a.clause.text a.front a.other a.rest names) a.differs
 
-pub one_plan : (files : List Pair) (p q : Planned) → IsPlan files p → IsPlan files q → p ≡ q
-one_plan files NoFiles NoFiles g h = refl
-one_plan files NoFiles (Faulty f) g (inl h) = absurd (none_stops files f g h)
-one_plan files NoFiles (Faulty f) g (inr h) = absurd (none_parsed files h.first (h.front ++ h.other ∷ h.rest) g h.parsed)
-one_plan files NoFiles (Sound ps) g h = absurd (none_parsed files h.first h.rest g (subst (AreParsed files) h.is h.parses))
-one_plan files (Faulty f) NoFiles (inl g) h = absurd (none_stops files f h g)
-one_plan files (Faulty f) NoFiles (inr g) h = absurd (none_parsed files g.first (g.front ++ g.other ∷ g.rest) h g.parsed)
-one_plan files (Faulty f) (Faulty e) (inl g) (inl h) = ap Faulty (stops_once files f e g h)
-one_plan files (Faulty f) (Faulty e) (inl g) (inr h) = absurd (stops_or_parses files f (h.first ∷ (h.front ++ h.other ∷ h.rest)) g h.parsed)
-one_plan files (Faulty f) (Faulty e) (inr g) (inl h) = absurd (stops_or_parses files e (g.first ∷ (g.front ++ g.other ∷ g.rest)) h g.parsed)
-one_plan files (Faulty f) (Faulty e) (inr g) (inr h) = ap Faulty (differs_once files f e g h)
-one_plan files (Faulty f) (Sound ps) (inl g) h = absurd (stops_or_parses files f ps g h.parses)
-one_plan files (Faulty f) (Sound ps) (inr g) h = absurd (differs_or_sound files f ps g h)
-one_plan files (Sound ps) NoFiles g h = absurd (none_parsed files g.first g.rest h (subst (AreParsed files) g.is g.parses))
-one_plan files (Sound ps) (Faulty f) g (inl h) = absurd (stops_or_parses files f ps h g.parses)
-one_plan files (Sound ps) (Faulty f) g (inr h) = absurd (differs_or_sound files f ps h g)
-one_plan files (Sound ps) (Sound qs) g h = ap Sound (one_parsed files ps qs g.parses h.parses)
+pub one_plan : (ed : Edition) (files : List Pair) (p q : Planned) → IsPlan ed files p → IsPlan ed files q → p ≡ q
+one_plan ed files NoFiles NoFiles g h = refl
+one_plan ed files NoFiles (Faulty f) g (inl h) = absurd (none_stops ed files f g h)
+one_plan ed files NoFiles (Faulty f) g (inr h) = absurd (none_parsed ed files h.first (h.front ++ h.other ∷ h.rest) g h.parsed)
+one_plan ed files NoFiles (Sound ps) g h = absurd (none_parsed ed files h.first h.rest g (subst (AreParsed ed files) h.is h.parses))
+one_plan ed files (Faulty f) NoFiles (inl g) h = absurd (none_stops ed files f h g)
+one_plan ed files (Faulty f) NoFiles (inr g) h = absurd (none_parsed ed files g.first (g.front ++ g.other ∷ g.rest) h g.parsed)
+one_plan ed files (Faulty f) (Faulty e) (inl g) (inl h) = ap Faulty (stops_once ed files f e g h)
+one_plan ed files (Faulty f) (Faulty e) (inl g) (inr h) = absurd (stops_or_parses ed files f (h.first ∷ (h.front ++ h.other ∷ h.rest)) g h.parsed)
+one_plan ed files (Faulty f) (Faulty e) (inr g) (inl h) = absurd (stops_or_parses ed files e (g.first ∷ (g.front ++ g.other ∷ g.rest)) h g.parsed)
+one_plan ed files (Faulty f) (Faulty e) (inr g) (inr h) = ap Faulty (differs_once ed files f e g h)
+one_plan ed files (Faulty f) (Sound ps) (inl g) h = absurd (stops_or_parses ed files f ps g h.parses)
+one_plan ed files (Faulty f) (Sound ps) (inr g) h = absurd (differs_or_sound ed files f ps g h)
+one_plan ed files (Sound ps) NoFiles g h = absurd (none_parsed ed files g.first g.rest h (subst (AreParsed ed files) g.is g.parses))
+one_plan ed files (Sound ps) (Faulty f) g (inl h) = absurd (stops_or_parses ed files f ps h g.parses)
+one_plan ed files (Sound ps) (Faulty f) g (inr h) = absurd (differs_or_sound ed files f ps h g)
+one_plan ed files (Sound ps) (Sound qs) g h = ap Sound (one_parsed ed files ps qs g.parses h.parses)
 
-pub one_plan_of : (V W : List Write) (directory : List ℕ) (p q : Planned) → SameMembers V W → IsPlanOf V directory p → IsPlanOf W directory q → p ≡ q
-one_plan_of V W directory p q same g h =
+pub one_plan_of : (ed : Edition) (V W : List Write) (directory : List ℕ) (p q : Planned) → SameMembers V W → IsPlanOf ed V directory p → IsPlanOf ed W directory q → p ≡ q
+one_plan_of ed V W directory p q same g h =
     let sources : g.0 ≡ h.0 = same_sources V W g.0 h.0 same g.1 h.1 in
-    one_plan (package_files directory h.0) p q (subst (λ (s : List Pair). IsPlan (package_files directory s) p) sources g.2) h.2
+    one_plan ed (package_files directory h.0) p q (subst (λ (s : List Pair). IsPlan ed (package_files directory s) p) sources g.2) h.2

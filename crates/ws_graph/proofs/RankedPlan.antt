@@ -9,6 +9,7 @@ use Rattle.ws_version.specs.Writes.{Write}
 use Rattle.ws_reach.specs.Reach.{Walks, Reaches}
 use Rattle.ws_reach.proofs.Reached.{reaches_itself, reaches_from, get_contains}
 use Rattle.ws_reach.proofs.Closure.{IsOneOf, reach, reach_sound, reach_complete}
+use Rattle.go_text.specs.declared.edition.Edition.{Edition}
 use Rattle.ws_graph.specs.Plan.{Sound}
 use Rattle.ws_graph.specs.BuildPlan as plan
 use Rattle.ws_graph.specs.BuildPlan.{Sources, Import, Imports, ImportsAreSound, IsPlannedAs, Directory, paths_of, IsBuildPlanOf, AreRanks}
@@ -115,15 +116,15 @@ pub length-paths : (ds : List Directory) → length (paths_of ds) ≡ length ds
 length-paths [] = refl
 length-paths (d ∷ ds) = ap suc (length-paths ds)
 
-module _ (sources : Sources) (ds : List Directory) (h : IsWhole sources ds) where
-  leads_to : (p q : ℕ) → Goes ds p q → (a : List ℕ) → slice_get (paths_of ds) p ≡ Some a → (b : List ℕ) × (slice_get (paths_of ds) q ≡ Some b) × Imports sources a b
+module _ (ed : Edition) (sources : Sources) (ds : List Directory) (h : IsWhole ed sources ds) where
+  leads_to : (p q : ℕ) → Goes ds p q → (a : List ℕ) → slice_get (paths_of ds) p ≡ Some a → (b : List ℕ) × (slice_get (paths_of ds) q ≡ Some b) × Imports ed sources a b
   unfolding Goes
   leads_to p q g a at =
       let d = at_directory ds p q g in
       let there = ((h.imports d.0 (get_contains ds p d.0 d.1)).are q).0 d.2 in
       let both : Some d.0.path ≡ Some a = sym (path_at ds p d.0 d.1) ∙ at in
       let same : d.0.path ≡ a = cc in
-      (there.0, there.1, subst (λ x. Imports sources x there.0) same there.2)
+      (there.0, there.1, subst (λ x. Imports ed sources x there.0) same there.2)
 
   goes_inside : (p q : ℕ) → Goes ds p q → q < length ds
   unfolding Goes
@@ -133,13 +134,13 @@ module _ (sources : Sources) (ds : List Directory) (h : IsWhole sources ds) wher
       let lt = slice_get_within (paths_of ds) q there.0 there.1 in
       omega (arith, lt, length-paths ds)
 
-  numbers_lead : (steps : List ℕ) (p q : ℕ) (a b : List ℕ) → Walks (Goes ds) p steps q → slice_get (paths_of ds) p ≡ Some a → slice_get (paths_of ds) q ≡ Some b → plan.Reaches sources a b
+  numbers_lead : (steps : List ℕ) (p q : ℕ) (a b : List ℕ) → Walks (Goes ds) p steps q → slice_get (paths_of ds) p ≡ Some a → slice_get (paths_of ds) q ≡ Some b → plan.Reaches ed sources a b
   numbers_lead [] p q a b w at_p at_q =
       let both : Some a ≡ Some b = sym at_p ∙ ap (slice_get (paths_of ds)) w ∙ at_q in
       let same : a ≡ b = cc in ([], same)
   numbers_lead (r ∷ rs) p q a b (first, rest) at_p at_q =
       let there = leads_to p r first a at_p in
-      reaches_from (Imports sources) a there.0 b there.2 (numbers_lead rs r q there.0 b rest there.1 at_q)
+      reaches_from (Imports ed sources) a there.0 b there.2 (numbers_lead rs r q there.0 b rest there.1 at_q)
 
   edge : ℕ → ℕ → Bool
   edge p q = is_among q (imports_at ds p)
@@ -168,12 +169,12 @@ module _ (sources : Sources) (ds : List Directory) (h : IsWhole sources ds) wher
   no_way_back k j d parsed at is c back =
       let in_ds = get_contains ds k d at in
       let there = ((h.imports d in_ds).are j).0 c in
-      let sound : IsPlannedAs sources d.path (Sound parsed) = subst (IsPlannedAs sources d.path) is (h.planned d in_ds) in
+      let sound : IsPlannedAs ed sources d.path (Sound parsed) = subst (IsPlannedAs ed sources d.path) is (h.planned d in_ds) in
       let import = there.2.import in
-      let same = same_imports sources d.path import.imports sound.1.imports import.has sound.1.has in
+      let same = same_imports ed sources d.path import.imports sound.1.imports import.has sound.1.has in
       let among : Contains sound.1.imports import.import = subst (λ (l : List Import). Contains l import.import) same import.among in
-      let reached : plan.Reaches sources there.0 d.path = numbers_lead back.0 j k there.0 d.path back.1 there.1 (path_at ds k d at) in
-      sound.1.none_leads_back import.import among (subst (λ x. plan.Reaches sources x d.path) (sym import.path) reached)
+      let reached : plan.Reaches ed sources there.0 d.path = numbers_lead back.0 j k there.0 d.path back.1 there.1 (path_at ds k d at) in
+      sound.1.none_leads_back import.import among (subst (λ x. plan.Reaches ed sources x d.path) (sym import.path) reached)
 
   rank : ℕ → ℕ
   rank k = count_by (reaches_by k) (below (length ds))
@@ -193,8 +194,8 @@ module _ (sources : Sources) (ds : List Directory) (h : IsWhole sources ds) wher
   pub ranked : (rank : ℕ → ℕ) × AreRanks ds rank
   ranked = (rank, are_ranks)
 
-pub ranked_whole : (W : List Write) (ds : List Directory) → IsWholeOf W ds → (rank : ℕ → ℕ) × AreRanks ds rank
-ranked_whole W ds h = ranked h.0 ds h.2
+pub ranked_whole : (ed : Edition) (W : List Write) (ds : List Directory) → IsWholeOf ed W ds → (rank : ℕ → ℕ) × AreRanks ds rank
+ranked_whole ed W ds h = ranked ed h.0 ds h.2
 
-pub ranked_build_plan : (W : List Write) (target : List ℕ) (ds : List Directory) → IsBuildPlanOf W target ds → (rank : ℕ → ℕ) × AreRanks ds rank
-ranked_build_plan W target ds h = ranked_whole W ds (whole_plan_of W target ds h)
+pub ranked_build_plan : (ed : Edition) (W : List Write) (target : List ℕ) (ds : List Directory) → IsBuildPlanOf ed W target ds → (rank : ℕ → ℕ) × AreRanks ds rank
+ranked_build_plan ed W target ds h = ranked_whole ed W ds (whole_plan_of ed W target ds h)

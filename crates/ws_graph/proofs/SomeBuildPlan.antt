@@ -12,6 +12,7 @@ use Rattle.std.proofs.lemmas.Slice.Eq.{bytes_eq-Decides}
 use Rattle.std.proofs.lemmas.List.Kept.{IsStrictlySortedBy-filter}
 use Rattle.std.proofs.lemmas.Map.Keys.{IsStrictlyIncreasing-from_sorted}
 use Rattle.std.specs.Cmp.{nat_cmp_is}
+use Rattle.go_text.specs.declared.edition.Edition.{Edition}
 use Rattle.go_text.specs.Faults.{Fault}
 use Rattle.go_text.specs.declared.fault.FaultKind.{FaultKind}
 use Rattle.go_text.specs.declared.fault.FaultKind.TheVariants.{NoImport, Cycle, Program}
@@ -262,22 +263,22 @@ right_holds : (a b : Bool) → (a && b) ≡ true → b ≡ true
 right_holds true b e = e
 right_holds false b e = cc (e)
 
-some_imports : (ps : List Parsed) → AllParsed ps → (is : List Import) × AreImports ps is
-some_imports [] h = ([], refl)
-some_imports (p ∷ ps) h = let rest = some_imports ps h.1 in (imports_in p.name h.0.0.imports ++ rest.0, (h.0.0, rest.0, h.0.1, rest.1, refl))
+some_imports : (ed : Edition) (ps : List Parsed) → AllParsed ed ps → (is : List Import) × AreImports ps is
+some_imports ed [] h = ([], refl)
+some_imports ed (p ∷ ps) h = let rest = some_imports ed ps h.1 in (imports_in p.name h.0.file.imports ++ rest.0, (h.0.file, rest.0, h.0.parse, rest.1, refl))
 
-module _ (sources : Sources) where
+module _ (ed : Edition) (sources : Sources) where
   Known : List ℕ → Type 0
-  Known path = ((is : List Import) × HasImports sources path is) ⊎ ((is : List Import) → HasImports sources path is → ⊥)
+  Known path = ((is : List Import) × HasImports ed sources path is) ⊎ ((is : List Import) → HasImports ed sources path is → ⊥)
 
-  known_by : (path : List ℕ) (planned : Planned) → IsPlan (package_files path sources) planned → Known path
+  known_by : (path : List ℕ) (planned : Planned) → IsPlan ed (package_files path sources) planned → Known path
   unfolding Known
-  known_by path NoFiles h = inr (λ is has. (let e = one_plan (package_files path sources) NoFiles (Sound has.parsed) h has.sound in cc (e)))
-  known_by path (Faulty f) h = inr (λ is has. (let e = one_plan (package_files path sources) (Faulty f) (Sound has.parsed) h has.sound in cc (e)))
-  known_by path (Sound parsed) h = (let is = some_imports parsed h.parses.parses in inl (is.0, record { parsed = parsed; sound = h; are = is.1 }))
+  known_by path NoFiles h = inr (λ is has. (let e = one_plan ed (package_files path sources) NoFiles (Sound has.parsed) h has.sound in cc (e)))
+  known_by path (Faulty f) h = inr (λ is has. (let e = one_plan ed (package_files path sources) (Faulty f) (Sound has.parsed) h has.sound in cc (e)))
+  known_by path (Sound parsed) h = (let is = some_imports ed parsed h.parses.parses in inl (is.0, record { parsed = parsed; sound = h; are = is.1 }))
 
   known : (path : List ℕ) → Known path
-  known path = let p = some_plan (package_files path sources) in known_by path p.0 p.1
+  known path = let p = some_plan ed (package_files path sources) in known_by path p.0 p.1
 
   imports_known : (path : List ℕ) → Known path → List Import
   unfolding Known
@@ -287,95 +288,95 @@ module _ (sources : Sources) where
   edge : List ℕ → List ℕ → Bool
   edge p q = names q (imports_known p (known p)) && is_some (package_files q sources)
 
-  import_by : (p q : List ℕ) (k : Known p) → names q (imports_known p k) ≡ true → HasImport sources p q
+  import_by : (p q : List ℕ) (k : Known p) → names q (imports_known p k) ≡ true → HasImport ed sources p q
   unfolding Known imports_known
   import_by p q (inl is) e = let h = names_one q is.0 e in record { imports = is.0; has = is.1; import = h.0; among = h.1; path = h.2 }
   import_by p q (inr n) e = let h = names_one q [] e in absurd (one_of [] h.0 h.1)
 
-  by_import : (p q : List ℕ) (k : Known p) → HasImport sources p q → names q (imports_known p k) ≡ true
+  by_import : (p q : List ℕ) (k : Known p) → HasImport ed sources p q → names q (imports_known p k) ≡ true
   unfolding Known imports_known
-  by_import p q (inl is) h = one_names q is.0 h.import (one_of is.0 h.import (subst (λ (l : List Import). Contains l h.import) (same_imports sources p h.imports is.0 h.has is.1) h.among)) h.path
+  by_import p q (inl is) h = one_names q is.0 h.import (one_of is.0 h.import (subst (λ (l : List Import). Contains l h.import) (same_imports ed sources p h.imports is.0 h.has is.1) h.among)) h.path
   by_import p q (inr n) h = absurd (n h.imports h.has)
 
-  edge_imports : (p q : List ℕ) → edge p q ≡ true → Imports sources p q
+  edge_imports : (p q : List ℕ) → edge p q ≡ true → Imports ed sources p q
   unfolding edge
   edge_imports p q e = record {
     import = import_by p q (known p) (left_holds (names q (imports_known p (known p))) (is_some (package_files q sources)) e);
     files = some_is (package_files q sources) (right_holds (names q (imports_known p (known p))) (is_some (package_files q sources)) e);
   }
 
-  imports_edge : (p q : List ℕ) → Imports sources p q → edge p q ≡ true
+  imports_edge : (p q : List ℕ) → Imports ed sources p q → edge p q ≡ true
   unfolding edge
   imports_edge p q h = both_hold (names q (imports_known p (known p))) (is_some (package_files q sources)) (by_import p q (known p) h.import) (is_some_of (package_files q sources) h.files)
 
   reaches : List ℕ → List ℕ → Bool
   reaches = reach bytes_eq edge (built_directories sources)
 
-  reaches_is : (p q : List ℕ) → reaches p q ≡ true → Reaches (Imports sources) p q
+  reaches_is : (p q : List ℕ) → reaches p q ≡ true → Reaches (Imports ed sources) p q
   unfolding reaches
-  reaches_is p q e = reach_sound (Imports sources) bytes_eq edge (λ x y. (bytes_eq-Decides x y).0) (λ x. (bytes_eq-Decides x x).1 refl) edge_imports imports_edge (built_directories sources) p q e
+  reaches_is p q e = reach_sound (Imports ed sources) bytes_eq edge (λ x y. (bytes_eq-Decides x y).0) (λ x. (bytes_eq-Decides x x).1 refl) edge_imports imports_edge (built_directories sources) p q e
 
-  is_reached : (p q : List ℕ) → Reaches (Imports sources) p q → reaches p q ≡ true
+  is_reached : (p q : List ℕ) → Reaches (Imports ed sources) p q → reaches p q ≡ true
   unfolding reaches
-  is_reached p q r = reach_complete (Imports sources) bytes_eq edge (λ x y. (bytes_eq-Decides x y).0) (λ x. (bytes_eq-Decides x x).1 refl) edge_imports imports_edge (built_directories sources) (λ x y i. to_directory y sources i.files) p q r
+  is_reached p q r = reach_complete (Imports ed sources) bytes_eq edge (λ x y. (bytes_eq-Decides x y).0) (λ x. (bytes_eq-Decides x x).1 refl) edge_imports imports_edge (built_directories sources) (λ x y i. to_directory y sources i.files) p q r
 
-  by_bool : (p q : List ℕ) (b : Bool) → reaches p q ≡ b → Reaches (Imports sources) p q ⊎ (Reaches (Imports sources) p q → ⊥)
+  by_bool : (p q : List ℕ) (b : Bool) → reaches p q ≡ b → Reaches (Imports ed sources) p q ⊎ (Reaches (Imports ed sources) p q → ⊥)
   by_bool p q true e = inl (reaches_is p q e)
   by_bool p q false e = inr (λ r. (let t = is_reached p q r in let z : true ≡ false = sym t ∙ e in cc (z)))
 
-  decide_back : (path : List ℕ) (q : List ℕ) → LeadsBack sources path q ⊎ (LeadsBack sources path q → ⊥)
+  decide_back : (path : List ℕ) (q : List ℕ) → LeadsBack ed sources path q ⊎ (LeadsBack ed sources path q → ⊥)
   decide_back path q = by_bool q path (reaches q path) refl
 
-  main_or_not : (q : List ℕ) (first : Parsed) (rest : List Parsed) → AreParsed (package_files q sources) (first ∷ rest) → IsProgram sources q ⊎ (IsProgram sources q → ⊥)
-  main_or_not q first rest a = go (bytes_eq a.parses.0.0.package.text (codes "main")) refl
+  main_or_not : (q : List ℕ) (first : Parsed) (rest : List Parsed) → AreParsed ed (package_files q sources) (first ∷ rest) → IsProgram ed sources q ⊎ (IsProgram ed sources q → ⊥)
+  main_or_not q first rest a = go (bytes_eq a.parses.0.file.package.text (codes "main")) refl
     where
-      clause_is : IsPackage first.text a.parses.0.0.package
-      clause_is = (a.parses.0.0, a.parses.0.1, refl)
+      clause_is : IsPackage first.edition first.text a.parses.0.file.package
+      clause_is = (a.parses.0.file, a.parses.0.parse, refl)
 
-      go : (b : Bool) → bytes_eq a.parses.0.0.package.text (codes "main") ≡ b → IsProgram sources q ⊎ (IsProgram sources q → ⊥)
-      go true e = inl (record { first = first; rest = rest; parses = a; named = record { clause = a.parses.0.0.package; package_is = clause_is; same = (bytes_eq-Decides a.parses.0.0.package.text (codes "main")).0 e } })
+      go : (b : Bool) → bytes_eq a.parses.0.file.package.text (codes "main") ≡ b → IsProgram ed sources q ⊎ (IsProgram ed sources q → ⊥)
+      go true e = inl (record { first = first; rest = rest; parses = a; named = record { clause = a.parses.0.file.package; package_is = clause_is; same = (bytes_eq-Decides a.parses.0.file.package.text (codes "main")).0 e } })
       go false e = inr (λ h.
-          let lists : h.first ∷ h.rest ≡ first ∷ rest = one_parsed (package_files q sources) (h.first ∷ h.rest) (first ∷ rest) h.parses a in
+          let lists : h.first ∷ h.rest ≡ first ∷ rest = one_parsed ed (package_files q sources) (h.first ∷ h.rest) (first ∷ rest) h.parses a in
           let heads : h.first ≡ first = cc in
-          let clause = one_package first.text h.named.clause a.parses.0.0.package (subst (λ (z : Parsed). IsPackage z.text h.named.clause) heads h.named.package_is) clause_is in
-          let t = (bytes_eq-Decides a.parses.0.0.package.text (codes "main")).1 (sym (ap (λ n. n.text) clause) ∙ h.named.same) in
+          let clause = one_package first.edition first.text h.named.clause a.parses.0.file.package (subst (λ (z : Parsed). IsPackage z.edition z.text h.named.clause) heads h.named.package_is) clause_is in
+          let t = (bytes_eq-Decides a.parses.0.file.package.text (codes "main")).1 (sym (ap (λ n. n.text) clause) ∙ h.named.same) in
           let z : true ≡ false = sym t ∙ e in cc (z))
 
-  program_by : (q : List ℕ) → Read (package_files q sources) → IsProgram sources q ⊎ (IsProgram sources q → ⊥)
-  program_by q (inl ([], a)) = inr (λ h. (let z : [] ≡ h.first ∷ h.rest = one_parsed (package_files q sources) [] (h.first ∷ h.rest) a h.parses in cc (z)))
+  program_by : (q : List ℕ) → Read ed (package_files q sources) → IsProgram ed sources q ⊎ (IsProgram ed sources q → ⊥)
+  program_by q (inl ([], a)) = inr (λ h. (let z : [] ≡ h.first ∷ h.rest = one_parsed ed (package_files q sources) [] (h.first ∷ h.rest) a h.parses in cc (z)))
   program_by q (inl (first ∷ rest, a)) = main_or_not q first rest a
-  program_by q (inr stop) = inr (λ h. stops_or_parses (package_files q sources) stop.0 (h.first ∷ h.rest) stop.1 h.parses)
+  program_by q (inr stop) = inr (λ h. stops_or_parses ed (package_files q sources) stop.0 (h.first ∷ h.rest) stop.1 h.parses)
 
-  decide_program : (q : List ℕ) → IsProgram sources q ⊎ (IsProgram sources q → ⊥)
-  decide_program q = program_by q (read (package_files q sources))
+  decide_program : (q : List ℕ) → IsProgram ed sources q ⊎ (IsProgram ed sources q → ⊥)
+  decide_program q = program_by q (read ed (package_files q sources))
 
   abbrev Right : List ℕ → Type 0
-  Right path = (planned : Planned) × ((HasNoFiles sources path → ⊥) → IsPlannedAs sources path planned)
+  Right path = (planned : Planned) × ((HasNoFiles sources path → ⊥) → IsPlannedAs ed sources path planned)
 
-  right_program : (path : List ℕ) (parsed : List Parsed) (h : IsPlan (package_files path sources) (Sound parsed)) (is : List Import) → HasImports sources path is → HasNone (HasNoFiles sources) is → HasNone (LeadsBack sources path) is
-      → ((fault : Fault) × IsAtFirst (IsProgram sources) is Program fault) ⊎ HasNone (IsProgram sources) is → Right path
+  right_program : (path : List ℕ) (parsed : List Parsed) (h : IsPlan ed (package_files path sources) (Sound parsed)) (is : List Import) → HasImports ed sources path is → HasNone (HasNoFiles sources) is → HasNone (LeadsBack ed sources path) is
+      → ((fault : Fault) × IsAtFirst (IsProgram ed sources) is Program fault) ⊎ HasNone (IsProgram ed sources) is → Right path
   right_program path parsed h is has n m (inl (fault, a)) = (Faulty fault, λ _. inr (record { imports = is; has = has; is = of_program n m a }))
   right_program path parsed h is has n m (inr l) = (Sound parsed, λ _. (h, record { imports = is; has = has; none_missing = n; none_leads_back = m; none_program = l }))
 
-  right_cycle : (path : List ℕ) (parsed : List Parsed) (h : IsPlan (package_files path sources) (Sound parsed)) (is : List Import) → HasImports sources path is → HasNone (HasNoFiles sources) is
-      → ((fault : Fault) × IsAtFirst (LeadsBack sources path) is Cycle fault) ⊎ HasNone (LeadsBack sources path) is → Right path
+  right_cycle : (path : List ℕ) (parsed : List Parsed) (h : IsPlan ed (package_files path sources) (Sound parsed)) (is : List Import) → HasImports ed sources path is → HasNone (HasNoFiles sources) is
+      → ((fault : Fault) × IsAtFirst (LeadsBack ed sources path) is Cycle fault) ⊎ HasNone (LeadsBack ed sources path) is → Right path
   right_cycle path parsed h is has n (inl (fault, a)) = (Faulty fault, λ _. inr (record { imports = is; has = has; is = of_cycle n a }))
-  right_cycle path parsed h is has n (inr m) = right_program path parsed h is has n m (decide_first (IsProgram sources) decide_program Program is)
+  right_cycle path parsed h is has n (inr m) = right_program path parsed h is has n m (decide_first (IsProgram ed sources) decide_program Program is)
 
-  right_missing : (path : List ℕ) (parsed : List Parsed) (h : IsPlan (package_files path sources) (Sound parsed)) (is : List Import) → HasImports sources path is
+  right_missing : (path : List ℕ) (parsed : List Parsed) (h : IsPlan ed (package_files path sources) (Sound parsed)) (is : List Import) → HasImports ed sources path is
       → ((fault : Fault) × IsAtFirst (HasNoFiles sources) is NoImport fault) ⊎ HasNone (HasNoFiles sources) is → Right path
   right_missing path parsed h is has (inl (fault, a)) = (Faulty fault, λ _. inr (record { imports = is; has = has; is = of_missing a }))
-  right_missing path parsed h is has (inr n) = right_cycle path parsed h is has n (decide_first (LeadsBack sources path) (decide_back path) Cycle is)
+  right_missing path parsed h is has (inr n) = right_cycle path parsed h is has n (decide_first (LeadsBack ed sources path) (decide_back path) Cycle is)
 
-  right_by : (path : List ℕ) (planned : Planned) → IsPlan (package_files path sources) planned → Right path
+  right_by : (path : List ℕ) (planned : Planned) → IsPlan ed (package_files path sources) planned → Right path
   right_by path NoFiles h = (NoFiles, λ n. absurd (n h))
   right_by path (Faulty f) h = (Faulty f, λ _. inl h)
   right_by path (Sound parsed) h =
-      let is = some_imports parsed h.parses.parses in
+      let is = some_imports ed parsed h.parses.parses in
       right_missing path parsed h is.0 (record { parsed = parsed; sound = h; are = is.1 }) (decide_first (HasNoFiles sources) (has_files sources) NoImport is.0)
 
   right : (path : List ℕ) → Right path
-  right path = let p = some_plan (package_files path sources) in right_by path p.0 p.1
+  right path = let p = some_plan ed (package_files path sources) in right_by path p.0 p.1
 
   made : List (List ℕ) → List ℕ → Directory
   made paths path = record { path = path; planned = (right path).0; imports = numbers_from (edge path) 0 paths }
@@ -390,7 +391,7 @@ module _ (sources : Sources) where
   one_made all (p ∷ ps) d (inl e) = (p, inl refl, e)
   one_made all (p ∷ ps) d (inr h) = let m = one_made all ps d h in (m.0, inr m.1, m.2)
 
-  numbers_are : (paths : List (List ℕ)) (path : List ℕ) → AreNumbers sources paths path (numbers_from (edge path) 0 paths)
+  numbers_are : (paths : List (List ℕ)) (path : List ℕ) → AreNumbers ed sources paths path (numbers_from (edge path) 0 paths)
   numbers_are paths path = record {
     ascending = IsStrictlyIncreasing-from_sorted (numbers_from (edge path) 0 paths) (numbers_sorted (edge path) 0 paths);
     are = λ k. (
@@ -405,15 +406,15 @@ module _ (sources : Sources) where
     all_reached : List (List ℕ)
     all_reached = filter (reaches target) (sorted (built_directories sources))
 
-    reached_files : (q : List ℕ) → Reaches (Imports sources) target q → HasNoFiles sources q → ⊥
-    reached_files q r = reaches_stay (Imports sources) (λ p. HasNoFiles sources p → ⊥) (λ y x h i. i.files) target q r files
+    reached_files : (q : List ℕ) → Reaches (Imports ed sources) target q → HasNoFiles sources q → ⊥
+    reached_files q r = reaches_stay (Imports ed sources) (λ p. HasNoFiles sources p → ⊥) (λ y x h i. i.files) target q r files
 
-    one_reached : (q : List ℕ) → Reaches (Imports sources) target q → Contains all_reached q
+    one_reached : (q : List ℕ) → Reaches (Imports ed sources) target q → Contains all_reached q
     unfolding all_reached
     one_reached q r = contained all_reached q (to_filter (reaches target) (sorted (built_directories sources)) q
         (to_sorted q (built_directories sources) (to_directory q sources (reached_files q r))) (is_reached target q r))
 
-    reached_one : (q : List ℕ) → Contains all_reached q → Reaches (Imports sources) target q
+    reached_one : (q : List ℕ) → Contains all_reached q → Reaches (Imports ed sources) target q
     unfolding all_reached
     reached_one q c = reaches_is target q (from_filter (reaches target) (sorted (built_directories sources)) q (one_of all_reached q c)).1
 
@@ -424,36 +425,36 @@ module _ (sources : Sources) where
     all_made : List Directory
     all_made = map (made all_reached) all_reached
 
-    made_right : (d : Directory) → Contains all_made d → IsPlannedAs sources d.path d.planned
+    made_right : (d : Directory) → Contains all_made d → IsPlannedAs ed sources d.path d.planned
     unfolding all_made made
     made_right d c =
         let m = one_made all_reached all_reached d (one_of all_made d c) in
-        let plan : IsPlannedAs sources m.0 (right m.0).0 = (right m.0).1 (reached_files m.0 (reached_one m.0 (contained all_reached m.0 m.1))) in
-        subst (λ (x : Directory). IsPlannedAs sources x.path x.planned) (sym m.2) plan
+        let plan : IsPlannedAs ed sources m.0 (right m.0).0 = (right m.0).1 (reached_files m.0 (reached_one m.0 (contained all_reached m.0 m.1))) in
+        subst (λ (x : Directory). IsPlannedAs ed sources x.path x.planned) (sym m.2) plan
 
-    made_numbers : (d : Directory) → Contains all_made d → AreNumbers sources all_reached d.path d.imports
+    made_numbers : (d : Directory) → Contains all_made d → AreNumbers ed sources all_reached d.path d.imports
     unfolding all_made made
     made_numbers d c =
         let m = one_made all_reached all_reached d (one_of all_made d c) in
-        subst (λ (x : Directory). AreNumbers sources all_reached x.path x.imports) (sym m.2) (numbers_are all_reached m.0)
+        subst (λ (x : Directory). AreNumbers ed sources all_reached x.path x.imports) (sym m.2) (numbers_are all_reached m.0)
 
-    pub some_build_plan : (ds : List Directory) × IsBuildPlan sources target ds
+    pub some_build_plan : (ds : List Directory) × IsBuildPlan ed sources target ds
     some_build_plan =
         let same : paths_of all_made ≡ all_reached = unfold all_made in made_paths all_reached all_reached in (
           all_made,
           record {
             files = files;
             ascending = subst (IsStrictlySortedBy path_cmp) (sym same) ascends;
-            reached = subst (λ (ps : List (List ℕ)). (q : List ℕ) → (Contains ps q → plan.Reaches sources target q) × (plan.Reaches sources target q → Contains ps q)) (sym same) (λ q. (reached_one q, one_reached q));
+            reached = subst (λ (ps : List (List ℕ)). (q : List ℕ) → (Contains ps q → plan.Reaches ed sources target q) × (plan.Reaches ed sources target q → Contains ps q)) (sym same) (λ q. (reached_one q, one_reached q));
             planned = made_right;
-            imports = subst (λ (ps : List (List ℕ)). (d : Directory) → Contains all_made d → AreNumbers sources ps d.path d.imports) (sym same) made_numbers;
+            imports = subst (λ (ps : List (List ℕ)). (d : Directory) → Contains all_made d → AreNumbers ed sources ps d.path d.imports) (sym same) made_numbers;
           },
         )
 
-pub some_build_plan_of : (W : List Write) (target : List ℕ) → IsPlanOf W target NoFiles ⊎ ((ds : List Directory) × IsBuildPlanOf W target ds)
-some_build_plan_of W target =
+pub some_build_plan_of : (ed : Edition) (W : List Write) (target : List ℕ) → IsPlanOf ed W target NoFiles ⊎ ((ds : List Directory) × IsBuildPlanOf ed W target ds)
+some_build_plan_of ed W target =
     let s = some_sources W in
     elim (has_files s.0 target) [
       | inl none ↦ inl (s.0, s.1, none)
-      | inr files ↦ (let p = some_build_plan s.0 target files in inr (p.0, (s.0, s.1, p.1)))
+      | inr files ↦ (let p = some_build_plan ed s.0 target files in inr (p.0, (s.0, s.1, p.1)))
     ]

@@ -4,13 +4,13 @@ use Rattle.std.specs.Prelude.{◌⊎◌}
 use Rattle.std.specs.Str.{bytes_eq}
 use Rattle.std.specs.FinMap.{entries}
 use Rattle.std.proofs.lemmas.Slice.Eq.{bytes_eq-Decides}
+use Rattle.go_text.specs.declared.edition.Edition.{Edition}
 use Rattle.go_text.specs.Faults.{Fault}
 use Rattle.go_text.specs.declared.fault.FaultKind.TheVariants.{PackageName}
 use Rattle.ws_version.specs.Writes.{Write}
 use Rattle.ws_register.proofs.Exists.{some_contents}
 use Rattle.ws_register.specs.Sources.{texts_of, IsSources}
 use Rattle.ws_graph.specs.Packages.{package_files}
-use Rattle.go_text.specs.declared.edition.Edition.TheVariants.{One}
 use Rattle.go_ast.specs.Trees.{Name, File}
 use Rattle.go_ast.specs.Parse.{Parse, Derived, Stopped, IsParse, IsPackage, IsNamed, Parsed}
 use Rattle.ws_graph.specs.Plan.{Planned, NoFiles, Faulty, Sound, AllParsed, AreParsed, AllNamed, HasOther, StopsIn, IsPlan, IsPlanOf}
@@ -21,15 +21,15 @@ some_sources W = let g = some_contents W in (texts_of (entries g.0), (g.0, g.1, 
 
 -- ---- the plan of some files
 
-abbrev pub Read : List (List ℕ × List ℕ) → Type 0
-Read files = ((parsed : List Parsed) × AreParsed files parsed) ⊎ ((fault : Fault) × StopsIn files fault)
+abbrev pub Read : Edition → List (List ℕ × List ℕ) → Type 0
+Read ed files = ((parsed : List Parsed) × AreParsed ed files parsed) ⊎ ((fault : Fault) × StopsIn ed files fault)
 
-read_one : (name text : List ℕ) (files : List (List ℕ × List ℕ)) (parse : Parse) → IsParse text parse → Read files → Read ((name, text) ∷ files)
-read_one name text files (Derived file) h (inl ps) =
-    let new : Parsed = record { name = name; text = text; edition = One } in
-    inl (new ∷ ps.0, record { sources = ap (λ (z : List (List ℕ × List ℕ)). (name, text) ∷ z) ps.1.sources; parses = ((file, h), ps.1.parses) })
-read_one name text files (Derived file) h (inr stop) =
-    let new : Parsed = record { name = name; text = text; edition = One } in
+read_one : (ed : Edition) (name text : List ℕ) (files : List (List ℕ × List ℕ)) (parse : Parse) → IsParse ed text parse → Read ed files → Read ed ((name, text) ∷ files)
+read_one ed name text files (Derived file) h (inl ps) =
+    let new : Parsed = record { name = name; text = text; edition = ed } in
+    inl (new ∷ ps.0, record { sources = ap (λ (z : List (List ℕ × List ℕ)). (name, text) ∷ z) ps.1.sources; parses = (record { file = file; parse = h; of = refl }, ps.1.parses) })
+read_one ed name text files (Derived file) h (inr stop) =
+    let new : Parsed = record { name = name; text = text; edition = ed } in
     let s = stop.1 in
     inr (
       stop.0,
@@ -41,12 +41,12 @@ read_one name text files (Derived file) h (inr stop) =
         kind = s.kind;
         place = s.place;
         whole = ap (λ (z : List (List ℕ × List ℕ)). (name, text) ∷ z) s.whole;
-        parses = ((file, h), s.parses);
+        parses = (record { file = file; parse = h; of = refl }, s.parses);
         stops = s.stops;
         is = s.is;
       },
     )
-read_one name text files (Stopped kind place) h rest =
+read_one ed name text files (Stopped kind place) h rest =
     inr (
       record { file = name; place = place; kind = kind },
       record {
@@ -63,23 +63,23 @@ read_one name text files (Stopped kind place) h rest =
       },
     )
 
-pub read : (files : List (List ℕ × List ℕ)) → Read files
-read [] = inl ([], record { sources = refl; parses = tt })
-read (file ∷ files) = let p = parse_exists file.1 in read_one file.0 file.1 files p.0 p.1 (read files)
+pub read : (ed : Edition) (files : List (List ℕ × List ℕ)) → Read ed files
+read ed [] = inl ([], record { sources = refl; parses = tt })
+read ed (file ∷ files) = let p = parse_exists ed file.1 in read_one ed file.0 file.1 files p.0 p.1 (read ed files)
 
 abbrev Named : List ℕ → List Parsed → Type 0
 Named name ps = AllNamed name ps ⊎ ((other : Parsed) × HasOther name ps other)
 
 -- a text that is a file has a package name
-package_of : (text : List ℕ) (file : File) → IsParse text (Derived file) → IsPackage text file.package
-package_of text file h = (file, h, refl)
+package_of : (ed : Edition) (text : List ℕ) (file : File) → IsParse ed text (Derived file) → IsPackage ed text file.package
+package_of ed text file h = (file, h, refl)
 
-named_one : (name : List ℕ) (p : Parsed) (ps : List Parsed) (file : File) → IsParse p.text (Derived file) → (b : Bool) → bytes_eq file.package.text name ≡ b → Named name ps → Named name (p ∷ ps)
+named_one : (name : List ℕ) (p : Parsed) (ps : List Parsed) (file : File) → IsParse p.edition p.text (Derived file) → (b : Bool) → bytes_eq file.package.text name ≡ b → Named name ps → Named name (p ∷ ps)
 named_one name p ps file h true e n =
-    let here : IsNamed name p.text = record { clause = file.package; package_is = package_of p.text file h; same = (bytes_eq-Decides file.package.text name).0 e } in
+    let here : IsNamed p.edition name p.text = record { clause = file.package; package_is = package_of p.edition p.text file h; same = (bytes_eq-Decides file.package.text name).0 e } in
     among n here
   where
-    among : Named name ps → IsNamed name p.text → Named name (p ∷ ps)
+    among : Named name ps → IsNamed p.edition name p.text → Named name (p ∷ ps)
     among (inl n) here = inl (here, n)
     among (inr o) here = inr (
       o.0,
@@ -100,19 +100,19 @@ named_one name p ps file h false e n = inr (
     named = tt;
     differs = record {
       clause = file.package;
-      package_is = package_of p.text file h;
+      package_is = package_of p.edition p.text file h;
       other = λ q. let t = (bytes_eq-Decides file.package.text name).1 q in cc;
     };
   },
 )
 
-names : (name : List ℕ) (ps : List Parsed) → AllParsed ps → Named name ps
-names name [] h = inl tt
-names name (p ∷ ps) h = named_one name p ps h.0.0 h.0.1 (bytes_eq h.0.0.package.text name) refl (names name ps h.1)
+names : (ed : Edition) (name : List ℕ) (ps : List Parsed) → AllParsed ed ps → Named name ps
+names ed name [] h = inl tt
+names ed name (p ∷ ps) h = named_one name p ps h.0.file h.0.parse (bytes_eq h.0.file.package.text name) refl (names ed name ps h.1)
 
-plan_named : (files : List (List ℕ × List ℕ)) (first : Parsed) (rest : List Parsed) (clause : Name) → IsPackage first.text clause → AreParsed files (first ∷ rest) → Named clause.text rest → (p : Planned) × IsPlan files p
-plan_named files first rest clause here a (inl n) = (Sound (first ∷ rest), record { first = first; rest = rest; clause = clause; is = refl; parses = a; package_is = here; named = n })
-plan_named files first rest clause here a (inr o) =
+plan_named : (ed : Edition) (files : List (List ℕ × List ℕ)) (first : Parsed) (rest : List Parsed) (clause : Name) → IsPackage first.edition first.text clause → AreParsed ed files (first ∷ rest) → Named clause.text rest → (p : Planned) × IsPlan ed files p
+plan_named ed files first rest clause here a (inl n) = (Sound (first ∷ rest), record { first = first; rest = rest; clause = clause; is = refl; parses = a; package_is = here; named = n })
+plan_named ed files first rest clause here a (inr o) =
     let h = o.1 in (
       Faulty (record { file = o.0.name; place = h.differs.clause.place; kind = PackageName }),
       inr (record {
@@ -121,7 +121,7 @@ plan_named files first rest clause here a (inr o) =
         other = o.0;
         rest = h.rest;
         clause = clause;
-        parsed = subst (λ z. AreParsed files (first ∷ z)) h.whole a;
+        parsed = subst (λ z. AreParsed ed files (first ∷ z)) h.whole a;
         package_is = here;
         named = h.named;
         differs = h.differs;
@@ -129,22 +129,22 @@ plan_named files first rest clause here a (inr o) =
       }),
     )
 
-plan_parsed : (file : List ℕ × List ℕ) (files : List (List ℕ × List ℕ)) (parsed : List Parsed) → AreParsed (file ∷ files) parsed → (p : Planned) × IsPlan (file ∷ files) p
-plan_parsed file files [] a = let none = a.sources in cc
-plan_parsed file files (first ∷ rest) a =
-    let tree = a.parses.0.0 in
-    plan_named (file ∷ files) first rest tree.package (package_of first.text tree a.parses.0.1) a (names tree.package.text rest a.parses.1)
+plan_parsed : (ed : Edition) (file : List ℕ × List ℕ) (files : List (List ℕ × List ℕ)) (parsed : List Parsed) → AreParsed ed (file ∷ files) parsed → (p : Planned) × IsPlan ed (file ∷ files) p
+plan_parsed ed file files [] a = let none = a.sources in cc
+plan_parsed ed file files (first ∷ rest) a =
+    let tree = a.parses.0.file in
+    plan_named ed (file ∷ files) first rest tree.package (package_of first.edition first.text tree a.parses.0.parse) a (names ed tree.package.text rest a.parses.1)
 
-plan_read : (file : List ℕ × List ℕ) (files : List (List ℕ × List ℕ)) → Read (file ∷ files) → (p : Planned) × IsPlan (file ∷ files) p
-plan_read file files (inl ps) = plan_parsed file files ps.0 ps.1
-plan_read file files (inr stop) = (Faulty stop.0, inl stop.1)
+plan_read : (ed : Edition) (file : List ℕ × List ℕ) (files : List (List ℕ × List ℕ)) → Read ed (file ∷ files) → (p : Planned) × IsPlan ed (file ∷ files) p
+plan_read ed file files (inl ps) = plan_parsed ed file files ps.0 ps.1
+plan_read ed file files (inr stop) = (Faulty stop.0, inl stop.1)
 
-pub some_plan : (files : List (List ℕ × List ℕ)) → (p : Planned) × IsPlan files p
-some_plan [] = (NoFiles, refl)
-some_plan (file ∷ files) = plan_read file files (read (file ∷ files))
+pub some_plan : (ed : Edition) (files : List (List ℕ × List ℕ)) → (p : Planned) × IsPlan ed files p
+some_plan ed [] = (NoFiles, refl)
+some_plan ed (file ∷ files) = plan_read ed file files (read ed (file ∷ files))
 
-pub some_plan_of : (W : List Write) (directory : List ℕ) → (p : Planned) × IsPlanOf W directory p
-some_plan_of W directory =
+pub some_plan_of : (ed : Edition) (W : List Write) (directory : List ℕ) → (p : Planned) × IsPlanOf ed W directory p
+some_plan_of ed W directory =
     let s = some_sources W in
-    let p = some_plan (package_files directory s.0) in
+    let p = some_plan ed (package_files directory s.0) in
     (p.0, (s.0, s.1, p.1))

@@ -4,6 +4,7 @@ use Rattle.std.specs.Prelude.{◌≡◌, ◌⊎◌, ◌↔◌, ◌<◌, ℕ, Boo
 use Rattle.std.specs.List.{Contains, filter, slice_get}
 use Rattle.std.specs.List.Sorted.{IsStrictlySortedBy, IsStrictlyIncreasing}
 use Rattle.std.specs.Str.{bytes_eq}
+use Rattle.go_text.specs.declared.edition.Edition.{Edition}
 use Rattle.go_text.specs.Faults.{Fault}
 use Rattle.go_text.specs.declared.fault.FaultKind.{FaultKind}
 use Rattle.go_text.specs.declared.fault.FaultKind.TheVariants.{NoImport, Cycle, Program}
@@ -39,18 +40,18 @@ imports_in name specs = map (λ spec. record { file = name; spec = spec }) (filt
 -- the imports of directories in some files, in their order
 abbrev pub AreImports : List Parsed → List Import → Type 0
 AreImports [] imports = imports ≡ []
-AreImports (p ∷ ps) imports = (file : File) × (rest : List Import) × IsParse p.text (Derived file) × AreImports ps rest × (imports ≡ imports_in p.name file.imports ++ rest)
+AreImports (p ∷ ps) imports = (file : File) × (rest : List Import) × IsParse p.edition p.text (Derived file) × AreImports ps rest × (imports ≡ imports_in p.name file.imports ++ rest)
 
 -- the directory's own files have no fault, and these are their imports of directories
-pub record HasImports (sources : Sources) (path : List ℕ) (imports : List Import) : Type 0 where
+pub record HasImports (edition : Edition) (sources : Sources) (path : List ℕ) (imports : List Import) : Type 0 where
   pub parsed : List Parsed
-  pub sound : IsPlan (package_files path sources) (Sound parsed)
+  pub sound : IsPlan edition (package_files path sources) (Sound parsed)
   pub are : AreImports parsed imports
 
 -- one of the imports of the directory p is of the path q
-pub record HasImport (sources : Sources) (p q : List ℕ) : Type 0 where
+pub record HasImport (edition : Edition) (sources : Sources) (p q : List ℕ) : Type 0 where
   pub imports : List Import
-  pub has : HasImports sources p imports
+  pub has : HasImports edition sources p imports
   pub import : Import
   pub among : Contains imports import
   pub path : import.spec.path ≡ q
@@ -60,20 +61,20 @@ abbrev pub HasNoFiles : Sources → List ℕ → Type 0
 HasNoFiles sources path = package_files path sources ≡ []
 
 -- the directory p imports the directory q, which has files
-pub record Imports (sources : Sources) (p q : List ℕ) : Type 0 where
-  pub import : HasImport sources p q
+pub record Imports (edition : Edition) (sources : Sources) (p q : List ℕ) : Type 0 where
+  pub import : HasImport edition sources p q
   pub files : ¬ (HasNoFiles sources q)
 
 -- q is p, or p imports it, or p imports one that reaches it
-abbrev pub Reaches : Sources → List ℕ → List ℕ → Type 0
-Reaches sources p q = reach.Reaches (Imports sources) p q
+abbrev pub Reaches : Edition → Sources → List ℕ → List ℕ → Type 0
+Reaches edition sources p q = reach.Reaches (Imports edition sources) p q
 
 -- the files of the directory all parse, and the first one's package is named main
-pub record IsProgram (sources : Sources) (path : List ℕ) : Type 0 where
+pub record IsProgram (edition : Edition) (sources : Sources) (path : List ℕ) : Type 0 where
   pub first : Parsed
   pub rest : List Parsed
-  pub parses : AreParsed (package_files path sources) (first ∷ rest)
-  pub named : IsNamed (codes "main") first.text
+  pub parses : AreParsed edition (package_files path sources) (first ∷ rest)
+  pub named : IsNamed first.edition (codes "main") first.text
 
 -- ---- the fault of a directory's imports
 
@@ -92,36 +93,36 @@ pub record IsAtFirst (P : List ℕ → Type 0) (imports : List Import) (kind : F
   pub is : fault ≡ record { file = import.file; place = import.spec.place; kind = kind }
 
 -- what is imported reaches the directory that imports it
-abbrev pub LeadsBack : Sources → List ℕ → List ℕ → Type 0
-LeadsBack sources path imported = Reaches sources imported path
+abbrev pub LeadsBack : Edition → Sources → List ℕ → List ℕ → Type 0
+LeadsBack edition sources path imported = Reaches edition sources imported path
 
 -- The fault of a directory with these imports: at the first that has no files; else at the first that leads back; else at the first program.
-pub data IsImportFault (sources : Sources) (path : List ℕ) (imports : List Import) (fault : Fault) : Type 0 where
-  of_missing : IsAtFirst (HasNoFiles sources) imports NoImport fault → IsImportFault sources path imports fault
-  of_cycle : HasNone (HasNoFiles sources) imports → IsAtFirst (LeadsBack sources path) imports Cycle fault → IsImportFault sources path imports fault
-  of_program : HasNone (HasNoFiles sources) imports → HasNone (LeadsBack sources path) imports → IsAtFirst (IsProgram sources) imports Program fault → IsImportFault sources path imports fault
+pub data IsImportFault (edition : Edition) (sources : Sources) (path : List ℕ) (imports : List Import) (fault : Fault) : Type 0 where
+  of_missing : IsAtFirst (HasNoFiles sources) imports NoImport fault → IsImportFault edition sources path imports fault
+  of_cycle : HasNone (HasNoFiles sources) imports → IsAtFirst (LeadsBack edition sources path) imports Cycle fault → IsImportFault edition sources path imports fault
+  of_program : HasNone (HasNoFiles sources) imports → HasNone (LeadsBack edition sources path) imports → IsAtFirst (IsProgram edition sources) imports Program fault → IsImportFault edition sources path imports fault
 
 -- the directory's own files are sound, and its imports have this fault
-pub record ImportFault (sources : Sources) (path : List ℕ) (fault : Fault) : Type 0 where
+pub record ImportFault (edition : Edition) (sources : Sources) (path : List ℕ) (fault : Fault) : Type 0 where
   pub imports : List Import
-  pub has : HasImports sources path imports
-  pub is : IsImportFault sources path imports fault
+  pub has : HasImports edition sources path imports
+  pub is : IsImportFault edition sources path imports fault
 
 -- each of the directory's imports has files, doesn't lead back, and is no program
-pub record ImportsAreSound (sources : Sources) (path : List ℕ) : Type 0 where
+pub record ImportsAreSound (edition : Edition) (sources : Sources) (path : List ℕ) : Type 0 where
   pub imports : List Import
-  pub has : HasImports sources path imports
+  pub has : HasImports edition sources path imports
   pub none_missing : HasNone (HasNoFiles sources) imports
-  pub none_leads_back : HasNone (LeadsBack sources path) imports
-  pub none_program : HasNone (IsProgram sources) imports
+  pub none_leads_back : HasNone (LeadsBack edition sources path) imports
+  pub none_program : HasNone (IsProgram edition sources) imports
 
 -- ---- the plan
 
 -- what becomes of a directory: its own fault comes before that of its imports
-abbrev pub IsPlannedAs : Sources → List ℕ → Planned → Type 0
-IsPlannedAs sources path NoFiles = ⊥
-IsPlannedAs sources path (Faulty fault) = IsPlan (package_files path sources) (Faulty fault) ⊎ ImportFault sources path fault
-IsPlannedAs sources path (Sound parsed) = IsPlan (package_files path sources) (Sound parsed) × ImportsAreSound sources path
+abbrev pub IsPlannedAs : Edition → Sources → List ℕ → Planned → Type 0
+IsPlannedAs edition sources path NoFiles = ⊥
+IsPlannedAs edition sources path (Faulty fault) = IsPlan edition (package_files path sources) (Faulty fault) ⊎ ImportFault edition sources path fault
+IsPlannedAs edition sources path (Sound parsed) = IsPlan edition (package_files path sources) (Sound parsed) × ImportsAreSound edition sources path
 
 -- a directory of a plan: what becomes of it, and the numbers of the directories that it imports, in the plan's list
 pub record Directory : Type 0 where
@@ -133,44 +134,44 @@ abbrev pub paths_of : List Directory → List (List ℕ)
 paths_of directories = map (λ d. d.path) directories
 
 -- these are the numbers, in a list of paths, of the directories that this one imports
-pub record AreNumbers (sources : Sources) (paths : List (List ℕ)) (path : List ℕ) (numbers : List ℕ) : Type 0 where
+pub record AreNumbers (edition : Edition) (sources : Sources) (paths : List (List ℕ)) (path : List ℕ) (numbers : List ℕ) : Type 0 where
   pub ascending : IsStrictlyIncreasing numbers
-  pub are : (k : ℕ) → Contains numbers k ↔ ((q : List ℕ) × (slice_get paths k ≡ Some q) × Imports sources path q)
+  pub are : (k : ℕ) → Contains numbers k ↔ ((q : List ℕ) × (slice_get paths k ≡ Some q) × Imports edition sources path q)
 
 -- The plan of a build has each directory that the target reaches, the target too, in the order of paths' bytes. A target without files has none.
-pub record IsBuildPlan (sources : Sources) (target : List ℕ) (directories : List Directory) : Type 0 where
+pub record IsBuildPlan (edition : Edition) (sources : Sources) (target : List ℕ) (directories : List Directory) : Type 0 where
   pub files : ¬ (HasNoFiles sources target)
   pub ascending : IsStrictlySortedBy path_cmp (paths_of directories)
-  pub reached : (path : List ℕ) → Contains (paths_of directories) path ↔ Reaches sources target path
-  pub planned : (d : Directory) → Contains directories d → IsPlannedAs sources d.path d.planned
-  pub imports : (d : Directory) → Contains directories d → AreNumbers sources (paths_of directories) d.path d.imports
+  pub reached : (path : List ℕ) → Contains (paths_of directories) path ↔ Reaches edition sources target path
+  pub planned : (d : Directory) → Contains directories d → IsPlannedAs edition sources d.path d.planned
+  pub imports : (d : Directory) → Contains directories d → AreNumbers edition sources (paths_of directories) d.path d.imports
 
 -- the plan of a build for a set of writes: from the sources alone
-abbrev pub IsBuildPlanOf : List Write → List ℕ → List Directory → Type 0
-IsBuildPlanOf writes target directories = (sources : Sources) × IsSources writes sources × IsBuildPlan sources target directories
+abbrev pub IsBuildPlanOf : Edition → List Write → List ℕ → List Directory → Type 0
+IsBuildPlanOf edition writes target directories = (sources : Sources) × IsSources writes sources × IsBuildPlan edition sources target directories
 
 -- one of the targets reaches the directory
-abbrev pub ReachedFrom : Sources → List (List ℕ) → List ℕ → Type 0
-ReachedFrom sources targets path = (target : List ℕ) × Contains targets target × Reaches sources target path
+abbrev pub ReachedFrom : Edition → Sources → List (List ℕ) → List ℕ → Type 0
+ReachedFrom edition sources targets path = (target : List ℕ) × Contains targets target × Reaches edition sources target path
 
 -- The joint plan of some targets has each directory that one of them reaches, once. They have none where one of them has no files.
-pub record IsJointPlan (sources : Sources) (targets : List (List ℕ)) (directories : List Directory) : Type 0 where
+pub record IsJointPlan (edition : Edition) (sources : Sources) (targets : List (List ℕ)) (directories : List Directory) : Type 0 where
   pub files : (target : List ℕ) → Contains targets target → ¬ (HasNoFiles sources target)
   pub ascending : IsStrictlySortedBy path_cmp (paths_of directories)
-  pub reached : (path : List ℕ) → Contains (paths_of directories) path ↔ ReachedFrom sources targets path
-  pub planned : (d : Directory) → Contains directories d → IsPlannedAs sources d.path d.planned
-  pub imports : (d : Directory) → Contains directories d → AreNumbers sources (paths_of directories) d.path d.imports
+  pub reached : (path : List ℕ) → Contains (paths_of directories) path ↔ ReachedFrom edition sources targets path
+  pub planned : (d : Directory) → Contains directories d → IsPlannedAs edition sources d.path d.planned
+  pub imports : (d : Directory) → Contains directories d → AreNumbers edition sources (paths_of directories) d.path d.imports
 
-abbrev pub IsJointPlanOf : List Write → List (List ℕ) → List Directory → Type 0
-IsJointPlanOf writes targets directories = (sources : Sources) × IsSources writes sources × IsJointPlan sources targets directories
+abbrev pub IsJointPlanOf : Edition → List Write → List (List ℕ) → List Directory → Type 0
+IsJointPlanOf edition writes targets directories = (sources : Sources) × IsSources writes sources × IsJointPlan edition sources targets directories
 
 -- of each set of writes that the registers stand for
-abbrev pub IsJointPlanFor : Contents → List (List ℕ) → List Directory → Type 0
-IsJointPlanFor registers targets directories = (W : List Write) → StandsFor held_cmp registers W → IsJointPlanOf W targets directories
+abbrev pub IsJointPlanFor : Edition → Contents → List (List ℕ) → List Directory → Type 0
+IsJointPlanFor edition registers targets directories = (W : List Write) → StandsFor held_cmp registers W → IsJointPlanOf edition W targets directories
 
 -- one of the targets has no files
-abbrev pub SomeHasNoFiles : List Write → List (List ℕ) → Type 0
-SomeHasNoFiles writes targets = (target : List ℕ) × Contains targets target × IsPlanOf writes target NoFiles
+abbrev pub SomeHasNoFiles : Edition → List Write → List (List ℕ) → Type 0
+SomeHasNoFiles edition writes targets = (target : List ℕ) × Contains targets target × IsPlanOf edition writes target NoFiles
 
 -- Ranks of a plan's directories: what a sound directory imports lies lower. So a sound directory lies on no cycle.
 abbrev pub AreRanks : List Directory → (ℕ → ℕ) → Type 0

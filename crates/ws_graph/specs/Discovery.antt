@@ -6,6 +6,7 @@ use Rattle.std.specs.Global.{Global, Vec}
 use Rattle.std.specs.declared.alloc.AllocError.{AllocError}
 use Rattle.std.specs.FinMap.{entries}
 use Rattle.std.specs.Map.{keys_of}
+use Rattle.go_text.specs.declared.edition.Edition.{Edition}
 use Rattle.go_text.specs.Faults.{Fault}
 use Rattle.go_text.specs.declared.fault.FaultKind.{FaultKind}
 use Rattle.go_text.specs.declared.fault.FaultKind.TheVariants as kinds
@@ -20,7 +21,7 @@ use Rattle.ws_version.specs.Writes.{Write, path_cmp}
 use Rattle.ws_register.specs.Edits.{Contents}
 use Rattle.ws_register.specs.Sources.{texts_of, pair_of, IsSources}
 use Rattle.ws_graph.specs.Packages.{package_files}
-use Rattle.ws_graph.specs.Plan.{Planned, NoFiles, Faulty, Sound, IsPlan, source_of}
+use Rattle.ws_graph.specs.Plan.{Planned, NoFiles, Faulty, Sound, IsFileIn, IsPlan, source_of}
 use Rattle.ws_graph.specs.BuildPlan.{Sources, Import, imports_in, AreImports, IsJointPlan, Directory, HasImport, HasNoFiles, IsProgram, Imports, ReachedFrom}
 use Rattle.ws_graph.specs.Node.{planned_of}
 use Rattle.ws_graph.specs.declared.target.Target.{Target}
@@ -69,21 +70,21 @@ abbrev pub HasNumber : List Target → ℕ → Type 0
 HasNumber targets k = (t : Target) × Contains targets t × (t.number ≡ Some k)
 
 -- what becomes of a directory's own files, and whether it is a program
-pub record IsFound (sources : Sources) (path : List ℕ) (found : Found) : Type 0 where
-  pub plan : IsPlan (package_files path sources) (planned_of found.node)
-  pub program : IsTrue found.program ↔ IsProgram sources path
+pub record IsFound (edition : Edition) (sources : Sources) (path : List ℕ) (found : Found) : Type 0 where
+  pub plan : IsPlan edition (package_files path sources) (planned_of found.node)
+  pub program : IsTrue found.program ↔ IsProgram edition sources path
 
 -- an import leads from one number to another
-pub record Leads (sources : Sources) (all : List (List ℕ)) (p q : ℕ) : Type 0 where
+pub record Leads (edition : Edition) (sources : Sources) (all : List (List ℕ)) (p q : ℕ) : Type 0 where
   pub from : List ℕ
   pub to : List ℕ
   pub at_from : slice_get all p ≡ Some from
   pub at_to : slice_get all q ≡ Some to
-  pub imports : Imports sources from to
+  pub imports : Imports edition sources from to
 
 -- the first of some files has a package named main
 abbrev pub IsFirstMain : List Parsed → Type 0
-IsFirstMain parsed = (first : Parsed) × (rest : List Parsed) × (parsed ≡ first ∷ rest) × IsNamed (codes "main") first.text
+IsFirstMain parsed = (first : Parsed) × (rest : List Parsed) × (parsed ≡ first ∷ rest) × IsNamed first.edition (codes "main") first.text
 
 -- an import has a fault of this kind: it leads nowhere, closes a cycle, or leads to a program
 abbrev pub HasFault : List (List ℕ) → List Bool → ℕ → FaultKind → Option ℕ → Type 0
@@ -113,17 +114,17 @@ AddsTargets all imports old new = (more : List Target) × (new ≡ old ++ more) 
 -- ---- discovery
 
 -- a source is parsed to this
-abbrev pub IsFileOf : Source → Parsed → Type 0
-IsFileOf source p = (source_of p ≡ pair_of source) × ((file : File) × IsParse p.text (Derived file))
+abbrev pub IsFileOf : Edition → Source → Parsed → Type 0
+IsFileOf edition source p = (source_of p ≡ pair_of source) × IsFileIn edition p
 
 -- a source stops being a file at the fault's place
-abbrev pub StopsAs : Source → Fault → Type 0
-StopsAs source fault = (kind : FaultKind) × (place : Place) × IsParse source.text (parse.Stopped kind place) × (fault ≡ record { file = source.name; place = place; kind = kind })
+abbrev pub StopsAs : Edition → Source → Fault → Type 0
+StopsAs edition source fault = (kind : FaultKind) × (place : Place) × IsParse edition source.text (parse.Stopped kind place) × (fault ≡ record { file = source.name; place = place; kind = kind })
 
 -- what a source comes to
-pub record ComesTo (source : Source) (result : Result Parsed FileError) : Type 0 where
-  pub parsed : IfOk result (IsFileOf source)
-  pub stopped : (fault : Fault) → result ≡ Err (Stopped fault) → StopsAs source fault
+pub record ComesTo (edition : Edition) (source : Source) (result : Result Parsed FileError) : Type 0 where
+  pub parsed : IfOk result (IsFileOf edition source)
+  pub stopped : (fault : Fault) → result ≡ Err (Stopped fault) → StopsAs edition source fault
 
 -- memory ran out there
 abbrev pub is_refused : Result Parsed FileError → Bool
@@ -152,12 +153,12 @@ abbrev pub waiting_paths : List Waiting → List (List ℕ)
 waiting_paths = map (λ w. string_bytes w.path)
 
 -- a directory that waited, read
-abbrev pub IsReadAs : Sources → Waiting → String Global × Found → Type 0
-IsReadAs sources waiting read = (string_bytes read.0 ≡ string_bytes waiting.path) × IsFound sources (string_bytes waiting.path) read.1
+abbrev pub IsReadAs : Edition → Sources → Waiting → String Global × Found → Type 0
+IsReadAs edition sources waiting read = (string_bytes read.0 ≡ string_bytes waiting.path) × IsFound edition sources (string_bytes waiting.path) read.1
 
 -- of those of a wave, in their order
-abbrev pub AreRead : Sources → List Waiting → List (Result (String Global × Found) AllocError) → Type 0
-AreRead sources = AllZip (λ waiting read. IfOk read (IsReadAs sources waiting))
+abbrev pub AreRead : Edition → Sources → List Waiting → List (Result (String Global × Found) AllocError) → Type 0
+AreRead edition sources = AllZip (λ waiting read. IfOk read (IsReadAs edition sources waiting))
 
 -- those that were met, by their paths
 abbrev pub Met : Type 0
@@ -167,29 +168,29 @@ abbrev pub met_paths : Met → List (List ℕ)
 met_paths met = texts (keys_of met)
 
 -- A walk under way: directories were read, others wait, and further paths are imported by those that were read.
-pub record Walking (sources : Sources) (targets : List (List ℕ)) (met : Met) (waiting imported : List (List ℕ)) : Type 0 where
+pub record Walking (edition : Edition) (sources : Sources) (targets : List (List ℕ)) (met : Met) (waiting imported : List (List ℕ)) : Type 0 where
   pub first : (target : List ℕ) → Contains targets target → Contains (met_paths met) target ⊎ Contains waiting target
-  pub reached : (path : List ℕ) → Contains (met_paths met) path ⊎ Contains waiting path → ReachedFrom sources targets path
-  pub from : (path : List ℕ) → Contains imported path → (p : List ℕ) × ReachedFrom sources targets p × HasImport sources p path
-  pub closed : (p q : List ℕ) → Contains (met_paths met) p → Imports sources p q → Contains (met_paths met) q ⊎ (Contains waiting q ⊎ Contains imported q)
-  pub founds : (e : String Global × Found) → Contains met e → IsFound sources (string_bytes e.0) e.1
+  pub reached : (path : List ℕ) → Contains (met_paths met) path ⊎ Contains waiting path → ReachedFrom edition sources targets path
+  pub from : (path : List ℕ) → Contains imported path → (p : List ℕ) × ReachedFrom edition sources targets p × HasImport edition sources p path
+  pub closed : (p q : List ℕ) → Contains (met_paths met) p → Imports edition sources p q → Contains (met_paths met) q ⊎ (Contains waiting q ⊎ Contains imported q)
+  pub founds : (e : String Global × Found) → Contains met e → IsFound edition sources (string_bytes e.0) e.1
 
 -- a whole wave is taken in
-pub record TakesWave (sources : Sources) (targets : List (List ℕ)) (wave : List Waiting) (old new : Met) (imported : List (List ℕ)) : Type 0 where
-  pub walking : Walking sources targets new [] imported
+pub record TakesWave (edition : Edition) (sources : Sources) (targets : List (List ℕ)) (wave : List Waiting) (old new : Met) (imported : List (List ℕ)) : Type 0 where
+  pub walking : Walking edition sources targets new [] imported
   pub kept : (path : List ℕ) → Contains (met_paths old) path ⊎ Contains (waiting_paths wave) path → Contains (met_paths new) path
 
 -- the same of any wave that was read so
 abbrev pub TakesAll : Sources → List (Result (String Global × Found) AllocError) → Met → Met → List (List ℕ) → Type 0
 TakesAll sources read old new imported =
-    (targets : List (List ℕ)) (wave : List Waiting) → AreRead sources wave read → Walking sources targets old (waiting_paths wave) [] → TakesWave sources targets wave old new imported
+    (edition : Edition) (targets : List (List ℕ)) (wave : List Waiting) → AreRead edition sources wave read → Walking edition sources targets old (waiting_paths wave) [] → TakesWave edition sources targets wave old new imported
 
 -- the paths that a directory's files import are added, those at least that have files
 pub record AddsImported (sources : Sources) (planned : Planned) (old new : List (List ℕ)) : Type 0 where
   pub more : List (List ℕ)
   pub is : new ≡ old ++ more
-  pub from : (p q : List ℕ) → IsPlan (package_files p sources) planned → Contains more q → HasImport sources p q
-  pub all : (p q : List ℕ) → IsPlan (package_files p sources) planned → Imports sources p q → Contains more q
+  pub from : (edition : Edition) (p q : List ℕ) → IsPlan edition (package_files p sources) planned → Contains more q → HasImport edition sources p q
+  pub all : (edition : Edition) (p q : List ℕ) → IsPlan edition (package_files p sources) planned → Imports edition sources p q → Contains more q
 
 -- a path is added, at least if its directory has files
 abbrev pub AddsPath : Sources → List ℕ → List (List ℕ) → List (List ℕ) → Type 0
@@ -220,23 +221,23 @@ pub record IsNextWave (sources : Sources) (met imported : List (List ℕ)) (wave
 
 -- the imports of a file lead to these targets, which are added
 abbrev pub AddsFile : List (List ℕ) → Parsed → List Target → List Target → Type 0
-AddsFile all file old new = (tree : File) × IsParse file.text (Derived tree) × AddsTargets all (imports_in file.name tree.imports) old new
+AddsFile all file old new = (tree : File) × IsParse file.edition file.text (Derived tree) × AddsTargets all (imports_in file.name tree.imports) old new
 
 -- the files of a directory's package, for a set of writes
 abbrev pub AreFilesOf : List Write → List ℕ → Sources → Type 0
 AreFilesOf writes directory files = (sources : Sources) × IsSources writes sources × (files ≡ package_files directory sources)
 
 -- the paths are those of the directories that the targets reach, each with what was found
-pub record AreAll (sources : Sources) (targets : List (List ℕ)) (paths : List (List ℕ)) (founds : List Found) : Type 0 where
+pub record AreAll (edition : Edition) (sources : Sources) (targets : List (List ℕ)) (paths : List (List ℕ)) (founds : List Found) : Type 0 where
   pub files : (target : List ℕ) → Contains targets target → ¬ (HasNoFiles sources target)
   pub ascending : IsStrictlySortedBy path_cmp paths
-  pub reached : (path : List ℕ) → Contains paths path ↔ ReachedFrom sources targets path
-  pub founds_are : AllZip (IsFound sources) paths founds
+  pub reached : (path : List ℕ) → Contains paths path ↔ ReachedFrom edition sources targets path
+  pub founds_are : AllZip (IsFound edition sources) paths founds
 
 -- where paths and what was found are those of targets, this is the plan of their build
 abbrev pub ArePlanned : List (List ℕ) → List Found → List Directory → Type 0
 ArePlanned paths founds directories =
-    (sources : Sources) (targets : List (List ℕ)) → AreAll sources targets paths founds → IsJointPlan sources targets directories
+    (edition : Edition) (sources : Sources) (targets : List (List ℕ)) → AreAll edition sources targets paths founds → IsJointPlan edition sources targets directories
 
 -- the first wave: of each target, once
 pub record IsFirstWave (sources : Sources) (targets : List (List ℕ)) (wave : List Waiting) : Type 0 where

@@ -1,5 +1,6 @@
 -- What becomes of the files of a directory before anything is compiled.
 use Rattle.std.specs.Prelude.{◌≡◌, ℕ, ◌⊎◌, List, [], ◌∷◌, ◌++◌, map}
+use Rattle.go_text.specs.declared.edition.Edition.{Edition}
 use Rattle.go_text.specs.Faults.{Fault}
 use Rattle.go_text.specs.declared.place.Place.{Place}
 use Rattle.go_text.specs.declared.fault.FaultKind.{FaultKind}
@@ -19,23 +20,29 @@ pub data Planned : Type 0 where
 abbrev pub source_of : Parsed → List ℕ × List ℕ
 source_of p = (p.name, p.text)
 
--- each text is a file
-abbrev pub AllParsed : List Parsed → Type 0
-AllParsed [] = Unit {0}
-AllParsed (p ∷ ps) = ((file : File) × IsParse p.text (Derived file)) × AllParsed ps
+-- a text that is a file in this edition
+pub record IsFileIn (edition : Edition) (p : Parsed) : Type 0 where
+  pub file : File
+  pub parse : IsParse p.edition p.text (Derived file)
+  pub of : p.edition ≡ edition
 
--- the files parse to these
-pub record AreParsed (files : List (List ℕ × List ℕ)) (parsed : List Parsed) : Type 0 where
+-- each text is one
+abbrev pub AllParsed : Edition → List Parsed → Type 0
+AllParsed edition [] = Unit {0}
+AllParsed edition (p ∷ ps) = IsFileIn edition p × AllParsed edition ps
+
+-- in an edition the files parse to these
+pub record AreParsed (edition : Edition) (files : List (List ℕ × List ℕ)) (parsed : List Parsed) : Type 0 where
   pub sources : map source_of parsed ≡ files
-  pub parses : AllParsed parsed
+  pub parses : AllParsed edition parsed
 
 -- all have this package name
 abbrev pub AllNamed : List ℕ → List Parsed → Type 0
 AllNamed name [] = Unit {0}
-AllNamed name (p ∷ ps) = IsNamed name p.text × AllNamed name ps
+AllNamed name (p ∷ ps) = IsNamed p.edition name p.text × AllNamed name ps
 
 -- the first file that doesn't parse stops there
-pub record StopsIn (files : List (List ℕ × List ℕ)) (fault : Fault) : Type 0 where
+pub record StopsIn (edition : Edition) (files : List (List ℕ × List ℕ)) (fault : Fault) : Type 0 where
   pub front : List Parsed
   pub name : List ℕ
   pub text : List ℕ
@@ -43,8 +50,8 @@ pub record StopsIn (files : List (List ℕ × List ℕ)) (fault : Fault) : Type 
   pub kind : FaultKind
   pub place : Place
   pub whole : files ≡ map source_of front ++ (name, text) ∷ rest
-  pub parses : AllParsed front
-  pub stops : IsParse text (Stopped kind place)
+  pub parses : AllParsed edition front
+  pub stops : IsParse edition text (Stopped kind place)
   pub is : fault ≡ record { file = name; place = place; kind = kind }
 
 -- one of them is the first whose package has another name
@@ -53,37 +60,37 @@ pub record HasOther (name : List ℕ) (parsed : List Parsed) (other : Parsed) : 
   pub rest : List Parsed
   pub whole : parsed ≡ front ++ other ∷ rest
   pub named : AllNamed name front
-  pub differs : IsOther name other.text
+  pub differs : IsOther other.edition name other.text
 
 -- all files parse, and this is the first whose package name isn't the first file's
-pub record DiffersIn (files : List (List ℕ × List ℕ)) (fault : Fault) : Type 0 where
+pub record DiffersIn (edition : Edition) (files : List (List ℕ × List ℕ)) (fault : Fault) : Type 0 where
   pub first : Parsed
   pub front : List Parsed
   pub other : Parsed
   pub rest : List Parsed
   pub clause : Name
-  pub parsed : AreParsed files (first ∷ front ++ other ∷ rest)
-  pub package_is : IsPackage first.text clause
+  pub parsed : AreParsed edition files (first ∷ front ++ other ∷ rest)
+  pub package_is : IsPackage first.edition first.text clause
   pub named : AllNamed clause.text front
-  pub differs : IsOther clause.text other.text
+  pub differs : IsOther other.edition clause.text other.text
   pub is : fault ≡ record { file = other.name; place = differs.clause.place; kind = PackageName }
 
 -- all files parse, and have one package name
-pub record IsSound (files : List (List ℕ × List ℕ)) (parsed : List Parsed) : Type 0 where
+pub record IsSound (edition : Edition) (files : List (List ℕ × List ℕ)) (parsed : List Parsed) : Type 0 where
   pub first : Parsed
   pub rest : List Parsed
   pub clause : Name
   pub is : parsed ≡ first ∷ rest
-  pub parses : AreParsed files parsed
-  pub package_is : IsPackage first.text clause
+  pub parses : AreParsed edition files parsed
+  pub package_is : IsPackage first.edition first.text clause
   pub named : AllNamed clause.text rest
 
 -- A file that doesn't parse comes before names that differ. Without imports nothing else is a plan's fault.
-abbrev pub IsPlan : List (List ℕ × List ℕ) → Planned → Type 0
-IsPlan files NoFiles = files ≡ []
-IsPlan files (Faulty fault) = StopsIn files fault ⊎ DiffersIn files fault
-IsPlan files (Sound parsed) = IsSound files parsed
+abbrev pub IsPlan : Edition → List (List ℕ × List ℕ) → Planned → Type 0
+IsPlan edition files NoFiles = files ≡ []
+IsPlan edition files (Faulty fault) = StopsIn edition files fault ⊎ DiffersIn edition files fault
+IsPlan edition files (Sound parsed) = IsSound edition files parsed
 
 -- the plan of a directory for a set of writes: from the sources alone
-abbrev pub IsPlanOf : List Write → List ℕ → Planned → Type 0
-IsPlanOf writes directory planned = (sources : List (List ℕ × List ℕ)) × IsSources writes sources × IsPlan (package_files directory sources) planned
+abbrev pub IsPlanOf : Edition → List Write → List ℕ → Planned → Type 0
+IsPlanOf edition writes directory planned = (sources : List (List ℕ × List ℕ)) × IsSources writes sources × IsPlan edition (package_files directory sources) planned

@@ -8,6 +8,7 @@ use crate::planned::Node;
 use crate::target::{Target, targets_of};
 use crate::waiting::{Waiting, text_of, waiting_at};
 use crate::wave::{Found, read_all};
+use go_text::edition::Edition;
 use std::alloc::{AllocError, Global};
 use std::collections::BTreeMap;
 use std::thread::Threads;
@@ -19,16 +20,17 @@ use ws_register::Registers;
 pub fn discover(
     rt: &(impl Threads + Sync),
     alloc: Global,
+    edition: Edition,
     registers: &Registers,
     first: Vec<Waiting>,
 ) -> Result<BTreeMap<String, Found>, AllocError>
     requires { AreWaiting (held_sources registers.now) first.items }
-    ensures { IfOk result (λ met. AreAll (held_sources registers.now) (waiting_paths first.items) (met_paths met.entries) (values met)) }
+    ensures { IfOk result (λ met. AreAll edition (held_sources registers.now) (waiting_paths first.items) (met_paths met.entries) (values met)) }
 {
     let mut met = BTreeMap::new(alloc);
     let mut wave = first;
     while !wave.is_empty() {
-        let read = read_all(rt, alloc, wave)?;
+        let read = read_all(rt, alloc, edition, wave)?;
         let imported = take_all(alloc, registers, read, &mut met)?;
         wave = next_wave(alloc, registers, &met, imported)?;
     }

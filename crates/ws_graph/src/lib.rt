@@ -4,6 +4,7 @@
 ghost use Rattle.std.specs.Prelude.{◌≡◌, ◌≢◌, ℕ, true, List, [], IfOk, IfSome, IfNone, Err, map};
 ghost use Rattle.std.specs.Bool.{OnTrue, OnFalse};
 ghost use Rattle.std.specs.List.{AllZip, list_any};
+ghost use Rattle.go_text.specs.declared.edition.Edition.{Edition as AnEdition};
 ghost use Rattle.go_text.specs.Faults.{Fault as AFault};
 ghost use Rattle.go_text.specs.Named.{Source as ASource};
 ghost use Rattle.ws_version.specs.Writes.{Write};
@@ -16,7 +17,8 @@ ghost use Rattle.ws_graph.specs.Discovery.{ComesTo, is_refused};
 ghost use Rattle.ws_graph.specs.declared.FileError.TheVariants.{Memory};
 
 use go_ast::parsed::Parsed;
-use go_parse::{ParseError, parse_source};
+use go_parse::{ParseError, parse_in};
+use go_text::edition::Edition;
 use go_text::fault::{Fault, FaultKind};
 use go_text::source::Source;
 pub use law::{law_build_plan_is_ranked, law_one_build_plan, law_some_build_plan};
@@ -62,11 +64,11 @@ impl<T: Drop> From<AllocFailed<T>> for FileError {
     }
 }
 
-fn parsed_file(alloc: Global, source: Source) -> Result<Parsed, FileError>
-    ensures { ComesTo source result }
+fn parsed_file(alloc: Global, edition: Edition, source: Source) -> Result<Parsed, FileError>
+    ensures { ComesTo edition source result }
 {
     let name = String::from_str(alloc, source.name())?;
-    match parse_source(alloc, source) {
+    match parse_in(alloc, edition, source) {
         Ok(parsed) => {
             // The accessor is what says that the text is a file.
             let _file = parsed.file();
@@ -82,20 +84,21 @@ fn parsed_file(alloc: Global, source: Source) -> Result<Parsed, FileError>
 fn parsed_files(
     rt: &(impl Threads + Sync),
     alloc: Global,
+    edition: Edition,
     files: Vec<Source>,
 ) -> Result<Vec<Parsed>, FileError>
-    ensures ok { IfOk result (λ parsed. AreParsed (map pair_of files.items) parsed.items) }
-    ensures stopped { (fault : AFault) → result ≡ Err (FileError.Stopped fault) → StopsIn (map pair_of files.items) fault }
+    ensures ok { IfOk result (λ parsed. AreParsed edition (map pair_of files.items) parsed.items) }
+    ensures stopped { (fault : AFault) → result ≡ Err (FileError.Stopped fault) → StopsIn edition (map pair_of files.items) fault }
 {
-    let each = each_parsed(rt, alloc, files)?;
+    let each = each_parsed(rt, alloc, edition, files)?;
     gathered(alloc, each)
 }
 
 // What files come to, in their order. Where memory ran out at any of them it did at all, whichever
 // stops first.
 fn gathered(alloc: Global, each: Vec<Result<Parsed, FileError>>) -> Result<Vec<Parsed>, FileError>
-    ensures ok { (files : List ASource) → AllZip ComesTo files each.items → IfOk result (λ parsed. AreParsed (map pair_of files) parsed.items) }
-    ensures stopped { (files : List ASource) (fault : AFault) → AllZip ComesTo files each.items → result ≡ Err (FileError.Stopped fault) → StopsIn (map pair_of files) fault }
+    ensures ok { (edition : AnEdition) (files : List ASource) → AllZip (ComesTo edition) files each.items → IfOk result (λ parsed. AreParsed edition (map pair_of files) parsed.items) }
+    ensures stopped { (edition : AnEdition) (files : List ASource) (fault : AFault) → AllZip (ComesTo edition) files each.items → result ≡ Err (FileError.Stopped fault) → StopsIn edition (map pair_of files) fault }
     ensures refused { list_any is_refused each.items ≡ true → result ≡ Err FileError.Memory }
 {
     if any_refused(each.as_slice()) {
@@ -125,24 +128,25 @@ fn any_refused(each: &[Result<Parsed, FileError>]) -> bool
 fn each_parsed(
     rt: &(impl Threads + Sync),
     alloc: Global,
+    edition: Edition,
     files: Vec<Source>,
 ) -> Result<Vec<Result<Parsed, FileError>>, AllocError>
-    ensures { IfOk result (λ each. AllZip ComesTo files.items each.items) }
+    ensures { IfOk result (λ each. AllZip (ComesTo edition) files.items each.items) }
 {
     files
         .into_par_iter()
         .with_min_len(FILES_A_THREAD)
         .map(
             |source: Source| -> Result<Parsed, FileError>
-                ensures { ComesTo source result }
-            { parsed_file(alloc, source) },
+                ensures { ComesTo edition source result }
+            { parsed_file(alloc, edition, source) },
         )
         .collect(rt, alloc)
 }
 
 fn is_named(name: &str, parsed: &Parsed) -> bool
-    ensures named { OnTrue result (IsNamed name.now parsed.now.text) }
-    ensures other { OnFalse result (IsOther name.now parsed.now.text) }
+    ensures named { OnTrue result (IsNamed parsed.now.edition name.now parsed.now.text) }
+    ensures other { OnFalse result (IsOther parsed.now.edition name.now parsed.now.text) }
 {
     parsed.package().text() == name
 }
@@ -161,7 +165,7 @@ fn first_other<'a>(name: &str, parsed: &'a [Parsed]) -> Option<&'a Parsed>
 }
 
 fn judged(alloc: Global, parsed: Vec<Parsed>) -> Result<Node, PlanError>
-    ensures ok { (files : List (List ℕ × List ℕ)) → AreParsed files parsed.items → IfOk result (λ node. IsPlan files (planned_of node) × (planned_of node ≢ NoFiles)) }
+    ensures ok { (edition : AnEdition) (files : List (List ℕ × List ℕ)) → AreParsed edition files parsed.items → IfOk result (λ node. IsPlan edition files (planned_of node) × (planned_of node ≢ NoFiles)) }
     ensures none { result ≡ Err PlanError.NoPackage → parsed.items ≡ [] }
 {
     let Some((first, rest)) = parsed.split_first() else {
@@ -175,7 +179,7 @@ fn judged(alloc: Global, parsed: Vec<Parsed>) -> Result<Node, PlanError>
     Ok(Node::Faulty(Fault::new(file, place, FaultKind::PackageName)))
 }
 
-/// The plan of a directory depends on the members of the set of writes alone.
+/// In an edition the plan of a directory depends on the members of the set of writes alone.
 pub fn law_one_plan()
-    ensures { (V W : List Write) (directory : List ℕ) (p q : Planned) → SameMembers V W → IsPlanOf V directory p → IsPlanOf W directory q → p ≡ q }
+    ensures { (edition : AnEdition) (V W : List Write) (directory : List ℕ) (p q : Planned) → SameMembers V W → IsPlanOf edition V directory p → IsPlanOf edition W directory q → p ≡ q }
 {}

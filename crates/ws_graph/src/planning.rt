@@ -4,6 +4,7 @@ ghost use Rattle.std.specs.BTreeMap.{keys, values};
 ghost use Rattle.std.specs.List.{slice_get, Contains};
 ghost use Rattle.std.specs.List.Sorted.{IsStrictlySortedBy};
 ghost use Rattle.ws_version.specs.Writes.{Write, held_cmp, path_cmp};
+ghost use Rattle.go_text.specs.declared.edition.Edition.TheVariants.{One};
 ghost use Rattle.ws_map.specs.Kept.{StandsFor};
 ghost use Rattle.ws_graph.specs.Plan.{NoFiles, IsPlanOf};
 ghost use Rattle.ws_graph.specs.BuildPlan.{IsBuildPlanOf, IsJointPlanFor, SomeHasNoFiles};
@@ -16,6 +17,7 @@ use crate::planned::{Node, PlanError};
 use crate::target::Target;
 use crate::waiting::{Waiting, waiting_at};
 use crate::wave::Found;
+use go_text::edition::Edition;
 use go_text::fault::Fault;
 use std::alloc::{AllocError, Global};
 use std::collections::BTreeMap;
@@ -40,37 +42,53 @@ pub struct BuildPlan {
     pub directories: Vec<Directory>,
 }
 
-/// The plan of a build of a target. `NoPackage` comes where the target has no file that belongs
-/// to a package, and `Memory` for a refused allocation.
+/// The plan of a build of a target in the first edition. `NoPackage` comes where the target has no file
+/// that belongs to a package, and `Memory` for a refused allocation.
 pub fn plan(
     rt: &(impl Threads + Sync),
     alloc: Global,
     registers: &Registers,
     target: &str,
 ) -> Result<BuildPlan, PlanError>
-    ensures ok { (W : List Write) → StandsFor held_cmp registers.now W → IfOk result (λ plan. IsBuildPlanOf W target.now (map directory_of plan.directories.items)) }
-    ensures none { (W : List Write) → StandsFor held_cmp registers.now W → result ≡ Err PlanError.NoPackage → IsPlanOf W target.now NoFiles }
+    ensures ok { (W : List Write) → StandsFor held_cmp registers.now W → IfOk result (λ plan. IsBuildPlanOf One W target.now (map directory_of plan.directories.items)) }
+    ensures none { (W : List Write) → StandsFor held_cmp registers.now W → result ≡ Err PlanError.NoPackage → IsPlanOf One W target.now NoFiles }
 {
-    let only = only(alloc, target)?;
-    plan_all(rt, alloc, registers, only.as_slice())
+    plan_in(rt, alloc, Edition::One, registers, target)
 }
 
-/// The joint plan of a build of several targets: what several of them reach is read once.
+/// The plan of a build of a target in an edition. `NoPackage` comes where the target has no file that
+/// belongs to a package, and `Memory` for a refused allocation.
+pub fn plan_in(
+    rt: &(impl Threads + Sync),
+    alloc: Global,
+    edition: Edition,
+    registers: &Registers,
+    target: &str,
+) -> Result<BuildPlan, PlanError>
+    ensures ok { (W : List Write) → StandsFor held_cmp registers.now W → IfOk result (λ plan. IsBuildPlanOf edition W target.now (map directory_of plan.directories.items)) }
+    ensures none { (W : List Write) → StandsFor held_cmp registers.now W → result ≡ Err PlanError.NoPackage → IsPlanOf edition W target.now NoFiles }
+{
+    let only = only(alloc, target)?;
+    plan_all(rt, alloc, edition, registers, only.as_slice())
+}
+
+/// The joint plan of a build of several targets in an edition: what several of them reach is read once.
 /// `NoPackage` comes where one of them has no file that belongs to a package, and `Memory` for a
 /// refused allocation.
 pub fn plan_all(
     rt: &(impl Threads + Sync),
     alloc: Global,
+    edition: Edition,
     registers: &Registers,
     targets: &[String],
 ) -> Result<BuildPlan, PlanError>
-    ensures ok { IfOk result (λ plan. IsJointPlanFor registers.now (texts targets.now) (map directory_of plan.directories.items)) }
-    ensures none { (W : List Write) → StandsFor held_cmp registers.now W → result ≡ Err PlanError.NoPackage → SomeHasNoFiles W (texts targets.now) }
+    ensures ok { IfOk result (λ plan. IsJointPlanFor edition registers.now (texts targets.now) (map directory_of plan.directories.items)) }
+    ensures none { (W : List Write) → StandsFor held_cmp registers.now W → result ≡ Err PlanError.NoPackage → SomeHasNoFiles edition W (texts targets.now) }
 {
     let Some(first) = first_wave(alloc, registers, targets)? else {
         return Err(PlanError::NoPackage);
     };
-    let met = discover(rt, alloc, registers, first)?;
+    let met = discover(rt, alloc, edition, registers, first)?;
     let (paths, founds) = parted(alloc, met)?;
     let directories = linked(alloc, paths.as_slice(), founds)?;
     Ok(BuildPlan { directories })

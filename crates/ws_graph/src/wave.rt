@@ -12,6 +12,7 @@ use crate::planned::Node;
 use crate::waiting::Waiting;
 use crate::{FILES_A_THREAD, FileError, is_named, judged, parsed_files};
 use go_ast::parsed::Parsed;
+use go_text::edition::Edition;
 use go_text::source::Source;
 use rayon::prelude::*;
 use std::alloc::{AllocError, Global};
@@ -30,17 +31,18 @@ pub struct Found {
 pub fn read_all(
     rt: &(impl Threads + Sync),
     alloc: Global,
+    edition: Edition,
     wave: Vec<Waiting>,
 ) -> Result<Vec<Result<(String, Found), AllocError>>, AllocError>
-    ensures { (sources : Sources) → AreWaiting sources wave.items → IfOk result (λ read. AreRead sources wave.items read.items) }
+    ensures { (sources : Sources) → AreWaiting sources wave.items → IfOk result (λ read. AreRead edition sources wave.items read.items) }
 {
     let least = least_piece(wave.as_slice());
     wave.into_par_iter()
         .with_min_len(least)
         .map(
             |waiting: Waiting| -> Result<(String, Found), AllocError>
-                ensures { (sources : Sources) → IsWaiting sources waiting → IfOk result (IsReadAs sources waiting) }
-            { read(rt, alloc, waiting) },
+                ensures { (sources : Sources) → IsWaiting sources waiting → IfOk result (IsReadAs edition sources waiting) }
+            { read(rt, alloc, edition, waiting) },
         )
         .collect(rt, alloc)
 }
@@ -57,23 +59,25 @@ fn least_piece(wave: &[Waiting]) -> usize {
 fn read(
     rt: &(impl Threads + Sync),
     alloc: Global,
+    edition: Edition,
     waiting: Waiting,
 ) -> Result<(String, Found), AllocError>
-    ensures { (sources : Sources) → IsWaiting sources waiting → IfOk result (IsReadAs sources waiting) }
+    ensures { (sources : Sources) → IsWaiting sources waiting → IfOk result (IsReadAs edition sources waiting) }
 {
     let Waiting { path, files } = waiting;
-    let found = found_in(rt, alloc, files)?;
+    let found = found_in(rt, alloc, edition, files)?;
     Ok((path, found))
 }
 
 fn found_in(
     rt: &(impl Threads + Sync),
     alloc: Global,
+    edition: Edition,
     files: Vec<Source>,
 ) -> Result<Found, AllocError>
-    ensures { (sources : Sources) (path : List ℕ) → map pair_of files.items ≡ package_files path sources → IfOk result (IsFound sources path) }
+    ensures { (sources : Sources) (path : List ℕ) → map pair_of files.items ≡ package_files path sources → IfOk result (IsFound edition sources path) }
 {
-    match parsed_files(rt, alloc, files) {
+    match parsed_files(rt, alloc, edition, files) {
         Ok(parsed) => {
             let program = is_first_main(parsed.as_slice());
             // A directory that waits has a package.

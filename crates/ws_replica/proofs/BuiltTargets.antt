@@ -6,6 +6,7 @@ use Rattle.std.specs.FinMap.{FinMap}
 use Rattle.std.proofs.lemmas.Bool.{eqb-true}
 use Rattle.std.proofs.lemmas.Option.{slice_get-map}
 use Rattle.std.proofs.lemmas.List.Elements.{Contains-append_left, Contains-append_right, Contains-append_cases}
+use Rattle.go_text.specs.declared.edition.Edition.{Edition}
 use Rattle.ws_version.specs.Writes.{held_cmp}
 use Rattle.ws_map.specs.Kept.{StandsFor, SameMembers, joined}
 use Rattle.ws_register.specs.Edits.{Contents}
@@ -121,7 +122,7 @@ actions_same E A B same a = (one_way A B (λ x. (same x).0) a, one_way B A (λ x
       | inr r ↦ Contains-append_right E Y a (h a r)
     ]
 
-pub are_built_from : (edition : ℕ) (old : List Replica) (took : List Took) (targets : List (ℕ × List ℕ)) → AllStandFor old took → AllTookSized took → (all : List (List Reached)) → AreReached edition old targets all → (parts : List Part) → AllZip (IsPartOf all) targets parts
+pub are_built_from : (edition : Edition) (old : List Replica) (took : List Took) (targets : List (ℕ × List ℕ)) → AllStandFor old took → AllTookSized took → (all : List (List Reached)) → AreReached edition old targets all → (parts : List Part) → AllZip (IsPartOf all) targets parts
     → (opening : FinMap id_cmp Action) → IsOpening old targets opening → (reports : List Report) (added : FinMap id_cmp Action) → IsRunOf opening all parts reports added → AreBuiltFrom edition took targets reports (joined lesser opening added)
 are_built_from edition old took targets stand sized all reached parts parts_are opening opens reports added run =
     let pieces : Pieces edition took targets 0 all = pieces_of edition old took stand targets 0 all (λ k rs at. subst (λ n. IsReached edition old targets n rs) (let z : k ≡ 0 + k = omega arith in z) (reached.are k rs at)) in
@@ -138,7 +139,7 @@ are_built_from edition old took targets stand sized all reached parts parts_are 
     let stands : CacheStandsFor opening E = opens took stand in
     record {
       all = bs;
-      are = subst (λ ts. AreBuilds took ts bs) owns.targets_are (owns_are edition took ps run.told os);
+      are = subst (λ ts. AreBuilds edition took ts bs) owns.targets_are (owns_are edition took ps run.told os);
       right = λ no_clash.
           let clear : AreClear E (all_actions edition us) = record { sized = held_sized took targets sized; clear = hashed_same E (all_actions edition bs) (all_actions edition us) (λ a. (same a).1) no_clash } in
           let says : map rows_of run.told ≡ map report_of us = run_says edition took ps opening E stands run.told added its_run clear in
@@ -156,7 +157,7 @@ are_built_from edition old took targets stand sized all reached parts parts_are 
           };
     }
 
-module _ (edition : ℕ) (old new : List Replica) (took : List Took) (targets : List (ℕ × List ℕ)) (stand : AllStandFor old took) where
+module _ (edition : Edition) (old new : List Replica) (took : List Took) (targets : List (ℕ × List ℕ)) (stand : AllStandFor old took) where
   module _ (cache : FinMap id_cmp Action) (C : List Action) (holds : CacheStandsFor cache (held_by took targets ++ C)) (have : HaveCache targets cache old new) where
     -- what it took as well changes nothing
     with_own : (t : Took) (k : ℕ) → took_at took k ≡ t → builds targets k ≡ true → SameMembers (held_by took targets ++ C) (t.actions ++ (held_by took targets ++ C))

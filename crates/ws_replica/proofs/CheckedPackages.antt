@@ -5,6 +5,7 @@ use Rattle.std.specs.List.{All, Contains, slice_get}
 use Rattle.std.proofs.lemmas.List.{length-map}
 use Rattle.std.proofs.lemmas.List.Elements.{All-nil, All-cons}
 use Rattle.std.proofs.lemmas.Option.{slice_get-map}
+use Rattle.go_text.specs.declared.edition.Edition.{Edition}
 use Rattle.go_ast.specs.Parse.{Parsed}
 use Rattle.go_ast.specs.Trees.{File}
 use Rattle.go_typed.specs.Trees.{Package}
@@ -26,7 +27,7 @@ use Rattle.ws_replica.specs.Reports.{Fate, Good, fate_at, ArePackages, IsReady, 
 use Rattle.ws_replica.proofs.Numbered.{at_member, member_at}
 use Rattle.ws_replica.proofs.OneBuild.{fate_of, at_fate}
 use Rattle.ws_replica.proofs.OrderedPackages.{one_number, cut_at, number_of, package_of, one_good}
-use Rattle.ws_replica.proofs.PlanMakes.{package_at}
+use Rattle.ws_replica.proofs.PlanMakes.{package_at, sound_edition}
 use Rattle.ws_replica.proofs.SourceTexts.{files_are_text, trees_are_of_texts}
 use Rattle.ws_replica.proofs.TargetPieces.{plan_inside}
 
@@ -42,7 +43,7 @@ pub record AreOrdered (ds : List Directory) (fates : List Fate) (ordered : List 
   pub behind : (before after : List ℕ) (k j : ℕ) → ordered ≡ before ++ k ∷ after → Edge (rows_of ds) k j → j < length (rows_of ds) → (q : Package) → fate_at fates j ≡ Good q → Contains before j
   pub once : (before after : List ℕ) (k : ℕ) → ordered ≡ before ++ k ∷ after → ¬ (Contains before k)
 
-module _ (W : List Write) (has : HasFiles W) (target : List ℕ) (ds : List Directory) (fates : List Fate) (of : IsBuildPlanOf W target ds) (are : AreFates ds fates) (numbers : List ℕ) (stand : AreOrdered ds fates numbers) (packages : List Package) (order : ArePackages fates numbers packages) where
+module _ (edition : Edition) (W : List Write) (has : HasFiles W) (target : List ℕ) (ds : List Directory) (fates : List Fate) (of : IsBuildPlanOf edition W target ds) (are : AreFates ds fates) (numbers : List ℕ) (stand : AreOrdered ds fates numbers) (packages : List Package) (order : ArePackages fates numbers packages) where
   -- the directory of a package, at that place in their order
   pub record Placed (place : ℕ) (p : Package) : Type 0 where
     pub number : ℕ
@@ -77,7 +78,7 @@ module _ (W : List Write) (has : HasFiles W) (target : List ℕ) (ds : List Dire
     edge j c = (directory.imports, slice_get-map (λ (d : Directory). d.imports) ds its.number ∙ ap (option_map (λ (d : Directory). d.imports)) its.there, c)
 
     inside : (j : ℕ) → Contains directory.imports j → j < length (rows_of ds)
-    inside j c = (let lt = plan_inside W target ds of directory among j c in omega (arith, lt, length-map ds (λ (d : Directory). d.imports)))
+    inside j c = (let lt = plan_inside edition W target ds of directory among j c in omega (arith, lt, length-map ds (λ (d : Directory). d.imports)))
 
     module _ (others : List Package) (same : AreBefore packages place others) where
       found_at : (i k : ℕ) → i < place → slice_get numbers i ≡ Some k → (q : Package) → fate_at fates k ≡ Good q → Contains others q
@@ -106,17 +107,19 @@ module _ (W : List Write) (has : HasFiles W) (target : List ℕ) (ds : List Dire
         stand.once cut.before cut.after its.number cut.whole (cut.into other its.number lt (second.at ∙ ap Some one))
 
     -- its files are texts
-    pub sound : IsSound (package_files directory.path of.0) its.files
+    pub sound : IsSound edition (package_files directory.path of.0) its.files
     sound = by (of.2.planned directory among)
       where
-        by : IsPlannedAs of.0 directory.path directory.planned → IsSound (package_files directory.path of.0) its.files
-        by h = (subst (IsPlannedAs of.0 directory.path) its.ready.sound h).0
+        by : IsPlannedAs edition of.0 directory.path directory.planned → IsSound edition (package_files directory.path of.0) its.files
+        by h = (subst (IsPlannedAs edition of.0 directory.path) its.ready.sound h).0
 
     abbrev trees : List File
     trees = its.good.are.trees
 
-    texts : AreOfTexts trees
-    texts = trees_are_of_texts its.files trees its.good.are.parse (files_are_text W has of.0 of.1 directory.path its.files sound)
+    texts : AreOfTexts (edition_of its.files) trees
+    texts =
+        subst (λ e. AreOfTexts e trees) (sym (sound_edition edition (package_files directory.path of.0) its.files sound))
+        (trees_are_of_texts edition its.files trees sound.parses.parses its.good.are.parse (files_are_text edition W has of.0 of.1 directory.path its.files sound))
 
     is_checked : (others : List Package) → AreBefore packages place others → IsChecked others p
     is_checked others same = record {
@@ -138,9 +141,9 @@ module _ (W : List Write) (has : HasFiles W) (target : List ℕ) (ds : List Dire
   ordered_checked = checked_each packages (λ place p at others same. is_checked place p (placed place p at) others same)
 
 -- in package order, where all are good
-pub all_checked : (W : List Write) → HasFiles W → (target : List ℕ) (ds : List Directory) (fates : List Fate) → IsBuildPlanOf W target ds → AreFates ds fates
+pub all_checked : (edition : Edition) (W : List Write) → HasFiles W → (target : List ℕ) (ds : List Directory) (fates : List Fate) → IsBuildPlanOf edition W target ds → AreFates ds fates
     → (packages : List Package) → ArePackages fates (package_order (rows_of ds)) packages → AreChecked packages
-all_checked W has target ds fates of are packages order = ordered_checked W has target ds fates of are (package_order (rows_of ds)) stand packages order
+all_checked edition W has target ds fates of are packages order = ordered_checked edition W has target ds fates of are (package_order (rows_of ds)) stand packages order
   where
     stand : AreOrdered ds fates (package_order (rows_of ds))
     stand = record { behind = λ before after k j whole leads lt q good. orders.behind (rows_of ds) before after k j whole leads lt; once = orders.once (rows_of ds) }

@@ -1,6 +1,7 @@
 -- The ends of a plan's jobs, by the fates of its directories.
 use Rattle.std.proofs.Common.{◌≡◌, ℕ, zero, suc, ◌+◌, ◌<◌, List, [], ◌∷◌, ◌++◌, length, map, Option, None, Some, refl, sym, ap, subst, ◌∙◌, arith}
 use Rattle.std.specs.List.{AllZip, Contains, cons_option, filter_map, slice_get, zip}
+use Rattle.go_text.specs.declared.edition.Edition.{Edition}
 use Rattle.go_text.specs.Faults.{Fault}
 use Rattle.go_ast.specs.Parse.{Parsed}
 use Rattle.go_typed.specs.Trees.{Package}
@@ -33,10 +34,10 @@ end_in (Some a) (Wrong fault) = ends.Came a (compiled.Faulty fault)
 end_in (Some a) (Good p) = ends.Came a (compiled.Good (summary_of p) (object_of p))
 
 -- the end of the job of a directory with this fate
-abbrev pub end_of : ℕ → List Fate → Directory → Fate → End
+abbrev pub end_of : Edition → List Fate → Directory → Fate → End
 end_of edition fates d fate = end_in (action_in edition fates d fate) fate
 
-abbrev pub ends_by : ℕ → List Fate → List Directory → List Fate → List End
+abbrev pub ends_by : Edition → List Fate → List Directory → List Fate → List End
 ends_by edition fates [] others = []
 ends_by edition fates (d ∷ ds) [] = []
 ends_by edition fates (d ∷ ds) (f ∷ others) = end_of edition fates d f ∷ ends_by edition fates ds others
@@ -61,7 +62,7 @@ came_in (Some a) Blocked g h = sym (h refl)
 came_in (Some a) (Wrong fault) g h = refl
 came_in (Some a) (Good p) g h = refl
 
-pub came_here : (edition : ℕ) (fates : List Fate) (d : Directory) (f : Fate) → came_of (end_of edition fates d f) ≡ action_in edition fates d f
+pub came_here : (edition : Edition) (fates : List Fate) (d : Directory) (f : Fate) → came_of (end_of edition fates d f) ≡ action_in edition fates d f
 came_here edition fates d (Stopped fault) = refl
 came_here edition fates d Blocked = refl
 came_here edition fates d (Wrong fault) = came_in (action_by edition fates d d.planned) (Wrong fault) (λ x e. cc (e)) (λ e. cc (e))
@@ -76,7 +77,7 @@ kept_next h x xs None e = ap (λ o. cons_option o (filter_map h xs)) e
 kept_next h x xs (Some b) e = ap (λ o. cons_option o (filter_map h xs)) e
 
 -- what came is what was compiled
-pub came_are : (edition : ℕ) (fates : List Fate) (ds : List Directory) (fs : List Fate) → came (ends_by edition fates ds fs) ≡ filter_map (λ (row : Directory × Fate). action_in edition fates row.0 row.1) (zip ds fs)
+pub came_are : (edition : Edition) (fates : List Fate) (ds : List Directory) (fs : List Fate) → came (ends_by edition fates ds fs) ≡ filter_map (λ (row : Directory × Fate). action_in edition fates row.0 row.1) (zip ds fs)
 came_are edition fates [] fs = refl
 came_are edition fates (d ∷ ds) [] = refl
 came_are edition fates (d ∷ ds) (f ∷ fs) =
@@ -93,17 +94,17 @@ imported_are fates (k ∷ ks) (p ∷ ps) h =
     ap (λ f. packages_in (f ∷ map (fate_at fates) ks)) h.0 ∙ ap (λ xs. p ∷ xs) (imported_are fates ks ps h.1)
 
 -- the action of a directory whose imports are these
-pub action_is : (edition : ℕ) (fates : List Fate) (d : Directory) (files : List Parsed) (ps : List Package) → IsReady fates d files ps → action_by edition fates d d.planned ≡ Some (action_of edition d.path files (map summary_of ps))
+pub action_is : (edition : Edition) (fates : List Fate) (d : Directory) (files : List Parsed) (ps : List Package) → IsReady fates d files ps → action_by edition fates d d.planned ≡ Some (action_of edition d.path files (map summary_of ps))
 action_is edition fates d files ps ready =
     ap (action_by edition fates d) ready.sound ∙ ap (λ xs. Some (action_of edition d.path files (map summary_of xs))) (imported_are fates d.imports ps ready.good)
 
-summary_here : (edition : ℕ) (fates : List Fate) (d : Directory) (f : Fate) → IsFate fates d f → summary_in (end_of edition fates d f) ≡ summary_at f
+summary_here : (edition : Edition) (fates : List Fate) (d : Directory) (f : Fate) → IsFate fates d f → summary_in (end_of edition fates d f) ≡ summary_at f
 summary_here edition fates d (Stopped fault) h = refl
 summary_here edition fates d Blocked h = refl
 summary_here edition fates d (Wrong fault) h = ap (λ a. summary_in (end_in a (Wrong fault))) (action_is edition fates d h.0 h.1 h.2)
 summary_here edition fates d (Good p) h = ap (λ a. summary_in (end_in a (Good p))) (action_is edition fates d h.0 h.1 h.2)
 
-pub summaries_at : (edition : ℕ) (all : List Fate) (ds : List Directory) (fs : List Fate) → AllZip (IsFate all) ds fs → (k : ℕ) → summary_in (end_at (ends_by edition all ds fs) k) ≡ summary_at (fate_at fs k)
+pub summaries_at : (edition : Edition) (all : List Fate) (ds : List Directory) (fs : List Fate) → AllZip (IsFate all) ds fs → (k : ℕ) → summary_in (end_at (ends_by edition all ds fs) k) ≡ summary_at (fate_at fs k)
 summaries_at edition all [] [] h k = refl
 summaries_at edition all [] (f ∷ fs) h k = absurd h
 summaries_at edition all (d ∷ ds) [] h k = absurd h
@@ -119,7 +120,7 @@ good_by (Good p) s e = (p, refl, sym (some_same (summary_of p) s e))
 
 -- ---- the ends of a plan's jobs, among those of others, behind n of them
 
-module _ (edition : ℕ) (ds : List Directory) (fates : List Fate) (are : AreFates ds fates) (whole : List End) (n : ℕ)
+module _ (edition : Edition) (ds : List Directory) (fates : List Fate) (are : AreFates ds fates) (whole : List End) (n : ℕ)
     (within : (k : ℕ) → k < length ds → end_at whole (n + k) ≡ end_at (ends_by edition fates ds fates) k) where
   abbrev Inside : Directory → Type 0
   Inside d = (k : ℕ) → Contains d.imports k → k < length ds
@@ -147,7 +148,7 @@ module _ (edition : ℕ) (ds : List Directory) (fates : List Fate) (are : AreFat
       (here.0 ∷ rest.0, (here.1, rest.1), ap (λ x. x ∷ ss) here.2 ∙ ap (λ xs. summary_of here.0 ∷ xs) rest.2)
 
   abbrev Makes : Directory → Type 0
-  Makes d = (files : List Parsed) (ps : List Package) → IsReady fates d files ps → MakeAction files (map summary_of ps)
+  Makes d = (files : List Parsed) (ps : List Package) → IsReady fates d files ps → MakeAction edition files (map summary_of ps)
 
   abbrev work_by : Directory → List Parsed → Work
   work_by d files = record { edition = edition; path = d.path; files = files }
@@ -201,7 +202,7 @@ told_good a p verdict told its = told.2 ∙ ap (λ z. verdict_of (fault_in z)) (
 abbrev pub IsCompiled : End → Type 0
 IsCompiled end = (a : Action) (r : Compiled) → end ≡ ends.Came a r → Compiles a r
 
-told_here : (edition : ℕ) (fates : List Fate) (d : Directory) (f : Fate) → IsFate fates d f → (result : Option Action) → result ≡ came_of (end_of edition fates d f) → IsCompiled (end_of edition fates d f) → (verdict : Verdict) → IsTold (fault_of d.planned) result verdict → verdict ≡ told_of f
+told_here : (edition : Edition) (fates : List Fate) (d : Directory) (f : Fate) → IsFate fates d f → (result : Option Action) → result ≡ came_of (end_of edition fates d f) → IsCompiled (end_of edition fates d f) → (verdict : Verdict) → IsTold (fault_of d.planned) result verdict → verdict ≡ told_of f
 told_here edition fates d (Stopped fault) h result same its verdict told = subst (λ p. IsTold (fault_of p) result verdict) h told
 told_here edition fates d Blocked h result same its verdict told = subst (λ r. IsToldOf r verdict) same (subst (λ p. IsTold (fault_of p) result verdict) h.1 told)
 told_here edition fates d (Wrong fault) h result same its verdict told =
@@ -225,7 +226,7 @@ place_in d = record { path = d.path; fault = fault_of d.planned }
 abbrev pub told_rows : List Directory → List Fate → List (List ℕ × Verdict)
 told_rows ds fs = map (λ (row : Directory × Fate). (row.0.path, told_of row.1)) (zip ds fs)
 
-pub told_report : (edition : ℕ) (fates : List Fate) (result : ℕ → Option Action) (k : ℕ) (ds : List Directory) (fs : List Fate) (rows : List (List ℕ × Verdict)) → AllZip (IsFate fates) ds fs
+pub told_report : (edition : Edition) (fates : List Fate) (result : ℕ → Option Action) (k : ℕ) (ds : List Directory) (fs : List Fate) (rows : List (List ℕ × Verdict)) → AllZip (IsFate fates) ds fs
     → ((j : ℕ) → j < length ds → (result (k + j) ≡ came_of (end_at (ends_by edition fates ds fs) j)) × IsCompiled (end_at (ends_by edition fates ds fs) j)) → AreTold result k (map place_in ds) rows → rows ≡ told_rows ds fs
 told_report edition fates result k [] [] [] h same told = refl
 told_report edition fates result k [] [] (row ∷ rows) h same told = absurd told
@@ -242,25 +243,25 @@ told_report edition fates result k (d ∷ ds) (f ∷ fs) (row ∷ rows) h same t
 
 -- ---- ranks
 
-pub ends_length : (edition : ℕ) (fates : List Fate) (ds : List Directory) (fs : List Fate) → AllZip (IsFate fates) ds fs → length (ends_by edition fates ds fs) ≡ length ds
+pub ends_length : (edition : Edition) (fates : List Fate) (ds : List Directory) (fs : List Fate) → AllZip (IsFate fates) ds fs → length (ends_by edition fates ds fs) ≡ length ds
 ends_length edition fates [] [] h = refl
 ends_length edition fates [] (f ∷ fs) h = absurd h
 ends_length edition fates (d ∷ ds) [] h = absurd h
 ends_length edition fates (d ∷ ds) (f ∷ fs) h = ap suc (ends_length edition fates ds fs h.1)
 
-sound_by : (edition : ℕ) (d : Directory) (p : Planned) (w : Work) → d.planned ≡ p → work_of edition d.path p ≡ Some w → (files : List Parsed) × (d.planned ≡ Sound files)
+sound_by : (edition : Edition) (d : Directory) (p : Planned) (w : Work) → d.planned ≡ p → work_of edition d.path p ≡ Some w → (files : List Parsed) × (d.planned ≡ Sound files)
 sound_by edition d NoFiles w same f = cc (f)
 sound_by edition d (Faulty fault) w same f = cc (f)
 sound_by edition d (Sound files) w same f = (files, same)
 
 -- the job of a number that has work is a sound directory's
-job_at : (edition : ℕ) (ds : List Directory) (k : ℕ) (w : Work) → work_at (map job_of (map (reached_by edition) ds)) k ≡ Some w
+job_at : (edition : Edition) (ds : List Directory) (k : ℕ) (w : Work) → work_at (map job_of (map (reached_by edition) ds)) k ≡ Some w
     → (d : Directory) × (slice_get ds k ≡ Some d) × ((files : List Parsed) × (d.planned ≡ Sound files)) × (imports_at (map job_of (map (reached_by edition) ds)) k ≡ d.imports)
 job_at edition [] k w e = cc
 job_at edition (d ∷ ds) zero w e = (d, refl, sound_by edition d d.planned w refl e, refl)
 job_at edition (d ∷ ds) (suc k) w e = job_at edition ds k w e
 
-pub jobs_ranked : (edition : ℕ) (ds : List Directory) (rank : ℕ → ℕ) → AreRanks ds rank → IsRanked rank (map job_of (map (reached_by edition) ds))
+pub jobs_ranked : (edition : Edition) (ds : List Directory) (rank : ℕ → ℕ) → AreRanks ds rank → IsRanked rank (map job_of (map (reached_by edition) ds))
 jobs_ranked edition ds rank lower j k v w has among also =
     let at = job_at edition ds j v has in
     lower j k at.0 at.2.0 at.1 at.2.1 (subst (λ ks. Contains ks k) at.3 among)

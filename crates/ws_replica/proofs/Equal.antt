@@ -2,6 +2,7 @@
 use Rattle.std.proofs.Common.{◌≡◌, ℕ, List, [], ◌∷◌, ◌++◌, map, Option, None, Some, refl, sym, ap, subst, ◌∙◌, inl, inr}
 use Rattle.std.specs.List.{All, Contains, flat_map}
 use Rattle.std.proofs.lemmas.List.Elements.{All-nil, All-cons, All-head, All-tail, Contains-append_left, Contains-append_right, Contains-append_cases}
+use Rattle.go_text.specs.declared.edition.Edition.{Edition}
 use Rattle.go_code.specs.Images.{Image}
 use Rattle.go_typed.specs.Trees.{Package}
 use Rattle.go_gen.specs.Translation.{object_of}
@@ -61,10 +62,10 @@ all_moved : (E F : List Action) → ((a : Action) → Contains E a → Contains 
 all_moved E F to [] h = All-nil (Contains F)
 all_moved E F to (x ∷ xs) h = All-cons (Contains F) x xs (to x (All-head (Contains E) x xs h)) (all_moved E F to xs (All-tail (Contains E) x xs h))
 
-moved_program : (edition : ℕ) (E F : List Action) → ((a : Action) → Contains E a → Contains F a) → (build : TargetBuild) (packages : List Package) → IsHeldProgram edition E build packages → IsHeldProgram edition F build packages
+moved_program : (edition : Edition) (E F : List Action) → ((a : Action) → Contains E a → Contains F a) → (build : TargetBuild) (packages : List Package) → IsHeldProgram edition E build packages → IsHeldProgram edition F build packages
 moved_program edition E F to build packages h = record { good = h.good; compiled = all_moved E F to (actions_of edition build) h.compiled; in_order = h.in_order; program = h.program }
 
-one_image : (edition : ℕ) (E F : List Action) → SameMembers E F → (build : TargetBuild) (a b : Option Image) → IsImageOf edition E build a → IsImageOf edition F build b → a ≡ b
+one_image : (edition : Edition) (E F : List Action) → SameMembers E F → (build : TargetBuild) (a b : Option Image) → IsImageOf edition E build a → IsImageOf edition F build b → a ≡ b
 one_image edition E F same build None None g h = refl
 one_image edition E F same build None (Some b) g h = absurd (g h.0 (moved_program edition F E (λ a. (same a).1) build h.0 h.1))
 one_image edition E F same build (Some a) None g h = absurd (h g.0 (moved_program edition E F (λ a. (same a).0) build g.0 g.1))
@@ -73,10 +74,10 @@ one_image edition E F same build (Some a) (Some b) g h =
     let packages : g.0 ≡ h.0 = one_packages build.fates build.fates order g.0 h.0 (agree_refl build.fates order) (g.1).in_order (h.1).in_order in
     ap Some (g.2 ∙ ap (λ ps. linked (map object_of ps)) packages ∙ sym h.2)
 
-pub equal_images : (edition : ℕ) (target : List ℕ) (a b : Option Image) (V W : List Write) (E F : List Action) → SameMembers V W → SameMembers E F
+pub equal_images : (edition : Edition) (target : List ℕ) (a b : Option Image) (V W : List Write) (E F : List Action) → SameMembers V W → SameMembers E F
     → (p : IsImage edition V E target a) → IsImage edition W F target b → NoClash (hashed_actions (E ++ actions_of edition p.build)) → a ≡ b
 equal_images edition target a b V W E F writes results p q clear =
-    let same : p.build ≡ q.build = some_same p.build q.build (one_build V W target (Some p.build) (Some q.build) writes p.are q.are) in
+    let same : p.build ≡ q.build = some_same p.build q.build (one_build edition V W target (Some p.build) (Some q.build) writes p.are q.are) in
     let also : NoClash (hashed_actions (F ++ actions_of edition q.build)) =
     moved_clear E F (actions_of edition q.build) results (subst (λ (z : TargetBuild). NoClash (hashed_actions (E ++ actions_of edition z))) same clear) in
     one_image edition E F results q.build a b (subst (λ (z : TargetBuild). IsImageOf edition E z a) same (p.right clear)) (q.right also)

@@ -3,6 +3,7 @@ use Rattle.std.proofs.Common.{◌≡◌, ℕ, zero, suc, ◌+◌, ◌<◌, Bool,
 use Rattle.std.specs.List.{All, AllZip, Contains, slice_get, zip}
 use Rattle.std.specs.FinMap.{FinMap}
 use Rattle.std.proofs.lemmas.List.Elements.{All-nil, All-cons, All-head, All-tail}
+use Rattle.go_text.specs.declared.edition.Edition.{Edition}
 use Rattle.ws_version.specs.Writes.{Write}
 use Rattle.ws_register.specs.Sources.{HasFiles}
 use Rattle.ws_action.specs.Actions.{Action, action_id}
@@ -63,7 +64,7 @@ row_at state n [] k lt = absurd (omega (arith, lt))
 row_at state n (p ∷ places) zero lt = ap (standing_in state) (let z : n ≡ n + 0 = omega arith in z)
 row_at state n (p ∷ places) (suc k) lt = row_at state (suc n) places k (omega (arith, lt)) ∙ ap (standing_in state) (let z : suc n + k ≡ n + suc k = omega arith in z)
 
-module _ (edition : ℕ) (W : List Write) (paths : HasFiles W) (target : List ℕ) (build : TargetBuild) (of : IsBuildPlanOf W target build.directories) (are : AreFates build.directories build.fates) (E : List Action) (sized : AllSized E)
+module _ (edition : Edition) (W : List Write) (paths : HasFiles W) (target : List ℕ) (build : TargetBuild) (of : IsBuildPlanOf edition W target build.directories) (are : AreFates build.directories build.fates) (E : List Action) (sized : AllSized E)
     (clear : NoClash (hashed_actions (E ++ actions_of edition build))) (cache : FinMap id_cmp Action) (stands : CacheStandsFor cache E) (seen : Seen) (opened : IsOpened (map (reached_by edition) build.directories) cache seen) where
   abbrev ds : List Directory
   ds = build.directories
@@ -107,7 +108,7 @@ module _ (edition : ℕ) (W : List Write) (paths : HasFiles W) (target : List �
 
   row_right : (k : ℕ) (d : Directory) (f : Fate) → Contains ds d → slice_get ds k ≡ Some d → slice_get build.fates k ≡ Some f → IsStanding E (All (IsHeldGood build rows) d.imports) (action_in edition build.fates d f) (standing_in seen.state k)
   row_right k d f among at its =
-      let inside = plan_inside W target ds of d among in
+      let inside = plan_inside edition W target ds of d among in
       right_by E (All (IsHeldGood build rows) d.imports) seen.state.standings.statuses (map (λ j. 0 + j) d.imports) (end_of edition build.fates d f) (action_in edition build.fates d f) (came_here edition build.fates d f)
       (all_held d.imports inside) (all_good d.imports inside) (status_at seen.state.standings.statuses k) (action_at seen.state.standings.actions k)
       (shown edition W paths target build of are E sized clear cache stands seen opened k d f at its)

@@ -7,6 +7,7 @@ use Rattle.std.proofs.lemmas.List.{length-map}
 use Rattle.std.proofs.lemmas.List.Elements.{All-nil, All-cons, All-head, All-tail, Contains-append_left}
 use Rattle.std.proofs.lemmas.Grind.{flat_map-append}
 use Rattle.std.proofs.lemmas.Option.{slice_get_within}
+use Rattle.go_text.specs.declared.edition.Edition.{Edition}
 use Rattle.go_text.specs.Faults.{Fault}
 use Rattle.go_code.specs.Images.{Image}
 use Rattle.go_code.specs.Packages.{Object}
@@ -58,7 +59,7 @@ object_in ends.Blocked = None
 object_in (ends.Came a (compiled.Good s o)) = Some o
 object_in (ends.Came a (compiled.Faulty f)) = None
 
-object_here : (edition : ℕ) (fates : List Fate) (d : Directory) (f : Fate) → IsFate fates d f → (a : Action) (r : Compiled) (o : Object) → end_of edition fates d f ≡ ends.Came a r → object_in (ends.Came a r) ≡ Some o → (p : Package) × (f ≡ Good p) × (o ≡ object_of p)
+object_here : (edition : Edition) (fates : List Fate) (d : Directory) (f : Fate) → IsFate fates d f → (a : Action) (r : Compiled) (o : Object) → end_of edition fates d f ≡ ends.Came a r → object_in (ends.Came a r) ≡ Some o → (p : Package) × (f ≡ Good p) × (o ≡ object_of p)
 object_here edition fates d (Stopped fault) h a r o e is = cc (e)
 object_here edition fates d Blocked h a r o e is = cc (e)
 object_here edition fates d (Wrong fault) h a r o e is =
@@ -130,7 +131,7 @@ result_done at s good o a e h = ap (λ z. result_of at z o) e ∙ ap (result_of 
 
 -- ---- the target's program
 
-module _ (edition : ℕ) (W : List Write) (paths : HasFiles W) (target : List ℕ) (build : TargetBuild) (of : IsBuildPlanOf W target build.directories) (are : AreFates build.directories build.fates) (E : List Action) (sized : AllSized E)
+module _ (edition : Edition) (W : List Write) (paths : HasFiles W) (target : List ℕ) (build : TargetBuild) (of : IsBuildPlanOf edition W target build.directories) (are : AreFates build.directories build.fates) (E : List Action) (sized : AllSized E)
     (clear : NoClash (hashed_actions (E ++ actions_of edition build))) (cache : FinMap id_cmp Action) (stands : CacheStandsFor cache E) (seen : Seen) (opened : IsOpened (map (reached_by edition) build.directories) cache seen) where
   abbrev ds : List Directory
   ds = build.directories
@@ -267,7 +268,7 @@ module _ (edition : ℕ) (W : List Write) (paths : HasFiles W) (target : List �
     refused_image e refused packages h =
         let ps = ordered in
         let same : ps.0 ≡ packages = one_packages fates fates (package_order rows) ps.0 packages (agree_refl fates (package_order rows)) ps.1 h.in_order in
-        let allowed : link_refusal (map object_of packages) ≡ None = program_linked packages (well_typed W paths target build of are h.good packages h.in_order h.program) h.program in
+        let allowed : link_refusal (map object_of packages) ≡ None = program_linked packages (well_typed edition W paths target build of are h.good packages h.in_order h.program) h.program in
         let no : None ≡ Some e = sym allowed ∙ ap (λ xs. link_refusal (map object_of xs)) (sym same) ∙ ap link_refusal (sym ps.2) ∙ refused in
         cc (no)
 
@@ -281,7 +282,7 @@ module _ (edition : ℕ) (W : List Write) (paths : HasFiles W) (target : List �
     good_at k f its = all_at IsGood fates program.good k f its
 
     ranks : (rank : ℕ → ℕ) × AreRanks ds rank
-    ranks = ranked_build_plan W target ds of
+    ranks = ranked_build_plan edition W target ds of
 
     abbrev Finished : ℕ → Type 0
     Finished k = (d : Directory) → slice_get ds k ≡ Some d → status_at statuses k ≡ Done true
@@ -326,7 +327,7 @@ module _ (edition : ℕ) (W : List Write) (paths : HasFiles W) (target : List �
         let is : IsFate fates d (Good good.0) = subst (IsFate fates d) good.1 f.is in
         finished_by k d f.fate good.0 at f.at good.1 f.is
         (imports_done d.imports (λ j c.
-        let other = there ds j (plan_inside W target ds of d (at_member ds k d at) j c) in
+        let other = there ds j (plan_inside edition W target ds of d (at_member ds k d at) j c) in
         below j (ranks.1 k j d is.0 at (is.2).sound c) other.0 other.1))
         (status_at statuses k) (action_at actions k) (its_shown k d f.fate at f.at)
 

@@ -4,6 +4,7 @@ use Rattle.std.specs.Option.{option_map}
 use Rattle.std.specs.List.{All, Contains, slice_get}
 use Rattle.std.proofs.lemmas.List.{length-map}
 use Rattle.std.proofs.lemmas.Option.{slice_get_within, slice_get-map}
+use Rattle.go_text.specs.declared.edition.Edition.{Edition}
 use Rattle.go_typed.specs.Trees.{Package}
 use Rattle.go_init.specs.Packages.{package_order}
 use Rattle.go_init.proofs.Orders.{ranked, last}
@@ -21,7 +22,7 @@ use Rattle.ws_replica.proofs.OneBuild.{fate_of}
 use Rattle.ws_replica.proofs.OrderedPackages.{one_number}
 use Rattle.ws_replica.proofs.PlanMakes.{further, package_at}
 
-module _ (W : List Write) (target : List ℕ) (ds : List Directory) (of : IsBuildPlanOf W target ds) where
+module _ (edition : Edition) (W : List Write) (target : List ℕ) (ds : List Directory) (of : IsBuildPlanOf edition W target ds) where
   abbrev rows : List (List ℕ)
   rows = map (λ (d : Directory). d.imports) ds
 
@@ -38,17 +39,17 @@ module _ (W : List Write) (target : List ℕ) (ds : List Directory) (of : IsBuil
   row_at k d at = slice_get-map (λ (d : Directory). d.imports) ds k ∙ ap (option_map (λ (d : Directory). d.imports)) at
 
   -- an import is an edge
-  edge : (k : ℕ) (p q : List ℕ) → slice_get paths k ≡ Some p → Imports of.0 p q → (j : ℕ) × (slice_get paths j ≡ Some q) × Edge rows k j
+  edge : (k : ℕ) (p q : List ℕ) → slice_get paths k ≡ Some p → Imports edition of.0 p q → (j : ℕ) × (slice_get paths j ≡ Some q) × Edge rows k j
   edge k p q at leads =
       let d = directory_at k p at in
       let among : Contains ds d.0 = at_member ds k d.0 d.1 in
-      let here : Reaches of.0 target p = (of.2.reached p).0 (at_member paths k p at) in
-      let j = member_at paths q ((of.2.reached q).1 (further of.0 target p q here leads)) in
-      let its : Imports of.0 d.0.path q = subst (λ x. Imports of.0 x q) (sym d.2) leads in
+      let here : Reaches edition of.0 target p = (of.2.reached p).0 (at_member paths k p at) in
+      let j = member_at paths q ((of.2.reached q).1 (further edition of.0 target p q here leads)) in
+      let its : Imports edition of.0 d.0.path q = subst (λ x. Imports edition of.0 x q) (sym d.2) leads in
       (j.0, j.1, (d.0.imports, row_at k d.0 d.1, ((of.2.imports d.0 among).are j.0).1 (q, j.1, its)))
 
   -- a walk over imports is one over numbers
-  walk : (steps : List (List ℕ)) (k : ℕ) (p q : List ℕ) → slice_get paths k ≡ Some p → reach.Walks (Imports of.0) p steps q → (j : ℕ) → slice_get paths j ≡ Some q → reach.Reaches (Edge rows) k j
+  walk : (steps : List (List ℕ)) (k : ℕ) (p q : List ℕ) → slice_get paths k ≡ Some p → reach.Walks (Imports edition of.0) p steps q → (j : ℕ) → slice_get paths j ≡ Some q → reach.Reaches (Edge rows) k j
   walk [] k p q at same j also = ([], one_number paths of.2.ascending q k j (at ∙ ap Some same) also)
   walk (r ∷ steps) k p q at (leads, more) j also =
       let next = edge k p r at leads in
@@ -60,7 +61,7 @@ module _ (W : List Write) (target : List ℕ) (ds : List Directory) (of : IsBuil
   reaches_all k at j lt =
       let d = there ds j (omega (arith, lt, length-map ds (λ (d : Directory). d.imports))) in
       let its : slice_get paths j ≡ Some d.0.path = slice_get-map (λ (d : Directory). d.path) ds j ∙ ap (option_map (λ (d : Directory). d.path)) d.1 in
-      let from : Reaches of.0 target d.0.path = (of.2.reached d.0.path).0 (at_member paths j d.0.path its) in
+      let from : Reaches edition of.0 target d.0.path = (of.2.reached d.0.path).0 (at_member paths j d.0.path its) in
       walk from.0 k target d.0.path at from.1 j its
 
   target_at : (k : ℕ) × (slice_get paths k ≡ Some target)
@@ -79,7 +80,7 @@ module _ (W : List Write) (target : List ℕ) (ds : List Directory) (of : IsBuil
 
     target_last : (before : List ℕ) × (package_order rows ≡ before ++ target_at.0 ∷ [])
     target_last =
-        let ranks = ranked_build_plan W target ds of in
+        let ranks = ranked_build_plan edition W target ds of in
         let inside : target_at.0 < length rows =
         (let lt = slice_get_within paths target_at.0 target target_at.1 in omega (arith, lt, length-map ds (λ (d : Directory). d.path), length-map ds (λ (d : Directory). d.imports))) in
         last rows target_at.0 (ranked rows ranks.0 (falls ranks.0 ranks.1) target_at.0 inside) (reaches_all target_at.0 target_at.1)
@@ -103,6 +104,6 @@ module _ (W : List Write) (target : List ℕ) (ds : List Directory) (of : IsBuil
         let same : its.0 ≡ d.0 = some_same its.0 d.0 (sym its.1 ∙ d.1) in
         (end.0, end.1, end.2, its.2 ∙ ap (λ (x : Directory). x.path) same ∙ d.2)
 
-pub target_is_last : (W : List Write) (target : List ℕ) (build : TargetBuild) (edition : ℕ) (held : List Action) (packages : List Package) → IsTargetBuild W target (Some build) → IsHeldProgram edition held build packages
+pub target_is_last : (edition : Edition) (W : List Write) (target : List ℕ) (build : TargetBuild) (held : List Action) (packages : List Package) → IsTargetBuild edition W target (Some build) → IsHeldProgram edition held build packages
     → (before : List Package) × (p : Package) × (packages ≡ before ++ p ∷ []) × (p.path ≡ target)
-target_is_last W target build edition held packages of program = last_package W target build.directories of.0 build.fates of.1 program.good packages program.in_order
+target_is_last edition W target build held packages of program = last_package edition W target build.directories of.0 build.fates of.1 program.good packages program.in_order

@@ -1,6 +1,7 @@
 -- Of one set of writes a target has one plan, whose directories come to one thing each.
 use Rattle.std.proofs.Common.{◌≡◌, ℕ, zero, suc, ◌<◌, Some, None, Option, List, [], ◌∷◌, map, refl, sym, ap, subst, ◌∙◌}
 use Rattle.std.specs.List.{AllZip, Contains, slice_get}
+use Rattle.go_text.specs.declared.edition.Edition.{Edition}
 use Rattle.go_text.specs.Faults.{Fault}
 use Rattle.go_ast.specs.Parse.{Parsed}
 use Rattle.go_typed.specs.Trees.{Package}
@@ -175,18 +176,18 @@ module _ (ds : List Directory) (rank : ℕ → ℕ) (ranks : AreRanks ds rank) (
 -- ---- one build
 
 -- a target that has files isn't one that has none
-files_or_none : (V W : List Write) (target : List ℕ) (ds : List Directory) → SameMembers V W → IsPlanOf V target NoFiles → IsBuildPlanOf W target ds → ⊥
-files_or_none V W target ds same (sources, are, none) (others, have, plan) =
+files_or_none : (edition : Edition) (V W : List Write) (target : List ℕ) (ds : List Directory) → SameMembers V W → IsPlanOf edition V target NoFiles → IsBuildPlanOf edition W target ds → ⊥
+files_or_none edition V W target ds same (sources, are, none) (others, have, plan) =
     let one : sources ≡ others = same_sources V W sources others same are have in
     plan.files (ap (package_files target) (sym one) ∙ none)
 
-pub one_build : (V W : List Write) (target : List ℕ) (a b : Option TargetBuild) → SameMembers V W → IsTargetBuild V target a → IsTargetBuild W target b → a ≡ b
-one_build V W target None None same g h = refl
-one_build V W target None (Some b) same g h = absurd (files_or_none V W target b.directories same g h.0)
-one_build V W target (Some a) None same g h = absurd (files_or_none W V target a.directories (λ x. ((same x).1, (same x).0)) h g.0)
-one_build V W target (Some a) (Some b) same g h =
-    let ds : a.directories ≡ b.directories = one_build_plan_of V W target a.directories b.directories same g.0 h.0 in
-    let ranks = ranked_build_plan W target b.directories h.0 in
+pub one_build : (edition : Edition) (V W : List Write) (target : List ℕ) (a b : Option TargetBuild) → SameMembers V W → IsTargetBuild edition V target a → IsTargetBuild edition W target b → a ≡ b
+one_build edition V W target None None same g h = refl
+one_build edition V W target None (Some b) same g h = absurd (files_or_none edition V W target b.directories same g h.0)
+one_build edition V W target (Some a) None same g h = absurd (files_or_none edition W V target a.directories (λ x. ((same x).1, (same x).0)) h g.0)
+one_build edition V W target (Some a) (Some b) same g h =
+    let ds : a.directories ≡ b.directories = one_build_plan_of edition V W target a.directories b.directories same g.0 h.0 in
+    let ranks = ranked_build_plan edition W target b.directories h.0 in
     let fates : a.fates ≡ b.fates = one_fates b.directories ranks.0 ranks.1 a.fates b.fates (subst (λ zs. AreFates zs a.fates) ds g.1) h.1 in
     let whole : a ≡ b = λ i. record { directories = ds i; fates = fates i } in
     ap Some whole

@@ -2,6 +2,7 @@
 use Rattle.std.proofs.Common.{◌≡◌, ℕ, zero, suc, ◌+◌, ◌<◌, Bool, true, List, [], ◌∷◌, ◌++◌, length, map, Option, None, Some, refl, sym, ap, subst, ◌∙◌, arith}
 use Rattle.std.specs.List.{Contains, slice_get}
 use Rattle.std.specs.FinMap.{FinMap}
+use Rattle.go_text.specs.declared.edition.Edition.{Edition}
 use Rattle.go_typed.specs.Trees.{Package}
 use Rattle.go_export.specs.Summaries.{summary_of}
 use Rattle.ws_version.specs.Writes.{Write}
@@ -29,36 +30,36 @@ use Rattle.ws_replica.proofs.SeveralPlans.{after_ranked, ranked_whole}
 use Rattle.ws_replica.proofs.TargetPieces.{plan_inside}
 
 -- what stands at a directory's number
-pub end_here : (edition : ℕ) (all : List Fate) (ds : List Directory) (fs : List Fate) (k : ℕ) (d : Directory) (f : Fate) → slice_get ds k ≡ Some d → slice_get fs k ≡ Some f → end_at (ends_by edition all ds fs) k ≡ end_of edition all d f
+pub end_here : (edition : Edition) (all : List Fate) (ds : List Directory) (fs : List Fate) (k : ℕ) (d : Directory) (f : Fate) → slice_get ds k ≡ Some d → slice_get fs k ≡ Some f → end_at (ends_by edition all ds fs) k ≡ end_of edition all d f
 end_here edition all [] fs k d f at its = cc (at)
 end_here edition all (x ∷ ds) [] k d f at its = cc (its)
 end_here edition all (x ∷ ds) (y ∷ fs) zero d f at its =
     ap (λ (z : Directory). end_of edition all z y) (some_same x d at) ∙ ap (end_of edition all d) (some_same y f its)
 end_here edition all (x ∷ ds) (y ∷ fs) (suc k) d f at its = end_here edition all ds fs k d f at its
 
-pub imports_here : (edition n : ℕ) (ds : List Directory) (k : ℕ) (d : Directory) → slice_get ds k ≡ Some d → imports_at (map (job_after n) (map (reached_by edition) ds)) k ≡ map (λ j. n + j) d.imports
+pub imports_here : (edition : Edition) (n : ℕ) (ds : List Directory) (k : ℕ) (d : Directory) → slice_get ds k ≡ Some d → imports_at (map (job_after n) (map (reached_by edition) ds)) k ≡ map (λ j. n + j) d.imports
 imports_here edition n [] k d at = cc (at)
 imports_here edition n (x ∷ ds) zero d at = ap (λ (z : Directory). map (λ j. n + j) z.imports) (some_same x d at)
 imports_here edition n (x ∷ ds) (suc k) d at = imports_here edition n ds k d at
 
-abbrev pub jobs_by : ℕ → List Directory → List Job
+abbrev pub jobs_by : Edition → List Directory → List Job
 jobs_by edition ds = map (job_after 0) (map (reached_by edition) ds)
 
 -- a good end is a good fate's
-pub good_end : (edition : ℕ) (ds : List Directory) (fates : List Fate) → AreFates ds fates → (k : ℕ) (a : Action) (r : Compiled) → end_at (ends_by edition fates ds fates) k ≡ ends.Came a r → is_good_result r ≡ true → (p : Package) × (fate_at fates k ≡ Good p)
+pub good_end : (edition : Edition) (ds : List Directory) (fates : List Fate) → AreFates ds fates → (k : ℕ) (a : Action) (r : Compiled) → end_at (ends_by edition fates ds fates) k ≡ ends.Came a r → is_good_result r ≡ true → (p : Package) × (fate_at fates k ≡ Good p)
 good_end edition ds fates are k a (compiled.Good s o) e good =
     let its = good_by (fate_at fates k) s (sym (summaries_at edition fates ds fates are k) ∙ ap summary_in e) in
     (its.0, its.1)
 good_end edition ds fates are k a (compiled.Faulty f) e good = cc (good)
 
 -- and the other way round
-pub good_result : (edition : ℕ) (ds : List Directory) (fates : List Fate) → AreFates ds fates → (k : ℕ) (p : Package) → fate_at fates k ≡ Good p → (a : Action) (r : Compiled) → end_at (ends_by edition fates ds fates) k ≡ ends.Came a r → is_good_result r ≡ true
+pub good_result : (edition : Edition) (ds : List Directory) (fates : List Fate) → AreFates ds fates → (k : ℕ) (p : Package) → fate_at fates k ≡ Good p → (a : Action) (r : Compiled) → end_at (ends_by edition fates ds fates) k ≡ ends.Came a r → is_good_result r ≡ true
 good_result edition ds fates are k p good a (compiled.Good s o) e = refl
 good_result edition ds fates are k p good a (compiled.Faulty f) e =
     let none : None ≡ Some (summary_of p) = sym (ap summary_in e) ∙ summaries_at edition fates ds fates are k ∙ ap summary_at good in
     cc (none)
 
-module _ (edition : ℕ) (W : List Write) (paths : HasFiles W) (target : List ℕ) (build : TargetBuild) (of : IsBuildPlanOf W target build.directories) (are : AreFates build.directories build.fates) (E : List Action) (sized : AllSized E)
+module _ (edition : Edition) (W : List Write) (paths : HasFiles W) (target : List ℕ) (build : TargetBuild) (of : IsBuildPlanOf edition W target build.directories) (are : AreFates build.directories build.fates) (E : List Action) (sized : AllSized E)
     (clear : NoClash (hashed_actions (E ++ actions_of edition build))) (cache : FinMap id_cmp Action) (stands : CacheStandsFor cache E) (seen : Seen) (opened : IsOpened (map (reached_by edition) build.directories) cache seen) where
   abbrev ds : List Directory
   ds = build.directories
@@ -85,13 +86,13 @@ module _ (edition : ℕ) (W : List Write) (paths : HasFiles W) (target : List �
   same_end k lt = ap (end_at whole) (let z : 0 + k ≡ k = omega arith in z)
 
   its_ends : AreEnds (jobs_by edition ds) whole
-  its_ends = are_ends edition ds fates are whole 0 same_end ds fates (λ d c. (plan_inside W target ds of d c, plan_makes W paths target ds fates of are d c)) are
+  its_ends = are_ends edition ds fates are whole 0 same_end ds fates (λ d c. (plan_inside edition W target ds of d c, plan_makes edition W paths target ds fates of are d c)) are
 
   its_clear : AreClear E (came whole)
   its_clear = record { sized = sized; clear = subst (λ (F : List Action). NoClash (hashed_actions (E ++ F))) (sym (came_are edition fates ds fates)) clear }
 
   ranks : (rank : ℕ → ℕ) × AreRanks ds rank
-  ranks = ranked_build_plan W target ds of
+  ranks = ranked_build_plan edition W target ds of
 
   its_ranks : IsRanked ranks.0 (jobs_by edition ds)
   its_ranks = ranked_whole ranks.0 (jobs_by edition ds) (after_ranked 0 (map (reached_by edition) ds) ranks.0 (jobs_ranked edition ds ranks.0 ranks.1))

@@ -2,6 +2,7 @@
 use Rattle.std.proofs.Common.{◌≡◌, ℕ, List, [], ◌∷◌, ◌++◌, length, map, Option, None, Some, refl, sym, ap, subst, ◌∙◌}
 use Rattle.std.specs.FinMap.{FinMap}
 use Rattle.std.proofs.lemmas.List.{length-map}
+use Rattle.go_text.specs.declared.edition.Edition.{Edition}
 use Rattle.go_code.specs.Images.{Image}
 use Rattle.go_code.specs.Packages.{Object}
 use Rattle.go_init.specs.Packages.{package_order}
@@ -25,17 +26,17 @@ use Rattle.ws_replica.proofs.SomeBuild.{some_fates}
 use Rattle.ws_replica.proofs.TargetPieces.{places_same}
 
 -- what a plan's directories come to
-its_fates : (W : List Write) (target : List ℕ) (ds : List Directory) → IsBuildPlanOf W target ds → (fates : List Fate) × AreFates ds fates
-its_fates W target ds of = let ranks = ranked_build_plan W target ds of in some_fates of.0 ds of.2.planned ranks.0 ranks.1
+its_fates : (edition : Edition) (W : List Write) (target : List ℕ) (ds : List Directory) → IsBuildPlanOf edition W target ds → (fates : List Fate) × AreFates ds fates
+its_fates edition W target ds of = let ranks = ranked_build_plan edition W target ds of in some_fates edition of.0 ds of.2.planned ranks.0 ranks.1
 
-imports_same : (edition : ℕ) (xs : List Directory) → map (λ (r : Reached). r.imports) (map (reached_by edition) xs) ≡ map (λ (d : Directory). d.imports) xs
+imports_same : (edition : Edition) (xs : List Directory) → map (λ (r : Reached). r.imports) (map (reached_by edition) xs) ≡ map (λ (d : Directory). d.imports) xs
 imports_same edition [] = refl
 imports_same edition (x ∷ xs) = ap (λ rest. x.imports ∷ rest) (imports_same edition xs)
 
-module _ (edition : ℕ) (W : List Write) (E : List Action) (target : List ℕ) (ds : List Directory) (of : IsBuildPlanOf W target ds) (paths : HasFiles W) (sized : AllSized E) (cache : FinMap id_cmp Action) (stands : CacheStandsFor cache E)
+module _ (edition : Edition) (W : List Write) (E : List Action) (target : List ℕ) (ds : List Directory) (of : IsBuildPlanOf edition W target ds) (paths : HasFiles W) (sized : AllSized E) (cache : FinMap id_cmp Action) (stands : CacheStandsFor cache E)
     (reached : List Reached) (same : reached ≡ map (reached_by edition) ds) (seen : Seen) (opened : IsOpened reached cache seen) where
   abbrev fates : (fates : List Fate) × AreFates ds fates
-  fates = its_fates W target ds of
+  fates = its_fates edition W target ds of
 
   abbrev build : TargetBuild
   build = record { directories = ds; fates = fates.0 }

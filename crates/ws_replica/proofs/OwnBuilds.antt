@@ -5,6 +5,7 @@ use Rattle.std.specs.List.Sorted.{IsStrictlySortedBy}
 use Rattle.std.specs.Str.{bytes_eq}
 use Rattle.std.specs.declared.cmp.Ordering.TheVariants.{Less}
 use Rattle.std.proofs.lemmas.Slice.Eq.{bytes_eq-Decides}
+use Rattle.go_text.specs.declared.edition.Edition.{Edition}
 use Rattle.go_typed.specs.Trees.{Package}
 use Rattle.go_import.specs.Names.{importable_of}
 use Rattle.go_export.specs.Summaries.{summary_of}
@@ -91,18 +92,18 @@ module _ (F G : List Fate) (u d : Directory) (path : d.path ≡ u.path) (planned
     subst (λ p. AreGood p h.0 (map importable_of h.1) typed) (sym path) h.3,
   )
 
-  action_same : (edition : ℕ) (p : Planned) → action_by edition G d p ≡ action_by edition F u p
+  action_same : (edition : Edition) (p : Planned) → action_by edition G d p ≡ action_by edition F u p
   action_same edition NoFiles = refl
   action_same edition (Faulty fault) = refl
   action_same edition (Sound files) =
       ap (λ x. Some (action_of edition x files (map summary_of (packages_in (map (fate_at G) d.imports))))) path
       ∙ ap (λ fs. Some (action_of edition u.path files (map summary_of (packages_in fs)))) (sym imports)
 
-  action_planned : (edition : ℕ) → action_by edition G d d.planned ≡ action_by edition F u u.planned
+  action_planned : (edition : Edition) → action_by edition G d d.planned ≡ action_by edition F u u.planned
   action_planned edition = ap (action_by edition G d) planned ∙ action_same edition u.planned
 
   -- one action
-  pub moved_action : (edition : ℕ) (f : Fate) → action_in edition G d f ≡ action_in edition F u f
+  pub moved_action : (edition : Edition) (f : Fate) → action_in edition G d f ≡ action_in edition F u f
   moved_action edition (Stopped fault) = refl
   moved_action edition Blocked = refl
   moved_action edition (Wrong fault) = action_planned edition
@@ -110,11 +111,11 @@ module _ (F G : List Fate) (u d : Directory) (path : d.path ≡ u.path) (planned
 
 -- ---- the actions of a build, by number
 
-abbrev actions_by : ℕ → List Fate → List Directory → List Fate → List Action
+abbrev actions_by : Edition → List Fate → List Directory → List Fate → List Action
 actions_by edition all ds fs = filter_map (λ (row : Directory × Fate). action_in edition all row.0 row.1) (zip ds fs)
 
 -- the action of some number
-pub record ActionAt (edition : ℕ) (all : List Fate) (ds : List Directory) (fs : List Fate) (a : Action) : Type 0 where
+pub record ActionAt (edition : Edition) (all : List Fate) (ds : List Directory) (fs : List Fate) (a : Action) : Type 0 where
   pub number : ℕ
   pub directory : Directory
   pub fate : Fate
@@ -130,7 +131,7 @@ into_rest : (o : Option Action) (rest : List Action) (a : Action) → Contains r
 into_rest None rest a c = c
 into_rest (Some b) rest a c = later b rest a c
 
-pub into_actions : (edition : ℕ) (all : List Fate) (ds : List Directory) (fs : List Fate) (k : ℕ) (d : Directory) (f : Fate) (a : Action) → slice_get ds k ≡ Some d → slice_get fs k ≡ Some f → action_in edition all d f ≡ Some a → Contains (actions_by edition all ds fs) a
+pub into_actions : (edition : Edition) (all : List Fate) (ds : List Directory) (fs : List Fate) (k : ℕ) (d : Directory) (f : Fate) (a : Action) → slice_get ds k ≡ Some d → slice_get fs k ≡ Some f → action_in edition all d f ≡ Some a → Contains (actions_by edition all ds fs) a
 into_actions edition all [] fs k d f a at its is = cc (at)
 into_actions edition all (x ∷ ds) [] k d f a at its is = cc (its)
 into_actions edition all (x ∷ ds) (y ∷ fs) zero d f a at its is =
@@ -145,7 +146,7 @@ from_step (Some b) rest a c = elim (head_or_later b rest a c) [
   | inr l ↦ inr l
 ]
 
-pub from_actions : (edition : ℕ) (all : List Fate) (ds : List Directory) (fs : List Fate) (a : Action) → Contains (actions_by edition all ds fs) a → ActionAt edition all ds fs a
+pub from_actions : (edition : Edition) (all : List Fate) (ds : List Directory) (fs : List Fate) (a : Action) → Contains (actions_by edition all ds fs) a → ActionAt edition all ds fs a
 from_actions edition all [] fs a c = absurd (none_in_empty a c)
 from_actions edition all (x ∷ ds) [] a c = absurd (none_in_empty a c)
 from_actions edition all (x ∷ ds) (y ∷ fs) a c = elim (from_step (action_in edition all x y) (actions_by edition all ds fs) a c) [
@@ -175,7 +176,7 @@ picked_rows rs g h (n ∷ ns) e =
 
 -- ---- a target's own build
 
-module _ (sources : Sources) (targets : List (List ℕ)) (us : List Directory) (fs : List Fate) (joint : IsJointPlan sources targets us) (are : AreFates us fs) (target : List ℕ) (among : Contains targets target) (ds : List Directory) (plan : IsBuildPlan sources target ds) where
+module _ (edition : Edition) (sources : Sources) (targets : List (List ℕ)) (us : List Directory) (fs : List Fate) (joint : IsJointPlan edition sources targets us) (are : AreFates us fs) (target : List ℕ) (among : Contains targets target) (ds : List Directory) (plan : IsBuildPlan edition sources target ds) where
   abbrev fate_by : List ℕ → Fate
   fate_by = look us fs
 
@@ -185,11 +186,11 @@ module _ (sources : Sources) (targets : List (List ℕ)) (us : List Directory) (
   abbrev pub own_build : TargetBuild
   own_build = record { directories = ds; fates = own_fates }
 
-  abbrev here : IsWhole sources ds
-  here = whole_plan sources target ds plan
+  abbrev here : IsWhole edition sources ds
+  here = whole_plan edition sources target ds plan
 
-  abbrev there : IsWhole sources us
-  there = whole_joint sources targets us joint
+  abbrev there : IsWhole edition sources us
+  there = whole_joint edition sources targets us joint
 
   -- a number's fate is that of its path
   own_fate_at : (k : ℕ) (q : List ℕ) → slice_get (paths_of ds) k ≡ Some q → fate_at own_fates k ≡ fate_by (at_path (paths_of ds) k)
@@ -223,10 +224,10 @@ module _ (sources : Sources) (targets : List (List ℕ)) (us : List Directory) (
         at = at;
         its = f.at;
         path = path;
-        planned = planned_once sources u.path d.planned u.planned (subst (λ p. IsPlannedAs sources p d.planned) path (plan.planned d c)) (joint.planned u in_us);
+        planned = planned_once edition sources u.path d.planned u.planned (subst (λ p. IsPlannedAs edition sources p d.planned) path (plan.planned d c)) (joint.planned u in_us);
         imports =
             map_through (fate_at fs) (at_path (paths_of us)) fate_by u.imports (λ k ck. let q = ((joint.imports u in_us).are k).0 ck in joint_fate_at k q.0 q.1)
-            ∙ ap (map fate_by) (same_paths sources us ds there here u d in_us c (sym path))
+            ∙ ap (map fate_by) (same_paths edition sources us ds there here u d in_us c (sym path))
             ∙ sym (map_through (fate_at own_fates) (at_path (paths_of ds)) fate_by d.imports (λ k ck. let q = ((plan.imports d c).are k).0 ck in own_fate_at k q.0 q.1));
         looked = ap fate_by path ∙ look_at us fs joint.ascending n u f.fate at f.at;
         is = f.is;
@@ -246,8 +247,8 @@ module _ (sources : Sources) (targets : List (List ℕ)) (us : List Directory) (
       subst (IsFate own_fates d) (sym w.looked) (moved_fate fs own_fates t.1 d w.path w.planned w.imports w.fate w.is))
 
   -- its actions are among the joint plan's
-  pub own_into : (edition : ℕ) (a : Action) → Contains (actions_of edition own_build) a → Contains (actions_of edition (record { directories = us; fates = fs })) a
-  own_into edition a c =
+  pub own_into : (a : Action) → Contains (actions_of edition own_build) a → Contains (actions_of edition (record { directories = us; fates = fs })) a
+  own_into a c =
       let x = from_actions edition own_fates ds own_fates a c in
       let t = twin_of x.directory (get_contains ds x.number x.directory x.at) in
       let w = t.2 in
@@ -256,8 +257,8 @@ module _ (sources : Sources) (targets : List (List ℕ)) (us : List Directory) (
       (sym (moved_action fs own_fates t.1 x.directory w.path w.planned w.imports edition w.fate) ∙ ap (action_in edition own_fates x.directory) (sym fate) ∙ x.is)
 
   -- and those of what it reaches are its own
-  pub own_back : (edition n : ℕ) (u : Directory) (f : Fate) (a : Action) → slice_get us n ≡ Some u → slice_get fs n ≡ Some f → Reaches sources target u.path → action_in edition fs u f ≡ Some a → Contains (actions_of edition own_build) a
-  own_back edition n u f a at its way is =
+  pub own_back : (n : ℕ) (u : Directory) (f : Fate) (a : Action) → slice_get us n ≡ Some u → slice_get fs n ≡ Some f → Reaches edition sources target u.path → action_in edition fs u f ≡ Some a → Contains (actions_of edition own_build) a
+  own_back n u f a at its way is =
       let m = member_at (paths_of ds) u.path ((plan.reached u.path).1 way) in
       let d = map_left (λ (x : Directory). x.path) ds m.0 u.path m.1 in
       let w = twin_at d.0 (get_contains ds m.0 d.0 d.1) n u at (sym d.2) in
@@ -270,7 +271,7 @@ module _ (sources : Sources) (targets : List (List ℕ)) (us : List Directory) (
   own_rows (x ∷ xs) = ap (λ zs. let row : Row = (x.path, told_of (fate_by x.path)) in row ∷ zs) (own_rows xs)
 
   -- its report has the rows of its part
-  pub own_report : (ns : List ℕ) → IsPart sources (paths_of us) target ns → filter_map (slice_get (report_of (record { directories = us; fates = fs }))) ns ≡ report_of own_build
+  pub own_report : (ns : List ℕ) → IsPart edition sources (paths_of us) target ns → filter_map (slice_get (report_of (record { directories = us; fates = fs }))) ns ≡ report_of own_build
   own_report ns part =
       picked_rows (map row_by (zip us fs)) (at_path (paths_of us)) (λ p. let row : Row = (p, told_of (fate_by p)) in row) ns (λ k c.
       let q = (part.are k).0 c in
@@ -279,5 +280,5 @@ module _ (sources : Sources) (targets : List (List ℕ)) (us : List Directory) (
       let path : u.0.path ≡ at_path (paths_of us) k = sym u.2 ∙ sym (at_some (paths_of us) k q.0 q.1) in
       let fate : f.fate ≡ fate_by u.0.path = sym (look_at us fs joint.ascending k u.0 f.fate u.1 f.at) in
       row_at us fs k u.0 f.fate u.1 f.at ∙ ap (λ z. let row : Row = (u.0.path, told_of z) in Some row) fate ∙ ap (λ z. let row : Row = (z, told_of (fate_by z)) in Some row) path)
-      ∙ ap (map (λ p. let row : Row = (p, told_of (fate_by p)) in row)) (own_paths sources targets us ds target joint among plan ns part)
+      ∙ ap (map (λ p. let row : Row = (p, told_of (fate_by p)) in row)) (own_paths edition sources targets us ds target joint among plan ns part)
       ∙ own_rows ds

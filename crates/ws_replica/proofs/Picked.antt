@@ -5,6 +5,7 @@ use Rattle.std.specs.List.{AllByRecursion, Contains, slice_get}
 use Rattle.std.specs.List.Sorted.{IsStrictlySortedBy, IsStrictlyIncreasing}
 use Rattle.std.specs.declared.cmp.Ordering.TheVariants.{Less}
 use Rattle.std.proofs.lemmas.Option.{slice_get_within}
+use Rattle.go_text.specs.declared.edition.Edition.{Edition}
 use Rattle.ws_version.specs.Writes.{path_cmp}
 use Rattle.ws_version.proofs.Writes.{path_cmp_total}
 use Rattle.ws_action.proofs.Members.{none_in_empty, head_or_later, at_head, later}
@@ -72,22 +73,22 @@ picked_sorted ps s (k ∷ ks) inc within = (
 
 -- ---- imports
 
-module _ (sources : Sources) where
-  pub inside : (ds : List Directory) → IsWhole sources ds → (d : Directory) → Contains ds d → (k : ℕ) → Contains d.imports k → k < length (paths_of ds)
+module _ (edition : Edition) (sources : Sources) where
+  pub inside : (ds : List Directory) → IsWhole edition sources ds → (d : Directory) → Contains ds d → (k : ℕ) → Contains d.imports k → k < length (paths_of ds)
   inside ds whole d c k among = let there = ((whole.imports d c).are k).0 among in slice_get_within (paths_of ds) k there.0 there.1
 
-  one_side : (ds es : List Directory) → IsWhole sources ds → IsWhole sources es → (d e : Directory) → Contains ds d → Contains es e → d.path ≡ e.path → (q : Path) → Contains (map (at_path (paths_of ds)) d.imports) q → Contains (map (at_path (paths_of es)) e.imports) q
+  one_side : (ds es : List Directory) → IsWhole edition sources ds → IsWhole edition sources es → (d e : Directory) → Contains ds d → Contains es e → d.path ≡ e.path → (q : Path) → Contains (map (at_path (paths_of ds)) d.imports) q → Contains (map (at_path (paths_of es)) e.imports) q
   one_side ds es g h d e in_ds in_es same q c =
       let m = from_map (at_path (paths_of ds)) d.imports q c in
       let there = ((g.imports d in_ds).are m.0).0 m.1 in
       let is : there.0 ≡ q = sym (at_some (paths_of ds) m.0 there.0 there.1) ∙ m.2 in
-      let leads : Imports sources e.path q = subst (Imports sources e.path) is (subst (λ p. Imports sources p there.0) same there.2) in
+      let leads : Imports edition sources e.path q = subst (Imports edition sources e.path) is (subst (λ p. Imports edition sources p there.0) same there.2) in
       let here : Contains (paths_of es) q = h.closed e.path q (into_map (λ (x : Directory). x.path) es e in_es) leads in
       let n = member_at (paths_of es) q here in
       subst (Contains (map (at_path (paths_of es)) e.imports)) (at_some (paths_of es) n.0 q n.1) (into_map (at_path (paths_of es)) e.imports n.0 (((h.imports e in_es).are n.0).1 (q, n.1, leads)))
 
   -- of one directory in two lists the imports have the same paths
-  pub same_paths : (ds es : List Directory) → IsWhole sources ds → IsWhole sources es → (d e : Directory) → Contains ds d → Contains es e → d.path ≡ e.path → map (at_path (paths_of ds)) d.imports ≡ map (at_path (paths_of es)) e.imports
+  pub same_paths : (ds es : List Directory) → IsWhole edition sources ds → IsWhole edition sources es → (d e : Directory) → Contains ds d → Contains es e → d.path ≡ e.path → map (at_path (paths_of ds)) d.imports ≡ map (at_path (paths_of es)) e.imports
   same_paths ds es g h d e in_ds in_es same =
       one_sorted path_cmp path_cmp_total (map (at_path (paths_of ds)) d.imports) (map (at_path (paths_of es)) e.imports)
       (picked_sorted (paths_of ds) g.ascending d.imports (g.imports d in_ds).ascending (inside ds g d in_ds))
@@ -97,20 +98,20 @@ module _ (sources : Sources) where
 -- ---- a part
 
 -- these are the numbers of what the target reaches
-pub record IsPart (sources : Sources) (paths : List Path) (target : Path) (numbers : List ℕ) : Type 0 where
+pub record IsPart (edition : Edition) (sources : Sources) (paths : List Path) (target : Path) (numbers : List ℕ) : Type 0 where
   pub ascending : IsStrictlyIncreasing numbers
-  pub are : (k : ℕ) → (Contains numbers k → (q : Path) × (slice_get paths k ≡ Some q) × Reaches sources target q) × ((q : Path) × (slice_get paths k ≡ Some q) × Reaches sources target q → Contains numbers k)
+  pub are : (k : ℕ) → (Contains numbers k → (q : Path) × (slice_get paths k ≡ Some q) × Reaches edition sources target q) × ((q : Path) × (slice_get paths k ≡ Some q) × Reaches edition sources target q → Contains numbers k)
 
 -- a part's paths are those of the target's own plan
-pub own_paths : (sources : Sources) (targets : List Path) (us ds : List Directory) (target : Path) → IsJointPlan sources targets us → Contains targets target → IsBuildPlan sources target ds → (ns : List ℕ) → IsPart sources (paths_of us) target ns → map (at_path (paths_of us)) ns ≡ paths_of ds
-own_paths sources targets us ds target joint among plan ns part =
+pub own_paths : (edition : Edition) (sources : Sources) (targets : List Path) (us ds : List Directory) (target : Path) → IsJointPlan edition sources targets us → Contains targets target → IsBuildPlan edition sources target ds → (ns : List ℕ) → IsPart edition sources (paths_of us) target ns → map (at_path (paths_of us)) ns ≡ paths_of ds
+own_paths edition sources targets us ds target joint among plan ns part =
     one_sorted path_cmp path_cmp_total (map (at_path (paths_of us)) ns) (paths_of ds)
     (picked_sorted (paths_of us) joint.ascending ns part.ascending (λ k c. let there = (part.are k).0 c in slice_get_within (paths_of us) k there.0 there.1)) plan.ascending
     (λ q c. (
     let m = from_map (at_path (paths_of us)) ns q c in
     let there = (part.are m.0).0 m.1 in
     let is : there.0 ≡ q = sym (at_some (paths_of us) m.0 there.0 there.1) ∙ m.2 in
-    (plan.reached q).1 (subst (Reaches sources target) is there.2)))
+    (plan.reached q).1 (subst (Reaches edition sources target) is there.2)))
     (λ q c. (
     let way = (plan.reached q).0 c in
     let n = member_at (paths_of us) q ((joint.reached q).1 (target, among, way)) in

@@ -13,6 +13,7 @@ use Rattle.std.specs.FinMap.{entries, entries_sorted, is_sorted}
 use Rattle.std.proofs.lemmas.Slice.Eq.{bytes_eq-Decides}
 use Rattle.std.proofs.lemmas.List.Elements.{All-nil, All-cons, Contains-append_left, Contains-append_right, Contains-append_cases}
 use Rattle.std.proofs.lemmas.Option.{slice_get-map}
+use Rattle.go_text.specs.declared.edition.Edition.{Edition}
 use Rattle.go_ast.specs.Trees.{File, ImportSpec}
 use Rattle.go_ast.specs.Parse.{Parsed, Derived, IsParse, IsNamed}
 use Rattle.go_typed.specs.Trees.{Package}
@@ -28,7 +29,9 @@ use Rattle.ws_action.proofs.Members.{none_in_empty, head_or_later, at_head, late
 use Rattle.ws_cache.specs.Compiles.{AreGood}
 use Rattle.ws_reach.specs.Reach as reach
 use Rattle.ws_graph.specs.Packages.{is_built, package_files}
-use Rattle.ws_graph.specs.Plan.{Sound, AllNamed, IsSound}
+use Rattle.go_check.specs.Checked.{edition_of}
+use Rattle.ws_reach.proofs.Reached.{get_contains}
+use Rattle.ws_graph.specs.Plan.{Sound, AllParsed, AllNamed, IsSound}
 use Rattle.ws_graph.specs.BuildPlan as plan
 use Rattle.ws_graph.specs.BuildPlan.{Sources, Directory, Import, AreImports, HasImport, HasNoFiles, ImportsAreSound, imports_in, names_directory, paths_of, IsPlannedAs, IsBuildPlanOf}
 use Rattle.ws_graph.proofs.OnePlan.{one_file, one_parsed}
@@ -39,15 +42,15 @@ use Rattle.ws_replica.proofs.OneBuild.{fate_of, fate_past, at_fate, past_fate}
 
 -- ---- names
 
-all_named : (name : List ℕ) (files : List Parsed) → AllNamed name files → All (λ file. IsNamed name file.text) files
-all_named name [] h = All-nil (λ (file : Parsed). IsNamed name file.text)
-all_named name (f ∷ files) h = All-cons (λ (file : Parsed). IsNamed name file.text) f files h.0 (all_named name files h.1)
+all_named : (name : List ℕ) (files : List Parsed) → AllNamed name files → All (λ file. IsNamed file.edition name file.text) files
+all_named name [] h = All-nil (λ (file : Parsed). IsNamed file.edition name file.text)
+all_named name (f ∷ files) h = All-cons (λ (file : Parsed). IsNamed file.edition name file.text) f files h.0 (all_named name files h.1)
 
-have_name : (pairs : List (List ℕ × List ℕ)) (files : List Parsed) → IsSound pairs files → HaveOneName files
-have_name pairs files h = subst HaveOneName (sym h.is) (record { clause = h.clause; package_is = h.package_is; named = all_named h.clause.text h.rest h.named })
+have_name : (edition : Edition) (pairs : List (List ℕ × List ℕ)) (files : List Parsed) → IsSound edition pairs files → HaveOneName files
+have_name edition pairs files h = subst HaveOneName (sym h.is) (record { clause = h.clause; package_is = h.package_is; named = all_named h.clause.text h.rest h.named })
 
-not_empty : (pairs : List (List ℕ × List ℕ)) (files : List Parsed) → IsSound pairs files → files ≢ []
-not_empty pairs files h e = let no : h.first ∷ h.rest ≡ [] = sym h.is ∙ e in cc (no)
+not_empty : (edition : Edition) (pairs : List (List ℕ × List ℕ)) (files : List Parsed) → IsSound edition pairs files → files ≢ []
+not_empty edition pairs files h e = let no : h.first ∷ h.rest ≡ [] = sym h.is ∙ e in cc (no)
 
 -- ---- imports
 
@@ -109,12 +112,12 @@ not_library : (spec : ImportSpec) → names_directory spec ≡ true → spec.pat
 not_library spec e same = not_true (bytes_eq spec.path (codes "fmt")) e ((bytes_eq-Decides spec.path (codes "fmt")).1 same)
 
 -- of some files
-all_into : (files : List Parsed) (imports : List Import) → AreImports files imports → (file : Parsed) → Contains files file → (tree : File) → IsParse file.text (Derived tree) → (spec : ImportSpec) → Contains tree.imports spec → names_directory spec ≡ true
+all_into : (files : List Parsed) (imports : List Import) → AreImports files imports → (file : Parsed) → Contains files file → (tree : File) → IsParse file.edition file.text (Derived tree) → (spec : ImportSpec) → Contains tree.imports spec → names_directory spec ≡ true
     → (i : Import) × Contains imports i × (i.spec ≡ spec)
 all_into [] imports are file c tree parse spec among e = absurd (none_in_empty file c)
 all_into (p ∷ ps) imports (first, rest, its, others, is) file c tree parse spec among e = elim (head_or_later p ps file c) [
   | inl same ↦ (
-      let one : first ≡ tree = one_file file.text first tree (subst (λ (x : Parsed). IsParse x.text (Derived first)) same its) parse in
+      let one : first ≡ tree = one_file file.edition file.text first tree (subst (λ (x : Parsed). IsParse x.edition x.text (Derived first)) same its) parse in
       let here : Contains (imports_in p.name first.imports) (import_by p.name spec) = into_imports p.name first.imports spec (subst (λ (t : File). Contains t.imports spec) (sym one) among) e in
       (import_by p.name spec, subst (λ xs. Contains xs (import_by p.name spec)) (sym is) (Contains-append_left (imports_in p.name first.imports) rest (import_by p.name spec) here), refl))
   | inr l ↦ (
@@ -123,7 +126,7 @@ all_into (p ∷ ps) imports (first, rest, its, others, is) file c tree parse spe
 ]
 
 all_from : (files : List Parsed) (imports : List Import) → AreImports files imports → (i : Import) → Contains imports i
-    → (file : Parsed) × Contains files file × ((tree : File) × IsParse file.text (Derived tree) × Contains tree.imports i.spec) × (names_directory i.spec ≡ true)
+    → (file : Parsed) × Contains files file × ((tree : File) × IsParse file.edition file.text (Derived tree) × Contains tree.imports i.spec) × (names_directory i.spec ≡ true)
 all_from [] imports are i c = absurd (none_in_empty i (subst (λ xs. Contains xs i) are c))
 all_from (p ∷ ps) imports (first, rest, its, others, is) i c = elim (Contains-append_cases (imports_in p.name first.imports) rest i (subst (λ xs. Contains xs i) is c)) [
   | inl l ↦ (
@@ -302,12 +305,12 @@ sources_good W files ss (m, stands, is) = (
 )
 
 -- one import further
-walked : (sources : Sources) (a p q : List ℕ) (steps : List (List ℕ)) → reach.Walks (plan.Imports sources) a steps p → plan.Imports sources p q → reach.Walks (plan.Imports sources) a (steps ++ q ∷ []) q
-walked sources a p q [] h leads = (subst (λ x. plan.Imports sources x q) (sym h) leads, refl)
-walked sources a p q (r ∷ steps) h leads = (h.0, walked sources r p q steps h.1 leads)
+walked : (edition : Edition) (sources : Sources) (a p q : List ℕ) (steps : List (List ℕ)) → reach.Walks (plan.Imports edition sources) a steps p → plan.Imports edition sources p q → reach.Walks (plan.Imports edition sources) a (steps ++ q ∷ []) q
+walked edition sources a p q [] h leads = (subst (λ x. plan.Imports edition sources x q) (sym h) leads, refl)
+walked edition sources a p q (r ∷ steps) h leads = (h.0, walked edition sources r p q steps h.1 leads)
 
-pub further : (sources : Sources) (target p q : List ℕ) → plan.Reaches sources target p → plan.Imports sources p q → plan.Reaches sources target q
-further sources target p q (steps, walks) leads = (steps ++ q ∷ [], walked sources target p q steps walks leads)
+pub further : (edition : Edition) (sources : Sources) (target p q : List ℕ) → plan.Reaches edition sources target p → plan.Imports edition sources p q → plan.Reaches edition sources target q
+further edition sources target p q (steps, walks) leads = (steps ++ q ∷ [], walked edition sources target p q steps walks leads)
 
 mapped : {A B : Type 0} (f : A → B) (xs : List A) (x : A) → Contains xs x → Contains (map f xs) (f x)
 mapped f [] x c = absurd (none_in_empty x c)
@@ -342,43 +345,60 @@ below_later k (l ∷ ks) h j c =
       | inr r ↦ (let rest = below_later l ks (tail_increasing k (l ∷ ks) h) j r in omega (arith, first, rest))
     ]
 
--- the package of an import is at its directory's path
-pub package_at : (ds : List Directory) (fates : List Fate) → AreFates ds fates → (k : ℕ) (p : Package) → fate_at fates k ≡ Good p → (d : Directory) × (slice_get ds k ≡ Some d) × (p.path ≡ d.path)
-package_at ds fates are k p good = elim (slice_get ds k) as (λ o. slice_get ds k ≡ o → (d : Directory) × (slice_get ds k ≡ Some d) × (p.path ≡ d.path)) [
+-- the directory of a good package
+pub made_at : (ds : List Directory) (fates : List Fate) → AreFates ds fates → (k : ℕ) (p : Package) → fate_at fates k ≡ Good p → (d : Directory) × (slice_get ds k ≡ Some d) × IsFate fates d (Good p)
+made_at ds fates are k p good = elim (slice_get ds k) as (λ o. slice_get ds k ≡ o → (d : Directory) × (slice_get ds k ≡ Some d) × IsFate fates d (Good p)) [
   | None ↦ λ none. absurd (let no : Good p ≡ Blocked = sym good ∙ past_fate fates k (fate_past fates ds fates are k none) in cc (no))
   | Some d ↦ λ at. (
       let f = fate_of fates ds fates are k d at in
-      let is : IsFate fates d (Good p) = subst (IsFate fates d) (sym (at_fate fates k f.fate f.at) ∙ good) f.is in
-      (d, at, typed_path d.path is.0 _ p is.3))
+      (d, at, subst (IsFate fates d) (sym (at_fate fates k f.fate f.at) ∙ good) f.is))
 ] refl
 
-module _ (W : List Write) (paths : HasFiles W) (ds : List Directory) (fates : List Fate) (of : IsWholeOf W ds) (are : AreFates ds fates) where
+-- the package of an import is at its directory's path
+pub package_at : (ds : List Directory) (fates : List Fate) → AreFates ds fates → (k : ℕ) (p : Package) → fate_at fates k ≡ Good p → (d : Directory) × (slice_get ds k ≡ Some d) × (p.path ≡ d.path)
+package_at ds fates are k p good = let m = made_at ds fates are k p good in (m.0, m.1, typed_path m.0.path m.2.0 _ p m.2.3)
+
+-- ---- editions
+
+-- a package is of the edition of its files
+typed_edition : (path : List ℕ) (files : List Parsed) (imports : List Importable) (p : Package) → AreGood path files imports p → p.edition ≡ edition_of files
+typed_edition path files imports p h = ap (λ (x : Package). x.edition) h.are.is.is
+
+pub sound_edition : (edition : Edition) (pairs : List (List ℕ × List ℕ)) (files : List Parsed) → IsSound edition pairs files → edition_of files ≡ edition
+sound_edition edition pairs files h =
+    subst (λ (fs : List Parsed). edition_of fs ≡ edition) (sym h.is) (let parsed : AllParsed edition (h.first ∷ h.rest) = subst (AllParsed edition) h.is h.parses.parses in parsed.0.of)
+
+all_alike : (edition : Edition) (files : List Parsed) → AllParsed edition files → All (λ (file : Parsed). file.edition ≡ edition) files
+all_alike edition [] h = All-nil (λ (file : Parsed). file.edition ≡ edition)
+all_alike edition (f ∷ files) h = All-cons (λ (file : Parsed). file.edition ≡ edition) f files h.0.of (all_alike edition files h.1)
+
+module _ (edition : Edition) (W : List Write) (paths : HasFiles W) (ds : List Directory) (fates : List Fate) (of : IsWholeOf edition W ds) (are : AreFates ds fates) where
   abbrev sources : Sources
   sources = of.0
 
-  abbrev its : IsWhole sources ds
+  abbrev its : IsWhole edition sources ds
   its = of.2
 
   -- the files of a sound directory
-  sound_at : (d : Directory) → Contains ds d → (files : List Parsed) → d.planned ≡ Sound files → IsSound (package_files d.path sources) files × ImportsAreSound sources d.path
+  sound_at : (d : Directory) → Contains ds d → (files : List Parsed) → d.planned ≡ Sound files → IsSound edition (package_files d.path sources) files × ImportsAreSound edition sources d.path
   sound_at d among files e = by (its.planned d among)
     where
-      by : IsPlannedAs sources d.path d.planned → IsSound (package_files d.path sources) files × ImportsAreSound sources d.path
-      by h = subst (IsPlannedAs sources d.path) e h
+      by : IsPlannedAs edition sources d.path d.planned → IsSound edition (package_files d.path sources) files × ImportsAreSound edition sources d.path
+      by h = subst (IsPlannedAs edition sources d.path) e h
 
   -- ---- summaries are exactly those of imports
 
   module _ (d : Directory) (among : Contains ds d) (files : List Parsed) (ps : List Package) (ready : IsReady fates d files ps) where
-    sound : IsSound (package_files d.path sources) files
+    sound : IsSound edition (package_files d.path sources) files
     sound = (sound_at d among files ready.sound).0
 
-    imports : ImportsAreSound sources d.path
+    imports : ImportsAreSound edition sources d.path
     imports = (sound_at d among files ready.sound).1
 
     its_imports : AreImports files imports.imports
     its_imports =
         let h = imports.has in
-        subst (λ fs. AreImports fs imports.imports) (one_parsed (package_files d.path sources) h.parsed files h.sound.parses sound.parses) h.are
+        subst (λ fs. AreImports fs imports.imports) (one_parsed edition (package_files d.path sources) h.parsed files h.sound.parses sound.parses) h.are
 
     -- the summary of an import's number
     has_summary : (ks : List ℕ) (qs : List Package) → ArePackages fates ks qs → (k : ℕ) → Contains ks k → (q : List ℕ) → slice_get (paths_of ds) k ≡ Some q → HasSummary (map summary_of qs) q
@@ -406,8 +426,8 @@ module _ (W : List Write) (paths : HasFiles W) (ds : List Directory) (fates : Li
     all_imported path (file, c, i) =
         let found = all_into files imports.imports its_imports file c i.tree i.parse i.spec i.among (is_directory i.spec (λ e. i.other (sym i.is ∙ e))) in
         let named : (found.0).spec.path ≡ path = ap (λ (s : ImportSpec). s.path) found.2 ∙ i.is in
-        let import : HasImport sources d.path path = record { imports = imports.imports; has = imports.has; import = found.0; among = found.1; path = named } in
-        let leads : plan.Imports sources d.path path = record { import = import; files = subst (λ q. ¬ (HasNoFiles sources q)) named (imports.none_missing found.0 found.1) } in
+        let import : HasImport edition sources d.path path = record { imports = imports.imports; has = imports.has; import = found.0; among = found.1; path = named } in
+        let leads : plan.Imports edition sources d.path path = record { import = import; files = subst (λ q. ¬ (HasNoFiles sources q)) named (imports.none_missing found.0 found.1) } in
         let here : Contains (paths_of ds) d.path = mapped (λ (x : Directory). x.path) ds d among in
         let there : Contains (paths_of ds) path = its.closed d.path path here leads in
         let k = member_at (paths_of ds) path there in
@@ -422,7 +442,7 @@ module _ (W : List Write) (paths : HasFiles W) (ds : List Directory) (fates : Li
         let same : leads.0 ≡ path = sym (some_same there.0.path leads.0 its_path) ∙ sym there.2 ∙ sym (ap (λ (x : Summary). x.path) at.4) ∙ e in
         let import = leads.2.import in
         let are_imports : AreImports files import.imports =
-        subst (λ fs. AreImports fs import.imports) (one_parsed (package_files d.path sources) import.has.parsed files import.has.sound.parses sound.parses) import.has.are in
+        subst (λ fs. AreImports fs import.imports) (one_parsed edition (package_files d.path sources) import.has.parsed files import.has.sound.parses sound.parses) import.has.are in
         let found = all_from files import.imports are_imports import.import import.among in
         let is : import.import.spec.path ≡ path = import.path ∙ same in
         (found.0, found.1, record { tree = found.2.0; parse = found.2.1; spec = import.import.spec; among = found.2.2; is = is; other = λ f. not_library import.import.spec found.3 (is ∙ f) })
@@ -453,18 +473,31 @@ module _ (W : List Write) (paths : HasFiles W) (ds : List Directory) (fates : Li
     summaries_ascend : Ascend (map import_of (map summary_of ps))
     summaries_ascend = summaries_by d.imports ps ready.good (its.imports d among).ascending
 
-    makes : MakeAction files (map summary_of ps)
+    its_edition : (k : ℕ) (p : Package) → fate_at fates k ≡ Good p → p.edition ≡ edition
+    its_edition k p good =
+        let m = made_at ds fates are k p good in
+        let s = sound_at m.0 (get_contains ds k m.0 m.1) m.2.0 m.2.2.sound in
+        typed_edition m.0.path m.2.0 _ p m.2.3 ∙ sound_edition edition (package_files m.0.path sources) m.2.0 s.0
+
+    summaries_alike : (ks : List ℕ) (qs : List Package) → ArePackages fates ks qs → All (λ (s : Summary). s.edition ≡ edition) (map summary_of qs)
+    summaries_alike [] [] h = All-nil (λ (s : Summary). s.edition ≡ edition)
+    summaries_alike [] (q ∷ qs) h = absurd h
+    summaries_alike (k ∷ ks) [] h = absurd h
+    summaries_alike (k ∷ ks) (q ∷ qs) h = All-cons (λ (s : Summary). s.edition ≡ edition) (summary_of q) (map summary_of qs) (its_edition k q h.0) (summaries_alike ks qs h.1)
+
+    makes : MakeAction edition files (map summary_of ps)
     makes = record {
-      some = not_empty (package_files d.path sources) files sound;
+      some = not_empty edition (package_files d.path sources) files sound;
       ordered = and_both (ascends (map source_of files)) (ascends (map import_of (map summary_of ps))) (ascends_all (map source_of files) files_ascend) (ascends_all (map import_of (map summary_of ps)) summaries_ascend);
-      named = have_name (package_files d.path sources) files sound;
+      named = have_name edition (package_files d.path sources) files sound;
       imported = record { all = all_imported; only = only_imported };
+      alike = record { of_files = all_alike edition files sound.parses.parses; of_summaries = summaries_alike d.imports ps ready.good };
     }
 
-pub whole_makes : (W : List Write) → HasFiles W → (ds : List Directory) (fates : List Fate) → IsWholeOf W ds → AreFates ds fates
-    → (d : Directory) → Contains ds d → (files : List Parsed) (ps : List Package) → IsReady fates d files ps → MakeAction files (map summary_of ps)
-whole_makes W paths ds fates of are d among files ps ready = makes W paths ds fates of are d among files ps ready
+pub whole_makes : (edition : Edition) (W : List Write) → HasFiles W → (ds : List Directory) (fates : List Fate) → IsWholeOf edition W ds → AreFates ds fates
+    → (d : Directory) → Contains ds d → (files : List Parsed) (ps : List Package) → IsReady fates d files ps → MakeAction edition files (map summary_of ps)
+whole_makes edition W paths ds fates of are d among files ps ready = makes edition W paths ds fates of are d among files ps ready
 
-pub plan_makes : (W : List Write) → HasFiles W → (target : List ℕ) (ds : List Directory) (fates : List Fate) → IsBuildPlanOf W target ds → AreFates ds fates
-    → (d : Directory) → Contains ds d → (files : List Parsed) (ps : List Package) → IsReady fates d files ps → MakeAction files (map summary_of ps)
-plan_makes W paths target ds fates of = whole_makes W paths ds fates (whole_plan_of W target ds of)
+pub plan_makes : (edition : Edition) (W : List Write) → HasFiles W → (target : List ℕ) (ds : List Directory) (fates : List Fate) → IsBuildPlanOf edition W target ds → AreFates ds fates
+    → (d : Directory) → Contains ds d → (files : List Parsed) (ps : List Package) → IsReady fates d files ps → MakeAction edition files (map summary_of ps)
+plan_makes edition W paths target ds fates of = whole_makes edition W paths ds fates (whole_plan_of edition W target ds of)

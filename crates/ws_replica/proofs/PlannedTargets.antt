@@ -8,6 +8,7 @@ use Rattle.std.specs.Global.{Global}
 use Rattle.std.proofs.lemmas.List.{length-map, map-append}
 use Rattle.std.proofs.lemmas.List.Elements.{Contains-push_cases}
 use Rattle.std.proofs.lemmas.Option.{slice_get_within}
+use Rattle.go_text.specs.declared.edition.Edition.{Edition}
 use Rattle.ws_version.specs.Writes.{Write, held_cmp, path_cmp}
 use Rattle.ws_version.proofs.Writes.{path_cmp_total, path_cmp-IsAntisymmetric}
 use Rattle.ws_version.specs.Laws.{held_cmp_total}
@@ -69,19 +70,19 @@ at_push P (z ∷ xs) x h p zero y e = h 0 y e
 at_push P (z ∷ xs) x h p (suc k) y e = at_push (λ j. P (suc j)) xs x (λ j w at. h (suc j) w at) p k y e
 
 -- one more replica's
-pub planned_next : (edition : ℕ) (replicas : List Replica) (targets : List Pair) (done new : List (List Reached)) (x : List Reached) → new ≡ done ++ x ∷ [] → IsReached edition replicas targets (length done) x → AreReachedOf edition replicas targets done → AreReachedOf edition replicas targets new
+pub planned_next : (edition : Edition) (replicas : List Replica) (targets : List Pair) (done new : List (List Reached)) (x : List Reached) → new ≡ done ++ x ∷ [] → IsReached edition replicas targets (length done) x → AreReachedOf edition replicas targets done → AreReachedOf edition replicas targets new
 planned_next edition replicas targets done new x push is h k rs at =
     at_push (IsReached edition replicas targets) done x h is k rs (subst (λ zs. slice_get zs k ≡ Some rs) push at)
 
 -- a replica without package files in a target's directory
-pub lacks_at : (replicas : List Replica) (targets : List Pair) (k : ℕ) (r : Replica) (ds : List (List ℕ)) → slice_get replicas k ≡ Some r → ds ≡ directories_at targets k → ((W : List Write) → StandsFor held_cmp r.registers W → SomeHasNoFiles W ds)
-    → (took : List Took) → AllStandFor replicas took → LacksPackage took targets
-lacks_at replicas targets k r ds at same none took stand =
+pub lacks_at : (edition : Edition) (replicas : List Replica) (targets : List Pair) (k : ℕ) (r : Replica) (ds : List (List ℕ)) → slice_get replicas k ≡ Some r → ds ≡ directories_at targets k → ((W : List Write) → StandsFor held_cmp r.registers W → SomeHasNoFiles edition W ds)
+    → (took : List Took) → AllStandFor replicas took → LacksPackage edition took targets
+lacks_at edition replicas targets k r ds at same none took stand =
     let lacks = none (took_at took k).writes (stands_at replicas took stand k r at).registers in
     (k, lacks.0, from_directories k targets lacks.0 (subst (λ xs. Contains xs lacks.0) same lacks.1), lacks.2)
 
 -- what was reached is in order
-pub in_order : (edition : ℕ) (registers : Contents) (targets : List (List ℕ)) (reached : List Reached) → IsReachedBy edition registers targets reached → AreInOrder reached
+pub in_order : (edition : Edition) (registers : Contents) (targets : List (List ℕ)) (reached : List Reached) → IsReachedBy edition registers targets reached → AreInOrder reached
 in_order edition registers targets reached h = record {
   ascending = subst (IsStrictlySortedBy path_cmp) (sym paths) joint.2.ascending;
   within = subst EdgesStayWithin (sym rows) (λ p q e.
@@ -94,7 +95,7 @@ in_order edition registers targets reached h = record {
     ds : List Directory
     ds = h.directories
 
-    joint : IsJointPlanOf (entries registers) targets ds
+    joint : IsJointPlanOf edition (entries registers) targets ds
     joint = h.planned (entries registers) (stands_for-entries path_cmp_total path_cmp-IsAntisymmetric held_cmp_total registers)
 
     paths : reached_paths reached ≡ paths_of ds

@@ -3,6 +3,7 @@ use Rattle.std.proofs.Common.{◌≡◌, ◌⊎◌, ℕ, zero, suc, ◌+◌, ◌
 use Rattle.std.specs.List.{AllZip, Contains, slice_get}
 use Rattle.std.proofs.lemmas.Bool.{cases_lt, cases_eq}
 use Rattle.std.proofs.lemmas.Option.{slice_get_within}
+use Rattle.go_text.specs.declared.edition.Edition.{Edition}
 use Rattle.go_ast.specs.Parse.{Parsed}
 use Rattle.go_ast.specs.Trees.{File}
 use Rattle.go_check.specs.Checked.{AreTrees}
@@ -21,17 +22,17 @@ use Rattle.ws_replica.proofs.OneBuild.{Agree, agree_at, agree_sym, packages_move
 
 -- ---- files that parse
 
-abbrev pub AllPlanned : Sources → List Directory → Type 0
-AllPlanned sources ds = (d : Directory) → Contains ds d → IsPlannedAs sources d.path d.planned
+abbrev pub AllPlanned : Edition → Sources → List Directory → Type 0
+AllPlanned edition sources ds = (d : Directory) → Contains ds d → IsPlannedAs edition sources d.path d.planned
 
-trees_of : (files : List Parsed) → AllParsed files → (trees : List File) × AreTrees files trees
-trees_of [] h = ([], tt)
-trees_of (f ∷ fs) h = let rest = trees_of fs h.1 in (h.0.0 ∷ rest.0, (h.0.1, rest.1))
+trees_of : (edition : Edition) (files : List Parsed) → AllParsed edition files → (trees : List File) × AreTrees files trees
+trees_of edition [] h = ([], tt)
+trees_of edition (f ∷ fs) h = let rest = trees_of edition fs h.1 in (h.0.file ∷ rest.0, (h.0.parse, rest.1))
 
-pub sound_is : (sources : Sources) (path : List ℕ) (p : Planned) (files : List Parsed) → IsPlannedAs sources path p → p ≡ Sound files → IsSound (package_files path sources) files
-sound_is sources path NoFiles files h e = absurd h
-sound_is sources path (Faulty fault) files h e = cc
-sound_is sources path (Sound others) files h e = subst (λ fs. IsSound (package_files path sources) fs) (let same : others ≡ files = cc (e) in same) h.0
+pub sound_is : (edition : Edition) (sources : Sources) (path : List ℕ) (p : Planned) (files : List Parsed) → IsPlannedAs edition sources path p → p ≡ Sound files → IsSound edition (package_files path sources) files
+sound_is edition sources path NoFiles files h e = absurd h
+sound_is edition sources path (Faulty fault) files h e = cc
+sound_is edition sources path (Sound others) files h e = subst (λ fs. IsSound edition (package_files path sources) fs) (let same : others ≡ files = cc (e) in same) h.0
 
 -- ---- what becomes of a directory, by what becomes of others
 
@@ -107,14 +108,14 @@ fate_moves f g d agree Blocked h = (h.0, h.1, λ ps k. h.2 ps (packages_move g f
 fate_moves f g d agree (Wrong fault) h = (h.0, h.1, record { sound = (h.2).sound; good = packages_move f g d.imports h.1 (agree h.0 (h.2).sound) (h.2).good }, h.3)
 fate_moves f g d agree (Good t) h = (h.0, h.1, record { sound = (h.2).sound; good = packages_move f g d.imports h.1 (agree h.0 (h.2).sound) (h.2).good }, h.3)
 
-module _ (sources : Sources) (ds : List Directory) (planned : AllPlanned sources ds) where
-  some_fate_of : (fates : List Fate) (d : Directory) (p : Planned) → d.planned ≡ p → IsPlannedAs sources d.path p → (a : Fate) × IsFate fates d a
+module _ (edition : Edition) (sources : Sources) (ds : List Directory) (planned : AllPlanned edition sources ds) where
+  some_fate_of : (fates : List Fate) (d : Directory) (p : Planned) → d.planned ≡ p → IsPlannedAs edition sources d.path p → (a : Fate) × IsFate fates d a
   some_fate_of fates d NoFiles e is = absurd is
   some_fate_of fates d (Faulty fault) e is = (Stopped fault, e)
   some_fate_of fates d (Sound files) e is = elim (some_packages fates d.imports) [
     | inr none ↦ (Blocked, (files, e, none))
     | inl (ps, good) ↦ (
-        let trees = trees_of files is.0.parses.parses in
+        let trees = trees_of edition files is.0.parses.parses in
         elim (some_result d.path files (map importable_of ps) trees.0 trees.1) [
           | inl (fault, have) ↦ (Wrong fault, (files, ps, record { sound = e; good = good }, have))
           | inr (t, typed) ↦ (Good t, (files, ps, record { sound = e; good = good }, typed))
@@ -182,11 +183,11 @@ module _ (sources : Sources) (ds : List Directory) (planned : AllPlanned sources
               (fate_at last.fates k, fate_there last.fates k (omega (arith, inside, last.size)), last.are k d at (top.1 k inside))),
         )
 
-pub some_build : (W : List Write) (target : List ℕ) → (build : Option TargetBuild) × IsTargetBuild W target build
-some_build W target = elim (some_build_plan_of W target) [
+pub some_build : (edition : Edition) (W : List Write) (target : List ℕ) → (build : Option TargetBuild) × IsTargetBuild edition W target build
+some_build edition W target = elim (some_build_plan_of edition W target) [
   | inl none ↦ (None, none)
   | inr (ds, of) ↦ (
-      let ranks = ranked_build_plan W target ds of in
-      let fates = some_fates of.0 ds of.2.planned ranks.0 ranks.1 in
+      let ranks = ranked_build_plan edition W target ds of in
+      let fates = some_fates edition of.0 ds of.2.planned ranks.0 ranks.1 in
       (Some (record { directories = ds; fates = fates.0 }), (of, fates.1)))
 ]

@@ -3,10 +3,11 @@ use Rattle.std.proofs.Common.{◌≡◌, ◌≤◌, ℕ, Bool, true, false, List
 use Rattle.std.specs.Prelude.{nat_lt, pos, if◌then◌else◌}
 use Rattle.std.specs.List.{Contains, list_all}
 use Rattle.std.proofs.lemmas.Bool.{and_from, lt-ltb, cases_lt}
+use Rattle.go_text.specs.declared.edition.Edition.{Edition}
 use Rattle.go_text.specs.Texts.{text_limit}
 use Rattle.go_text.specs.declared.text.TextError.{TextError}
 use Rattle.go_text.specs.declared.text.TextError.TheVariants.{TooLong}
-use Rattle.go_ast.specs.Parse.{Parsed}
+use Rattle.go_ast.specs.Parse.{Parsed, Derived, IsParse}
 use Rattle.go_ast.specs.Trees.{File}
 use Rattle.go_check.specs.Checked.{AreTrees}
 use Rattle.go_const.specs.declared.kind.IntKind.TheVariants as integers
@@ -19,7 +20,7 @@ use Rattle.ws_register.specs.Sources.{is_in, named, IsSources, HasFiles}
 use Rattle.ws_action.specs.Actions.{source_of}
 use Rattle.ws_action.proofs.Members.{none_in_empty, head_or_later, at_head, later}
 use Rattle.ws_graph.specs.Packages.{is_built, package_files}
-use Rattle.ws_graph.specs.Plan.{IsSound}
+use Rattle.ws_graph.specs.Plan.{AllParsed, IsSound}
 use Rattle.ws_graph.proofs.Filed.{files_step}
 
 abbrev Pair : Type 0
@@ -67,16 +68,17 @@ contains_source (f ∷ files) file c = elim (head_or_later f files file c) [
 ]
 
 -- each file of a sound directory has a text
-pub files_are_text : (W : List Write) → HasFiles W → (sources : List Pair) → IsSources W sources → (path : List ℕ) (files : List Parsed) → IsSound (package_files path sources) files → (file : Parsed) → Contains files file → is_text file.text ≡ true
-files_are_text W has sources of path files sound file c =
+pub files_are_text : (edition : Edition) (W : List Write) → HasFiles W → (sources : List Pair) → IsSources W sources → (path : List ℕ) (files : List Parsed) → IsSound edition (package_files path sources) files → (file : Parsed) → Contains files file → is_text file.text ≡ true
+files_are_text edition W has sources of path files sound file c =
     let there : Contains (package_files path sources) (source_of file) = subst (λ (xs : List Pair). Contains xs (source_of file)) sound.parses.sources (contains_source files file c) in
     let s = of_source path sources (source_of file) there in
     text_is file.text (subst IsText (sym s.2) (has sources of s.0 s.1).text)
 
 -- so the trees of its files are of texts
-pub trees_are_of_texts : (files : List Parsed) (trees : List File) → AreTrees files trees → ((file : Parsed) → Contains files file → is_text file.text ≡ true) → AreOfTexts trees
-trees_are_of_texts [] [] are texts = tt
-trees_are_of_texts [] (tree ∷ trees) are texts = absurd are
-trees_are_of_texts (file ∷ files) [] are texts = absurd are
-trees_are_of_texts (file ∷ files) (tree ∷ trees) are texts =
-    ((file.text, are.0, texts file (at_head files file file refl)), trees_are_of_texts files trees are.1 (λ f c. texts f (later file files f c)))
+pub trees_are_of_texts : (edition : Edition) (files : List Parsed) (trees : List File) → AllParsed edition files → AreTrees files trees → ((file : Parsed) → Contains files file → is_text file.text ≡ true) → AreOfTexts edition trees
+trees_are_of_texts edition [] [] parsed are texts = tt
+trees_are_of_texts edition [] (tree ∷ trees) parsed are texts = absurd are
+trees_are_of_texts edition (file ∷ files) [] parsed are texts = absurd are
+trees_are_of_texts edition (file ∷ files) (tree ∷ trees) parsed are texts =
+    let parse : IsParse edition file.text (Derived tree) = subst (λ e. IsParse e file.text (Derived tree)) parsed.0.of are.0 in
+    ((file.text, parse, texts file (at_head files file file refl)), trees_are_of_texts edition files trees parsed.1 are.1 (λ f c. texts f (later file files f c)))

@@ -3,6 +3,7 @@ use Rattle.std.proofs.Common.{◌≡◌, ℕ, zero, suc, ◌+◌, ◌<◌, ◌�
 use Rattle.std.specs.List.{slice_get}
 use Rattle.std.specs.Prelude.{Vec, IfNone, IfSome, string_bytes}
 use Rattle.std.specs.Global.{Global}
+use Rattle.go_text.specs.declared.edition.Edition.{Edition}
 use Rattle.ws_reach.specs.Reach.{rows_of}
 use Rattle.std.proofs.lemmas.List.{map-append, take_more}
 use Rattle.go_code.specs.Packages.{Object}
@@ -32,14 +33,14 @@ told_whole result from k rest all rows e h = subst (λ zs. AreTold result from a
 
 -- ---- what was reached
 
-pub reached_next : (number : ℕ) (done pushed : List RustReached) (x : RustReached) (d : RustDirectory) (left rest : List RustDirectory) (total : List Reached) → pushed ≡ done ++ x ∷ [] → left ≡ d ∷ rest → reached_of x ≡ reached_by number (directory_of d) → map reached_of done ++ map (reached_by number) (map directory_of left) ≡ total → map reached_of pushed ++ map (reached_by number) (map directory_of rest) ≡ total
-reached_next number done pushed x d left rest total p l one h =
-    let others : List Reached = map (reached_by number) (map directory_of rest) in
+pub reached_next : (edition : Edition) (done pushed : List RustReached) (x : RustReached) (d : RustDirectory) (left rest : List RustDirectory) (total : List Reached) → pushed ≡ done ++ x ∷ [] → left ≡ d ∷ rest → reached_of x ≡ reached_by edition (directory_of d) → map reached_of done ++ map (reached_by edition) (map directory_of left) ≡ total → map reached_of pushed ++ map (reached_by edition) (map directory_of rest) ≡ total
+reached_next edition done pushed x d left rest total p l one h =
+    let others : List Reached = map (reached_by edition) (map directory_of rest) in
     ap (λ zs. map reached_of zs ++ others) p
     ∙ ap (λ zs. zs ++ others) (map-append reached_of done (x ∷ []))
     ∙ append_assoc (map reached_of done) (reached_of x ∷ []) others
     ∙ ap (λ z. map reached_of done ++ (z ∷ others)) one
-    ∙ ap (λ zs. map reached_of done ++ map (reached_by number) (map directory_of zs)) (sym l) ∙ h
+    ∙ ap (λ zs. map reached_of done ++ map (reached_by edition) (map directory_of zs)) (sym l) ∙ h
 
 -- ---- ids
 

@@ -3,6 +3,7 @@ use Rattle.std.proofs.Common.{◌≡◌, ◌⊎◌, ℕ, suc, Bool, true, false,
 use Rattle.std.specs.List.{AllZip, Contains, filter, filter_map, slice_get}
 use Rattle.std.proofs.lemmas.Bool.{eqb-true, eq-eqb}
 use Rattle.std.proofs.lemmas.List.Elements.{Contains-append_left, Contains-append_right, Contains-append_cases}
+use Rattle.go_text.specs.declared.edition.Edition.{Edition}
 use Rattle.ws_map.specs.Kept.{SameMembers}
 use Rattle.ws_action.specs.Actions.{Action}
 use Rattle.ws_action.proofs.Members.{none_in_empty, head_or_later, at_head, later}
@@ -62,17 +63,17 @@ module _ (k : ℕ) where
 
 -- ---- what was reached, by directories
 
-pub paths_same : (edition : ℕ) (ds : List Directory) → reached_paths (map (reached_by edition) ds) ≡ paths_of ds
+pub paths_same : (edition : Edition) (ds : List Directory) → reached_paths (map (reached_by edition) ds) ≡ paths_of ds
 paths_same edition [] = refl
 paths_same edition (d ∷ ds) = ap (λ ps. d.path ∷ ps) (paths_same edition ds)
 
-pub rows_same : (edition : ℕ) (ds : List Directory) → reached_rows (map (reached_by edition) ds) ≡ map (λ (d : Directory). d.imports) ds
+pub rows_same : (edition : Edition) (ds : List Directory) → reached_rows (map (reached_by edition) ds) ≡ map (λ (d : Directory). d.imports) ds
 rows_same edition [] = refl
 rows_same edition (d ∷ ds) = ap (λ rs. d.imports ∷ rs) (rows_same edition ds)
 
 -- ---- a target's own build
 
-module _ (edition : ℕ) (took : List Took) (ps : List (Piece edition took)) (told : List Report) where
+module _ (edition : Edition) (took : List Took) (ps : List (Piece edition took)) (told : List Report) where
   -- a target, what becomes of its directories, and its report
   pub record Own : Type 0 where
     pub target : ℕ × List ℕ
@@ -80,9 +81,9 @@ module _ (edition : ℕ) (took : List Took) (ps : List (Piece edition took)) (to
     pub report : Report
     pub piece : Piece edition took
     pub at : slice_get ps target.0 ≡ Some piece
-    pub is : IsTargetBuild (took_at took target.0).writes target.1 (Some build)
+    pub is : IsTargetBuild edition (took_at took target.0).writes target.1 (Some build)
     pub into : (a : Action) → Contains (actions_of edition build) a → Contains (actions_of edition piece.build) a
-    pub back : (a : Action) (x : ActionAt edition piece.build.fates piece.build.directories piece.build.fates a) → Reaches piece.of.0 target.1 x.directory.path → Contains (actions_of edition build) a
+    pub back : (a : Action) (x : ActionAt edition piece.build.fates piece.build.directories piece.build.fates a) → Reaches edition piece.of.0 target.1 x.directory.path → Contains (actions_of edition build) a
     pub whole : Report
     pub whole_in : Contains told whole
     pub compiled : report.compiled ≡ whole.compiled
@@ -94,30 +95,30 @@ module _ (edition : ℕ) (took : List Took) (ps : List (Piece edition took)) (to
       let sources : Sources = p.of.0 in
       let us : List Directory = p.build.directories in
       let fs : List Fate = p.build.fates in
-      let joint : IsJointPlan sources p.targets us = p.of.2 in
-      let own = some_build_plan sources t.1 (joint.files t.1 among) in
+      let joint : IsJointPlan edition sources p.targets us = p.of.2 in
+      let own = some_build_plan edition sources t.1 (joint.files t.1 among) in
       let ds : List Directory = own.0 in
       let paths : reached_paths p.reached ≡ paths_of us = ap reached_paths p.same ∙ paths_same edition us in
       let rows : reached_rows p.reached ≡ map (λ (d : Directory). d.imports) us = ap reached_rows p.same ∙ rows_same edition us in
       let walked : ArePart (paths_of us) (map (λ (d : Directory). d.imports) us) t.1 part.numbers =
       subst (λ rs. ArePart (paths_of us) rs t.1 part.numbers) rows (subst (λ xs. ArePart xs (reached_rows p.reached) t.1 part.numbers) paths part_is) in
-      let b : TargetBuild = own_build sources p.targets us fs joint p.fated t.1 among ds own.1 in (
+      let b : TargetBuild = own_build edition sources p.targets us fs joint p.fated t.1 among ds own.1 in (
         record {
           target = t;
           build = b;
           report = report;
           piece = p;
           at = at;
-          is = (subst (λ k. IsBuildPlanOf (took_at took k).writes t.1 ds) number (sources, p.of.1, own.1), own_fated sources p.targets us fs joint p.fated t.1 among ds own.1);
-          into = own_into sources p.targets us fs joint p.fated t.1 among ds own.1 edition;
-          back = λ a x way. own_back sources p.targets us fs joint p.fated t.1 among ds own.1 edition x.number x.directory x.fate a x.at x.its way x.is;
+          is = (subst (λ k. IsBuildPlanOf edition (took_at took k).writes t.1 ds) number (sources, p.of.1, own.1), own_fated edition sources p.targets us fs joint p.fated t.1 among ds own.1);
+          into = own_into edition sources p.targets us fs joint p.fated t.1 among ds own.1;
+          back = λ a x way. own_back edition sources p.targets us fs joint p.fated t.1 among ds own.1 x.number x.directory x.fate a x.at x.its way x.is;
           whole = told_is.whole;
           whole_in = get_contains told part.replica told_is.whole told_is.at;
           compiled = told_is.compiled;
           tells = λ same.
               let its : rows_of told_is.whole ≡ report_of p.build = rows_at told_is.whole (subst (λ k. slice_get told k ≡ Some told_is.whole) replica told_is.at) same in
               told_is.rows ∙ ap (λ rs. filter_map (slice_get rs) part.numbers) its
-              ∙ own_report sources p.targets us fs joint p.fated t.1 among ds own.1 part.numbers (is_part sources p.targets us joint t.1 among part.numbers walked);
+              ∙ own_report edition sources p.targets us fs joint p.fated t.1 among ds own.1 part.numbers (is_part edition sources p.targets us joint t.1 among part.numbers walked);
         },
         refl,
         refl,
@@ -161,7 +162,7 @@ module _ (edition : ℕ) (took : List Took) (ps : List (Piece edition took)) (to
   abbrev pub own_builds : List Own → List TargetBuild
   own_builds os = map (λ (o : Own). o.build) os
 
-  pub owns_are : (os : List Own) → AreBuilds took (map (λ (o : Own). o.target) os) (own_builds os)
+  pub owns_are : (os : List Own) → AreBuilds edition took (map (λ (o : Own). o.target) os) (own_builds os)
   owns_are [] = tt
   owns_are (o ∷ os) = (o.is, owns_are os)
 
@@ -214,15 +215,15 @@ module _ (edition : ℕ) (took : List Took) (ps : List (Piece edition took)) (to
         let o = own_with os (s.0, way.0) (subst (λ (ts : List (ℕ × List ℕ)). Contains ts (s.0, way.0)) (sym targets_are) t) in
         in_all o.0.build (own_builds os) a (into_map (λ (o : Own). o.build) os o.0 o.1) (by_piece o.0 s.0 way.0 o.2 p s.2 x way.2)
       where
-        with_piece : (o : Own) (p : Piece edition took) → p ≡ o.piece → (x : ActionAt edition p.build.fates p.build.directories p.build.fates a) → Reaches p.of.0 o.target.1 x.directory.path → Contains (actions_of edition o.build) a
+        with_piece : (o : Own) (p : Piece edition took) → p ≡ o.piece → (x : ActionAt edition p.build.fates p.build.directories p.build.fates a) → Reaches edition p.of.0 o.target.1 x.directory.path → Contains (actions_of edition o.build) a
         with_piece o p e =
-            subst (λ (q : Piece edition took). (x : ActionAt edition q.build.fates q.build.directories q.build.fates a) → Reaches q.of.0 o.target.1 x.directory.path → Contains (actions_of edition o.build) a) (sym e) (o.back a)
+            subst (λ (q : Piece edition took). (x : ActionAt edition q.build.fates q.build.directories q.build.fates a) → Reaches edition q.of.0 o.target.1 x.directory.path → Contains (actions_of edition o.build) a) (sym e) (o.back a)
 
-        by_piece : (o : Own) (k : ℕ) (d : List ℕ) → o.target ≡ (k, d) → (p : Piece edition took) → slice_get ps k ≡ Some p → (x : ActionAt edition p.build.fates p.build.directories p.build.fates a) → Reaches p.of.0 d x.directory.path → Contains (actions_of edition o.build) a
+        by_piece : (o : Own) (k : ℕ) (d : List ℕ) → o.target ≡ (k, d) → (p : Piece edition took) → slice_get ps k ≡ Some p → (x : ActionAt edition p.build.fates p.build.directories p.build.fates a) → Reaches edition p.of.0 d x.directory.path → Contains (actions_of edition o.build) a
         by_piece o k d same p at x way =
             let its : o.piece ≡ p = some_same o.piece p (sym o.at ∙ ap (λ (t : ℕ × List ℕ). slice_get ps t.0) same ∙ at) in
             let path : o.target.1 ≡ d = ap (λ (t : ℕ × List ℕ). t.1) same in
-            with_piece o p (sym its) x (subst (λ z. Reaches p.of.0 z x.directory.path) (sym path) way)
+            with_piece o p (sym its) x (subst (λ z. Reaches edition p.of.0 z x.directory.path) (sym path) way)
 
     pub same_actions : SameMembers (all_actions edition (own_builds os)) (all_actions edition (builds_of edition took ps))
     same_actions a = (owns_into os a, owns_back a)

@@ -5,6 +5,7 @@ use Rattle.std.specs.FinMap.{FinMap}
 use Rattle.std.proofs.lemmas.Option.{slice_get_within}
 use Rattle.std.proofs.lemmas.List.{length-map, map-append}
 use Rattle.std.proofs.lemmas.List.Elements.{All-head, All-tail}
+use Rattle.go_text.specs.declared.edition.Edition.{Edition}
 use Rattle.ws_version.specs.Writes.{Write}
 use Rattle.ws_map.specs.Kept.{joined}
 use Rattle.ws_register.specs.Sources.{HasFiles}
@@ -36,12 +37,12 @@ use Rattle.ws_replica.proofs.SeveralPlans.{job_of, AreWithin, somes_append, zip_
 use Rattle.ws_replica.proofs.SomeBuild.{some_fates}
 
 -- a replica's targets, what was reached of them, and what becomes of the directories
-pub record Piece (edition : ℕ) (took : List Took) : Type 0 where
+pub record Piece (edition : Edition) (took : List Took) : Type 0 where
   pub number : ℕ
   pub targets : List (List ℕ)
   pub reached : List Reached
   pub build : TargetBuild
-  pub of : IsJointPlanOf (took_at took number).writes targets build.directories
+  pub of : IsJointPlanOf edition (took_at took number).writes targets build.directories
   pub fated : AreFates build.directories build.fates
   pub same : reached ≡ map (reached_by edition) build.directories
   pub inside : (d : Directory) → Contains build.directories d → (k : ℕ) → Contains d.imports k → k < length build.directories
@@ -56,23 +57,23 @@ stands_at (x ∷ replicas) [] all k r e = absurd all
 stands_at (x ∷ replicas) (t ∷ took) all zero r e = subst (λ (z : Replica). ReplicaStandsFor z t.writes t.actions) (some_same x r e) all.0
 stands_at (x ∷ replicas) (t ∷ took) all (suc k) r e = stands_at replicas took all.1 k r e
 
-pub whole_inside : (W : List Write) (ds : List Directory) → IsWholeOf W ds → (d : Directory) → Contains ds d → (k : ℕ) → Contains d.imports k → k < length ds
-whole_inside W ds of d c k among =
+pub whole_inside : (edition : Edition) (W : List Write) (ds : List Directory) → IsWholeOf edition W ds → (d : Directory) → Contains ds d → (k : ℕ) → Contains d.imports k → k < length ds
+whole_inside edition W ds of d c k among =
     let there = ((of.2.imports d c).are k).0 among in
     omega (arith, slice_get_within (paths_of ds) k there.0 there.1, length-map ds (λ (d : Directory). d.path))
 
-pub plan_inside : (W : List Write) (target : List ℕ) (ds : List Directory) → IsBuildPlanOf W target ds → (d : Directory) → Contains ds d → (k : ℕ) → Contains d.imports k → k < length ds
-plan_inside W target ds of = whole_inside W ds (whole_plan_of W target ds of)
+pub plan_inside : (edition : Edition) (W : List Write) (target : List ℕ) (ds : List Directory) → IsBuildPlanOf edition W target ds → (d : Directory) → Contains ds d → (k : ℕ) → Contains d.imports k → k < length ds
+plan_inside edition W target ds of = whole_inside edition W ds (whole_plan_of edition W target ds of)
 
-piece_of : (edition : ℕ) (replicas : List Replica) (took : List Took) → AllStandFor replicas took → (targets : List (ℕ × List ℕ)) (k : ℕ) (rs : List Reached) → IsReached edition replicas targets k rs
+piece_of : (edition : Edition) (replicas : List Replica) (took : List Took) → AllStandFor replicas took → (targets : List (ℕ × List ℕ)) (k : ℕ) (rs : List Reached) → IsReached edition replicas targets k rs
     → (p : Piece edition took) × (p.number ≡ k) × (p.targets ≡ directories_at targets k) × (p.reached ≡ rs)
 piece_of edition replicas took all targets k rs h =
     let W : List Write = (took_at took k).writes in
     let ds : List Directory = h.by.directories in
-    let of : IsJointPlanOf W (directories_at targets k) ds = h.by.planned W (stands_at replicas took all k h.replica h.at).registers in
-    let whole : IsWholeOf W ds = whole_joint_of W (directories_at targets k) ds of in
-    let ranks = plan_ranks W ds whole in
-    let fates = some_fates of.0 ds of.2.planned ranks.0 ranks.1 in (
+    let of : IsJointPlanOf edition W (directories_at targets k) ds = h.by.planned W (stands_at replicas took all k h.replica h.at).registers in
+    let whole : IsWholeOf edition W ds = whole_joint_of edition W (directories_at targets k) ds of in
+    let ranks = plan_ranks edition W ds whole in
+    let fates = some_fates edition of.0 ds of.2.planned ranks.0 ranks.1 in (
       record {
         number = k;
         targets = directories_at targets k;
@@ -81,7 +82,7 @@ piece_of edition replicas took all targets k rs h =
         of = of;
         fated = fates.1;
         same = h.by.same;
-        inside = whole_inside W ds whole;
+        inside = whole_inside edition W ds whole;
         files = h.by.files W (stands_at replicas took all k h.replica h.at).registers;
       },
       refl,
@@ -90,12 +91,12 @@ piece_of edition replicas took all targets k rs h =
     )
 
 -- all pieces of what was reached, from the replica of the number n on
-pub record Pieces (edition : ℕ) (took : List Took) (targets : List (ℕ × List ℕ)) (n : ℕ) (all : List (List Reached)) : Type 0 where
+pub record Pieces (edition : Edition) (took : List Took) (targets : List (ℕ × List ℕ)) (n : ℕ) (all : List (List Reached)) : Type 0 where
   pub list : List (Piece edition took)
   pub all_are : map (λ (p : Piece edition took). p.reached) list ≡ all
   pub each : (k : ℕ) (p : Piece edition took) → slice_get list k ≡ Some p → (p.number ≡ n + k) × (p.targets ≡ directories_at targets (n + k))
 
-each_more : (edition : ℕ) (took : List Took) (targets : List (ℕ × List ℕ)) (n : ℕ) (q : Piece edition took) (list : List (Piece edition took)) → q.number ≡ n → q.targets ≡ directories_at targets n
+each_more : (edition : Edition) (took : List Took) (targets : List (ℕ × List ℕ)) (n : ℕ) (q : Piece edition took) (list : List (Piece edition took)) → q.number ≡ n → q.targets ≡ directories_at targets n
     → ((k : ℕ) (p : Piece edition took) → slice_get list k ≡ Some p → (p.number ≡ suc n + k) × (p.targets ≡ directories_at targets (suc n + k)))
     → (k : ℕ) (p : Piece edition took) → slice_get (q ∷ list) k ≡ Some p → (p.number ≡ n + k) × (p.targets ≡ directories_at targets (n + k))
 each_more edition took targets n q list number its rest zero p at =
@@ -107,7 +108,7 @@ each_more edition took targets n q list number its rest (suc k) p at =
     let there = rest k p at in
     (there.0 ∙ place, there.1 ∙ ap (directories_at targets) place)
 
-pub pieces_of : (edition : ℕ) (replicas : List Replica) (took : List Took) → AllStandFor replicas took → (targets : List (ℕ × List ℕ)) (n : ℕ) (all : List (List Reached))
+pub pieces_of : (edition : Edition) (replicas : List Replica) (took : List Took) → AllStandFor replicas took → (targets : List (ℕ × List ℕ)) (n : ℕ) (all : List (List Reached))
     → ((k : ℕ) (rs : List Reached) → slice_get all k ≡ Some rs → IsReached edition replicas targets (n + k) rs) → Pieces edition took targets n all
 pieces_of edition replicas took stand targets n [] h = record { list = []; all_are = refl; each = λ k p at. cc (at) }
 pieces_of edition replicas took stand targets n (rs ∷ all) h =
@@ -120,7 +121,7 @@ pieces_of edition replicas took stand targets n (rs ∷ all) h =
       each = each_more edition took targets n p.0 rest.list p.1 p.2 rest.each;
     }
 
-module _ (edition : ℕ) (took : List Took) where
+module _ (edition : Edition) (took : List Took) where
   abbrev pub builds_of : List (Piece edition took) → List TargetBuild
   builds_of ps = map (λ (p : Piece edition took). p.build) ps
 
@@ -154,7 +155,7 @@ module _ (edition : ℕ) (took : List Took) where
   piece_ranked : (p : Piece edition took) (n : ℕ) → (rank : ℕ → ℕ) × IsRankedFrom n rank (map (job_after n) p.reached)
   piece_ranked p n =
       let W : List Write = (took_at took p.number).writes in
-      let ranks : (rank : ℕ → ℕ) × AreRanks p.build.directories rank = plan_ranks W p.build.directories (whole_joint_of W p.targets p.build.directories p.of) in
+      let ranks : (rank : ℕ → ℕ) × AreRanks p.build.directories rank = plan_ranks edition W p.build.directories (whole_joint_of edition W p.targets p.build.directories p.of) in
       (ranks.0, after_ranked n p.reached ranks.0 (subst (λ rs. IsRanked ranks.0 (map job_of rs)) (sym p.same) (jobs_ranked edition p.build.directories ranks.0 ranks.1)))
 
   all_from : (ps : List (Piece edition took)) (n : ℕ) → AreFrom n (jobs_after n (reached_of_all ps))
@@ -193,7 +194,7 @@ module _ (edition : ℕ) (took : List Took) where
     piece_ends p n within =
         subst (λ rs. AllZip (IsEnd whole) (map (job_after n) rs) (ends_of p)) (sym p.same)
         (are_ends edition p.build.directories p.build.fates p.fated whole n within p.build.directories p.build.fates
-        (λ d c. (p.inside d c, whole_makes (took_at took p.number).writes p.files p.build.directories p.build.fates (whole_joint_of (took_at took p.number).writes p.targets p.build.directories p.of) p.fated d c)) p.fated)
+        (λ d c. (p.inside d c, whole_makes edition (took_at took p.number).writes p.files p.build.directories p.build.fates (whole_joint_of edition (took_at took p.number).writes p.targets p.build.directories p.of) p.fated d c)) p.fated)
 
     all_end : (ps : List (Piece edition took)) (n : ℕ) (front : List End) → whole ≡ front ++ all_ends ps → length front ≡ n → AllZip (IsEnd whole) (jobs_after n (reached_of_all ps)) (all_ends ps)
     all_end [] n front is long = tt

@@ -1,6 +1,7 @@
 -- The packages of a target's program are well typed together: their code is linked, and means what they do.
 use Rattle.std.proofs.Common.{◌≡◌, ◌≢◌, ℕ, List, map, None}
 use Rattle.std.specs.List.{All}
+use Rattle.go_text.specs.declared.edition.Edition.{Edition}
 use Rattle.go_code.specs.Images.{Image}
 use Rattle.go_link.specs.Links.{link_refusal}
 use Rattle.go_typed.specs.Trees.{Package}
@@ -20,9 +21,9 @@ use Rattle.ws_replica.specs.Programs.{IsGood, IsPackageOrder}
 use Rattle.ws_replica.specs.Reports.{AreFates, TargetBuild}
 use Rattle.ws_replica.proofs.CheckedPackages.{all_checked}
 
-module _ (W : List Write) (has : HasFiles W) (target : List ℕ) (build : TargetBuild) (of : IsBuildPlanOf W target build.directories) (are : AreFates build.directories build.fates) (packages : List Package) (order : IsPackageOrder build packages) where
+module _ (edition : Edition) (W : List Write) (has : HasFiles W) (target : List ℕ) (build : TargetBuild) (of : IsBuildPlanOf edition W target build.directories) (are : AreFates build.directories build.fates) (packages : List Package) (order : IsPackageOrder build packages) where
   pub program_checked : AreChecked packages
-  program_checked = all_checked W has target build.directories build.fates of are packages order
+  program_checked = all_checked edition W has target build.directories build.fates of are packages order
 
   module _ (program : IsProgram packages) where
     named : IsNamedMain packages
@@ -46,5 +47,5 @@ module _ (W : List Write) (has : HasFiles W) (target : List ℕ) (build : Target
     pub program_means : (ticks : ℕ) → HasMeaning packages ticks
     program_means = packages_mean packages program_checked named
 
-pub well_typed : (W : List Write) → HasFiles W → (target : List ℕ) (build : TargetBuild) → IsBuildPlanOf W target build.directories → AreFates build.directories build.fates → All IsGood build.fates → (packages : List Package) → IsPackageOrder build packages → IsProgram packages → IsWellTyped packages
-well_typed W has target build of are good packages order program = program_typed W has target build of are packages order program
+pub well_typed : (edition : Edition) (W : List Write) → HasFiles W → (target : List ℕ) (build : TargetBuild) → IsBuildPlanOf edition W target build.directories → AreFates build.directories build.fates → All IsGood build.fates → (packages : List Package) → IsPackageOrder build packages → IsProgram packages → IsWellTyped packages
+well_typed edition W has target build of are good packages order program = program_typed edition W has target build of are packages order program

@@ -2,6 +2,7 @@
 use Rattle.std.specs.Prelude.{◌≡◌, ◌==◌, ℕ, Bool, if◌then◌else◌, List, [], ◌++◌, map, None, Some, slice_index_or}
 use Rattle.std.specs.List.{AllZip, Contains, flat_map, list_any, slice_get}
 use Rattle.std.specs.FinMap.{FinMap}
+use Rattle.go_text.specs.declared.edition.Edition.{Edition}
 use Rattle.ws_action.specs.Actions.{Action}
 use Rattle.ws_action.specs.Clash.{NoClash, AllSized, hashed_actions}
 use Rattle.ws_cache.specs.Count.{compiled_count}
@@ -42,43 +43,43 @@ abbrev pub StandsAfter : List (ℕ × List ℕ) → List Action → ℕ → Took
 StandsAfter targets actions k took replica = ReplicaStandsFor replica took.writes (if builds targets k then took.actions ++ actions else took.actions)
 
 -- each report is its target's, and each count that of the whole build
-pub record AreReports (edition : ℕ) (took : List Took) (targets : List (ℕ × List ℕ)) (all : List TargetBuild) (given : List Report) : Type 0 where
+pub record AreReports (edition : Edition) (took : List Took) (targets : List (ℕ × List ℕ)) (all : List TargetBuild) (given : List Report) : Type 0 where
   pub reports : map (λ (r : Report). rows r.directories.items) given ≡ map report_of all
   pub counts : (r : Report) → Contains given r → r.compiled ≡ compiled_count (held_by took targets) (all_actions edition all)
 
 -- Where no two texts clash: so it is told, the numbers in the texts of what was compiled fit, and all replicas that build took what they
 -- hold together and what was compiled.
-pub record AreRight (edition : ℕ) (took : List Took) (targets : List (ℕ × List ℕ)) (all : List TargetBuild) (given : List Report) (new : List Replica) : Type 0 where
+pub record AreRight (edition : Edition) (took : List Took) (targets : List (ℕ × List ℕ)) (all : List TargetBuild) (given : List Report) (new : List Replica) : Type 0 where
   pub told : AreReports edition took targets all given
   pub sized : AllSized (all_actions edition all)
   pub stand : (k : ℕ) (t : Took) (replica : Replica) → slice_get took k ≡ Some t → slice_get new k ≡ Some replica →
       StandsAfter targets (held_by took targets ++ all_actions edition all) k t replica
 
 -- what becomes of the directories of each target, by the writes that its replica took
-abbrev pub AreBuilds : List Took → List (ℕ × List ℕ) → List TargetBuild → Type 0
-AreBuilds took targets all = AllZip (λ t b. IsTargetBuild (took_at took t.0).writes t.1 (Some b)) targets all
+abbrev pub AreBuilds : Edition → List Took → List (ℕ × List ℕ) → List TargetBuild → Type 0
+AreBuilds edition took targets all = AllZip (λ t b. IsTargetBuild edition (took_at took t.0).writes t.1 (Some b)) targets all
 
 -- What a build that succeeds says of replicas that took this: what becomes of the directories of their writes, and that the reports and the
 -- replicas say so.
-pub record AreBuilt (edition : ℕ) (took : List Took) (targets : List (ℕ × List ℕ)) (reports : List Report) (new : List Replica) : Type 0 where
+pub record AreBuilt (edition : Edition) (took : List Took) (targets : List (ℕ × List ℕ)) (reports : List Report) (new : List Replica) : Type 0 where
   pub all : List TargetBuild
-  pub are : AreBuilds took targets all
+  pub are : AreBuilds edition took targets all
   pub right : NoClash (hashed_actions (held_by took targets ++ all_actions edition all)) → AreRight edition took targets all reports new
 
 -- The same of a build that changes no replica, and gives a cache with what those that build hold together and what was compiled.
-pub record AreRightFrom (edition : ℕ) (took : List Took) (targets : List (ℕ × List ℕ)) (all : List TargetBuild) (given : List Report) (cache : FinMap id_cmp Action) : Type 0 where
+pub record AreRightFrom (edition : Edition) (took : List Took) (targets : List (ℕ × List ℕ)) (all : List TargetBuild) (given : List Report) (cache : FinMap id_cmp Action) : Type 0 where
   pub told : AreReports edition took targets all given
   pub sized : AllSized (all_actions edition all)
   pub stands : CacheStandsFor cache (held_by took targets ++ all_actions edition all)
 
-pub record AreBuiltFrom (edition : ℕ) (took : List Took) (targets : List (ℕ × List ℕ)) (reports : List Report) (cache : FinMap id_cmp Action) : Type 0 where
+pub record AreBuiltFrom (edition : Edition) (took : List Took) (targets : List (ℕ × List ℕ)) (reports : List Report) (cache : FinMap id_cmp Action) : Type 0 where
   pub all : List TargetBuild
-  pub are : AreBuilds took targets all
+  pub are : AreBuilds edition took targets all
   pub right : NoClash (hashed_actions (held_by took targets ++ all_actions edition all)) → AreRightFrom edition took targets all reports cache
 
 -- a target without package files
-abbrev pub LacksPackage : List Took → List (ℕ × List ℕ) → Type 0
-LacksPackage took targets = (k : ℕ) × (directory : List ℕ) × Contains targets (k, directory) × IsTargetBuild (took_at took k).writes directory None
+abbrev pub LacksPackage : Edition → List Took → List (ℕ × List ℕ) → Type 0
+LacksPackage edition took targets = (k : ℕ) × (directory : List ℕ) × Contains targets (k, directory) × IsTargetBuild edition (took_at took k).writes directory None
 
 -- the texts of the entries that each took are sized
 abbrev pub AllTookSized : List Took → Type 0

@@ -1,6 +1,7 @@
 -- Which ids the directories that a target reaches have, and which of them are held.
 use Rattle.std.specs.Prelude.{◌≡◌, ℕ, List, ◌++◌, map, zip, Option, Some, None, slice_index_or}
 use Rattle.std.specs.List.{All, AllZip, Contains}
+use Rattle.go_text.specs.declared.edition.Edition.{Edition}
 use Rattle.go_typed.specs.Trees.{Package}
 use Rattle.ws_version.specs.Writes.{Write}
 use Rattle.ws_action.specs.Actions.{Action, action_id}
@@ -26,16 +27,16 @@ IsStanding held Imports (Some action) (Absent id) = Imports × (¬ (Contains hel
 IsStanding held Imports (Some action) (Held id) = Imports × Contains held action × (id ≡ action_id action)
 
 -- the row of a directory and its fate, by the rows of all: no order of directories
-abbrev pub IsIdRow : ℕ → List Action → TargetBuild → List (List ℕ × Standing) → Directory × Fate → List ℕ × Standing → Type 0
+abbrev pub IsIdRow : Edition → List Action → TargetBuild → List (List ℕ × Standing) → Directory × Fate → List ℕ × Standing → Type 0
 IsIdRow edition held build rows (d, fate) (path, standing) =
     (path ≡ d.path) × IsStanding held (All (IsHeldGood build rows) d.imports) (action_in edition build.fates d fate) standing
 
 -- the directories of a target, each with how its action stands among those held
-abbrev pub AreIdRows : ℕ → List Action → TargetBuild → List (List ℕ × Standing) → Type 0
+abbrev pub AreIdRows : Edition → List Action → TargetBuild → List (List ℕ × Standing) → Type 0
 AreIdRows edition held build rows = AllZip (IsIdRow edition held build rows) (zip build.directories build.fates) rows
 
 -- What is known of the ids of a target: what becomes of its directories, and, where no two hashed texts clash, that these are their rows.
-pub record AreIds (edition : ℕ) (W : List Write) (E : List Action) (target : List ℕ) (rows : List (List ℕ × Standing)) : Type 0 where
+pub record AreIds (edition : Edition) (W : List Write) (E : List Action) (target : List ℕ) (rows : List (List ℕ × Standing)) : Type 0 where
   pub build : TargetBuild
-  pub are : IsTargetBuild W target (Some build)
+  pub are : IsTargetBuild edition W target (Some build)
   pub right : NoClash (hashed_actions (E ++ actions_of edition build)) → AreIdRows edition E build rows

@@ -3,6 +3,7 @@ use Rattle.std.specs.Prelude.{Vec, ◌≡◌, ℕ, suc, ◌+◌, List, [], ◌�
 use Rattle.std.specs.List.{All, count_by}
 use Rattle.std.specs.FinMap.{FinMap}
 use Rattle.std.specs.Global.{Global}
+use Rattle.go_text.specs.declared.edition.Edition.{Edition}
 use Rattle.go_text.specs.Faults.{Fault}
 use Rattle.ws_action.specs.Actions.{Action}
 use Rattle.ws_cache.specs.Compiles.{Compiled, Compiles}
@@ -42,12 +43,12 @@ fault_of NoFiles = None
 fault_of (Faulty fault) = Some fault
 fault_of (Sound files) = None
 
-abbrev pub work_of : ℕ → List ℕ → Planned → Option Work
+abbrev pub work_of : Edition → List ℕ → Planned → Option Work
 work_of edition path NoFiles = None
 work_of edition path (Faulty fault) = None
 work_of edition path (Sound files) = Some (record { edition = edition; path = path; files = files })
 
-abbrev pub reached_by : ℕ → Directory → Reached
+abbrev pub reached_by : Edition → Directory → Reached
 reached_by edition d = record { place = record { path = d.path; fault = fault_of d.planned }; work = work_of edition d.path d.planned; imports = d.imports }
 
 -- the fault in what compiling gives, if there is one

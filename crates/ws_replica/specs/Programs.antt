@@ -1,6 +1,7 @@
 -- The program of a directory, and the image of what is compiled.
 use Rattle.std.specs.Prelude.{◌≡◌, ℕ, List, ◌++◌, map, Option, None, Some}
 use Rattle.std.specs.List.{All, Contains}
+use Rattle.go_text.specs.declared.edition.Edition.{Edition}
 use Rattle.go_code.specs.Images.{Image}
 use Rattle.go_typed.specs.Trees.{Package}
 use Rattle.go_meaning.specs.Programs.{IsProgram}
@@ -21,24 +22,24 @@ IsPackageOrder build = ArePackages build.fates (package_order (map (λ d. d.impo
 
 -- All that a target reaches is good and held, and these are its packages, in the order in which they are initialized, the target's own at
 -- last. They are a program.
-pub record IsHeldProgram (edition : ℕ) (held : List Action) (build : TargetBuild) (packages : List Package) : Type 0 where
+pub record IsHeldProgram (edition : Edition) (held : List Action) (build : TargetBuild) (packages : List Package) : Type 0 where
   pub good : All IsGood build.fates
   pub compiled : All (Contains held) (actions_of edition build)
   pub in_order : IsPackageOrder build packages
   pub program : IsProgram packages
 
-abbrev pub IsPlannedProgram : ℕ → List Action → Option TargetBuild → List Package → Type 0
+abbrev pub IsPlannedProgram : Edition → List Action → Option TargetBuild → List Package → Type 0
 IsPlannedProgram edition held None packages = ⊥
 IsPlannedProgram edition held (Some build) packages = IsHeldProgram edition held build packages
 
 -- the linked objects of the program's packages, and none where there is no program
-abbrev pub IsImageOf : ℕ → List Action → TargetBuild → Option Image → Type 0
+abbrev pub IsImageOf : Edition → List Action → TargetBuild → Option Image → Type 0
 IsImageOf edition held build None = (packages : List Package) → ¬ (IsHeldProgram edition held build packages)
 IsImageOf edition held build (Some image) =
     (packages : List Package) × IsHeldProgram edition held build packages × (image ≡ linked (map object_of packages))
 
 -- What is known of the image of a target: what becomes of its directories, and, where no two hashed texts clash, that this is the image.
-pub record IsImage (edition : ℕ) (W : List Write) (E : List Action) (target : List ℕ) (image : Option Image) : Type 0 where
+pub record IsImage (edition : Edition) (W : List Write) (E : List Action) (target : List ℕ) (image : Option Image) : Type 0 where
   pub build : TargetBuild
-  pub are : IsTargetBuild W target (Some build)
+  pub are : IsTargetBuild edition W target (Some build)
   pub right : NoClash (hashed_actions (E ++ actions_of edition build)) → IsImageOf edition E build image

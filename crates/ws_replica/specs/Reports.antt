@@ -1,6 +1,7 @@
 -- What a build says of each directory that it reaches: from the sources alone.
 use Rattle.std.specs.Prelude.{◌≡◌, ℕ, List, [], ◌∷◌, map, Option, Some, None, slice_index_or}
 use Rattle.std.specs.List.{AllZip, filter_map, flat_map, zip}
+use Rattle.go_text.specs.declared.edition.Edition.{Edition}
 use Rattle.go_text.specs.Faults.{Fault}
 use Rattle.go_ast.specs.Parse.{Parsed}
 use Rattle.go_typed.specs.Trees.{Package}
@@ -57,9 +58,9 @@ pub record TargetBuild : Type 0 where
   pub fates : List Fate
 
 -- those of a directory, from a set of writes alone; none where it has no package files
-abbrev pub IsTargetBuild : List Write → List ℕ → Option TargetBuild → Type 0
-IsTargetBuild writes target None = IsPlanOf writes target NoFiles
-IsTargetBuild writes target (Some build) = IsBuildPlanOf writes target build.directories × AreFates build.directories build.fates
+abbrev pub IsTargetBuild : Edition → List Write → List ℕ → Option TargetBuild → Type 0
+IsTargetBuild edition writes target None = IsPlanOf edition writes target NoFiles
+IsTargetBuild edition writes target (Some build) = IsBuildPlanOf edition writes target build.directories × AreFates build.directories build.fates
 
 -- the directories reached, in order, each with what is said of it
 abbrev pub report_of : TargetBuild → List (List ℕ × told.Verdict)
@@ -76,24 +77,24 @@ packages_in (_ ∷ fates) = packages_in fates
 abbrev pub imported : List Fate → Directory → List Package
 imported fates d = packages_in (map (fate_at fates) d.imports)
 
-abbrev pub action_by : ℕ → List Fate → Directory → Planned → Option Action
+abbrev pub action_by : Edition → List Fate → Directory → Planned → Option Action
 action_by edition fates d (Sound files) = Some (action_of edition d.path files (map summary_of (imported fates d)))
 action_by edition fates d planned = None
 
 -- the action that a directory is compiled by, which has one where its imports are good
-abbrev pub action_in : ℕ → List Fate → Directory → Fate → Option Action
+abbrev pub action_in : Edition → List Fate → Directory → Fate → Option Action
 action_in edition fates d (Wrong fault) = action_by edition fates d d.planned
 action_in edition fates d (Good typed) = action_by edition fates d d.planned
 action_in edition fates d fate = None
 
 -- the actions that are compiled of a target
-abbrev pub actions_of : ℕ → TargetBuild → List Action
+abbrev pub actions_of : Edition → TargetBuild → List Action
 actions_of edition build = filter_map (λ row. action_in edition build.fates row.0 row.1) (zip build.directories build.fates)
 
-abbrev pub actions_in : ℕ → Option TargetBuild → List Action
+abbrev pub actions_in : Edition → Option TargetBuild → List Action
 actions_in edition None = []
 actions_in edition (Some build) = actions_of edition build
 
 -- the actions that are compiled of several
-abbrev pub all_actions : ℕ → List TargetBuild → List Action
+abbrev pub all_actions : Edition → List TargetBuild → List Action
 all_actions edition builds = flat_map (actions_of edition) builds

@@ -3,6 +3,7 @@ use Rattle.std.specs.Prelude.{◌≡◌, ◌==◌, ℕ, true, false, List, lengt
 use Rattle.std.specs.List.{slice_get, filter}
 use Rattle.std.specs.List.Sorted.{IsStrictlySortedBy}
 use Rattle.std.specs.FinMap.{FinMap}
+use Rattle.go_text.specs.declared.edition.Edition.{Edition}
 use Rattle.ws_version.specs.Writes.{Write, held_cmp, path_cmp}
 use Rattle.ws_map.specs.Kept.{StandsFor, joined}
 use Rattle.ws_register.specs.Edits.{Contents}
@@ -18,9 +19,9 @@ use Rattle.ws_replica.specs.Parts.{reached_paths, reached_rows}
 use Rattle.ws_replica.specs.Builds.{held_by, builds}
 
 -- what is reached of some directories, from the sources of these registers, which are of files
-pub record IsReachedBy (edition : ℕ) (registers : Contents) (targets : List (List ℕ)) (reached : List Reached) : Type 0 where
+pub record IsReachedBy (edition : Edition) (registers : Contents) (targets : List (List ℕ)) (reached : List Reached) : Type 0 where
   pub directories : List Directory
-  pub planned : IsJointPlanFor registers targets directories
+  pub planned : IsJointPlanFor edition registers targets directories
   pub files : (W : List Write) → StandsFor held_cmp registers W → HasFiles W
   pub same : reached ≡ map (reached_by edition) directories
 
@@ -29,18 +30,18 @@ abbrev pub directories_at : List (ℕ × List ℕ) → ℕ → List (List ℕ)
 directories_at targets k = map (λ t. t.1) (filter (λ t. t.0 == k) targets)
 
 -- what is reached of the targets of the replica of that number
-pub record IsReached (edition : ℕ) (replicas : List Replica) (targets : List (ℕ × List ℕ)) (k : ℕ) (reached : List Reached) : Type 0 where
+pub record IsReached (edition : Edition) (replicas : List Replica) (targets : List (ℕ × List ℕ)) (k : ℕ) (reached : List Reached) : Type 0 where
   pub replica : Replica
   pub at : slice_get replicas k ≡ Some replica
   pub by : IsReachedBy edition replica.registers (directories_at targets k) reached
 
 -- the same of the first replicas
-abbrev pub AreReachedOf : ℕ → List Replica → List (ℕ × List ℕ) → List (List Reached) → Type 0
+abbrev pub AreReachedOf : Edition → List Replica → List (ℕ × List ℕ) → List (List Reached) → Type 0
 AreReachedOf edition replicas targets all =
     (k : ℕ) (reached : List Reached) → slice_get all k ≡ Some reached → IsReached edition replicas targets k reached
 
 -- the same of each replica
-pub record AreReached (edition : ℕ) (replicas : List Replica) (targets : List (ℕ × List ℕ)) (all : List (List Reached)) : Type 0 where
+pub record AreReached (edition : Edition) (replicas : List Replica) (targets : List (ℕ × List ℕ)) (all : List (List Reached)) : Type 0 where
   pub size : length all ≡ length replicas
   pub are : AreReachedOf edition replicas targets all
 

@@ -1,6 +1,5 @@
 //! Builds of several targets.
 ghost use Rattle.std.specs.Prelude.{◌≡◌, ◌<◌, ◌+◌, ◌++◌, List, length, map, IfOk, OnOk, OnErr, Err, All};
-ghost use Rattle.go_text.specs.Editions.{edition_number};
 ghost use Rattle.ws_replica.specs.Holdings.{Took, AllStandFor};
 ghost use Rattle.ws_replica.specs.Jobs.{place_of, reached_of, all_reached_of, all_places_of, job_after, jobs_after};
 ghost use Rattle.ws_replica.specs.Parts.{part_of, AllPartsWithin, IsRunOf};
@@ -122,10 +121,10 @@ pub fn build<R: Threads + Wait + Sync, G: Gate>(
     requires within { All (λ t. t.replica < length replicas.old) targets.now }
     requires some { 0 < workers }
     ensures ok { IfOk result (λ reports. (took : List Took) → AllStandFor replicas.old took → AllTookSized took
-        → AreBuilt (edition_number edition) took (map target_of targets.now) reports.items replicas.new) }
+        → AreBuilt edition took (map target_of targets.now) reports.items replicas.new) }
     ensures registers { map (λ r. r.registers) replicas.new ≡ map (λ r. r.registers) replicas.old }
     ensures none { result ≡ Err BuildError.NoPackage → (took : List Took) → AllStandFor replicas.old took
-        → LacksPackage took (map target_of targets.now) }
+        → LacksPackage edition took (map target_of targets.now) }
     ensures err { OnErr result (replicas.new ≡ replicas.old) }
 {
     let all = all_planned(rt, alloc, replicas, targets, edition)?;

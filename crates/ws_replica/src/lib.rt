@@ -11,6 +11,7 @@ ghost use Rattle.ws_register.specs.Edits.{top, greatest_at, edit_refusal, remova
 ghost use Rattle.ws_register.specs.Sources.{HasFiles, IsShown, IsSources};
 ghost use Rattle.ws_register.specs.Texted.{texted};
 ghost use Rattle.go_code.specs.Images.{Image as AnImage};
+ghost use Rattle.go_text.specs.declared.edition.Edition.{Edition as AnEdition};
 ghost use Rattle.go_ast.specs.Parse.{Parsed as AParsed};
 ghost use Rattle.go_export.specs.Exports.{exports_of};
 ghost use Rattle.go_export.specs.Summaries.{summary_of};
@@ -281,12 +282,12 @@ impl Join for Replica {
 
 /// Of one set of writes a target has one plan, whose directories come to one thing each.
 pub fn law_one_build()
-    ensures { (V W : List AWrite) (target : List ℕ) (a b : Option TargetBuild) → SameMembers V W → IsTargetBuild V target a → IsTargetBuild W target b → a ≡ b }
+    ensures { (edition : AnEdition) (V W : List AWrite) (target : List ℕ) (a b : Option TargetBuild) → SameMembers V W → IsTargetBuild edition V target a → IsTargetBuild edition W target b → a ≡ b }
 {}
 
 /// Of each set of writes each target has a plan, whose directories come to something.
 pub fn law_some_build()
-    ensures { (W : List AWrite) (target : List ℕ) → (build : Option TargetBuild) × IsTargetBuild W target build }
+    ensures { (edition : AnEdition) (W : List AWrite) (target : List ℕ) → (build : Option TargetBuild) × IsTargetBuild edition W target build }
 {}
 
 /// Replicas that took the same writes and the same results hold the same.
@@ -304,13 +305,13 @@ pub fn law_same_members()
 /// Replicas that took the same writes and the same results have equal images, where no two hashed
 /// texts clash.
 pub fn law_equal_images()
-    ensures { (edition : ℕ) (target : List ℕ) (a b : Option AnImage) (V W : List AWrite) (E F : List AnAction) → SameMembers V W → SameMembers E F
+    ensures { (edition : AnEdition) (target : List ℕ) (a b : Option AnImage) (V W : List AWrite) (E F : List AnAction) → SameMembers V W → SameMembers E F
         → (p : IsImage edition V E target a) → IsImage edition W F target b → NoClash (hashed_actions (E ++ actions_of edition p.build)) → a ≡ b }
 {}
 
 /// The package of the target stands last in its program.
 pub fn law_target_is_last()
-    ensures { (W : List AWrite) (target : List ℕ) (build : TargetBuild) (edition : ℕ) (held : List AnAction) (packages : List APackage) → IsTargetBuild W target (Some build)
+    ensures { (edition : AnEdition) (W : List AWrite) (target : List ℕ) (build : TargetBuild) (held : List AnAction) (packages : List APackage) → IsTargetBuild edition W target (Some build)
         → IsHeldProgram edition held build packages → (before : List APackage) × (p : APackage) × (packages ≡ before ++ p ∷ []) × (p.path ≡ target) }
 {}
 
@@ -319,11 +320,11 @@ pub fn law_target_is_last()
 /// summary too, where it is good. So a package without a summary, and a job that is blocked for what
 /// is held, come only where hashed texts clash.
 pub fn law_built_packages_are_shown()
-    ensures shown { (W : List AWrite) (target : List ℕ) (build : TargetBuild) (p : APackage) → HasFiles W → IsTargetBuild W target (Some build)
+    ensures shown { (edition : AnEdition) (W : List AWrite) (target : List ℕ) (build : TargetBuild) (p : APackage) → HasFiles W → IsTargetBuild edition W target (Some build)
         → Contains build.fates (Good p) → All writable.IsShown (values_of (exports_of p)) }
-    ensures make { (W : List AWrite) (target : List ℕ) (build : TargetBuild) (d : Directory) (files : List AParsed) (imports : List APackage) → HasFiles W
-        → IsTargetBuild W target (Some build) → Contains build.directories d → IsReady build.fates d files imports → MakeAction files (map summary_of imports) }
-    ensures told { (W : List AWrite) (target : List ℕ) (build : TargetBuild) (d : Directory) (files : List AParsed) (imports : List APackage) (edition : ℕ) → HasFiles W
-        → IsTargetBuild W target (Some build) → Contains build.directories d → IsReady build.fates d files imports → All writable.IsWritten (map summary_of imports)
+    ensures make { (edition : AnEdition) (W : List AWrite) (target : List ℕ) (build : TargetBuild) (d : Directory) (files : List AParsed) (imports : List APackage) → HasFiles W
+        → IsTargetBuild edition W target (Some build) → Contains build.directories d → IsReady build.fates d files imports → MakeAction edition files (map summary_of imports) }
+    ensures told { (edition : AnEdition) (W : List AWrite) (target : List ℕ) (build : TargetBuild) (d : Directory) (files : List AParsed) (imports : List APackage) → HasFiles W
+        → IsTargetBuild edition W target (Some build) → Contains build.directories d → IsReady build.fates d files imports → All writable.IsWritten (map summary_of imports)
         → ¬ (IsUnshown (action_of edition d.path files (map summary_of imports))) }
 {}

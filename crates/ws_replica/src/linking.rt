@@ -1,7 +1,6 @@
 //! Images of programs, linked from what a replica holds compiled.
 ghost use Rattle.std.specs.Prelude.{◌≡◌, List, length, map, IfOk, IfSome, IfNone, MatchOption, Err, None};
 ghost use Rattle.std.specs.Arc.{arc_value};
-ghost use Rattle.go_text.specs.Editions.{edition_number};
 ghost use Rattle.go_init.specs.Packages.{package_order as order_of};
 ghost use Rattle.ws_version.specs.Writes.{Write as AWrite};
 ghost use Rattle.ws_action.specs.Actions.{Action as AnAction};
@@ -25,7 +24,7 @@ use std::sync::Arc;
 use std::thread::Threads;
 use ws_board::Stopped;
 use ws_cache::Outcome;
-use ws_graph::planning::plan;
+use ws_graph::planning::plan_in;
 use ws_version::Join;
 
 /// The object of a job, where it is done and good.
@@ -95,11 +94,11 @@ pub fn image<R: Threads + Sync>(
     edition: Edition,
 ) -> Result<Option<Image>, BuildError>
     ensures ok { IfOk result (λ image. (W : List AWrite) (E : List AnAction) → ReplicaStandsFor replica.now W E → AllSized E
-        → IsImage (edition_number edition) W E directory.now image) }
-    ensures none { result ≡ Err BuildError.NoPackage → (W : List AWrite) (E : List AnAction) → ReplicaStandsFor replica.now W E → IsTargetBuild W directory.now None }
+        → IsImage edition W E directory.now image) }
+    ensures none { result ≡ Err BuildError.NoPackage → (W : List AWrite) (E : List AnAction) → ReplicaStandsFor replica.now W E → IsTargetBuild edition W directory.now None }
 {
     replica.registers.see_files();
-    let plan = plan(rt, alloc, &replica.registers, directory)?;
+    let plan = plan_in(rt, alloc, edition, &replica.registers, directory)?;
     let reached = all_reached(alloc, edition, plan.directories)?;
     let rows = import_rows(alloc, &reached)?;
     let cache = replica.cache.copy()?;

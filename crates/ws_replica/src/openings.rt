@@ -2,7 +2,6 @@
 ghost use Rattle.std.specs.Prelude.{◌≡◌, ◌==◌, ◌<◌, ◌++◌, ◌∷◌, [], ℕ, List, length, map, IfOk, OnOk, OnErr, Err, Some, All};
 ghost use Rattle.std.specs.FinMap.{FinMap};
 ghost use Rattle.std.specs.List.{slice_get, list_all};
-ghost use Rattle.go_text.specs.Editions.{edition_number};
 ghost use Rattle.ws_map.specs.Kept.{StandsFor};
 ghost use Rattle.ws_version.specs.Writes.{Write as AWrite, held_cmp};
 ghost use Rattle.ws_action.specs.Actions.{Action as AnAction};
@@ -72,11 +71,11 @@ fn planned(
     directories: &[String],
     edition: Edition,
 ) -> Result<Vec<Reached>, BuildError>
-    ensures ok { IfOk result (λ reached. IsReachedBy (edition_number edition) registers.now (texts directories.now) (map reached_of reached.items)) }
-    ensures none { result ≡ Err BuildError.NoPackage → (W : List AWrite) → StandsFor held_cmp registers.now W → SomeHasNoFiles W (texts directories.now) }
+    ensures ok { IfOk result (λ reached. IsReachedBy edition registers.now (texts directories.now) (map reached_of reached.items)) }
+    ensures none { result ≡ Err BuildError.NoPackage → (W : List AWrite) → StandsFor held_cmp registers.now W → SomeHasNoFiles edition W (texts directories.now) }
 {
     registers.see_files();
-    let plan = plan_all(rt, alloc, registers, directories)?;
+    let plan = plan_all(rt, alloc, edition, registers, directories)?;
     let reached = all_reached(alloc, edition, plan.directories)?;
     Ok(reached)
 }
@@ -90,10 +89,10 @@ pub(crate) fn all_planned(
     targets: &[Target<'_>],
     edition: Edition,
 ) -> Result<Vec<Vec<Reached>>, BuildError>
-    ensures ok { IfOk result (λ all. AreReached (edition_number edition) replicas.now (map target_of targets.now) (all_reached_of all.items)) }
+    ensures ok { IfOk result (λ all. AreReached edition replicas.now (map target_of targets.now) (all_reached_of all.items)) }
     ensures order { IfOk result (λ all. AllInOrder (all_reached_of all.items)) }
     ensures none { result ≡ Err BuildError.NoPackage → (took : List Took) → AllStandFor replicas.now took
-        → LacksPackage took (map target_of targets.now) }
+        → LacksPackage edition took (map target_of targets.now) }
 {
     let mut all = Vec::new(alloc);
     for number in 0..replicas.len() {

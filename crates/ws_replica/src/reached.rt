@@ -1,6 +1,5 @@
 //! The directories of a plan, each with what is to be compiled of it.
 ghost use Rattle.std.specs.Prelude.{◌≡◌, map, IfOk};
-ghost use Rattle.go_text.specs.Editions.{edition_number};
 ghost use Rattle.ws_graph.specs.Node.{directory_of};
 ghost use Rattle.ws_reach.specs.Reach.{rows_of};
 ghost use Rattle.ws_replica.specs.Jobs.{reached_by, reached_of};
@@ -32,7 +31,7 @@ pub(crate) struct Reached {
 
 /// A directory with its work. The files are hashed here, where no lock is held.
 fn reached_as(alloc: Global, edition: Edition, directory: Directory) -> Result<Reached, AllocError>
-    ensures { IfOk result (λ reached. reached_of reached ≡ reached_by (edition_number edition) (directory_of directory)) }
+    ensures { IfOk result (λ reached. reached_of reached ≡ reached_by edition (directory_of directory)) }
 {
     let Directory {
         path,
@@ -66,7 +65,7 @@ pub(crate) fn all_reached(
     edition: Edition,
     directories: Vec<Directory>,
 ) -> Result<Vec<Reached>, AllocError>
-    ensures { IfOk result (λ reached. map reached_of reached.items ≡ map (reached_by (edition_number edition)) (map directory_of directories.items)) }
+    ensures { IfOk result (λ reached. map reached_of reached.items ≡ map (reached_by edition) (map directory_of directories.items)) }
 {
     let mut reached = Vec::new(alloc);
     for directory in directories {

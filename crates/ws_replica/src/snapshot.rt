@@ -1,6 +1,5 @@
 //! What replicas held at some time, and builds by it.
 ghost use Rattle.std.specs.Prelude.{◌≡◌, ◌<◌, List, length, map, IfOk, Err, All};
-ghost use Rattle.go_text.specs.Editions.{edition_number};
 ghost use Rattle.ws_replica.specs.Holdings.{Took, AllStandFor};
 ghost use Rattle.ws_replica.specs.Builds.{target_of, AreBuiltFrom, LacksPackage, AllTookSized};
 
@@ -80,9 +79,9 @@ pub fn build_from<R: Threads + Wait + Sync, G: Gate>(
     requires within { All (λ t. t.replica < length snapshots.now) targets.now }
     requires some { 0 < workers }
     ensures ok { IfOk result (λ built. (took : List Took) → AllStandFor snapshots.now took → AllTookSized took
-        → AreBuiltFrom (edition_number edition) took (map target_of targets.now) built.0.items built.1) }
+        → AreBuiltFrom edition took (map target_of targets.now) built.0.items built.1) }
     ensures none { result ≡ Err BuildError.NoPackage → (took : List Took) → AllStandFor snapshots.now took
-        → LacksPackage took (map target_of targets.now) }
+        → LacksPackage edition took (map target_of targets.now) }
 {
     let replicas = replicas_of(alloc, snapshots)?;
     let all = all_planned(rt, alloc, &replicas, targets, edition)?;

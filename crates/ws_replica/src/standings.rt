@@ -1,6 +1,5 @@
 //! Ids: how the actions of what a target reaches stand among those that a replica holds.
 ghost use Rattle.std.specs.Prelude.{◌≡◌, map, IfOk, Err, List, None};
-ghost use Rattle.go_text.specs.Editions.{edition_number};
 ghost use Rattle.ws_version.specs.Writes.{Write as AWrite};
 ghost use Rattle.ws_action.specs.Actions.{Action as AnAction};
 ghost use Rattle.ws_action.specs.Clash.{AllSized};
@@ -18,7 +17,7 @@ use go_text::edition::Edition;
 use std::alloc::{AllocError, Global};
 use std::thread::Threads;
 use ws_board::{Status, Stopped};
-use ws_graph::planning::plan;
+use ws_graph::planning::plan_in;
 use ws_report::{IdLine, Standing};
 use ws_version::Join;
 
@@ -61,11 +60,11 @@ pub fn ids<R: Threads + Sync>(
     edition: Edition,
 ) -> Result<Vec<IdLine>, BuildError>
     ensures ok { IfOk result (λ lines. (W : List AWrite) (E : List AnAction) → ReplicaStandsFor replica.now W E → AllSized E
-        → AreIds (edition_number edition) W E directory.now (map id_row lines.items)) }
-    ensures none { result ≡ Err BuildError.NoPackage → (W : List AWrite) (E : List AnAction) → ReplicaStandsFor replica.now W E → IsTargetBuild W directory.now None }
+        → AreIds edition W E directory.now (map id_row lines.items)) }
+    ensures none { result ≡ Err BuildError.NoPackage → (W : List AWrite) (E : List AnAction) → ReplicaStandsFor replica.now W E → IsTargetBuild edition W directory.now None }
 {
     replica.registers.see_files();
-    let plan = plan(rt, alloc, &replica.registers, directory)?;
+    let plan = plan_in(rt, alloc, edition, &replica.registers, directory)?;
     let reached = all_reached(alloc, edition, plan.directories)?;
     let cache = replica.cache.copy()?;
     let (places, board) = opened(alloc, reached, cache)?;

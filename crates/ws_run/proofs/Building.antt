@@ -2,6 +2,7 @@
 use Rattle.std.proofs.Common.{◌≡◌, ℕ, true, false, List, [], ◌∷◌, ◌++◌, map, length, get_or, None, Some, refl, sym, ap, subst, ◌∙◌, inl, inr, arith}
 use Rattle.std.specs.List.{slice_get}
 use Rattle.std.proofs.lemmas.List.{append-nil}
+use Rattle.go_text.specs.declared.edition.Edition.{Edition}
 use Rattle.ws_action.specs.Actions.{Action}
 use Rattle.ws_action.proofs.Members.{none_in_empty, head_or_later}
 use Rattle.ws_action.specs.Clash.{NoClash, AllSized, hashed_actions}
@@ -20,15 +21,15 @@ Rows = List (List ℕ × Verdict)
 abbrev pub rows_in : Report → Rows
 rows_in r = rows r.directories.items
 
-sole : (files : Files) (directory : List ℕ) (all : List TargetBuild) → AreBuilds (took_of files) (target_at directory) all → (build : TargetBuild) × (all ≡ build ∷ []) × IsBuildOf files directory build
-sole files directory [] are = absurd are
-sole files directory (b ∷ []) are = (b, refl, are.0)
-sole files directory (b ∷ c ∷ bs) are = absurd are.1
+sole : (edition : Edition) (files : Files) (directory : List ℕ) (all : List TargetBuild) → AreBuilds edition (took_of files) (target_at directory) all → (build : TargetBuild) × (all ≡ build ∷ []) × IsBuildOf edition files directory build
+sole edition files directory [] are = absurd are
+sole edition files directory (b ∷ []) are = (b, refl, are.0)
+sole edition files directory (b ∷ c ∷ bs) are = absurd are.1
 
 -- what lacks package files is the only target
-pub no_files : (files : Files) (directory : List ℕ) → LacksPackage (took_of files) (target_at directory) → HasNoFiles files directory
-no_files files directory (k, d, among, none) = elim (head_or_later {A = ℕ × List ℕ} (0, directory) [] (k, d) among) [
-  | inl same ↦ subst (λ (t : ℕ × List ℕ). IsTargetBuild (took_at (took_of files) t.0).writes t.1 None) (sym same) none
+pub no_files : (edition : Edition) (files : Files) (directory : List ℕ) → LacksPackage edition (took_of files) (target_at directory) → HasNoFiles edition files directory
+no_files edition files directory (k, d, among, none) = elim (head_or_later {A = ℕ × List ℕ} (0, directory) [] (k, d) among) [
+  | inl same ↦ subst (λ (t : ℕ × List ℕ). IsTargetBuild edition (took_at (took_of files) t.0).writes t.1 None) (sym same) none
   | inr rest ↦ absurd (none_in_empty {A = ℕ × List ℕ} (k, d) rest)
 ]
 
@@ -48,26 +49,26 @@ pub sole_replica : (new : List Replica) (replica : Replica) → length new ≡ 1
 sole_replica [] replica one e = absurd (omega (arith, one))
 sole_replica (r ∷ rs) replica one e = ap (λ (x : Replica). Some x) (sym e)
 
-module _ (files : Files) (directory : List ℕ) (reports : List Report) (new : List Replica) (b : AreBuilt 1 (took_of files) (target_at directory) reports new) (clear : IsClearOf files directory) where
-  its : (build : TargetBuild) × (b.all ≡ build ∷ []) × IsBuildOf files directory build
-  its = sole files directory b.all b.are
+module _ (edition : Edition) (files : Files) (directory : List ℕ) (reports : List Report) (new : List Replica) (b : AreBuilt edition (took_of files) (target_at directory) reports new) (clear : IsClearOf edition files directory) where
+  its : (build : TargetBuild) × (b.all ≡ build ∷ []) × IsBuildOf edition files directory build
+  its = sole edition files directory b.all b.are
 
   abbrev build : TargetBuild
   build = its.0
 
-  compiled : all_actions 1 b.all ≡ actions_of 1 build
-  compiled = ap (all_actions 1) its.1 ∙ append-nil (actions_of 1 build)
+  compiled : all_actions edition b.all ≡ actions_of edition build
+  compiled = ap (all_actions edition) its.1 ∙ append-nil (actions_of edition build)
 
-  no_clash : NoClash (hashed_actions (actions_of 1 build))
+  no_clash : NoClash (hashed_actions (actions_of edition build))
   no_clash = clear build its.2
 
-  right : AreRight 1 (took_of files) (target_at directory) b.all reports new
+  right : AreRight edition (took_of files) (target_at directory) b.all reports new
   right = b.right (subst (λ (E : List Action). NoClash (hashed_actions E)) (sym compiled) no_clash)
 
   one : (report : Report) × (reports ≡ report ∷ []) × (rows_in report ≡ report_of build)
   one = sole_report reports (report_of build) (right.told.reports ∙ ap (map report_of) its.1)
 
-  pub has_faults : (report : Report) → IsLast reports report → all_good report ≡ false → HasFaults files directory report
+  pub has_faults : (report : Report) → IsLast reports report → all_good report ≡ false → HasFaults edition files directory report
   has_faults report (rest, last) bad =
       let same : one.0 ≡ report = last_is one.0 rest report (sym one.1 ∙ last) in
       let told : rows_in report ≡ report_of build = ap rows_in (sym same) ∙ one.2 in record {
@@ -77,7 +78,7 @@ module _ (files : Files) (directory : List ℕ) (reports : List Report) (new : L
         told = told;
       }
 
-  pub holds_program : ((report : Report) → IsLast reports report → all_good report ≡ true) → (replica : Replica) → slice_get new 0 ≡ Some replica → HoldsProgram files directory replica
+  pub holds_program : ((report : Report) → IsLast reports report → all_good report ≡ true) → (replica : Replica) → slice_get new 0 ≡ Some replica → HoldsProgram edition files directory replica
   holds_program all replica at = record {
     build = build;
     are = its.2;

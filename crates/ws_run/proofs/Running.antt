@@ -2,6 +2,7 @@
 use Rattle.std.proofs.Common.{◌≡◌, ℕ, List, [], ◌∷◌, ◌++◌, map, Option, None, Some, refl, sym, subst, inl, inr}
 use Rattle.std.specs.List.{All, Contains}
 use Rattle.std.proofs.lemmas.List.Elements.{All-nil, All-cons, Contains-append_cases}
+use Rattle.go_text.specs.declared.edition.Edition.{Edition}
 use Rattle.go_code.specs.Finals.{Ends, BadCode}
 use Rattle.go_code.specs.Images.{Image}
 use Rattle.go_code.specs.Machine.{MachineMeaning}
@@ -38,27 +39,27 @@ twice E a c = elim (Contains-append_cases E E a c) [ inl l ↦ l | inr r ↦ r ]
 some_same : (a b : TargetBuild) → Some a ≡ Some b → a ≡ b
 some_same a b e = cc (e)
 
-module _ (files : Files) (directory : List ℕ) where
-  pub one_build_of : (a b : TargetBuild) → IsBuildOf files directory a → IsBuildOf files directory b → a ≡ b
-  one_build_of a b g h = some_same a b (one_build (writes_of files) (writes_of files) directory (Some a) (Some b) (λ x. ((λ c. c), (λ c. c))) g h)
+module _ (edition : Edition) (files : Files) (directory : List ℕ) where
+  pub one_build_of : (a b : TargetBuild) → IsBuildOf edition files directory a → IsBuildOf edition files directory b → a ≡ b
+  one_build_of a b g h = some_same a b (one_build edition (writes_of files) (writes_of files) directory (Some a) (Some b) (λ x. ((λ c. c), (λ c. c))) g h)
 
-  pub some_files : (a : TargetBuild) → IsBuildOf files directory a → IsTargetBuild (writes_of files) directory None → ⊥
-  some_files a g h = let wrong : Some a ≡ None = one_build (writes_of files) (writes_of files) directory (Some a) None (λ x. ((λ c. c), (λ c. c))) g h in cc (wrong)
+  pub some_files : (a : TargetBuild) → IsBuildOf edition files directory a → IsTargetBuild edition (writes_of files) directory None → ⊥
+  some_files a g h = let wrong : Some a ≡ None = one_build edition (writes_of files) (writes_of files) directory (Some a) None (λ x. ((λ c. c), (λ c. c))) g h in cc (wrong)
 
 -- ---- images
 
-module _ (files : Files) (directory : List ℕ) (replica : Replica) (h : HoldsProgram files directory replica) (sources : HasFiles (writes_of files)) where
+module _ (edition : Edition) (files : Files) (directory : List ℕ) (replica : Replica) (h : HoldsProgram edition files directory replica) (sources : HasFiles (writes_of files)) where
   abbrev held : List Action
-  held = actions_of 1 h.build
+  held = actions_of edition h.build
 
-  its_right : (image : Option Image) → IsImage 1 (writes_of files) held directory image → IsImageOf 1 held h.build image
+  its_right : (image : Option Image) → IsImage edition (writes_of files) held directory image → IsImageOf edition held h.build image
   its_right image i =
-      let same : i.build ≡ h.build = one_build_of files directory i.build h.build i.are h.are in
+      let same : i.build ≡ h.build = one_build_of edition files directory i.build h.build i.are h.are in
       let clear : NoClash (hashed_actions (held ++ held)) = clear_less held (held ++ held) (twice held) h.clear in
-      subst (λ (b : TargetBuild). IsImageOf 1 held b image) same
-      (i.right (subst (λ (b : TargetBuild). NoClash (hashed_actions (held ++ actions_of 1 b))) (sym same) clear))
+      subst (λ (b : TargetBuild). IsImageOf edition held b image) same
+      (i.right (subst (λ (b : TargetBuild). NoClash (hashed_actions (held ++ actions_of edition b))) (sym same) clear))
 
-  by_image : (image : Option Image) → IsImageOf 1 held h.build image → HasImage files directory image
+  by_image : (image : Option Image) → IsImageOf edition held h.build image → HasImage edition files directory image
   by_image None none = record {
     build = h.build;
     are = h.are;
@@ -76,19 +77,19 @@ module _ (files : Files) (directory : List ℕ) (replica : Replica) (h : HoldsPr
     image_is = e;
   }
 
-  pub has_image : (image : Option Image) → IsImage 1 (writes_of files) held directory image → HasImage files directory image
+  pub has_image : (image : Option Image) → IsImage edition (writes_of files) held directory image → HasImage edition files directory image
   has_image image i = by_image image (its_right image i)
 
 -- ---- runs
 
-module _ (files : Files) (directory : List ℕ) (image : Image) (p : IsProgramImage files directory image) where
+module _ (edition : Edition) (files : Files) (directory : List ℕ) (image : Image) (p : IsProgramImage edition files directory image) where
   well : IsWellTyped p.packages
-  well = well_typed (writes_of files) p.sources directory p.build p.are.0 p.are.1 p.good p.packages p.in_order p.program
+  well = well_typed edition (writes_of files) p.sources directory p.build p.are.0 p.are.1 p.good p.packages p.in_order p.program
 
   links : LinksTo p.packages image
   links = (program_linked p.packages well p.program, p.image_is)
 
-  pub runs_as : (ticks : ℕ) (o : Outcome) → MachineMeaning image ticks (Ends o.ending o.output) → RunsAs files directory ticks o
+  pub runs_as : (ticks : ℕ) (o : Outcome) → MachineMeaning image ticks (Ends o.ending o.output) → RunsAs edition files directory ticks o
   runs_as ticks o machine = record {
     build = p.build;
     are = p.are;

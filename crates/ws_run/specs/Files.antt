@@ -1,6 +1,7 @@
 -- What the files of a program mean, as one replica writes them.
 use Rattle.std.specs.Prelude.{◌≡◌, ℕ, List, map, Some, None}
 use Rattle.std.specs.List.{All}
+use Rattle.go_text.specs.declared.edition.Edition.{Edition}
 use Rattle.go_typed.specs.Trees.{Package}
 use Rattle.go_meaning.specs.Programs.{IsProgram, SourceMeaning}
 use Rattle.go_vm.specs.Outcomes.{Outcome}
@@ -25,43 +26,43 @@ abbrev pub writes_of : Files → List Write
 writes_of files = map write_of files
 
 -- what becomes of a directory and of all that it reaches
-abbrev pub IsBuildOf : Files → List ℕ → TargetBuild → Type 0
-IsBuildOf files directory build = IsTargetBuild (writes_of files) directory (Some build)
+abbrev pub IsBuildOf : Edition → Files → List ℕ → TargetBuild → Type 0
+IsBuildOf edition files directory build = IsTargetBuild edition (writes_of files) directory (Some build)
 
 -- no two texts clash that are hashed of them
-abbrev pub IsClearOf : Files → List ℕ → Type 0
-IsClearOf files directory = (build : TargetBuild) → IsBuildOf files directory build → NoClash (hashed_actions (actions_of 1 build))
+abbrev pub IsClearOf : Edition → Files → List ℕ → Type 0
+IsClearOf edition files directory = (build : TargetBuild) → IsBuildOf edition files directory build → NoClash (hashed_actions (actions_of edition build))
 
 -- all directories are good, and their packages, in the order in which they are initialized, are a program that ends and prints so
-pub record RunsAs (files : Files) (directory : List ℕ) (ticks : ℕ) (o : Outcome) : Type 0 where
+pub record RunsAs (edition : Edition) (files : Files) (directory : List ℕ) (ticks : ℕ) (o : Outcome) : Type 0 where
   pub build : TargetBuild
-  pub are : IsBuildOf files directory build
+  pub are : IsBuildOf edition files directory build
   pub good : All IsGood build.fates
   pub packages : List Package
   pub in_order : IsPackageOrder build packages
   pub meaning : SourceMeaning packages ticks o.ending o.output
 
 -- not all directories are good, and this is said of all
-pub record HasFaults (files : Files) (directory : List ℕ) (report : Report) : Type 0 where
+pub record HasFaults (edition : Edition) (files : Files) (directory : List ℕ) (report : Report) : Type 0 where
   pub build : TargetBuild
-  pub are : IsBuildOf files directory build
+  pub are : IsBuildOf edition files directory build
   pub faulty : ¬ (All IsGood build.fates)
   pub told : rows report.directories.items ≡ report_of build
 
 -- no file of the directory belongs to a package
-abbrev pub HasNoFiles : Files → List ℕ → Type 0
-HasNoFiles files directory = IsTargetBuild (writes_of files) directory None
+abbrev pub HasNoFiles : Edition → Files → List ℕ → Type 0
+HasNoFiles edition files directory = IsTargetBuild edition (writes_of files) directory None
 
 -- all directories are good, and their packages are no program
-pub record IsNoProgram (files : Files) (directory : List ℕ) : Type 0 where
+pub record IsNoProgram (edition : Edition) (files : Files) (directory : List ℕ) : Type 0 where
   pub build : TargetBuild
-  pub are : IsBuildOf files directory build
+  pub are : IsBuildOf edition files directory build
   pub good : All IsGood build.fates
   pub none : (packages : List Package) → IsPackageOrder build packages → ¬ (IsProgram packages)
 
 -- what each answer says of the files
-abbrev pub Answers : Files → List ℕ → ℕ → Answer → Type 0
-Answers files directory ticks (Ran o) = RunsAs files directory ticks o
-Answers files directory ticks (Faulty report) = HasFaults files directory report
-Answers files directory ticks NoPackage = HasNoFiles files directory
-Answers files directory ticks NoMain = IsNoProgram files directory
+abbrev pub Answers : Edition → Files → List ℕ → ℕ → Answer → Type 0
+Answers edition files directory ticks (Ran o) = RunsAs edition files directory ticks o
+Answers edition files directory ticks (Faulty report) = HasFaults edition files directory report
+Answers edition files directory ticks NoPackage = HasNoFiles edition files directory
+Answers edition files directory ticks NoMain = IsNoProgram edition files directory

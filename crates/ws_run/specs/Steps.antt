@@ -2,6 +2,7 @@
 use Rattle.std.specs.Prelude.{Vec, ◌≡◌, ℕ, Bool, List, [], ◌∷◌, ◌++◌, map, Option, Some, None}
 use Rattle.std.specs.List.{All, list_all}
 use Rattle.std.specs.Global.{Global}
+use Rattle.go_text.specs.declared.edition.Edition.{Edition}
 use Rattle.go_code.specs.Images.{Image}
 use Rattle.go_typed.specs.Trees.{Package}
 use Rattle.go_gen.specs.Translation.{object_of}
@@ -35,23 +36,23 @@ abbrev pub target_at : List ℕ → List (ℕ × List ℕ)
 target_at directory = (0, directory) ∷ []
 
 -- the reports of a build, and the replicas behind it; or the directory has no package files
-abbrev pub IsBuilt : Files → List ℕ → Option (Vec Report Global) → List Replica → Type 0
-IsBuilt files directory None new = LacksPackage (took_of files) (target_at directory)
-IsBuilt files directory (Some reports) new = AreBuilt 1 (took_of files) (target_at directory) reports.items new
+abbrev pub IsBuilt : Edition → Files → List ℕ → Option (Vec Report Global) → List Replica → Type 0
+IsBuilt edition files directory None new = LacksPackage edition (took_of files) (target_at directory)
+IsBuilt edition files directory (Some reports) new = AreBuilt edition (took_of files) (target_at directory) reports.items new
 
 -- the replica wrote the files and holds what is compiled of a directory and of all that it reaches, which is good
-pub record HoldsProgram (files : Files) (directory : List ℕ) (replica : Replica) : Type 0 where
+pub record HoldsProgram (edition : Edition) (files : Files) (directory : List ℕ) (replica : Replica) : Type 0 where
   pub build : TargetBuild
-  pub are : IsBuildOf files directory build
+  pub are : IsBuildOf edition files directory build
   pub good : All IsGood build.fates
-  pub clear : NoClash (hashed_actions (actions_of 1 build))
-  pub sized : AllSized (actions_of 1 build)
-  pub stands : ReplicaStandsFor replica (writes_of files) (actions_of 1 build)
+  pub clear : NoClash (hashed_actions (actions_of edition build))
+  pub sized : AllSized (actions_of edition build)
+  pub stands : ReplicaStandsFor replica (writes_of files) (actions_of edition build)
 
 -- the image is linked of the packages of the program that the files are
-pub record IsProgramImage (files : Files) (directory : List ℕ) (image : Image) : Type 0 where
+pub record IsProgramImage (edition : Edition) (files : Files) (directory : List ℕ) (image : Image) : Type 0 where
   pub build : TargetBuild
-  pub are : IsBuildOf files directory build
+  pub are : IsBuildOf edition files directory build
   pub sources : HasFiles (writes_of files)
   pub good : All IsGood build.fates
   pub packages : List Package
@@ -60,16 +61,16 @@ pub record IsProgramImage (files : Files) (directory : List ℕ) (image : Image)
   pub image_is : image ≡ linked (map object_of packages)
 
 -- or they are none
-abbrev pub HasImage : Files → List ℕ → Option Image → Type 0
-HasImage files directory None = IsNoProgram files directory
-HasImage files directory (Some image) = IsProgramImage files directory image
+abbrev pub HasImage : Edition → Files → List ℕ → Option Image → Type 0
+HasImage edition files directory None = IsNoProgram edition files directory
+HasImage edition files directory (Some image) = IsProgramImage edition files directory image
 
 -- what an image of them comes to; none, where there is none
-abbrev pub ComesTo : Files → List ℕ → ℕ → Option Outcome → Type 0
-ComesTo files directory ticks None = IsNoProgram files directory
-ComesTo files directory ticks (Some o) = RunsAs files directory ticks o
+abbrev pub ComesTo : Edition → Files → List ℕ → ℕ → Option Outcome → Type 0
+ComesTo edition files directory ticks None = IsNoProgram edition files directory
+ComesTo edition files directory ticks (Some o) = RunsAs edition files directory ticks o
 
 -- an answer says so where no two hashed texts clash; that there are no files, without that
-abbrev pub Told : Files → List ℕ → ℕ → Answer → Type 0
-Told files directory ticks NoPackage = HasNoFiles files directory
-Told files directory ticks answer = IsClearOf files directory → Answers files directory ticks answer
+abbrev pub Told : Edition → Files → List ℕ → ℕ → Answer → Type 0
+Told edition files directory ticks NoPackage = HasNoFiles edition files directory
+Told edition files directory ticks answer = IsClearOf edition files directory → Answers edition files directory ticks answer

@@ -8,7 +8,7 @@ use Rattle.go_text.specs.Faults.{Fault, fault_number, fault_word}
 use Rattle.go_code.specs.declared.ending.Ending.{Ending}
 use Rattle.go_code.specs.declared.ending.Ending.TheVariants.{Ended, Cut, Panicked}
 use Rattle.go_code.specs.declared.ending.PanicKind.{PanicKind}
-use Rattle.go_code.specs.declared.ending.PanicKind.TheVariants.{Divide, Index, Shift, Depth, Long, User}
+use Rattle.go_code.specs.declared.ending.PanicKind.TheVariants.{Divide, Index, Slice, Make, Shift, Depth, Long, User}
 use Rattle.ws_run.specs.declared.answer.Answer.{Answer}
 use Rattle.ws_run.specs.declared.answer.Answer.TheVariants.{Ran, Faulty, NoPackage, NoMain}
 
@@ -24,9 +24,11 @@ output_of answer = elim answer [ Ran o ↦ o.output | _ ↦ [] ]
 abbrev pub panic_reason : PanicKind → List ℕ
 panic_reason Divide = codes "integer divide by zero"
 panic_reason Index = codes "index out of range"
+panic_reason Slice = codes "slice bounds out of range"
+panic_reason Make = codes "length or capacity of make out of range"
 panic_reason Shift = codes "negative shift amount"
 panic_reason Depth = codes "too many open calls"
-panic_reason Long = codes "string too long"
+panic_reason Long = codes "string or slice too long"
 panic_reason (User text) = text
 
 -- nothing of a program that ended well

@@ -102,9 +102,11 @@ fn panic_reason(kind: &PanicKind) -> &[u8]
     match kind {
         PanicKind::Divide => b"integer divide by zero",
         PanicKind::Index => b"index out of range",
+        PanicKind::Slice => b"slice bounds out of range",
+        PanicKind::Make => b"length or capacity of make out of range",
         PanicKind::Shift => b"negative shift amount",
         PanicKind::Depth => b"too many open calls",
-        PanicKind::Long => b"string too long",
+        PanicKind::Long => b"string or slice too long",
         PanicKind::User(text) => text.bytes(),
     }
 }

@@ -1,6 +1,7 @@
 //! What comes of files: a replica writes them, builds the program in a directory, and runs it.
 //! [Program execution](https://go.dev/ref/spec#Program_execution)
 ghost use Rattle.std.specs.Prelude.{◌≡◌, ◌<◌, ℕ, true, false, List, [], length, Ok, IfOk, IfSome, IfNone};
+ghost use Rattle.go_text.specs.declared.edition.Edition.{Edition as AnEdition};
 ghost use Rattle.go_vm.specs.Outcomes.{Outcome as AnOutcome};
 ghost use Rattle.ws_replica.specs.Holdings.{ReplicaStandsFor, AllStandFor};
 ghost use Rattle.ws_run.specs.declared.answer.Answer.TheVariants as answers;
@@ -67,28 +68,21 @@ fn faulty(mut reports: Vec<Report>) -> Option<Report>
 fn built<R: Threads + Wait + Sync>(
     rt: &R,
     alloc: Global,
+    edition: Edition,
     replicas: &mut [Replica],
     directory: &str,
     workers: u64,
 ) -> Result<Option<Vec<Report>>, AllocError>
     requires some { 0 < workers }
     requires one { 0 < length replicas.old }
-    ensures built { (files : Files) → AllStandFor replicas.old (took_of files) → IfOk result (λ reports. IsBuilt files directory.now reports replicas.new) }
+    ensures built { (files : Files) → AllStandFor replicas.old (took_of files) → IfOk result (λ reports. IsBuilt edition files directory.now reports replicas.new) }
     ensures stay { length replicas.new ≡ length replicas.old }
 {
     let target = Target {
         replica: 0,
         directory,
     };
-    match build(
-        rt,
-        alloc,
-        replicas,
-        &[target],
-        Edition::One,
-        workers,
-        &Plain,
-    ) {
+    match build(rt, alloc, replicas, &[target], edition, workers, &Plain) {
         Ok(reports) => Ok(Some(reports)),
         Err(BuildError::NoPackage) => Ok(None),
         Err(BuildError::Memory) => Err(AllocError),
@@ -99,13 +93,14 @@ fn built<R: Threads + Wait + Sync>(
 fn image_of<R: Threads + Sync>(
     rt: &R,
     alloc: Global,
+    edition: Edition,
     replica: &Replica,
     directory: &str,
 ) -> Result<Option<Image>, AllocError>
-    ensures { (files : Files) → HoldsProgram files directory.now replica.now → IfOk result (λ image. HasImage files directory.now image) }
+    ensures { (files : Files) → HoldsProgram edition files directory.now replica.now → IfOk result (λ image. HasImage edition files directory.now image) }
 {
     replica.see_files();
-    match image(rt, alloc, replica, directory, Edition::One) {
+    match image(rt, alloc, replica, directory, edition) {
         Ok(image) => Ok(image),
         // Nothing is built of a directory without files.
         Err(BuildError::NoPackage) => Ok(None),
@@ -115,7 +110,7 @@ fn image_of<R: Threads + Sync>(
 
 /// What the image of a program does.
 fn ran(alloc: Global, image: &Image, ticks: u64) -> Result<Option<Outcome>, AllocError>
-    ensures { (files : Files) (directory : List ℕ) → IsProgramImage files directory image.now → IfOk result (λ outcome. ComesTo files directory ticks outcome) }
+    ensures { (edition : AnEdition) (files : Files) (directory : List ℕ) → IsProgramImage edition files directory image.now → IfOk result (λ outcome. ComesTo edition files directory ticks outcome) }
 {
     match run(alloc, image, ticks) {
         Ok(outcome) => Ok(Some(outcome)),
@@ -129,13 +124,14 @@ fn ran(alloc: Global, image: &Image, ticks: u64) -> Result<Option<Outcome>, Allo
 fn ran_in<R: Threads + Sync>(
     rt: &R,
     alloc: Global,
+    edition: Edition,
     replica: &Replica,
     directory: &str,
     ticks: u64,
 ) -> Result<Option<Outcome>, AllocError>
-    ensures { (files : Files) → HoldsProgram files directory.now replica.now → IfOk result (λ outcome. ComesTo files directory.now ticks outcome) }
+    ensures { (files : Files) → HoldsProgram edition files directory.now replica.now → IfOk result (λ outcome. ComesTo edition files directory.now ticks outcome) }
 {
-    match image_of(rt, alloc, replica, directory)? {
+    match image_of(rt, alloc, edition, replica, directory)? {
         Some(image) => ran(alloc, &image, ticks),
         None => Ok(None),
     }
@@ -145,29 +141,38 @@ fn ran_in<R: Threads + Sync>(
 fn answer_of<R: Threads + Wait + Sync>(
     rt: &R,
     alloc: Global,
+    edition: Edition,
     files: Vec<(FilePath, Text)>,
     directory: &str,
     ticks: u64,
     workers: u64,
 ) -> Result<Answer, AllocError>
     requires { 0 < workers }
-    ensures { IfOk result (λ answer. Told files.items directory.now ticks answer) }
+    ensures { IfOk result (λ answer. Told edition files.items directory.now ticks answer) }
 {
     let replica = written(alloc, files)?;
     let mut replicas = Vec::from_array(alloc, [replica])?;
-    let Some(reports) = built(rt, alloc, replicas.as_mut_slice(), directory, workers)? else {
+    let Some(reports) = built(
+        rt,
+        alloc,
+        edition,
+        replicas.as_mut_slice(),
+        directory,
+        workers,
+    )?
+    else {
         return Ok(Answer::NoPackage);
     };
     if let Some(report) = faulty(reports) {
         return Ok(Answer::Faulty(report));
     }
-    match ran_in(rt, alloc, &replicas[0], directory, ticks)? {
+    match ran_in(rt, alloc, edition, &replicas[0], directory, ticks)? {
         Some(outcome) => Ok(Answer::Ran(outcome)),
         None => Ok(Answer::NoMain),
     }
 }
 
-/// What comes of files, by their paths in a workspace, of which the program in a directory is built
+/// What comes of files of an edition, by their paths in a workspace, of which the program in a directory is built
 /// by so many workers and given so many ticks. The premise of all answers but `NoPackage`: no two
 /// texts that are hashed of the files clash. Of two files with one path the greater text counts.
 ///
@@ -180,16 +185,17 @@ fn answer_of<R: Threads + Wait + Sync>(
 pub fn run_files<R: Threads + Wait + Sync>(
     rt: &R,
     alloc: Global,
+    edition: Edition,
     files: Vec<(FilePath, Text)>,
     directory: &str,
     ticks: u64,
     workers: u64,
 ) -> Result<Answer, AllocError>
     requires { 0 < workers }
-    ensures means { (o : AnOutcome) → result ≡ Ok (answers.Ran o) → IsClearOf files.items directory.now → RunsAs files.items directory.now ticks o }
-    ensures faulty { (report : Report) → result ≡ Ok (answers.Faulty report) → IsClearOf files.items directory.now → HasFaults files.items directory.now report }
-    ensures no_package { result ≡ Ok answers.NoPackage → HasNoFiles files.items directory.now }
-    ensures no_main { result ≡ Ok answers.NoMain → IsClearOf files.items directory.now → IsNoProgram files.items directory.now }
+    ensures means { (o : AnOutcome) → result ≡ Ok (answers.Ran o) → IsClearOf edition files.items directory.now → RunsAs edition files.items directory.now ticks o }
+    ensures faulty { (report : Report) → result ≡ Ok (answers.Faulty report) → IsClearOf edition files.items directory.now → HasFaults edition files.items directory.now report }
+    ensures no_package { result ≡ Ok answers.NoPackage → HasNoFiles edition files.items directory.now }
+    ensures no_main { result ≡ Ok answers.NoMain → IsClearOf edition files.items directory.now → IsNoProgram edition files.items directory.now }
 {
-    answer_of(rt, alloc, files, directory, ticks, workers)
+    answer_of(rt, alloc, edition, files, directory, ticks, workers)
 }

@@ -1,6 +1,7 @@
 -- How a session's text goes on from a world that it has reached.
 use Rattle.std.proofs.Common.{◌≡◌, ℕ, zero, suc, List, [], ◌∷◌, ◌++◌, drop, take, refl, ap, sym, subst, ◌∙◌, inl, inr, append_assoc, append-nil, Option}
 use Rattle.std.proofs.lemmas.List.{take-append-drop}
+use Rattle.go_text.specs.declared.edition.Edition.{Edition}
 use Rattle.ws_command.specs.Commands.{Command, command_of, text_of, text_lines}
 use Rattle.ws_session.specs.World.{World, opening, After, Prints}
 use Rattle.ws_command.specs.Lines.{lines_of}
@@ -44,7 +45,7 @@ reached_itself [] world = refl
 reached_itself (line ∷ lines) world = inl refl
 
 -- nothing is said before the first command
-pub at_first : (edition : ℕ) (all : List (List ℕ)) → LeadsTo (opening edition) all (opening edition) all []
+pub at_first : (edition : Edition) (all : List (List ℕ)) → LeadsTo (opening edition) all (opening edition) all []
 at_first edition all = record { text = λ later h. h; reached = λ other h. h; filed = tt }
 
 text_line : (line : List ℕ) (lines : List (List ℕ)) (world next : World) (told later : List ℕ) →

@@ -1,6 +1,7 @@
 //! Running a script, each command's answer written before the next is read.
 ghost use Rattle.std.specs.Prelude.{◌≡◌, ℕ, ◌+◌, ◌<◌, ◌≤◌, ◌^◌, length, drop, IfOk, OnOk, OnErr, Option};
 ghost use Rattle.std.specs.Option.{option_map};
+ghost use Rattle.go_text.specs.declared.edition.Edition.{Edition as AnEdition};
 ghost use Rattle.ws_command.specs.Lines.{lines_of};
 ghost use Rattle.ws_command.specs.Commands.{text_of};
 ghost use Rattle.ws_command.specs.Seen.{seen};
@@ -153,9 +154,9 @@ pub fn answer<R: Threads + Wait + Sync, O: ScriptOut, G: Gate>(
 ) -> Result<(), AnswerError>
     requires some { 0 < workers }
     requires writable { O.failed writer.old + 1 < 2 ^ 64 }
-    ensures ok { (edition : ℕ) → StandFor replicas.old (opening edition) →
+    ensures ok { (edition : AnEdition) → StandFor replicas.old (opening edition) →
         OnOk result (Wrote edition script.now (O.written writer.old) (O.written writer.new)) }
-    ensures err { (edition : ℕ) → StandFor replicas.old (opening edition) →
+    ensures err { (edition : AnEdition) → StandFor replicas.old (opening edition) →
         OnErr result (WroteSome edition script.now (O.written writer.old) (O.written writer.new)) }
     ensures failed { O.failed writer.new ≡ O.failed writer.old + unwritten result }
 {
@@ -192,7 +193,7 @@ pub fn play<R: Threads + Wait + Sync, I: ScriptIn, O: ScriptOut, G: Gate>(
     requires some { 0 < workers }
     requires readable { I.failed reader.old + 1 < 2 ^ 64 }
     requires writable { O.failed writer.old + 1 < 2 ^ 64 }
-    ensures session { (edition : ℕ) → StandFor replicas.old (opening edition) →
+    ensures session { (edition : AnEdition) → StandFor replicas.old (opening edition) →
         Session edition result (I.told reader.old) (I.told reader.new)
         (O.written writer.old) (O.written writer.new) }
     ensures reads { I.failed reader.new ≡ I.failed reader.old + failed_reads result }

@@ -1,6 +1,5 @@
 //! A whole session: from the bytes that are read to the bytes that are written.
 ghost use Rattle.std.specs.Prelude.{ℕ, ◌≡◌, ◌+◌, ◌<◌, ◌≤◌, ◌^◌};
-ghost use Rattle.go_text.specs.Editions.{edition_number};
 ghost use Rattle.ws_script.specs.Ends.{Session};
 ghost use Rattle.ws_script.specs.Failures.{failed_reads, failed_writes};
 
@@ -35,7 +34,7 @@ pub fn run_script<R: Threads + Wait + Sync, I: ScriptIn, O: ScriptOut, G: Gate>(
     requires few { workers ≤ 64 }
     requires readable { I.failed reader.old + 1 < 2 ^ 64 }
     requires writable { O.failed writer.old + 1 < 2 ^ 64 }
-    ensures session { Session (edition_number edition) result (I.told reader.old) (I.told reader.new)
+    ensures session { Session edition result (I.told reader.old) (I.told reader.new)
         (O.written writer.old) (O.written writer.new) }
     ensures reads { I.failed reader.new ≡ I.failed reader.old + failed_reads result }
     ensures writes { O.failed writer.new ≡ O.failed writer.old + failed_writes result }

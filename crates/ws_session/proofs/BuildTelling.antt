@@ -3,6 +3,7 @@ use Rattle.std.proofs.Common.{◌≡◌, ℕ, List, [], ◌∷◌, ◌++◌, map
 use Rattle.std.specs.Prelude.{is_some, ◌&&◌}
 use Rattle.std.specs.List.{AllZip, Contains, flat_map, list_any, list_all}
 use Rattle.std.specs.Str.{bytes_eq, is_utf8}
+use Rattle.go_text.specs.declared.edition.Edition.{Edition}
 use Rattle.ws_action.specs.Actions.{Action}
 use Rattle.ws_action.specs.Clash.{NoClash, AllSized, hashed_actions}
 use Rattle.ws_action.proofs.Members.{later, at_head}
@@ -75,12 +76,12 @@ module _ (asked : List (List ℕ × List ℕ)) (text : Option (List ℕ)) (world
       }
 
   module _ (targets : List (ℕ × List ℕ)) (allowed : targets_row ns asked ≡ None) (are : AllZip (IsTarget ns) asked targets) where
-    pub build_lacks : (edition : ℕ) (told : List ℕ) (compiled : List (List ℕ)) → edition ≡ world.edition → told ≡ refused NoPackage
-        → ((took : List Took) → AllStandFor (replicas_of ns) took → LacksPackage took targets) → AreCompiled compiled world → TellsCounted (Build asked) text world told ns compiled
+    pub build_lacks : (edition : Edition) (told : List ℕ) (compiled : List (List ℕ)) → edition ≡ world.edition → told ≡ refused NoPackage
+        → ((took : List Took) → AllStandFor (replicas_of ns) took → LacksPackage edition took targets) → AreCompiled compiled world → TellsCounted (Build asked) text world told ns compiled
     unfolding After Prints
     build_lacks edition told compiled same t lacks kept =
         let none : AreBuilds world asked None =
-        no_builds world ns h asked targets are (lacks (took_of world.replicas) (all_stand_for ns world.replicas h)) in
+        no_builds world ns h asked targets are (subst (λ n. LacksPackage n (took_of world.replicas) targets) same (lacks (took_of world.replicas) (all_stand_for ns world.replicas h))) in
         let tells : Tells (Build asked) text world told ns = record {
           next = world;
           after = subst (λ z. AfterBy z (Build asked) text world world) (sym (row ∙ allowed)) (None, none, refl);
@@ -89,7 +90,7 @@ module _ (asked : List (List ℕ × List ℕ)) (text : Option (List ℕ)) (world
         } in
         record { tells = tells; counted = kept }
 
-    pub build_told : AreApart (names_in world) → (edition : ℕ) (reports : List Report) (told : List ℕ) (ms : List Named) (compiled : List (List ℕ)) → edition ≡ world.edition
+    pub build_told : AreApart (names_in world) → (edition : Edition) (reports : List Report) (told : List ℕ) (ms : List Named) (compiled : List (List ℕ)) → edition ≡ world.edition
         → told ≡ flat_map report_line (zip asked reports) → Built edition targets reports ns ms → ((all : List TargetBuild) → AreCompiled compiled (after_builds world asked (Some all))) → TellsCounted (Build asked) text world told ms compiled
     unfolding After Prints
     build_told apart edition reports told ms compiled same t built kept =

@@ -115,18 +115,18 @@ module _ (world : World) (ns : List Named) (h : AllStand ns world.replicas) wher
       ap (λ (k : Took). k.actions ++ numbered.held_by (took_of world.replicas) targets) (reads a t z.0) ∙ ap (λ E. actions_held a.0 world ++ E) (same_held asked targets z.1)
 
   pub same_builds : (asked : List (List ℕ × List ℕ)) (targets : List (ℕ × List ℕ)) (all : List TargetBuild) → AllZip (IsTarget ns) asked targets
-      → AllZip (λ t b. IsTargetBuild (took_at (took_of world.replicas) t.0).writes t.1 (Some b)) targets all → AllZip (λ t b. IsTargetBuild (writes_of t.0 world) t.1 (Some b)) asked all
+      → AllZip (λ t b. IsTargetBuild world.edition (took_at (took_of world.replicas) t.0).writes t.1 (Some b)) targets all → AllZip (λ t b. IsTargetBuild world.edition (writes_of t.0 world) t.1 (Some b)) asked all
   same_builds [] [] [] z are = tt
   same_builds [] [] (b ∷ all) z are = absurd are
   same_builds [] (t ∷ targets) all z are = absurd z
   same_builds (a ∷ asked) [] all z are = absurd z
   same_builds (a ∷ asked) (t ∷ targets) [] z are = absurd are
   same_builds (a ∷ asked) (t ∷ targets) (b ∷ all) z are = (
-    subst (λ d. IsTargetBuild (writes_of a.0 world) d (Some b)) (sym z.0.1) (subst (λ (k : Took). IsTargetBuild k.writes t.1 (Some b)) (reads a t z.0) are.0),
+    subst (λ d. IsTargetBuild world.edition (writes_of a.0 world) d (Some b)) (sym z.0.1) (subst (λ (k : Took). IsTargetBuild world.edition k.writes t.1 (Some b)) (reads a t z.0) are.0),
     same_builds asked targets all z.1 are.1,
   )
 
-  pub no_builds : (asked : List (List ℕ × List ℕ)) (targets : List (ℕ × List ℕ)) → AllZip (IsTarget ns) asked targets → LacksPackage (took_of world.replicas) targets → AreBuilds world asked None
+  pub no_builds : (asked : List (List ℕ × List ℕ)) (targets : List (ℕ × List ℕ)) → AllZip (IsTarget ns) asked targets → LacksPackage world.edition (took_of world.replicas) targets → AreBuilds world asked None
   no_builds [] [] z (k, directory, c, is) = absurd (none_in_empty (k, directory) c)
   no_builds [] (t ∷ targets) z lacks = absurd z
   no_builds (a ∷ asked) [] z lacks = absurd z
@@ -135,8 +135,8 @@ module _ (world : World) (ns : List Named) (h : AllStand ns world.replicas) wher
       a.0,
       a.1,
       at_head asked a (a.0, a.1) refl,
-      subst (λ d. IsTargetBuild (writes_of a.0 world) d None) (sym (z.0.1 ∙ ap (λ (p : ℕ × List ℕ). p.1) same))
-          (subst (λ (o : Took). IsTargetBuild o.writes directory None) (ap (λ (p : ℕ × List ℕ). took_at (took_of world.replicas) p.0) (sym same) ∙ reads a t z.0) is),
+      subst (λ d. IsTargetBuild world.edition (writes_of a.0 world) d None) (sym (z.0.1 ∙ ap (λ (p : ℕ × List ℕ). p.1) same))
+          (subst (λ (o : Took). IsTargetBuild world.edition o.writes directory None) (ap (λ (p : ℕ × List ℕ). took_at (took_of world.replicas) p.0) (sym same) ∙ reads a t z.0) is),
     )
     | inr rest ↦ let found = no_builds asked targets z.1 (k, directory, rest, is) in (found.0, found.1, later a asked (found.0, found.1) found.2, found.3)
   ]

@@ -3,6 +3,7 @@ use Rattle.std.proofs.Common.{◌≡◌, ◌+◌, ℕ, List, [], ◌∷◌, ◌+
 use Rattle.std.specs.Prelude.{◌≢◌, unwrap_or, is_some}
 use Rattle.std.specs.List.{Contains, flat_map}
 use Rattle.std.proofs.lemmas.Bool.{cases_eq, cases_lt}
+use Rattle.go_text.specs.declared.edition.Edition.{Edition}
 use Rattle.ws_version.specs.Writes.{Write as AWrite}
 use Rattle.ws_action.specs.Actions.{Action}
 use Rattle.ws_version_vector.specs.Counts.{AreShared, AreFirst, is_among}
@@ -18,7 +19,7 @@ use Rattle.ws_session.specs.Standing.{index_of, AllStand, AreCounted, writes_in,
 use Rattle.ws_session.proofs.Standings.{same_length}
 use Rattle.ws_session.proofs.Taken.{TakenBy, taken_at, ReadsBy, reads_at, from_all, into_all, beyond, all_alike, beyond_alike, pushed}
 
-pub opening_counted : (edition : ℕ) → AreCounted [] [] (opening edition)
+pub opening_counted : (edition : Edition) → AreCounted [] [] (opening edition)
 opening_counted edition = record { writes = (λ _. [], none_kept); actions = (λ _. [], none_kept) }
 
 -- nothing was taken

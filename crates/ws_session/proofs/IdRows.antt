@@ -5,6 +5,7 @@ use Rattle.std.specs.List.{All, AllZip, Contains, slice_get}
 use Rattle.std.proofs.lemmas.Bool.{cases_lt, cases_eq}
 use Rattle.std.proofs.lemmas.Option.{slice_get_within}
 use Rattle.std.proofs.lemmas.List.Elements.{All-nil, All-cons, All-head, All-tail}
+use Rattle.go_text.specs.declared.edition.Edition.{Edition}
 use Rattle.go_ast.specs.Parse.{Parsed}
 use Rattle.ws_version.specs.Writes.{Write}
 use Rattle.ws_action.specs.Actions.{Action, action_id}
@@ -134,12 +135,12 @@ some_standing held (Some a) I (inr bad) = (NoId, bad)
 some_standing held (Some a) I (inl is) = elim (among held a) [ inl has ↦ (Held (action_id a), (is, has, refl)) | inr lacks ↦ (Absent (action_id a), (is, lacks, refl)) ]
 
 -- where a directory has an action it has files
-has_files : (edition : ℕ) (fates : List Fate) (d : Directory) (p : Planned) (a : Action) → action_by edition fates d p ≡ Some a → (files : List Parsed) × (p ≡ Sound files)
+has_files : (edition : Edition) (fates : List Fate) (d : Directory) (p : Planned) (a : Action) → action_by edition fates d p ≡ Some a → (files : List Parsed) × (p ≡ Sound files)
 has_files edition fates d NoFiles a e = absurd (cc (e))
 has_files edition fates d (Faulty fault) a e = absurd (cc (e))
 has_files edition fates d (Sound files) a e = (files, refl)
 
-sound_of : (edition : ℕ) (fates : List Fate) (d : Directory) (fate : Fate) (a : Action) → action_in edition fates d fate ≡ Some a → (files : List Parsed) × (d.planned ≡ Sound files)
+sound_of : (edition : Edition) (fates : List Fate) (d : Directory) (fate : Fate) (a : Action) → action_in edition fates d fate ≡ Some a → (files : List Parsed) × (d.planned ≡ Sound files)
 sound_of edition fates d (Stopped fault) a e = absurd (cc (e))
 sound_of edition fates d Blocked a e = absurd (cc (e))
 sound_of edition fates d (Wrong fault) a e = has_files edition fates d d.planned a e
@@ -147,7 +148,7 @@ sound_of edition fates d (Good typed) a e = has_files edition fates d d.planned 
 
 -- ---- rows by ranks
 
-module _ (edition : ℕ) (held : List Action) (build : TargetBuild) where
+module _ (edition : Edition) (held : List Action) (build : TargetBuild) where
   good_moves : (r s : List Row) (k : ℕ) → standing_at r k ≡ standing_at s k → IsHeldGood build r k → IsHeldGood build s k
   good_moves r s k e (typed, id, good, stands) = (typed, id, good, sym e ∙ stands)
 
@@ -277,12 +278,12 @@ module _ (edition : ℕ) (held : List Action) (build : TargetBuild) where
               (row_at last.rows k, row_there last.rows k (omega (arith, inside, last.size)), last.are k p at (top.1 k inside))),
         )
 
-pub one_id_rows : (edition : ℕ) (W : List Write) (target : List ℕ) (held : List Action) (build : TargetBuild) (r s : List Row) → IsTargetBuild W target (Some build) → AreIdRows edition held build r → AreIdRows edition held build s → r ≡ s
+pub one_id_rows : (edition : Edition) (W : List Write) (target : List ℕ) (held : List Action) (build : TargetBuild) (r s : List Row) → IsTargetBuild edition W target (Some build) → AreIdRows edition held build r → AreIdRows edition held build s → r ≡ s
 one_id_rows edition W target held build r s are g h =
-    let ranks = ranked_build_plan W target build.directories are.0 in
+    let ranks = ranked_build_plan edition W target build.directories are.0 in
     one_rows edition held build ranks.0 ranks.1 r s g h
 
-pub some_id_rows : (edition : ℕ) (W : List Write) (target : List ℕ) (held : List Action) (build : TargetBuild) → IsTargetBuild W target (Some build) → (rows : List Row) × AreIdRows edition held build rows
+pub some_id_rows : (edition : Edition) (W : List Write) (target : List ℕ) (held : List Action) (build : TargetBuild) → IsTargetBuild edition W target (Some build) → (rows : List Row) × AreIdRows edition held build rows
 some_id_rows edition W target held build are =
-    let ranks = ranked_build_plan W target build.directories are.0 in
+    let ranks = ranked_build_plan edition W target build.directories are.0 in
     some_rows edition held build ranks.0 ranks.1

@@ -1,6 +1,7 @@
 -- What ids tell of the replicas of a session, and of those of the world.
 use Rattle.std.proofs.Common.{◌≡◌, ℕ, List, [], Option, None, Some, true, false, refl, sym, ap, subst}
 use Rattle.std.specs.Str.{is_utf8}
+use Rattle.go_text.specs.declared.edition.Edition.{Edition}
 use Rattle.ws_action.specs.Actions.{Action}
 use Rattle.ws_replica.specs.Reports.{IsTargetBuild, actions_of}
 use Rattle.ws_replica.specs.Ids.{AreIdRows, AreIds}
@@ -37,13 +38,13 @@ module _ (name directory : List ℕ) (text : Option (List ℕ)) (world : World) 
     allowed u = build_row _ _ true true (knows_some name k world ns h e) u
 
     pub ids_none : (told : List ℕ) → is_utf8 directory ≡ true → told ≡ refused NoPackage
-        → HasNoFilesAt directory ns k → Tells (Ids name directory) text world told ns
+        → HasNoFilesAt world.edition directory ns k → Tells (Ids name directory) text world told ns
     unfolding After Prints
     ids_none told u t none =
         let f = found name k ns world.replicas h e in
         let r = f.replica in
         let s = f.stands f.one f.is in
-        let build : IsTargetBuild (writes_of name world) directory None = subst (λ W. IsTargetBuild W directory None) (sym writes_are) (none f.one r.writes r.actions f.is s.holds) in
+        let build : IsTargetBuild world.edition (writes_of name world) directory None = subst (λ W. IsTargetBuild world.edition W directory None) (sym writes_are) (none f.one r.writes r.actions f.is s.holds) in
         record {
           next = seeking world [];
           after = subst (λ z. AfterBy z (Ids name directory) text world (seeking world [])) (sym (allowed u)) (None, build, refl);
@@ -51,7 +52,7 @@ module _ (name directory : List ℕ) (text : Option (List ℕ)) (world : World) 
           clear = λ _. (subst (λ z. PrintsBy z (Ids name directory) world told) (sym (allowed u)) (None, build, t), h);
         }
 
-    pub ids_told : (edition : ℕ) (rows : List (List ℕ × Standing)) (told : List ℕ) → edition ≡ world.edition → is_utf8 directory ≡ true
+    pub ids_told : (edition : Edition) (rows : List (List ℕ × Standing)) (told : List ℕ) → edition ≡ world.edition → is_utf8 directory ≡ true
         → told ≡ ids_text name directory rows → AreIdsAt edition directory ns k rows → Tells (Ids name directory) text world told ns
     unfolding After Prints
     ids_told edition rows told same u t are =
@@ -61,7 +62,7 @@ module _ (name directory : List ℕ) (text : Option (List ℕ)) (world : World) 
         let b = subst (λ n. AreIds n r.writes r.actions directory rows) same (are f.one r.writes r.actions f.is s.holds s.sized) in
         let sought : List Action = actions_of world.edition b.build in
         let next : World = seeking world sought in
-        let build : IsTargetBuild (writes_of name world) directory (Some b.build) = subst (λ W. IsTargetBuild W directory (Some b.build)) (sym writes_are) b.are in
+        let build : IsTargetBuild world.edition (writes_of name world) directory (Some b.build) = subst (λ W. IsTargetBuild world.edition W directory (Some b.build)) (sym writes_are) b.are in
         record {
           next = next;
           after = subst (λ z. AfterBy z (Ids name directory) text world next) (sym (allowed u)) (Some b.build, build, refl);

@@ -1,6 +1,7 @@
 -- A script has one session text.
 use Rattle.std.proofs.Common.{◌≡◌, ℕ, zero, suc, List, [], ◌∷◌, ◌++◌, Option, None, Some, sym, ap, ◌∙◌, subst, inl, inr, refl}
 use Rattle.std.specs.Prelude.{⊤}
+use Rattle.go_text.specs.declared.edition.Edition.{Edition}
 use Rattle.ws_version.specs.Writes.{Write as AWrite}
 use Rattle.ws_replica.specs.Reports.{TargetBuild, IsTargetBuild, actions_in}
 use Rattle.ws_action.proofs.Members.{none_in_empty, head_or_later}
@@ -28,15 +29,15 @@ one_shown : (W s t : List AWrite) → IsShown W s → IsShown W t → s ≡ t
 one_shown W s t g h = g.2 ∙ ap (λ (m : Contents). entries m) (one_contents g.0 h.0 W W (SameMembers-itself W) g.1 h.1) ∙ sym h.2
 
 -- a target has one build
-one_build : (W : List AWrite) (target : List ℕ) (a b : Option TargetBuild) → IsTargetBuild W target a → IsTargetBuild W target b → a ≡ b
-one_build W target a b g h = one_build_of W W target a b (SameMembers-itself W) g h
+one_build : (edition : Edition) (W : List AWrite) (target : List ℕ) (a b : Option TargetBuild) → IsTargetBuild edition W target a → IsTargetBuild edition W target b → a ≡ b
+one_build edition W target a b g h = one_build_of edition W W target a b (SameMembers-itself W) g h
 
 -- and none where it has no package files
-never_built : (W : List AWrite) (target : List ℕ) (b : TargetBuild) → IsTargetBuild W target None → IsTargetBuild W target (Some b) → ⊥
-never_built W target b none is = let e : ◌≡◌ {A = Option TargetBuild} None (Some b) = one_build W target None (Some b) none is in absurd (cc (e))
+never_built : (edition : Edition) (W : List AWrite) (target : List ℕ) (b : TargetBuild) → IsTargetBuild edition W target None → IsTargetBuild edition W target (Some b) → ⊥
+never_built edition W target b none is = let e : ◌≡◌ {A = Option TargetBuild} None (Some b) = one_build edition W target None (Some b) none is in absurd (cc (e))
 
-same_build : (W : List AWrite) (target : List ℕ) (a b : TargetBuild) → IsTargetBuild W target (Some a) → IsTargetBuild W target (Some b) → a ≡ b
-same_build W target a b g h = (let e : Some a ≡ Some b = one_build W target (Some a) (Some b) g h in cc (e))
+same_build : (edition : Edition) (W : List AWrite) (target : List ℕ) (a b : TargetBuild) → IsTargetBuild edition W target (Some a) → IsTargetBuild edition W target (Some b) → a ≡ b
+same_build edition W target a b g h = (let e : Some a ≡ Some b = one_build edition W target (Some a) (Some b) g h in cc (e))
 
 all_one : (world : World) (targets : List (List ℕ × List ℕ)) (a b : List TargetBuild) → AreBuilds world targets (Some a) → AreBuilds world targets (Some b) → a ≡ b
 all_one world [] [] [] g h = refl
@@ -45,14 +46,14 @@ all_one world [] (x ∷ a) b g h = absurd g
 all_one world (t ∷ targets) [] b g h = absurd g
 all_one world (t ∷ targets) (x ∷ a) [] g h = absurd h
 all_one world (t ∷ targets) (x ∷ a) (y ∷ b) g h =
-    ap (λ z. z ∷ a) (same_build (writes_of t.0 world) t.1 x y g.0 h.0) ∙ ap (λ zs. y ∷ zs) (all_one world targets a b g.1 h.1)
+    ap (λ z. z ∷ a) (same_build world.edition (writes_of t.0 world) t.1 x y g.0 h.0) ∙ ap (λ zs. y ∷ zs) (all_one world targets a b g.1 h.1)
 
 none_or_some : (world : World) (targets : List (List ℕ × List ℕ)) (b : List TargetBuild) → AreBuilds world targets None → AreBuilds world targets (Some b) → ⊥
 none_or_some world [] [] (name, directory, c, none) h = none_in_empty (name, directory) c
 none_or_some world [] (y ∷ b) g h = absurd h
 none_or_some world (t ∷ targets) [] g h = absurd h
 none_or_some world (t ∷ targets) (y ∷ b) (name, directory, c, none) h = elim (head_or_later t targets (name, directory) c) [
-  | inl same ↦ never_built (writes_of t.0 world) t.1 y (subst (λ (p : List ℕ × List ℕ). IsTargetBuild (writes_of p.0 world) p.1 None) (sym same) none) h.0
+  | inl same ↦ never_built world.edition (writes_of t.0 world) t.1 y (subst (λ (p : List ℕ × List ℕ). IsTargetBuild world.edition (writes_of p.0 world) p.1 None) (sym same) none) h.0
   | inr rest ↦ none_or_some world targets b (name, directory, rest, none) h.1
 ]
 
@@ -89,10 +90,10 @@ one_listed world name directory (Some build) a b is g h =
 one_answer : (command : Command) (world : World) (a b : List ℕ) → Answers command world a → Answers command world b → a ≡ b
 one_answer (Build targets) world a b g h = g.2 ∙ ap (builds_text world targets) (one_builds world targets g.0 h.0 g.1 h.1) ∙ sym h.2
 one_answer (Run name directory ticks) world a b g h =
-    let same : h.0 ≡ g.0 = one_build (writes_of name world) directory h.0 g.0 h.1 g.1 in
+    let same : h.0 ≡ g.0 = one_build world.edition (writes_of name world) directory h.0 g.0 h.1 g.1 in
     one_ran world name directory ticks g.0 a b g.2 (subst (λ p. Ran name directory ticks world p b) same h.2)
 one_answer (Ids name directory) world a b g h =
-    let same : h.0 ≡ g.0 = one_build (writes_of name world) directory h.0 g.0 h.1 g.1 in
+    let same : h.0 ≡ g.0 = one_build world.edition (writes_of name world) directory h.0 g.0 h.1 g.1 in
     one_listed world name directory g.0 a b g.1 g.2 (subst (λ p. Listed name directory world p b) same h.2)
 one_answer Nothing world a b g h = g ∙ sym h
 one_answer Bad world a b g h = g ∙ sym h
@@ -115,10 +116,10 @@ one_print command text world a b g h = one_print_by (first_of (refusals command 
 one_accepted : (command : Command) (text : Option (List ℕ)) (world a b : World) → Accepted command text world a → Accepted command text world b → a ≡ b
 one_accepted (Build targets) text world a b g h = g.2 ∙ ap (after_builds world targets) (one_builds world targets g.0 h.0 g.1 h.1) ∙ sym h.2
 one_accepted (Run name directory ticks) text world a b g h =
-    let same : g.0 ≡ h.0 = one_build (writes_of name world) directory g.0 h.0 g.1 h.1 in
+    let same : g.0 ≡ h.0 = one_build world.edition (writes_of name world) directory g.0 h.0 g.1 h.1 in
     g.2 ∙ ap (λ p. seeking world (actions_in world.edition p)) same ∙ sym h.2
 one_accepted (Ids name directory) text world a b g h =
-    let same : g.0 ≡ h.0 = one_build (writes_of name world) directory g.0 h.0 g.1 h.1 in
+    let same : g.0 ≡ h.0 = one_build world.edition (writes_of name world) directory g.0 h.0 g.1 h.1 in
     g.2 ∙ ap (λ p. seeking world (actions_in world.edition p)) same ∙ sym h.2
 one_accepted Nothing text world a b g h = g ∙ sym h
 one_accepted Bad text world a b g h = g ∙ sym h
@@ -150,5 +151,5 @@ one_text_from zero (line ∷ lines) world a b g h =
     let later : g.1 ≡ h.1 = one_text_from (text_lines command) lines g.2 g.1 h.1 g.5 (subst (λ w. TextFrom (text_lines command) lines w h.1) next h.5) in
     g.6 ∙ ap (λ (x : List ℕ). x ++ g.1) now ∙ ap (λ (x : List ℕ). h.0 ++ x) later ∙ sym h.6
 
-pub one_session_text : (edition : ℕ) (script a b : List ℕ) → SessionText edition script a → SessionText edition script b → a ≡ b
+pub one_session_text : (edition : Edition) (script a b : List ℕ) → SessionText edition script a → SessionText edition script b → a ≡ b
 one_session_text edition script a b g h = one_text_from 0 _ (opening edition) a b g h

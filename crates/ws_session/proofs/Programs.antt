@@ -2,6 +2,7 @@
 use Rattle.std.proofs.Common.{◌≡◌, ◌⊎◌, ℕ, List, [], ◌∷◌, map, Option, None, Some, Bool, true, false, refl, sym, ap, ◌∙◌, inl, inr}
 use Rattle.std.specs.List.{All, Contains}
 use Rattle.std.proofs.lemmas.List.Elements.{All-nil, All-cons, All-head, All-tail}
+use Rattle.go_text.specs.declared.edition.Edition.{Edition}
 use Rattle.go_code.specs.declared.ending.Ending.{Ending}
 use Rattle.go_gen.specs.Translation.{object_of}
 use Rattle.go_init.specs.Packages.{package_order}
@@ -50,14 +51,14 @@ good fate = elim (good_or_not fate) [ inl is ↦ inl is | inr bad ↦ inr (λ g.
 
 -- ---- the program
 
-pub one_program : (edition : ℕ) (held : List Action) (build : TargetBuild) (a b : List Package) → IsHeldProgram edition held build a → IsHeldProgram edition held build b → a ≡ b
+pub one_program : (edition : Edition) (held : List Action) (build : TargetBuild) (a b : List Package) → IsHeldProgram edition held build a → IsHeldProgram edition held build b → a ≡ b
 one_program edition held build a b g h =
     let order = package_order (map (λ d. d.imports) build.directories) in
     one_packages build.fates build.fates order a b (agree_refl build.fates order) g.in_order h.in_order
 
-module _ (edition : ℕ) (W : List Write) (files : HasFiles W) (target : List ℕ) (held : List Action) (build : TargetBuild) (are : IsTargetBuild W target (Some build)) where
+module _ (edition : Edition) (W : List Write) (files : HasFiles W) (target : List ℕ) (held : List Action) (build : TargetBuild) (are : IsTargetBuild edition W target (Some build)) where
   pub program_well : (packages : List Package) → IsHeldProgram edition held build packages → IsWellTyped packages
-  program_well packages h = well_typed W files target build are.0 are.1 h.good packages h.in_order h.program
+  program_well packages h = well_typed edition W files target build are.0 are.1 h.good packages h.in_order h.program
 
   -- a program has a meaning
   pub some_meaning : (packages : List Package) → IsHeldProgram edition held build packages → (ticks : ℕ) → (ending : Ending) × (output : List ℕ) × SourceMeaning packages ticks ending output

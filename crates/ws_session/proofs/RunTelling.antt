@@ -4,6 +4,7 @@ use Rattle.std.specs.List.{flat_map, Contains}
 use Rattle.std.specs.Option.{option_to_list}
 use Rattle.std.specs.Str.{bytes_eq, is_utf8}
 use Rattle.std.proofs.lemmas.List.Elements.{Contains-append_left, Contains-append_right}
+use Rattle.go_text.specs.declared.edition.Edition.{Edition}
 use Rattle.ws_action.specs.Actions.{Action}
 use Rattle.ws_action.specs.Clash.{hashed_actions}
 use Rattle.ws_replica.specs.Reports.{TargetBuild, IsTargetBuild, actions_of}
@@ -66,13 +67,13 @@ module _ (name directory : List ℕ) (ticks : ℕ) (text : Option (List ℕ)) (w
     allowed u = build_row _ _ true true (knows_some name k world ns h e) u
 
     pub run_none : (told : List ℕ) → is_utf8 directory ≡ true → told ≡ refused NoPackage
-        → HasNoFilesAt directory ns k → Tells (Run name directory ticks) text world told ns
+        → HasNoFilesAt world.edition directory ns k → Tells (Run name directory ticks) text world told ns
     unfolding After Prints
     run_none told u t none =
         let f = found name k ns world.replicas h e in
         let r = f.replica in
         let s = f.stands f.one f.is in
-        let build : IsTargetBuild (writes_of name world) directory None = subst (λ W. IsTargetBuild W directory None) (sym writes_are) (none f.one r.writes r.actions f.is s.holds) in
+        let build : IsTargetBuild world.edition (writes_of name world) directory None = subst (λ W. IsTargetBuild world.edition W directory None) (sym writes_are) (none f.one r.writes r.actions f.is s.holds) in
         record {
           next = seeking world [];
           after = subst (λ z. AfterBy z (Run name directory ticks) text world (seeking world [])) (sym (allowed u)) (None, build, refl);
@@ -80,7 +81,7 @@ module _ (name directory : List ℕ) (ticks : ℕ) (text : Option (List ℕ)) (w
           clear = λ _. (subst (λ z. PrintsBy z (Run name directory ticks) world told) (sym (allowed u)) (None, build, t), h);
         }
 
-    pub run_told : (edition : ℕ) (outcome : Option Outcome) (told : List ℕ) → edition ≡ world.edition → is_utf8 directory ≡ true
+    pub run_told : (edition : Edition) (outcome : Option Outcome) (told : List ℕ) → edition ≡ world.edition → is_utf8 directory ≡ true
         → told ≡ printed name directory outcome → RanAt edition directory ticks ns k outcome → Tells (Run name directory ticks) text world told ns
     unfolding After Prints
     run_told edition outcome told same u t ran =
@@ -90,7 +91,7 @@ module _ (name directory : List ℕ) (ticks : ℕ) (text : Option (List ℕ)) (w
         let b = subst (λ n. RunOf n directory ticks r.writes r.actions outcome) same (ran f.one r.writes r.actions f.is s.holds s.sized) in
         let sought : List Action = actions_of world.edition b.build in
         let next : World = seeking world sought in
-        let build : IsTargetBuild (writes_of name world) directory (Some b.build) = subst (λ W. IsTargetBuild W directory (Some b.build)) (sym writes_are) b.are in
+        let build : IsTargetBuild world.edition (writes_of name world) directory (Some b.build) = subst (λ W. IsTargetBuild world.edition W directory (Some b.build)) (sym writes_are) b.are in
         record {
           next = next;
           after = subst (λ z. AfterBy z (Run name directory ticks) text world next) (sym (allowed u)) (Some b.build, build, refl);

@@ -1,5 +1,6 @@
 -- What a run of an image says of the sources.
 use Rattle.std.proofs.Common.{ℕ, List, map, None, Some, subst}
+use Rattle.go_text.specs.declared.edition.Edition.{Edition}
 use Rattle.go_code.specs.declared.ending.Ending.{Ending}
 use Rattle.go_code.specs.Finals.{Ends, BadCode}
 use Rattle.go_code.specs.Images.{Image}
@@ -23,7 +24,7 @@ use Rattle.ws_session.specs.Standing.{RunOf}
 
 -- ---- the image of a program that is held
 
-module _ (edition : ℕ) (W : List Write) (files : HasFiles W) (target : List ℕ) (E : List Action) (build : TargetBuild) (are : IsTargetBuild W target (Some build)) (packages : List Package) (held : IsHeldProgram edition E build packages) where
+module _ (edition : Edition) (W : List Write) (files : HasFiles W) (target : List ℕ) (E : List Action) (build : TargetBuild) (are : IsTargetBuild edition W target (Some build)) (packages : List Package) (held : IsHeldProgram edition E build packages) where
   abbrev its_image : Image
   its_image = linked (map object_of packages)
 
@@ -41,10 +42,10 @@ module _ (edition : ℕ) (W : List Write) (files : HasFiles W) (target : List �
 
 -- ---- what came of a run
 
-pub no_run : (edition : ℕ) (directory : List ℕ) (ticks : ℕ) (W : List Write) (E : List Action) → IsImage edition W E directory None → RunOf edition directory ticks W E None
+pub no_run : (edition : Edition) (directory : List ℕ) (ticks : ℕ) (W : List Write) (E : List Action) → IsImage edition W E directory None → RunOf edition directory ticks W E None
 no_run edition directory ticks W E i = record { build = i.build; are = i.are; ran = λ clear. i.right clear }
 
-pub image_runs : (edition : ℕ) (directory : List ℕ) (ticks : ℕ) (W : List Write) → HasFiles W → (E : List Action) (image : Image) (outcome : Outcome) → IsImage edition W E directory (Some image) → MachineMeaning image ticks (Ends outcome.ending outcome.output) → RunOf edition directory ticks W E (Some outcome)
+pub image_runs : (edition : Edition) (directory : List ℕ) (ticks : ℕ) (W : List Write) → HasFiles W → (E : List Action) (image : Image) (outcome : Outcome) → IsImage edition W E directory (Some image) → MachineMeaning image ticks (Ends outcome.ending outcome.output) → RunOf edition directory ticks W E (Some outcome)
 image_runs edition directory ticks W files E image outcome i machine = record {
   build = i.build;
   are = i.are;
@@ -55,7 +56,7 @@ image_runs edition directory ticks W files E image outcome i machine = record {
 }
 
 -- code that makes no sense comes only where texts clash
-pub nonsense_runs : (edition : ℕ) (directory : List ℕ) (ticks : ℕ) (W : List Write) → HasFiles W → (E : List Action) (image : Image) → IsImage edition W E directory (Some image) → MachineMeaning image ticks BadCode → RunOf edition directory ticks W E None
+pub nonsense_runs : (edition : Edition) (directory : List ℕ) (ticks : ℕ) (W : List Write) → HasFiles W → (E : List Action) (image : Image) → IsImage edition W E directory (Some image) → MachineMeaning image ticks BadCode → RunOf edition directory ticks W E None
 nonsense_runs edition directory ticks W files E image i machine = record {
   build = i.build;
   are = i.are;

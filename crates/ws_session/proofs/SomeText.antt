@@ -1,5 +1,6 @@
 -- Each script has a session text.
 use Rattle.std.proofs.Common.{ℕ, zero, suc, List, [], ◌∷◌, ◌++◌, Option, None, Some, refl, inl, inr}
+use Rattle.go_text.specs.declared.edition.Edition.{Edition}
 use Rattle.ws_action.proofs.Members.{later, at_head}
 use Rattle.ws_replica.specs.Reports.{TargetBuild, actions_in}
 use Rattle.ws_command.specs.declared.refusal.Refusal.{Refusal}
@@ -31,7 +32,7 @@ more_builds world t targets (Some build) (Some builds) is rest = (Some (build �
 some_builds : (world : World) (targets : List (List ℕ × List ℕ)) → (builds : Option (List TargetBuild)) × AreBuilds world targets builds
 some_builds world [] = (Some [], tt)
 some_builds world (t ∷ targets) =
-    let b = some_build (writes_of t.0 world) t.1 in
+    let b = some_build world.edition (writes_of t.0 world) t.1 in
     let rest = some_builds world targets in
     more_builds world t targets b.0 rest.0 b.1 rest.1
 
@@ -56,11 +57,11 @@ some_listed world name directory (Some build) is =
 some_answer : (command : Command) (world : World) → IsFiled world → (told : List ℕ) × Answers command world told
 some_answer (Build targets) world filed = let b = some_builds world targets in (builds_text world targets b.0, (b.0, b.1, refl))
 some_answer (Run name directory ticks) world filed =
-    let p = some_build (writes_of name world) directory in
+    let p = some_build world.edition (writes_of name world) directory in
     let t = some_ran world filed name directory ticks p.0 p.1 in
     (t.0, (p.0, p.1, t.1))
 some_answer (Ids name directory) world filed =
-    let p = some_build (writes_of name world) directory in
+    let p = some_build world.edition (writes_of name world) directory in
     let t = some_listed world name directory p.0 p.1 in
     (t.0, (p.0, p.1, t.1))
 some_answer Nothing world filed = ([], refl)
@@ -86,10 +87,10 @@ some_print command text world filed = some_print_by (first_of (refusals command 
 some_accepted : (command : Command) (text : Option (List ℕ)) (world : World) → (next : World) × Accepted command text world next
 some_accepted (Build targets) text world = let b = some_builds world targets in (after_builds world targets b.0, (b.0, b.1, refl))
 some_accepted (Run name directory ticks) text world =
-    let p = some_build (writes_of name world) directory in
+    let p = some_build world.edition (writes_of name world) directory in
     (seeking world (actions_in world.edition p.0), (p.0, p.1, refl))
 some_accepted (Ids name directory) text world =
-    let p = some_build (writes_of name world) directory in
+    let p = some_build world.edition (writes_of name world) directory in
     (seeking world (actions_in world.edition p.0), (p.0, p.1, refl))
 some_accepted Nothing text world = (world, refl)
 some_accepted Bad text world = (world, refl)
@@ -121,5 +122,5 @@ some_text_from zero (line ∷ lines) world filed =
     let later = some_text_from (text_lines command) lines next.0 (filed_after command text world next.0 next.1 filed) in
     (now.0 ++ later.0, (now.0, later.0, next.0, now.1, next.1, later.1, refl))
 
-pub some_session_text : (edition : ℕ) (script : List ℕ) → (text : List ℕ) × SessionText edition script text
+pub some_session_text : (edition : Edition) (script : List ℕ) → (text : List ℕ) × SessionText edition script text
 some_session_text edition script = some_text_from 0 (lines_of script) (opening edition) tt

@@ -9,7 +9,6 @@ use Rattle.ws_action.specs.Clash.{NoClash, hashed_actions, hashed as hashed_acti
 use Rattle.ws_session.specs.declared.replicas.Named.{Named}
 use Rattle.ws_command.specs.declared.refusal.Refusal.{Refusal}
 use Rattle.ws_command.specs.declared.refusal.Refusal.TheVariants.{BadCommand, Unknown, NoPackage}
-use Rattle.go_text.specs.Editions.{edition_number}
 use Rattle.ws_session.specs.declared.replicas.Replicas.{Replicas}
 use Rattle.ws_command.specs.Commands.{Command, Nothing, Bad, Create, Write, Remove, Apply, Merge, Settle}
 use Rattle.ws_command.specs.Refusals.{first_of}
@@ -96,7 +95,7 @@ pub bad_settles : (text : Option (List ℕ)) (world : World) (ns : List Named) �
 bad_settles text world ns h = record { refuses = refl; next = world; after = refl; edition = refl; stand = h }
 
 -- what a step owes, of a command that is what was asked
-pub stepped : (s : Replicas) (asked command : Command) (text : Option (List ℕ)) (world : World) (told : List ℕ) → asked ≡ command → edition_number s.edition ≡ world.edition → AreApart (names_in world)
+pub stepped : (s : Replicas) (asked command : Command) (text : Option (List ℕ)) (world : World) (told : List ℕ) → asked ≡ command → s.edition ≡ world.edition → AreApart (names_in world)
     → (t : Tells command text world told s.named.items) → AreCounted s.wrote s.compiled t.next → (next : World) × After asked text world next × (NoClash (hashed next) → Prints asked text world told × StandFor s next)
 stepped s asked command text world told e same apart t counted = (
   t.next,

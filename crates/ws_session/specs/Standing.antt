@@ -5,7 +5,7 @@ use Rattle.std.specs.Global.{Global}
 use Rattle.std.specs.List.{AllZip, Contains, flat_map, list_all}
 use Rattle.std.specs.Str.{bytes_eq, is_utf8}
 use Rattle.std.specs.Option.{option_map}
-use Rattle.go_text.specs.Editions.{edition_number}
+use Rattle.go_text.specs.declared.edition.Edition.{Edition}
 use Rattle.go_text.specs.Named.{Source}
 use Rattle.ws_path.specs.Paths.{file_name}
 use Rattle.ws_session.specs.declared.replicas.Named.{Named}
@@ -83,7 +83,7 @@ pub record AreCounted (wrote compiled : List (List ℕ)) (world : World) : Type 
   pub actions : AreCompiled compiled world
 
 pub record StandFor (s : Replicas) (world : World) : Type 0 where
-  pub edition : edition_number s.edition ≡ world.edition
+  pub edition : s.edition ≡ world.edition
   pub replicas : AllStand s.named.items world.replicas
   pub apart : AreApart (names_in world)
   pub kept : AreCounted s.wrote s.compiled world
@@ -135,12 +135,12 @@ abbrev pub TellsStill : Command → Vec Named Global → List ℕ → Type 0
 TellsStill command named told = (text : Option (List ℕ)) (world : World) → AllStand named.items world.replicas → Tells command text world told named.items
 
 -- the same in an edition
-abbrev pub TellsIn : ℕ → Command → Vec Named Global → List ℕ → Type 0
+abbrev pub TellsIn : Edition → Command → Vec Named Global → List ℕ → Type 0
 TellsIn edition command named told =
     (text : Option (List ℕ)) (world : World) → edition ≡ world.edition → AllStand named.items world.replicas → Tells command text world told named.items
 
 -- what a build of names with directories tells, from whatever world the replicas stood for, where what they compiled was counted so
-abbrev pub TellsFrom : ℕ → List (List ℕ × List ℕ) → Vec Named Global → List (List ℕ) → List ℕ → Vec Named Global → List (List ℕ) → Type 0
+abbrev pub TellsFrom : Edition → List (List ℕ × List ℕ) → Vec Named Global → List (List ℕ) → List ℕ → Vec Named Global → List (List ℕ) → Type 0
 TellsFrom edition asked old was_compiled told new compiled =
     (text : Option (List ℕ)) (world : World) → edition ≡ world.edition → AllStand old.items world.replicas → AreApart (names_in world)
     → AreCompiled was_compiled world → TellsCounted (Build asked) text world told new.items compiled
@@ -257,13 +257,13 @@ AreTargets named asked (Ok targets) = (targets_row named asked ≡ None) × AllZ
 AreTargets named asked (Err refusal) = targets_row named asked ≡ Some refusal
 
 -- replicas built targets, with these reports, and each has its name and number
-pub record Built (edition : ℕ) (targets : List (ℕ × List ℕ)) (reports : List Report) (old new : List Named) : Type 0 where
+pub record Built (edition : Edition) (targets : List (ℕ × List ℕ)) (reports : List Report) (old new : List Named) : Type 0 where
   pub labels : labels_of new ≡ labels_of old
   pub builds : (took : List Took) → AllStandFor (replicas_of old) took → AllTookSized took → AreBuilt edition took targets reports (replicas_of new)
 
 -- or nothing changed, since a target has no package files
-abbrev pub AreBuiltBy : ℕ → List (ℕ × List ℕ) → List Named → Option (Vec Report Global) → List Named → Type 0
-AreBuiltBy edition targets old None new = (new ≡ old) × ((took : List Took) → AllStandFor (replicas_of old) took → LacksPackage took targets)
+abbrev pub AreBuiltBy : Edition → List (ℕ × List ℕ) → List Named → Option (Vec Report Global) → List Named → Type 0
+AreBuiltBy edition targets old None new = (new ≡ old) × ((took : List Took) → AllStandFor (replicas_of old) took → LacksPackage edition took targets)
 AreBuiltBy edition targets old (Some reports) new = Built edition targets reports.items old new
 
 -- the name of a target's replica, with its directory
@@ -275,30 +275,30 @@ abbrev pub report_line : (List ℕ × List ℕ) × Report → List ℕ
 report_line ((name, directory), report) = report_text name directory (rows report.directories.items) report.compiled
 
 -- by what the replica at an index took, a directory has no package files
-abbrev pub HasNoFilesAt : List ℕ → List Named → ℕ → Type 0
-HasNoFilesAt directory named index =
-    (n : Named) (W : List Write) (E : List Action) → n ≡ slice_index_or named index n → ReplicaStandsFor n.replica W E → IsTargetBuild W directory None
+abbrev pub HasNoFilesAt : Edition → List ℕ → List Named → ℕ → Type 0
+HasNoFilesAt edition directory named index =
+    (n : Named) (W : List Write) (E : List Action) → n ≡ slice_index_or named index n → ReplicaStandsFor n.replica W E → IsTargetBuild edition W directory None
 
 -- what a run came to: an outcome that the sources mean, if there is a compiled program, and none if there is none
-abbrev pub IsOutcome : ℕ → ℕ → List Action → TargetBuild → Option Outcome → Type 0
+abbrev pub IsOutcome : Edition → ℕ → List Action → TargetBuild → Option Outcome → Type 0
 IsOutcome edition ticks held build None = (packages : List Package) → IsPlannedProgram edition held (Some build) packages → ⊥
 IsOutcome edition ticks held build (Some outcome) =
     (packages : List Package) × IsPlannedProgram edition held (Some build) packages × SourceMeaning packages ticks outcome.ending outcome.output
 
 -- what is known of a run
-pub record RunOf (edition : ℕ) (directory : List ℕ) (ticks : ℕ) (W : List Write) (E : List Action) (outcome : Option Outcome) : Type 0 where
+pub record RunOf (edition : Edition) (directory : List ℕ) (ticks : ℕ) (W : List Write) (E : List Action) (outcome : Option Outcome) : Type 0 where
   pub build : TargetBuild
-  pub are : IsTargetBuild W directory (Some build)
+  pub are : IsTargetBuild edition W directory (Some build)
   pub ran : NoClash (hashed_actions (E ++ actions_of edition build)) → IsOutcome edition ticks E build outcome
 
 -- the replica at an index ran a directory, with this outcome
-abbrev pub RanAt : ℕ → List ℕ → ℕ → List Named → ℕ → Option Outcome → Type 0
+abbrev pub RanAt : Edition → List ℕ → ℕ → List Named → ℕ → Option Outcome → Type 0
 RanAt edition directory ticks named index outcome =
     (n : Named) (W : List Write) (E : List Action) → n ≡ slice_index_or named index n → ReplicaStandsFor n.replica W E → AllSized E
     → RunOf edition directory ticks W E outcome
 
 -- by what the replica at an index took, these are the ids of what a directory reaches
-abbrev pub AreIdsAt : ℕ → List ℕ → List Named → ℕ → List (List ℕ × Standing) → Type 0
+abbrev pub AreIdsAt : Edition → List ℕ → List Named → ℕ → List (List ℕ × Standing) → Type 0
 AreIdsAt edition directory named index rows =
     (n : Named) (W : List Write) (E : List Action) → n ≡ slice_index_or named index n → ReplicaStandsFor n.replica W E → AllSized E
     → AreIds edition W E directory rows

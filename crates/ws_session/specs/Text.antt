@@ -1,5 +1,6 @@
 -- What a session writes for a script.
 use Rattle.std.specs.Prelude.{◌≡◌, ℕ, zero, suc, ◌⊎◌, List, [], ◌∷◌, ◌++◌}
+use Rattle.go_text.specs.declared.edition.Edition.{Edition}
 use Rattle.ws_action.specs.Clash.{NoClash}
 use Rattle.ws_command.specs.Lines.{lines_of}
 use Rattle.ws_command.specs.Commands.{command_of, text_of, text_lines}
@@ -28,13 +29,13 @@ ReachedFrom zero (line ∷ lines) world other =
     (other ≡ world) ⊎ ((next : World) × After command text world next × ReachedFrom (text_lines command) lines next other)
 
 -- all that is written for a script, from no replica on
-abbrev pub SessionText : ℕ → List ℕ → List ℕ → Type 0
+abbrev pub SessionText : Edition → List ℕ → List ℕ → Type 0
 SessionText edition script told = TextFrom 0 (lines_of script) (opening edition) told
 
 -- a beginning of it
-abbrev pub Begun : ℕ → List ℕ → List ℕ → Type 0
+abbrev pub Begun : Edition → List ℕ → List ℕ → Type 0
 Begun edition script front = (text : List ℕ) × SessionText edition script text × IsBeginning front text
 
 -- No two different texts that the script's session hashes, in any world that it reaches, have one digest.
-abbrev pub IsClear : ℕ → List ℕ → Type 0
+abbrev pub IsClear : Edition → List ℕ → Type 0
 IsClear edition script = (world : World) → ReachedFrom 0 (lines_of script) (opening edition) world → NoClash (hashed world)

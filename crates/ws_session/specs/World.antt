@@ -3,6 +3,7 @@ use Rattle.std.specs.Prelude.{◌≡◌, ℕ, ◌⊎◌, ◌+◌, ◌==◌, ◌&
 use Rattle.std.specs.List.{AllZip, Contains, flat_map, list_all, list_any}
 use Rattle.std.specs.Option.{option_map, option_to_list, unwrap_or}
 use Rattle.std.specs.Str.{bytes_eq, is_utf8}
+use Rattle.go_text.specs.declared.edition.Edition.{Edition}
 use Rattle.go_text.specs.Texts.{text_error}
 use Rattle.ws_version.specs.Writes.{Write as AWrite}
 use Rattle.ws_path.specs.Paths.{is_path}
@@ -37,11 +38,11 @@ pub record Replica : Type 0 where
 -- The replicas in order of creation, the edition that all is built in, and the actions that builds, runs and ids looked for, which
 -- no command reads: their texts are hashed too.
 pub record World : Type 0 where
-  pub edition : ℕ
+  pub edition : Edition
   pub replicas : List Replica
   pub sought : List Action
 
-abbrev pub opening : ℕ → World
+abbrev pub opening : Edition → World
 opening edition = record { edition = edition; replicas = []; sought = [] }
 
 -- the replica of that name
@@ -132,7 +133,7 @@ seeking world actions = record { edition = world.edition; replicas = world.repli
 
 -- what becomes of a directory and of all that it reaches, by what the replica of that name took; none where it has no package files
 abbrev pub IsBuild : List ℕ → List ℕ → World → Option TargetBuild → Type 0
-IsBuild name directory world build = IsTargetBuild (writes_of name world) directory build
+IsBuild name directory world build = IsTargetBuild world.edition (writes_of name world) directory build
 
 -- what builds of targets come to; nothing where one of them has no package files
 abbrev pub AreBuilds : World → List (List ℕ × List ℕ) → Option (List TargetBuild) → Type 0

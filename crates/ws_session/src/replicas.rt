@@ -3,7 +3,6 @@ ghost use Rattle.std.specs.Prelude.{◌≡◌, ◌<◌, ℕ, List, length, vec_l
 ghost use Rattle.std.specs.List.{All, flat_map};
 ghost use Rattle.std.specs.Option.{option_map};
 ghost use Rattle.ws_path.specs.Paths.{file_name};
-ghost use Rattle.go_text.specs.Editions.{edition_number};
 ghost use Rattle.ws_replica.specs.Builds.{target_of};
 ghost use Rattle.ws_report.specs.Reports.{id_row};
 ghost use Rattle.ws_path.specs.Paths.{is_path};
@@ -336,7 +335,7 @@ fn build_all<R: Threads + Wait + Sync, G: Gate>(
 ) -> Result<Option<Vec<Report>>, AllocError>
     requires some { 0 < workers }
     requires within { All (λ t. t.replica < vec_len named.old) targets.now }
-    ensures { IfOk result (λ reports. AreBuiltBy (edition_number edition) (map target_of targets.now) named.old.items reports named.new.items) }
+    ensures { IfOk result (λ reports. AreBuiltBy edition (map target_of targets.now) named.old.items reports named.new.items) }
 {
     let (labels, mut replicas) = parted(alloc, mem::replace(named, Vec::new(alloc)))?;
     let built = build(
@@ -387,7 +386,7 @@ fn build_targets<R: Threads + Wait + Sync, G: Gate>(
     asked: &[(&[u8], &[u8])],
 ) -> Result<Vec<u8>, AllocError>
     requires { 0 < workers }
-    ensures { IfOk result (λ told. TellsFrom (edition_number edition) (map asked_of asked.now) named.old compiled.old told.items named.new compiled.new) }
+    ensures { IfOk result (λ told. TellsFrom edition (map asked_of asked.now) named.old compiled.old told.items named.new compiled.new) }
 {
     let targets = match targets_of(alloc, named.as_slice(), asked)? {
         Ok(targets) => targets,
@@ -419,8 +418,8 @@ fn run_at<R: Threads + Sync>(
     ticks: u64,
 ) -> Result<Option<Outcome>, BuildError>
     requires { index < vec_len named.now }
-    ensures ok { IfOk result (λ outcome. RanAt (edition_number edition) directory.now ticks named.now.items index outcome) }
-    ensures none { result ≡ Err BuildError.NoPackage → HasNoFilesAt directory.now named.now.items index }
+    ensures ok { IfOk result (λ outcome. RanAt edition directory.now ticks named.now.items index outcome) }
+    ensures none { result ≡ Err BuildError.NoPackage → HasNoFilesAt edition directory.now named.now.items index }
 {
     let replica = &named[index].replica;
     replica.see_files();
@@ -445,7 +444,7 @@ fn run_target<R: Threads + Sync>(
     word: &[u8],
     ticks: u64,
 ) -> Result<Vec<u8>, AllocError>
-    ensures { IfOk result (λ told. TellsIn (edition_number edition) (Run name.now word.now ticks) named.now told.items) }
+    ensures { IfOk result (λ told. TellsIn edition (Run name.now word.now ticks) named.now told.items) }
 {
     let Some(index) = index_of(named.as_slice(), name) else {
         return refused(alloc, Refusal::Unknown);
@@ -471,8 +470,8 @@ fn ids_at<R: Threads + Sync>(
     directory: &str,
 ) -> Result<Vec<IdLine>, BuildError>
     requires { index < vec_len named.now }
-    ensures ok { IfOk result (λ lines. AreIdsAt (edition_number edition) directory.now named.now.items index (map id_row lines.items)) }
-    ensures none { result ≡ Err BuildError.NoPackage → HasNoFilesAt directory.now named.now.items index }
+    ensures ok { IfOk result (λ lines. AreIdsAt edition directory.now named.now.items index (map id_row lines.items)) }
+    ensures none { result ≡ Err BuildError.NoPackage → HasNoFilesAt edition directory.now named.now.items index }
 {
     ids(rt, alloc, &named[index].replica, directory, edition)
 }
@@ -486,7 +485,7 @@ fn ids_target<R: Threads + Sync>(
     name: &[u8],
     word: &[u8],
 ) -> Result<Vec<u8>, AllocError>
-    ensures { IfOk result (λ told. TellsIn (edition_number edition) (Ids name.now word.now) named.now told.items) }
+    ensures { IfOk result (λ told. TellsIn edition (Ids name.now word.now) named.now told.items) }
 {
     let Some(index) = index_of(named.as_slice(), name) else {
         return refused(alloc, Refusal::Unknown);
@@ -514,7 +513,7 @@ fn told(alloc: Global, refusal: Option<Refusal>) -> Result<Vec<u8>, AllocError>
 impl Replicas {
     /// No replica yet.
     pub fn new(alloc: Global, edition: Edition) -> Replicas
-        ensures stands { StandFor result (opening (edition_number edition)) }
+        ensures stands { StandFor result (opening edition) }
     {
         Replicas {
             alloc,

@@ -1,5 +1,6 @@
 //! Plans of small workspaces.
 use crate::registers::answer;
+use go_text::edition::Edition;
 use go_text::source::Source;
 use std::alloc::Global;
 use std::thread::Threads;
@@ -52,7 +53,10 @@ fn planned_all(
     for target in asked.split(' ') {
         targets.push(String::from_str(alloc, target)?)?;
     }
-    listed(alloc, plan_all(rt, alloc, registers, targets.as_slice()))
+    listed(
+        alloc,
+        plan_all(rt, alloc, Edition::One, registers, targets.as_slice()),
+    )
 }
 
 /// A file of a path and a text is written.

@@ -1,5 +1,5 @@
--- What is read of an option that may be left out.
-use Rattle.std.proofs.Common.{◌&&◌, zero, suc, ◌≡◌, ◌∙◌, ◌<◌, ◌≤◌, ap, ℕ, Bool, true, false, not, List, [], ◌∷◌, length, map, Option, Some, None, Result, Ok, refl, sym, subst, inl, inr, arith, codes}
+-- What is read of options that may be left out.
+use Rattle.std.proofs.Common.{◌&&◌, zero, suc, ◌≡◌, ◌∙◌, ◌<◌, ◌≤◌, ◌^◌, ap, ℕ, Bool, true, false, not, List, [], ◌∷◌, length, map, Option, Some, None, Result, Ok, refl, sym, subst, inl, inr, arith, codes}
 use Rattle.std.specs.List.{All, slice_index_or}
 use Rattle.std.specs.Option.{option_map_or}
 use Rattle.std.specs.Str.{bytes_eq}
@@ -25,7 +25,7 @@ use Rattle.clap.specs.declared.parser.matches.MatchedArg.{MatchedArg}
 use Rattle.clap.proofs.CallerLemmas.{entry_by_id, same_rules_by_id}
 use Rattle.clap.proofs.CallerReads.{signed_reads}
 use Rattle.clap.proofs.WalkLemmas.{one_text-rows}
-use Rattle.ws_words.specs.CommandLine.{goset, numbered, workers_of}
+use Rattle.ws_words.specs.CommandLine.{goset, number_of, numbered}
 
 -- ---- a text that is read of an entry passed its argument's parser
 
@@ -83,10 +83,10 @@ abbrev workers_rule : Rule
 workers_rule = numbered (codes "workers") 64
 
 abbrev edition_rule : Rule
-edition_rule = numbered (codes "edition") 1
+edition_rule = numbered (codes "edition") 2
 
-abbrev to_64 : ValueParser
-to_64 = Signed (pos 1) (pos 64)
+abbrev to_most : ℕ → ValueParser
+to_most most = Signed (pos 1) (pos most)
 
 -- the third of some tests that hold says no
 third_is_no : (a b c d : Bool) → (a && (b && (not c && d))) ≡ true → c ≡ false
@@ -95,82 +95,124 @@ third_is_no true false c d h = cc
 third_is_no true true true d h = cc
 third_is_no true true false d h = refl
 
--- the arguments of the command, of which the first alone is --workers
-first_alone : (xs : List Arg) → map rule_of xs ≡ workers_rule ∷ edition_rule ∷ []
-    → (j : ℕ) (e : Arg) → j < length xs → (w : List ℕ) → w ≡ codes "workers" → bytes_eq (slice_index_or xs j e).id.now w ≡ true → j ≡ 0
-first_alone xs h zero e lt w w_is same = refl
-first_alone xs h (suc zero) e lt w w_is same =
-    let two = two_rules xs workers_rule edition_rule h in
-    let id_is : (slice_index_or xs 1 e).id.now ≡ codes "edition" = ap (λ (r : Rule). r.id) (two.3 e) in
-    let bad : bytes_eq (codes "edition") (codes "workers") ≡ true = rw (id_is, w_is) at same in
-    cc
-first_alone xs h (suc (suc j)) e lt w w_is same =
-    let len = (two_rules xs workers_rule edition_rule h).1 in
-    absurd (omega (arith, len))
+-- of the arguments of the command the one of this number alone is the option, and clap makes no argument of its name
+pub record IsOption (name : List ℕ) (most place : ℕ) : Type 0 where
+  pub below : place < 2
+  pub rule : (xs : List Arg) → map rule_of xs ≡ workers_rule ∷ edition_rule ∷ [] → (d : Arg) → rule_of (slice_index_or xs place d) ≡ numbered name most
+  pub alone : (xs : List Arg) → map rule_of xs ≡ workers_rule ∷ edition_rule ∷ []
+      → (j : ℕ) (e : Arg) → j < length xs → (w : List ℕ) → w ≡ name → bytes_eq (slice_index_or xs j e).id.now w ≡ true → j ≡ place
+  pub own : (a : Arg) → a.id.now ≡ name → IsAuto a → ⊥
+  pub some : name ≡ [] → ⊥
 
--- ---- the number of workers
-
--- an argument of the built command with the id of --workers has its parser
-workers_parser : (old : Command) (m : ArgMatches) (p : IsParsedFrom old m) → map rule_of (args_of old) ≡ workers_rule ∷ edition_rule ∷ []
-    → (j : ℕ) (x : Arg) → j < length (args_of p.built) → slice_index_or (args_of p.built) j x ≡ x → bytes_eq x.id.now (codes "workers") ≡ true
-    → parser_of x ≡ to_64
-workers_parser old m p rules j x high at same =
-    let two = two_rules (args_of old) workers_rule edition_rule rules in
-    let a = slice_index_or (args_of old) 0 two.0 in
-    let len = two.1 in
-    let lt : 0 < length (args_of old) = omega (arith, len) in
-    let id_is : a.id.now ≡ codes "workers" = ap (λ (r : Rule). r.id) (two.2 two.0) in
-    let parser_is : a.value_parser ≡ Some to_64 = ap (λ (r : Rule). r.parser) (two.2 two.0) in
-    let own : IsAuto a → ⊥ = λ auto. elim auto [
-      | inl h ↦ let bad : 119 ≡ 104 = ap (λ (l : List ℕ). slice_index_or l 0 0) (sym id_is ∙ h) in absurd (omega (arith, bad))
-      | inr h ↦ let bad : 119 ≡ 118 = ap (λ (l : List ℕ). slice_index_or l 0 0) (sym id_is ∙ h) in absurd (omega (arith, bad))
-    ] in
-    let s = same_rules_by_id old m p 0 two.0 lt (λ k e low eq. first_alone (args_of old) rules k e low a.id.now id_is eq) own j x high at
-    (subst (λ (w : List ℕ). bytes_eq x.id.now w ≡ true) (sym id_is) same) in
-    ap parser_of_value (s.parser to_64 parser_is)
-
--- what is read of --workers, where it is there: a number that the option takes
-named_number : (old : Command) (m : ArgMatches) (p : IsParsedFrom old m) → app_of old ≡ goset → IsPlain old
-    → (t : List ℕ) → one_text (found_of m) (codes "workers") ≡ Some t
-    → (u : List ℕ) × (t ≡ read_as (reading_of to_64) u) × Accepts false to_64 u
-named_number old m p app plain t is =
-    let rules : map rule_of (args_of old) ≡ workers_rule ∷ edition_rule ∷ [] = ap (λ (a : App). a.top.rules) app in
-    let local = third_is_no _ _ _ _ (ap (λ (a : App). a.top.is_plain) app) in
-    let parsed = p.parsed (p.from.globals ∙ local) in
-    let named : codes "workers" ≡ [] → ⊥ = λ e. let bad : 7 ≡ 0 = ap length e in absurd (omega (arith, bad)) in
-    text_read p.built (found_of m) (codes "workers") (λ (u : List ℕ). Accepts false to_64 u) (reading_of to_64) parsed.values (p.from.plain plain).1 named
-    (λ r any. sym any.4.1 ∙ ap reading_of (workers_parser old m p rules any.0 any.1 any.2 any.3 any.4.0))
-    (λ v any. subst (λ (q : ValueParser). Accepts any.1.ignore_case q v.now) (workers_parser old m p rules any.0 any.1 any.2 any.3 any.4.0) any.4.1)
-    t is
-
--- the number that is read of the words
-pub workers_read : (old : Command) (m : ArgMatches) (words : List Text) → IsParsedFrom old m → app_of old ≡ goset → IsPlain old
-    → HasMatchesOf (app_of old) words m → (E : Type 0) (G : List ℕ → Result ℕ E → Type 0) (r : Option ℕ)
-    → (one_text (found_of m) (codes "workers") ≡ None → r ≡ None)
-    → ((t : List ℕ) → one_text (found_of m) (codes "workers") ≡ Some t → ReadsOne G t r)
-    → ((u : List ℕ) (x : Result ℕ E) → G u x → ParsesUnsigned 8 10 u x)
-    → (unwrap_or r 4 ≡ workers_of words) × (1 ≤ unwrap_or r 4) × (unwrap_or r 4 ≤ 64)
-workers_read old m words p app plain has E G r absent present reads = go (one_text (found_of m) (codes "workers")) refl
+pub workers_option : IsOption (codes "workers") 64 0
+workers_option = record {
+  below = omega arith;
+  rule = λ xs h d. (two_rules xs workers_rule edition_rule h).2 d;
+  alone = first_alone;
+  own = λ a id_is auto. elim auto [
+    | inl h ↦ let bad : 119 ≡ 104 = ap (λ (l : List ℕ). slice_index_or l 0 0) (sym id_is ∙ h) in absurd (omega (arith, bad))
+    | inr h ↦ let bad : 119 ≡ 118 = ap (λ (l : List ℕ). slice_index_or l 0 0) (sym id_is ∙ h) in absurd (omega (arith, bad))
+  ];
+  some = λ e. let bad : 7 ≡ 0 = ap length e in absurd (omega (arith, bad));
+}
   where
-    simple : is_simple (app_of old) ≡ true
-    simple = ap is_simple app
+    first_alone : (xs : List Arg) → map rule_of xs ≡ workers_rule ∷ edition_rule ∷ []
+        → (j : ℕ) (e : Arg) → j < length xs → (w : List ℕ) → w ≡ codes "workers" → bytes_eq (slice_index_or xs j e).id.now w ≡ true → j ≡ 0
+    first_alone xs h zero e lt w w_is same = refl
+    first_alone xs h (suc zero) e lt w w_is same =
+        let two = two_rules xs workers_rule edition_rule h in
+        let id_is : (slice_index_or xs 1 e).id.now ≡ codes "edition" = ap (λ (r : Rule). r.id) (two.3 e) in
+        let bad : bytes_eq (codes "edition") (codes "workers") ≡ true = rw (id_is, w_is) at same in
+        cc
+    first_alone xs h (suc (suc j)) e lt w w_is same =
+        let len = (two_rules xs workers_rule edition_rule h).1 in
+        absurd (omega (arith, len))
 
-    text_is : one_of (codes "workers") (matches_of goset words) ≡ one_text (found_of m) (codes "workers")
-    text_is = sym (one_text-rows (found_of m) (codes "workers") ∙ ap (one_of (codes "workers")) ((has simple).0 ∙ ap (λ (a : App). matches_of a words) app))
+pub edition_option : IsOption (codes "edition") 2 1
+edition_option = record {
+  below = omega arith;
+  rule = λ xs h d. (two_rules xs workers_rule edition_rule h).3 d;
+  alone = second_alone;
+  own = λ a id_is auto. elim auto [
+    | inl h ↦ let bad : 101 ≡ 104 = ap (λ (l : List ℕ). slice_index_or l 0 0) (sym id_is ∙ h) in absurd (omega (arith, bad))
+    | inr h ↦ let bad : 101 ≡ 118 = ap (λ (l : List ℕ). slice_index_or l 0 0) (sym id_is ∙ h) in absurd (omega (arith, bad))
+  ];
+  some = λ e. let bad : 7 ≡ 0 = ap length e in absurd (omega (arith, bad));
+}
+  where
+    second_alone : (xs : List Arg) → map rule_of xs ≡ workers_rule ∷ edition_rule ∷ []
+        → (j : ℕ) (e : Arg) → j < length xs → (w : List ℕ) → w ≡ codes "edition" → bytes_eq (slice_index_or xs j e).id.now w ≡ true → j ≡ 1
+    second_alone xs h zero e lt w w_is same =
+        let two = two_rules xs workers_rule edition_rule h in
+        let id_is : (slice_index_or xs 0 e).id.now ≡ codes "workers" = ap (λ (r : Rule). r.id) (two.2 e) in
+        let bad : bytes_eq (codes "workers") (codes "edition") ≡ true = rw (id_is, w_is) at same in
+        cc
+    second_alone xs h (suc zero) e lt w w_is same = refl
+    second_alone xs h (suc (suc j)) e lt w w_is same =
+        let len = (two_rules xs workers_rule edition_rule h).1 in
+        absurd (omega (arith, len))
 
-    number : Option (List ℕ) → ℕ
-    number o = option_map_or (λ text. digits_value 10 (without_leading_plus text)) o 4
+-- ---- the number of an option
 
-    go : (o : Option (List ℕ)) → one_text (found_of m) (codes "workers") ≡ o
-        → (unwrap_or r 4 ≡ workers_of words) × (1 ≤ unwrap_or r 4) × (unwrap_or r 4 ≤ 64)
-    go None e =
-        let named : workers_of words ≡ 4 = ap number (text_is ∙ e) in
-        let read : unwrap_or r 4 ≡ 4 = ap (λ (o : Option ℕ). unwrap_or o 4) (absent e) in
-        (read ∙ sym named, rw read (omega arith), rw read (omega arith))
-    go (Some t) e =
-        let got = named_number old m p app plain t e in
-        let n = signed_reads E G 8 1 64 got.0 r (subst (λ (u : List ℕ). ReadsOne G u r) got.1 (present t e)) reads (omega arith) got.2 in
-        let value = reads t (Ok n.0) (subst (λ (o : Option ℕ). ReadsOne G t o) n.1 (present t e)) in
-        let named : workers_of words ≡ digits_value 10 (without_leading_plus t) = ap number (text_is ∙ e) in
-        let read : unwrap_or r 4 ≡ n.0 = ap (λ (o : Option ℕ). unwrap_or o 4) n.1 in
-        (read ∙ (value.1 ∙ sym named), rw read n.2, rw read n.3)
+module _ (name : List ℕ) (most place : ℕ) (is_option : IsOption name most place) where
+  -- an argument of the built command with the option's id has its parser
+  option_parser : (old : Command) (m : ArgMatches) (p : IsParsedFrom old m) → map rule_of (args_of old) ≡ workers_rule ∷ edition_rule ∷ []
+      → (j : ℕ) (x : Arg) → j < length (args_of p.built) → slice_index_or (args_of p.built) j x ≡ x → bytes_eq x.id.now name ≡ true
+      → parser_of x ≡ to_most most
+  option_parser old m p rules j x high at same =
+      let two = two_rules (args_of old) workers_rule edition_rule rules in
+      let a = slice_index_or (args_of old) place two.0 in
+      let len = two.1 in
+      let below = is_option.below in
+      let lt : place < length (args_of old) = omega (arith, len, below) in
+      let rule_is = is_option.rule (args_of old) rules two.0 in
+      let id_is : a.id.now ≡ name = ap (λ (r : Rule). r.id) rule_is in
+      let parser_is : a.value_parser ≡ Some (to_most most) = ap (λ (r : Rule). r.parser) rule_is in
+      let s = same_rules_by_id old m p place two.0 lt (λ k e low eq. is_option.alone (args_of old) rules k e low a.id.now id_is eq) (is_option.own a id_is) j x high at
+      (subst (λ (w : List ℕ). bytes_eq x.id.now w ≡ true) (sym id_is) same) in
+      ap parser_of_value (s.parser (to_most most) parser_is)
+
+  -- what is read of the option, where it is there: a number that it takes
+  named_number : (old : Command) (m : ArgMatches) (p : IsParsedFrom old m) → app_of old ≡ goset → IsPlain old
+      → (t : List ℕ) → one_text (found_of m) name ≡ Some t
+      → (u : List ℕ) × (t ≡ read_as (reading_of (to_most most)) u) × Accepts false (to_most most) u
+  named_number old m p app plain t is =
+      let rules : map rule_of (args_of old) ≡ workers_rule ∷ edition_rule ∷ [] = ap (λ (a : App). a.top.rules) app in
+      let local = third_is_no _ _ _ _ (ap (λ (a : App). a.top.is_plain) app) in
+      let parsed = p.parsed (p.from.globals ∙ local) in
+      text_read p.built (found_of m) name (λ (u : List ℕ). Accepts false (to_most most) u) (reading_of (to_most most)) parsed.values (p.from.plain plain).1 is_option.some
+      (λ r any. sym any.4.1 ∙ ap reading_of (option_parser old m p rules any.0 any.1 any.2 any.3 any.4.0))
+      (λ v any. subst (λ (q : ValueParser). Accepts any.1.ignore_case q v.now) (option_parser old m p rules any.0 any.1 any.2 any.3 any.4.0) any.4.1)
+      t is
+
+  -- the number that is read of the words, and this one where they name none
+  pub number_read : (none : ℕ) → 1 ≤ none → none ≤ most → most < 2 ^ 8 → (old : Command) (m : ArgMatches) (words : List Text) → IsParsedFrom old m → app_of old ≡ goset → IsPlain old
+      → HasMatchesOf (app_of old) words m → (E : Type 0) (G : List ℕ → Result ℕ E → Type 0) (r : Option ℕ)
+      → (one_text (found_of m) name ≡ None → r ≡ None)
+      → ((t : List ℕ) → one_text (found_of m) name ≡ Some t → ReadsOne G t r)
+      → ((u : List ℕ) (x : Result ℕ E) → G u x → ParsesUnsigned 8 10 u x)
+      → (unwrap_or r none ≡ number_of name none words) × (1 ≤ unwrap_or r none) × (unwrap_or r none ≤ most)
+  number_read none least few fits old m words p app plain has E G r absent present reads = go (one_text (found_of m) name) refl
+    where
+      simple : is_simple (app_of old) ≡ true
+      simple = ap is_simple app
+
+      text_is : one_of name (matches_of goset words) ≡ one_text (found_of m) name
+      text_is = sym (one_text-rows (found_of m) name ∙ ap (one_of name) ((has simple).0 ∙ ap (λ (a : App). matches_of a words) app))
+
+      number : Option (List ℕ) → ℕ
+      number o = option_map_or (λ text. digits_value 10 (without_leading_plus text)) o none
+
+      go : (o : Option (List ℕ)) → one_text (found_of m) name ≡ o
+          → (unwrap_or r none ≡ number_of name none words) × (1 ≤ unwrap_or r none) × (unwrap_or r none ≤ most)
+      go None e =
+          let named : number_of name none words ≡ none = ap number (text_is ∙ e) in
+          let read : unwrap_or r none ≡ none = ap (λ (o : Option ℕ). unwrap_or o none) (absent e) in
+          (read ∙ sym named, rw read least, rw read few)
+      go (Some t) e =
+          let got = named_number old m p app plain t e in
+          let n = signed_reads E G 8 1 most got.0 r (subst (λ (u : List ℕ). ReadsOne G u r) got.1 (present t e)) reads fits got.2 in
+          let value = reads t (Ok n.0) (subst (λ (o : Option ℕ). ReadsOne G t o) n.1 (present t e)) in
+          let named : number_of name none words ≡ digits_value 10 (without_leading_plus t) = ap number (text_is ∙ e) in
+          let read : unwrap_or r none ≡ n.0 = ap (λ (o : Option ℕ). unwrap_or o none) n.1 in
+          (read ∙ (value.1 ∙ sym named), rw read n.2, rw read n.3)

@@ -6,6 +6,7 @@ use Rattle.clap.specs.Values.{kind_of}
 use Rattle.clap.specs.declared.error.Error.{Error}
 use Rattle.clap.specs.declared.error.kind.ErrorKind.{ErrorKind}
 use Rattle.clap.specs.declared.error.kind.ErrorKind.TheVariants.{OutOfMemory}
+use Rattle.go_text.specs.declared.edition.Edition.{Edition}
 use Rattle.ws_script.specs.Ends.{Session}
 use Rattle.ws_script.specs.Failures.{failed_reads}
 use Rattle.ws_script.specs.Told.{Told, Grows}
@@ -93,9 +94,15 @@ stays None = tt
 stays (Some xs) = sym (append-nil xs)
 
 -- a session that had no memory to read its words told and wrote nothing
-pub memory_session : (told : Option (List Told)) (written : Option (List ℕ)) (failure : SessionError) → failure ≡ Memory
-    → Session 1 (stopped failure) told told written written
-memory_session told written failure memory = rw memory (inl (([], stays told), stays written))
+pub memory_session : (edition : Edition) (told : Option (List Told)) (written : Option (List ℕ)) (failure : SessionError) → failure ≡ Memory
+    → Session edition (stopped failure) told told written written
+memory_session edition told written failure memory = rw memory (inl (([], stays told), stays written))
+
+-- a session that stopped is of one edition, which has two names
+pub stopped_in : (edition named : Edition) (told told' : Option (List Told)) (written written' : Option (List ℕ)) (failure : SessionError) → edition ≡ named
+    → Session edition (stopped failure) told told' written written' → Session named (stopped failure) told told' written written'
+stopped_in edition named told told' written written' failure same session =
+    subst (λ (e : Edition). Session e (stopped failure) told told' written written') same session
 
 pub no_reads : {T : Type 0} (failure : SessionError) → (failure ≡ Memory) ⊎ ((failure ≡ Write) × T) → failed_reads (stopped failure) ≡ 0
 no_reads failure h = elim h [

@@ -2,8 +2,7 @@
 ghost use Rattle.std.specs.Prelude.{◌≡◌, ◌≤◌, ℕ, IfOk, false, map, pos};
 ghost use Rattle.clap.specs.Words.{FailsBy, IsPlain, IsPlainArg, app_of, rule_of};
 ghost use Rattle.clap.specs.declared.builder.value_parser.ValueParser.TheVariants.{Signed};
-ghost use Rattle.go_text.specs.declared.edition.Edition.TheVariants.{One};
-ghost use Rattle.ws_words.specs.CommandLine.{faults, goset, numbered, workers_of};
+ghost use Rattle.ws_words.specs.CommandLine.{edition_at, edition_of, faults, goset, numbered, workers_of};
 
 use clap::builder::ValueParser;
 use clap::{Arg, Command, Error, value_parser};
@@ -13,6 +12,9 @@ use std::convert::AsStr;
 
 /// How many workers a session has that isn't told.
 const WORKERS: u8 = 4;
+
+/// The number of the edition of a session that isn't told.
+const EDITION: u8 = 1;
 
 /// What a session is run with.
 #[derive(Clone, Copy, Debug, PartialEq, Eq)]
@@ -51,8 +53,8 @@ fn command<'a>(alloc: Global) -> Result<Command<'a>, AllocError>
     let edition = option(
         alloc,
         "edition",
-        value_parser!(u8).range(1..=1),
-        "The edition of the language, 1 [default: 1]",
+        value_parser!(u8).range(1..=2),
+        "The edition of the language, 1 or 2 [default: 1]",
     );
     Command::new(alloc, "goset")
         .version("0.1.0")
@@ -61,21 +63,30 @@ fn command<'a>(alloc: Global) -> Result<Command<'a>, AllocError>
         .arg(edition)
 }
 
+// The edition of a number that the parser lets through.
+fn edition_at(number: u8) -> Edition
+    ensures { result ≡ edition_at number }
+{
+    match number {
+        2 => Edition::Two,
+        _ => Edition::One,
+    }
+}
+
 /// What a session is run with that these words ask for, of which the first is the program's name.
-///
-/// The parser lets no other edition through than the first.
 pub fn read_options<'a, S: AsStr>(alloc: Global, words: &'a [S]) -> Result<Options, Error>
     ensures workers { IfOk result (λ options. options.workers ≡ workers_of (map S.text words.entry.now)) }
     ensures some { IfOk result (λ options. 1 ≤ options.workers) }
     ensures few { IfOk result (λ options. options.workers ≤ 64) }
-    ensures edition { IfOk result (λ options. options.edition ≡ One) }
+    ensures edition { IfOk result (λ options. options.edition ≡ edition_of (map S.text words.entry.now)) }
     ensures refusals { FailsBy (faults (map S.text words.entry.now)) result }
 {
     let program = command(alloc)?;
     let matches = program.try_get_matches_from(words)?;
     let workers = matches.get_one::<u8>("workers").unwrap_or(WORKERS);
+    let edition = matches.get_one::<u8>("edition").unwrap_or(EDITION);
     Ok(Options {
         workers: usize::from(workers),
-        edition: Edition::One,
+        edition: edition_at(edition),
     })
 }

@@ -2,12 +2,11 @@
 ghost use Rattle.std.specs.Prelude.{◌≡◌, ◌≢◌, ◌⊎◌, ◌+◌, ◌<◌, ◌≤◌, ◌^◌, [], false, true, map};
 ghost use Rattle.clap.specs.Words.{kind_of};
 ghost use Rattle.clap.specs.declared.error.kind.ErrorKind.TheVariants.{OutOfMemory};
-ghost use Rattle.go_text.specs.declared.edition.Edition.TheVariants.{One};
 ghost use Rattle.ws_script.specs.Ends.{Session};
 ghost use Rattle.ws_script.specs.Failures.{failed_reads, failed_writes};
 ghost use Rattle.ws_script.specs.declared.running.SessionError.{SessionError};
 ghost use Rattle.ws_script.specs.declared.running.SessionError.TheVariants.{Memory, Write};
-ghost use Rattle.ws_words.specs.CommandLine.{faults};
+ghost use Rattle.ws_words.specs.CommandLine.{edition_of, faults};
 ghost use Rattle.ws_words.specs.Statuses.{FailsUnasked, Tells, asks_text, complaint, is_asked, is_wrong, not_utf8, stopped, whole};
 ghost use Rattle.ws_words.specs.declared.status.Status.TheVariants.{Done, Failed, Misused};
 
@@ -60,11 +59,10 @@ fn run<T: Threads + Wait + Sync, I: ScriptIn, O: ScriptOut, E: ScriptOut>(
 ) -> Status
     requires some { 1 ≤ options.workers }
     requires few { options.workers ≤ 64 }
-    requires edition { options.edition ≡ One }
     requires readable { I.failed reader.old + 1 < 2 ^ 64 }
     requires writable { O.failed writer.old + 1 < 2 ^ 64 }
     requires tellable { E.failed errors.old + 1 < 2 ^ 64 }
-    ensures done { result ≡ Done → Session 1 whole (I.told reader.old) (I.told reader.new)
+    ensures done { result ≡ Done → Session options.edition whole (I.told reader.old) (I.told reader.new)
         (O.written writer.old) (O.written writer.new) }
     ensures silent { result ≡ Done → (I.failed reader.new ≡ I.failed reader.old)
         × (O.failed writer.new ≡ O.failed writer.old) × (errors.new ≡ errors.old) }
@@ -73,7 +71,7 @@ fn run<T: Threads + Wait + Sync, I: ScriptIn, O: ScriptOut, E: ScriptOut>(
         × (O.failed writer.new ≡ O.failed writer.old + failed_writes (stopped failure))
         × Tells (complaint failure) (E.failed errors.old) (E.failed errors.new)
         (E.written errors.old) (E.written errors.new)
-        × Session 1 (stopped failure) (I.told reader.old) (I.told reader.new)
+        × Session options.edition (stopped failure) (I.told reader.old) (I.told reader.new)
         (O.written writer.old) (O.written writer.new) }
     ensures used { result ≢ Misused }
 {
@@ -168,7 +166,7 @@ pub fn run_words<'a, T: Threads + Wait + Sync, S: AsStr, I: ScriptIn, O: ScriptO
     requires tellable { E.failed errors.old + 1 < 2 ^ 64 }
     ensures known { result ≤ 2 }
     ensures session { faults (map S.text words.entry.now) ≡ [] → result ≡ 0
-        → Session 1 whole (I.told reader.old) (I.told reader.new)
+        → Session (edition_of (map S.text words.entry.now)) whole (I.told reader.old) (I.told reader.new)
         (O.written writer.old) (O.written writer.new) }
     ensures asked { faults (map S.text words.entry.now) ≢ [] → result ≡ 0
         → asks_text (faults (map S.text words.entry.now)) ≡ true }
@@ -180,7 +178,7 @@ pub fn run_words<'a, T: Threads + Wait + Sync, S: AsStr, I: ScriptIn, O: ScriptO
         × Tells (complaint failure) (E.failed errors.old) (E.failed errors.new)
         (E.written errors.old) (E.written errors.new)
         × (faults (map S.text words.entry.now) ≡ []
-        → Session 1 (stopped failure) (I.told reader.old) (I.told reader.new)
+        → Session (edition_of (map S.text words.entry.now)) (stopped failure) (I.told reader.old) (I.told reader.new)
         (O.written writer.old) (O.written writer.new))
         × (faults (map S.text words.entry.now) ≢ []
         → FailsUnasked failure (faults (map S.text words.entry.now))) }

@@ -1,5 +1,4 @@
 //! What packages of one file declare, and what the last declaration of a row is.
-use crate::tests::rows::DECLARED;
 use crate::tests::words::{fault_word, told, type_word};
 use go_ast::declaration::{ConstSpec, Decl, TypeSpec, VarSpec};
 use go_ast::expression::{Expr, TypeExpr};
@@ -13,19 +12,28 @@ use go_expr::value::assigned;
 use go_objects::listing::objects_of;
 use go_objects::package::Package;
 use go_objects::table::table;
-use go_parse::parse_source;
+use go_parse::parse_in;
 use go_scope::scopes::Scopes;
+use go_text::edition::Edition;
 use go_text::place::Place;
 use go_text::source::Source;
 use go_types::types::{Basic, GoType, IntKind};
 use std::alloc::{AllocError, Global};
 
-// A file of declarations, in whose text `␊` stands for a newline.
-fn parsed(alloc: Global, text: &str) -> Result<Parsed, AllocError> {
+/// What rows stand on: an edition, what their package imports, and the text of what it declares before them.
+#[derive(Clone, Copy)]
+pub(crate) struct Ground<'a> {
+    pub(crate) edition: Edition,
+    pub(crate) imports: &'a [Import<'a>],
+    pub(crate) before: &'a str,
+}
+
+// A file of declarations of an edition, in whose text `␊` stands for a newline.
+fn parsed(alloc: Global, edition: Edition, text: &str) -> Result<Parsed, AllocError> {
     let text = format!(in alloc; "package p␊{text}␊")?.replace(alloc, "␊", "\n")?;
     let name = String::from_str(alloc, "a.go")?;
     let source = Source::new(alloc, name, text).map_err(|_| AllocError)?;
-    parse_source(alloc, source).map_err(|_| AllocError)
+    parse_in(alloc, edition, source).map_err(|_| AllocError)
 }
 
 // The package at a path of one file, which has some imports.
@@ -37,20 +45,22 @@ fn package_of<'a>(
 ) -> Result<Package<'a>, AllocError> {
     Ok(Package {
         path,
+        edition: parsed.edition(),
         imports: vec![in alloc; Vec::from_slice(alloc, imports)?]?,
         objects: objects_of(alloc, &[parsed.file()])?,
     })
 }
 
-/// What the package at a path declares, whose one file has some imports.
-pub(crate) fn declared<'a>(
+/// What the package at a path declares, whose one file stands on a ground: what is before, and a text.
+pub(crate) fn declared(
     alloc: Global,
-    path: &'a str,
-    imports: &[Import<'a>],
+    path: &str,
+    ground: Ground<'_>,
     text: &str,
 ) -> Result<Names, AllocError> {
-    let parsed = parsed(alloc, text)?;
-    let package = package_of(alloc, path, imports, &parsed)?;
+    let text = format!(in alloc; "{}␊{text}", ground.before)?;
+    let parsed = parsed(alloc, ground.edition, text.as_str())?;
+    let package = package_of(alloc, path, ground.imports, &parsed)?;
     table(alloc, &package)
 }
 
@@ -131,7 +141,7 @@ fn answer_of(alloc: Global, scope: &Scope<'_>, top: &TopLevel) -> Result<String,
 // What a declaration's value or type is in a block that declares `z`.
 fn answer_in_block(
     alloc: Global,
-    imports: &[Import<'_>],
+    ground: Ground<'_>,
     names: &Names,
     top: &TopLevel,
 ) -> Result<String, AllocError> {
@@ -140,44 +150,44 @@ fn answer_in_block(
     let Ok(()) = blocks.declare("z", Some(local)) else {
         return Err(AllocError);
     };
-    let scope = Scope::in_blocks("a/p", imports, names, Some(7), &blocks);
+    let (edition, imports) = (ground.edition, ground.imports);
+    let scope = Scope::in_blocks("a/p", edition, imports, names, Some(7), &blocks);
     answer_of(alloc, &scope, top)
 }
 
 // What the last declaration of a row is.
 fn last_answer(
     alloc: Global,
-    imports: &[Import<'_>],
+    ground: Ground<'_>,
     names: &Names,
     text: &str,
 ) -> Result<String, AllocError> {
-    let row = parsed(alloc, text)?;
+    let row = parsed(alloc, ground.edition, text)?;
     match row.file().declarations.as_slice() {
-        [.., last] => answer_in_block(alloc, imports, names, last),
+        [.., last] => answer_in_block(alloc, ground, names, last),
         [] => Err(AllocError),
     }
 }
 
-// What the last declaration of a row is, by the imports and the names of its package; those of the
+// What the last declaration of a row is, by its ground and the names of its package; those of the
 // row that stand before it are declared too.
 fn answer(
     alloc: Global,
-    imports: &[Import<'_>],
+    ground: Ground<'_>,
     names: &Names,
     text: &str,
 ) -> Result<String, AllocError> {
     let Some((before, _)) = text.rsplit_once('␊') else {
-        return last_answer(alloc, imports, names, text);
+        return last_answer(alloc, ground, names, text);
     };
-    let before = format!(in alloc; "{DECLARED}␊{before}")?;
-    let names = declared(alloc, "a/p", imports, before.as_str())?;
-    last_answer(alloc, imports, &names, text)
+    let names = declared(alloc, "a/p", ground, before)?;
+    last_answer(alloc, ground, &names, text)
 }
 
 /// Adds a row that isn't as it says to the rows that are wrong.
 pub(crate) fn add_wrong(
     alloc: Global,
-    imports: &[Import<'_>],
+    ground: Ground<'_>,
     names: &Names,
     row: &str,
     wrong: &mut String,
@@ -185,7 +195,7 @@ pub(crate) fn add_wrong(
     let Some((wanted, text)) = row.split_once(" | ") else {
         return Ok(());
     };
-    let told = answer(alloc, imports, names, text)?;
+    let told = answer(alloc, ground, names, text)?;
     if told.as_str() != wanted {
         wrong.push_str(format!(in alloc; "{text} is {told}\n")?.as_str())?;
     }

@@ -57,6 +57,7 @@ fn known_word(alloc: Global, known: &Known<'_>) -> Result<String, AllocError> {
         Known::Function(_) | Known::Println | Known::Length | Known::Panic => {
             String::from_str(alloc, "function")
         }
+        Known::Capacity | Known::Make | Known::Append => String::from_str(alloc, "function"),
         Known::Package(_) => String::from_str(alloc, "package"),
         Known::Results(types, _, _) => format!(in alloc; "results {}", types.len()),
         Known::Printed(operands) => values_word(alloc, "printed", operands),

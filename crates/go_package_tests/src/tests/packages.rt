@@ -63,6 +63,7 @@ fn package_of<'a>(
 ) -> Result<Package<'a>, AllocError> {
     Ok(Package {
         path,
+        edition: parsed.edition(),
         imports: vec![in alloc; Vec::new(alloc)]?,
         objects: objects_of(alloc, &[parsed.file()])?,
     })

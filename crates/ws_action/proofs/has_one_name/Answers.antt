@@ -14,4 +14,4 @@ returns-clause-named c =
     let is : c.args.files.now ≡ c.in-Some.first.now ∷ c.in-Some.rest.now = search rules in
     let over : length c.in-Some.rest.now ≤ c.loop-file.file-index = omega arith in
     let named = named_all c.text-name.result.now c.in-Some.rest.now c.loop-file.file-index over c.loop-file.invariant in
-    have_one_name c.args.files.now c.in-Some.first.now c.in-Some.rest.now c.package.result.now is c.package.ensures (subst (λ (n : List _). All (λ file. IsNamed n file.text) c.in-Some.rest.now) c.text-name.ensures named)
+    have_one_name c.args.files.now c.in-Some.first.now c.in-Some.rest.now c.package.result.now is c.package.ensures (subst (λ (n : List _). All (λ file. IsNamed file.edition n file.text) c.in-Some.rest.now) c.text-name.ensures named)

@@ -5,4 +5,4 @@ use Rattle.ws_action.proofs.has_one_name.Given as goal
 
 -- the files so far have the name
 abbrev pub invariant-loop-file : goal.invariant-loop-file
-invariant-loop-file l = All (λ file. IsNamed l.name file.text) (take l.file-index l.rest)
+invariant-loop-file l = All (λ file. IsNamed file.edition l.name file.text) (take l.file-index l.rest)

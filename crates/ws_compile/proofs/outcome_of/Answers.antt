@@ -12,8 +12,8 @@ returns-clause-ok c =
     let files = c.files.result.now in
     let summaries = map arc_value c.imports.result.now in
     if_ok_map c.result_of.result (λ outcome. IsResult path files (map importable_by summaries) (compiled_of outcome)) (λ outcome. Compiles action (compiled_of outcome))
-    (λ outcome h. compiles action path files summaries (compiled_of outcome) c.path.ensures c.files.ensures.value c.imports.ensures.value c.imports.ensures.written h) c.result_of.ensures.ok
+    (λ outcome h. compiles action path files summaries (compiled_of outcome) c.path.ensures c.files.ensures.value c.imports.ensures.value c.imports.ensures.written (record { of_files = c.files.ensures.edition; of_summaries = c.imports.ensures.edition }) h) c.result_of.ensures.ok
 
 pub returns-clause-unshown : goal.returns-clause-unshown
 returns-clause-unshown c = λ e.
-    unshown c.args.action.now c.path.result.now c.files.result.now (map arc_value c.imports.result.now) c.path.ensures c.files.ensures.value c.imports.ensures.value c.imports.ensures.written (c.result_of.ensures.unshown e)
+    unshown c.args.action.now c.path.result.now c.files.result.now (map arc_value c.imports.result.now) c.path.ensures c.files.ensures.value c.imports.ensures.value c.imports.ensures.written (record { of_files = c.files.ensures.edition; of_summaries = c.imports.ensures.edition }) (c.result_of.ensures.unshown e)

@@ -3,4 +3,4 @@ use Rattle.ws_graph.proofs.is_named.Goals as goal
 
 pub returns-clause-other : goal.returns-clause-other
 returns-clause-other c =
-    not_named c.args.name.now c.args.parsed.now.text c.text.result.now c.package.result.now c.eq.result c.package.ensures c.text.ensures c.eq.ensures
+    not_named c.args.parsed.now.edition c.args.name.now c.args.parsed.now.text c.text.result.now c.package.result.now c.eq.result c.package.ensures c.text.ensures c.eq.ensures

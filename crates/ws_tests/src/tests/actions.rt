@@ -113,19 +113,35 @@ fn actions_keep_what_they_are_made_of(rt: HostRuntime) -> Result<(), Fail> {
     Ok(())
 }
 
+/// An answer in a word.
+fn word_of(answer: Result<Action, ActionError>) -> &'static str {
+    match answer {
+        Ok(_) => "an action",
+        Err(ActionError::NoFile) => "no file",
+        Err(ActionError::Unordered) => "unordered",
+        Err(ActionError::MixedNames) => "mixed names",
+        Err(ActionError::NotImports) => "not the imports",
+        Err(ActionError::OtherEdition) => "another edition",
+    }
+}
+
 /// What files and imports make, in a word.
 fn answered(
     alloc: Global,
     files: &[(&str, &str)],
     imports: &[(&str, &str)],
 ) -> Result<&'static str, Fail> {
-    Ok(match made(alloc, files, imports)? {
-        Ok(_) => "an action",
-        Err(ActionError::NoFile) => "no file",
-        Err(ActionError::Unordered) => "unordered",
-        Err(ActionError::MixedNames) => "mixed names",
-        Err(ActionError::NotImports) => "not the imports",
-    })
+    Ok(word_of(made(alloc, files, imports)?))
+}
+
+#[test]
+fn another_edition_is_refused(rt: HostRuntime) -> Result<(), Fail> {
+    let alloc = rt.alloc();
+    let path = String::from_str(alloc, "p")?;
+    let files = files(alloc, &[("x.go", "package p\n")])?;
+    let answer = Action::new(alloc, Edition::Two, path, files, Vec::new(alloc));
+    assert!(rt; word_of(answer) == "another edition");
+    Ok(())
 }
 
 #[test]

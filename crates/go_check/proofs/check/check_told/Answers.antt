@@ -15,7 +15,7 @@ fault_in-requires c =
     let are = ap importables_of c.deref-4.ensures.value ∙ c.in_ok-packages.ensures in
     let told = c.typed.ensures.faulty at.number at.place at.kind (at.is ∙ ap Err at.field-0-is) in
     within c.args.path.now c.args.files.now (map importable_by (map arc_value c.args.imports.now)) (importables_of c.deref-4.result.now) (files_of c.deref-3.result.now) parse are
-    (at.number, (at.place, at.kind)) told
+    c.edition_of.result (at.number, (at.place, at.kind)) c.edition_of.ensures told
 
 pub returns-in-Err-Faulty : goal.returns-in-Err-Faulty
 returns-in-Err-Faulty c =
@@ -24,4 +24,4 @@ returns-in-Err-Faulty c =
     let are = ap importables_of c.deref-4.ensures.value ∙ c.in_ok-packages.ensures in
     let told = c.typed.ensures.faulty at.number at.place at.kind (at.is ∙ ap Err at.field-0-is) in
     fault_by c.args.path.now c.args.files.now (map importable_by (map arc_value c.args.imports.now)) (importables_of c.deref-4.result.now) (files_of c.deref-3.result.now) parse are
-    at.number at.place at.kind c.in_ok-fault-in-Err-Faulty.fault told c.in_ok-fault-in-Err-Faulty.ensures
+    c.edition_of.result at.number at.place at.kind c.in_ok-fault-in-Err-Faulty.fault c.edition_of.ensures told c.in_ok-fault-in-Err-Faulty.ensures

@@ -12,5 +12,5 @@ use Rattle.go_decl.proofs.functions.check_inside.Goals as goal
 pub returns : goal.returns
 returns c =
     let p = c.package-package.result.now in
-    let same = context_same (facts_of c.args.facts.now) (package_of p) c.imports_at-imports.result.now c.known.result.now p.path.now c.args.file refl c.imports_at-imports.ensures c.package-package.ensures c.known.ensures in
+    let same = context_same (facts_of c.args.facts.now) (package_of p) c.imports_at-imports.result.now c.known.result.now p.path.now p.edition c.args.file refl refl c.imports_at-imports.ensures c.package-package.ensures c.known.ensures in
     subst (λ (x : Context). Answered typed_function c.check_body.result (function_at x (function_of c.args.function.now))) same c.check_body.ensures

@@ -1,6 +1,6 @@
 use Rattle.std.proofs.Common.{◌≡◌, ℕ, Option, List, sym, ap, ◌∙◌}
 use Rattle.std.specs.Option.{option_map}
-use Rattle.go_types.specs.Types.{Type', array, struct}
+use Rattle.go_types.specs.Types.{Type', array, slice, struct}
 use Rattle.go_types.specs.Relations.{underlying}
 use Rattle.go_types.specs.Views.{type_of, fields_in}
 use Rattle.go_expr.specs.Rules.{FieldList, Due, taken, written, nothing, field_slot, listed}
@@ -11,7 +11,7 @@ abbrev of_field : ℕ → Option (List ℕ) → FieldList → Due
 of_field n key fs = written (option_map (λ p. p.1) (field_slot fs n key))
 
 abbrev of_type : ℕ → Option (List ℕ) → Type' → Due
-of_type n key u = elim u [ array m of ↦ taken of | struct fs ↦ of_field n key (listed fs) | _ ↦ nothing ]
+of_type n key u = elim u [ array m of ↦ taken of | slice of ↦ taken of | struct fs ↦ of_field n key (listed fs) | _ ↦ nothing ]
 
 pub returns-in-Struct : goal.returns-in-Struct
 returns-in-Struct c =

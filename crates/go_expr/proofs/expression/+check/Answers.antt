@@ -1,4 +1,4 @@
-use Rattle.std.proofs.Common.{◌≡◌, ℕ, suc, ◌+◌, ◌<◌, ◌++◌, [], ◌∷◌, Option, List, length, drop, map, refl, ap, sym, ◌∙◌, subst, arith, add-one, Bor}
+use Rattle.std.proofs.Common.{◌≡◌, ℕ, suc, ◌+◌, ◌<◌, ◌≤◌, get_or, ◌++◌, [], ◌∷◌, Option, List, length, drop, map, refl, ap, sym, ◌∙◌, subst, arith, add-one, Bor}
 use Rattle.std.specs.Option.{option_map}
 use Rattle.std.proofs.lemmas.List.{drop_all}
 use Rattle.std.proofs.lemmas.Result.{err_from_is_err_and}
@@ -15,11 +15,11 @@ use Rattle.go_types.specs.Types.{Type'}
 use Rattle.go_typed.specs.Trees.{Expr as Typed}
 use Rattle.go_typed.specs.Views.{expr_of}
 use Rattle.go_types.specs.Views.{type_of}
-use Rattle.go_expr.specs.Rules.{fine, declared_field, Due, element_due, due_type, untyped_literal, value_due, unpackaged, selectable, callable}
-use Rattle.go_expr.specs.Verdicts.{asked, bare_place, key_text, broken, elements, element_verdict, elements_faults, element_faults, joined, operand, verdict, operands, type_verdict, fields_known, operand_broken, faults, operands_faults, type_faults, fields_faults}
-use Rattle.go_expr.specs.Seen.{Fails, literal_verdict, known_of, due_of, element_of, elements_in, field_of, scope_of, all_of, Answers}
+use Rattle.go_expr.specs.Rules.{fine, valued, declared_field, Due, element_due, due_type, untyped_literal, value_due, type_due, unpackaged, selectable, callable}
+use Rattle.go_expr.specs.Verdicts.{asked, bare_place, key_text, broken, elements, element_verdict, elements_faults, element_faults, joined, operand, verdict, made_verdict, operands, type_verdict, fields_known, operand_broken, faults, made_faults, operands_faults, type_faults, fields_faults}
+use Rattle.go_expr.specs.Seen.{Fails, literal_verdict, known_of, due_of, element_of, elements_in, field_of, scope_of, all_of, Answers, Behind}
 use Rattle.go_expr.proofs.Lists.{left, copied, fails_front, fault_later, known_later, joined_done}
-use Rattle.go_expr.proofs.Nodes.{of_part, call_asked, literal_answered}
+use Rattle.go_expr.proofs.Nodes.{of_part, call_asked, make_called, other_called, made_named, name_fails, made_unnamed, other_fails, literal_answered}
 use Rattle.go_expr.proofs.expression.+check.Goals as goal
 
 -- parts where something is due
@@ -51,6 +51,94 @@ check_operand-returns t c =
     let e = expr_tree c.args.e.now in
     of_part expr_of c.operand_at.result (bare_place e) c.bare_place.result value_due (faults s e) (fine (verdict s e)) (option_map known_of c.in_ok-known.known)
     c.in_ok-known.ensures.0 c.in_ok-known.ensures.1 (sym c.bare_place.ensures) c.operand_at.ensures
+
+pub check_type_operand-returns : goal.check_type_operand-returns
+check_type_operand-returns t c =
+    let s = scope_of c.args.scope.now in
+    let e = expr_tree c.args.e.now in
+    of_part type_of c.type_at.result (bare_place e) c.bare_place.result type_due (faults s e) (fine (verdict s e)) (option_map known_of c.in_ok-known.known)
+    c.in_ok-known.ensures.0 c.in_ok-known.ensures.1 (sym c.bare_place.ensures) c.type_at.ensures
+
+-- calls
+
+pub check_call-returns-then-is_make : goal.check_call-returns-then-is_make
+check_call-returns-then-is_make t c =
+    make_called known_of c.check_make.result (scope_of c.args.scope.now) c.args.place (option_map known_of c.args.callee) (exprs_in c.args.arguments.now)
+    (sym c.is_make.ensures ∙ c.if-is_make.true) c.check_make.ensures
+
+pub check_call-returns : goal.check_call-returns
+check_call-returns t c =
+    other_called known_of c.check_called.result (scope_of c.args.scope.now) c.args.place (option_map known_of c.args.callee) (exprs_in c.args.arguments.now)
+    (sym c.is_make.ensures ∙ c.if-is_make.false) c.check_called.ensures
+
+-- of arguments the first stands in front of the others
+first_argument : (es : List Expression) (x : Expression) → 1 ≤ length es → x ≡ get_or es 0 x → es ≡ x ∷ drop 1 es
+first_argument es x many is = left es 0 x (omega (arith, many)) is
+
+pub check_make-returns-then-is_name : goal.check_make-returns-then-is_name
+check_make-returns-then-is_name t c =
+    let s = scope_of c.args.scope.now in
+    let x = c.first-item.result in
+    let es = c.args.arguments.now in
+    let r = c.check_sizes.result in
+    subst (λ (l : List Expression). Behind known_of r (made_faults s (exprs_in l)) c.args.place (valued (made_verdict s (exprs_in l)))) (sym (first_argument es x c.in-len1-up.len_at_least c.first-item.is))
+    (made_named known_of r s c.args.place (expr_tree x) (exprs_in (drop 1 es)) (option_map type_of c.in_ok-of.of) (sym c.is_name.ensures ∙ c.if-is_name.true) c.in_ok-of.ensures.0 c.in_ok-of.ensures.1 c.check_sizes.ensures)
+
+pub check_make-returns-in_err-of : goal.check_make-returns-in_err-of
+check_make-returns-in_err-of t c =
+    let s = scope_of c.args.scope.now in
+    let x = c.first-item.result in
+    let es = c.args.arguments.now in
+    let r = c.from_residual.result in
+    let p = err_from_is_err_and r c.from_residual.ensures.1 in
+    let told = name_fails known_of c.in_err-of.field-0.0 s c.args.place (expr_tree x) (exprs_in (drop 1 es)) (sym c.is_name.ensures ∙ c.if-is_name.true) c.in_err-of.ensures in
+    subst (λ (l : List Expression). Behind known_of r (made_faults s (exprs_in l)) c.args.place (valued (made_verdict s (exprs_in l)))) (sym (first_argument es x c.in-len1-up.len_at_least c.first-item.is))
+    (rw (p.1, p.2) told)
+
+pub check_make-returns-in_err-known : goal.check_make-returns-in_err-known
+check_make-returns-in_err-known t c =
+    let s = scope_of c.args.scope.now in
+    let x = c.first-item.result in
+    let es = c.args.arguments.now in
+    let r = c.from_residual-in_err-known.result in
+    let p = err_from_is_err_and r c.from_residual-in_err-known.ensures.1 in
+    let told = other_fails known_of c.in_err-known.field-0.0 s c.args.place (expr_tree x) (exprs_in (drop 1 es)) (sym c.is_name.ensures ∙ c.if-is_name.false) c.in_err-known.ensures in
+    subst (λ (l : List Expression). Behind known_of r (made_faults s (exprs_in l)) c.args.place (valued (made_verdict s (exprs_in l)))) (sym (first_argument es x c.in-len1-up.len_at_least c.first-item.is))
+    (rw (p.1, p.2) told)
+
+pub check_make-returns : goal.check_make-returns
+check_make-returns t c =
+    let s = scope_of c.args.scope.now in
+    let x = c.first-item.result in
+    let es = c.args.arguments.now in
+    let r = c.check_no_type.result in
+    subst (λ (l : List Expression). Behind known_of r (made_faults s (exprs_in l)) c.args.place (valued (made_verdict s (exprs_in l)))) (sym (first_argument es x c.in-len1-up.len_at_least c.first-item.is))
+    (made_unnamed known_of r s c.args.place (expr_tree x) (exprs_in (drop 1 es)) (option_map known_of c.in_ok-known.known) (sym c.is_name.ensures ∙ c.if-is_name.false) c.in_ok-known.ensures.0 c.in_ok-known.ensures.1 c.check_no_type.ensures)
+
+pub check_behind-loop-i-preserved : goal.check_behind-loop-i-preserved
+check_behind-loop-i-preserved t c =
+    let s = scope_of c.args.scope.now in
+    let es = c.args.expressions.now in
+    let i = c.loop-i.i in
+    let e = c.index-expressions-i.result in
+    let within : i < length es = omega arith in
+    let next = left es i e within c.index-expressions-i.is in
+    let done = option_map (all_of expr_of) c.loop-i.all in
+    let own = option_map (λ (v : Typed). v ∷ []) (operand (verdict s (expr_tree e))) in
+    record {
+      faults = fault_later (operands_faults s (exprs_in (drop i es))) (faults s (expr_tree e) ++ operand_broken (expr_tree e) (verdict s (expr_tree e))) (operands_faults s (exprs_in (drop (i + 1) es))) _ c.loop-i.invariant.faults (ap (λ (l : List Expression). operands_faults s (exprs_in l)) next) c.in_ok-value.ensures.0;
+      known = known_later _ done (option_map (all_of expr_of) c.in_ok-all.all) own (operands s (exprs_in (drop i es))) (operands s (exprs_in (drop (i + 1) es))) c.loop-i.invariant.known (ap (λ (l : List Expression). operands s (exprs_in l)) next) (c.in_ok-all.ensures ∙ ap (λ (o : Option Typed). joined done (option_map (λ (v : Typed). v ∷ []) o)) (sym c.in_ok-value.ensures.1));
+    }
+
+pub check_behind-returns : goal.check_behind-returns
+check_behind-returns t c =
+    let s = scope_of c.args.scope.now in
+    let es = c.args.expressions.now in
+    let i = c.loop-i.i in
+    let done : length es ≤ i = omega arith in (
+      sym c.loop-i.invariant.faults ∙ ap (λ (l : List Expression). operands_faults s (exprs_in l)) (drop_all i es done),
+      joined_done es i (option_map (all_of expr_of) c.loop-i.all) _ (λ (l : List Expression). operands s (exprs_in l)) done refl c.loop-i.invariant.known,
+    )
 
 -- forms with a row
 

@@ -16,6 +16,12 @@ invariant-check_operands-loop-e l = record {
   known : operands (scope_of l.scope) (exprs_in l.expressions) ≡ joined (option_map (all_of expr_of) l.all) (operands (scope_of l.scope) (exprs_in (drop l.e-index l.expressions)));
 }
 
+abbrev pub invariant-check_behind-loop-i : goal.invariant-check_behind-loop-i
+invariant-check_behind-loop-i l = record {
+  faults : operands_faults (scope_of l.scope) (exprs_in (drop l.i l.expressions)) ≡ operands_faults (scope_of l.scope) (exprs_in (drop 1 l.expressions));
+  known : operands (scope_of l.scope) (exprs_in (drop 1 l.expressions)) ≡ joined (option_map (all_of expr_of) l.all) (operands (scope_of l.scope) (exprs_in (drop l.i l.expressions)));
+}
+
 abbrev pub invariant-check_fields-loop-field : goal.invariant-check_fields-loop-field
 invariant-check_fields-loop-field l = record {
   faults : fields_faults (scope_of l.scope) (pack_fields (map field_tree (drop l.field-index l.fields))) ≡ fields_faults (scope_of l.scope) (pack_fields (map field_tree l.fields));

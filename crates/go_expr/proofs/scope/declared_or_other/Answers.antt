@@ -14,7 +14,7 @@ returns-in-Some c =
     let here : lookup (bytes_eq x) (package_names c.args.declared.now) ≡ Some (named (option_map declared_of c.in-Some.declared.now)) =
     package_has (bytes_eq x) string_bytes declared_of named c.args.declared.now.entries ∙ ap (λ o. option_map named (option_map (option_map declared_of) o)) (sym c.get.ensures.value ∙ ap option_copied c.in-Some.is) in
     subst (λ (v : Verdict Known). AnswersAt known_of c.named.result c.args.place v)
-    (sym (found_first_or (bytes_eq x) (package_names c.args.declared.now) (iota_of c.args.iota ++ universe) (named (option_map declared_of c.in-Some.declared.now)) (Breaks Undeclared) here))
+    (sym (found_first_or (bytes_eq x) (package_names c.args.declared.now) (iota_of c.args.iota ++ universe c.args.edition) (named (option_map declared_of c.in-Some.declared.now)) (Breaks Undeclared) here))
     c.named.ensures
 
 pub returns-in-None : goal.returns-in-None
@@ -23,5 +23,5 @@ returns-in-None c =
     let none : lookup (bytes_eq x) (package_names c.args.declared.now) ≡ None =
     package_has (bytes_eq x) string_bytes declared_of named c.args.declared.now.entries ∙ ap (λ o. option_map named (option_map (option_map declared_of) o)) (sym c.get.ensures.value ∙ ap option_copied c.in-None.is) in
     subst (λ (v : Verdict Known). AnswersAt known_of c.iota_or_other.result c.args.place v)
-    (sym (found_later_or (bytes_eq x) (package_names c.args.declared.now) (iota_of c.args.iota ++ universe) (Breaks Undeclared) none))
+    (sym (found_later_or (bytes_eq x) (package_names c.args.declared.now) (iota_of c.args.iota ++ universe c.args.edition) (Breaks Undeclared) none))
     c.iota_or_other.ensures

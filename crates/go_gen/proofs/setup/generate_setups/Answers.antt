@@ -2,7 +2,6 @@ use Rattle.std.proofs.Common.{◌≡◌, ◌+◌, ◌++◌, ◌∷◌, [], Some,
 use Rattle.std.specs.Prelude.{slice_get}
 use Rattle.std.proofs.lemmas.List.{drop_more}
 use Rattle.std.proofs.lemmas.Option.{slice_get_past, slice_get_read}
-use Rattle.go_typed.specs.Views.{initialization_of}
 use Rattle.go_gen.proofs.Listed.{setup, listed, one_listed, none_listed}
 use Rattle.go_gen.proofs.setup.generate_setups.Goals as goal
 use Rattle.go_gen.proofs.setup.generate_setups.Goals.{in-Some+in_ok-generate_setup+in_ok-push, in_default}

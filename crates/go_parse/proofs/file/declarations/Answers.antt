@@ -26,8 +26,8 @@ declarations-preserved c = record {
       let ds = map top_of c.declarations.declarations.items in
       let d = top_of c.in-Some.declaration in
       c.declarations.invariant.reads p is ∙ took (c.in_ok-declaration.ensures.reads (behind p is ds) (ended (file_of p is ds))) c.in-Some.is
-      ∙ behind_declaration p is (ds ++ d ∷ []) (left c.declaration.new.parser) ∙ went (c.in_ok-expect.ensures.reads (λ _. decls_at p is (ds ++ d ∷ [])))
-      ∙ ap (λ xs. run 250 (decls_at p is xs) (left c.expect.new.self)) (sym (pushed top_of c.declarations.declarations.items _ c.in-Some.declaration c.in_ok-push.ensures.items));
+      ∙ behind_declaration c.declaration.new.parser.edition p is (ds ++ d ∷ []) (left c.declaration.new.parser) ∙ went (c.in_ok-expect.ensures.reads (λ _. decls_at p is (ds ++ d ∷ [])))
+      ∙ ap (λ xs. run c.expect.new.self.edition 250 (decls_at p is xs) (left c.expect.new.self)) (sym (pushed top_of c.declarations.declarations.items _ c.in-Some.declaration c.in_ok-push.ensures.items));
 }
 
 pub returns-in_err-expect : goal.returns-in_err-expect
@@ -37,7 +37,7 @@ returns-in_err-expect c = record {
       let d = top_of c.in-Some.declaration in
       then_fails (
       c.declarations.invariant.reads p is ∙ took (c.in_ok-declaration.ensures.reads (behind p is ds) (ended (file_of p is ds))) c.in-Some.is
-      ∙ behind_declaration p is (ds ++ d ∷ []) (left c.declaration.new.parser)) (c.in_err-expect.ensures.reads (λ _. decls_at p is (ds ++ d ∷ []))) c.from_residual-in_err-expect.ensures.1;
+      ∙ behind_declaration c.declaration.new.parser.edition p is (ds ++ d ∷ []) (left c.declaration.new.parser)) (c.in_err-expect.ensures.reads (λ _. decls_at p is (ds ++ d ∷ []))) c.from_residual-in_err-expect.ensures.1;
 }
 
 pub returns : goal.returns

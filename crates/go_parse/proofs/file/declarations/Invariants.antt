@@ -7,7 +7,7 @@ use Rattle.go_parse.proofs.file.declarations.Given as goal
 
 abbrev pub invariant-declarations : goal.invariant-declarations
 invariant-declarations l = record {
-  reads : (p : trees.Name) (is : List trees.ImportSpec) → run 250 (decls_at p is []) (left l.initial.parser) ≡ run 250 (decls_at p is (map top_of l.declarations.items)) (left l.parser);
+  reads : (p : trees.Name) (is : List trees.ImportSpec) → run l.initial.parser.edition 250 (decls_at p is []) (left l.initial.parser) ≡ run l.parser.edition 250 (decls_at p is (map top_of l.declarations.items)) (left l.parser);
 }
 
 abbrev pub decreases-declarations : goal.decreases-declarations

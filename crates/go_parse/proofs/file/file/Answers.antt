@@ -40,4 +40,4 @@ returns-clause-ok c =
     let is = map import_of c.in_ok-imports.imports.items in
     went (c.in_ok-expect.ensures.reads _) ∙ went (c.in_ok-package.ensures.reads _) ∙ went (c.in_ok-expect-2.ensures.reads _) ∙ went (c.in_ok-imports.ensures.reads p)
     ∙ went (c.in_ok-declarations.ensures.reads p is)
-    ∙ ends (file_of p is (map top_of c.in_ok-declarations.declarations.items)) c.kind.result (left c.declarations.new.parser) c.kind.ensures (sym c.is_some.ensures ∙ c.if-is_some.false)
+    ∙ ends c.declarations.new.parser.edition (file_of p is (map top_of c.in_ok-declarations.declarations.items)) c.kind.result (left c.declarations.new.parser) c.kind.ensures (sym c.is_some.ensures ∙ c.if-is_some.false)

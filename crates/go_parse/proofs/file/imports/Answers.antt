@@ -26,7 +26,7 @@ returns-in_err-expect-clause-reads c = λ p.
     let iss = c.imports.invariant.reads.0 in
     then_fails (
     c.imports.invariant.reads.2 p ∙ took (c.in_ok-accept.ensures.reads _ _) c.in-Some.is ∙ went (c.in_ok-more.ensures.reads (behind p iss))
-    ∙ behind_import p (iss ++ map import_of c.in_ok-more.more.items ∷ []) (left c.imports_behind.new.parser)) (c.in_err-expect.ensures.reads _) c.from_residual-in_err-expect.ensures.1
+    ∙ behind_import c.imports_behind.new.parser.edition p (iss ++ map import_of c.in_ok-more.more.items ∷ []) (left c.imports_behind.new.parser)) (c.in_err-expect.ensures.reads _) c.from_residual-in_err-expect.ensures.1
 
 pub imports-preserved : goal.imports-preserved
 imports-preserved c =
@@ -37,7 +37,7 @@ imports-preserved c =
         iss ++ more ∷ [],
         joined import_of iss c.imports.imports.items c.in_ok-more.more.items c.append.new.self.items c.imports.invariant.reads.1 c.in_ok-append.ensures.items,
         λ p. c.imports.invariant.reads.2 p ∙ took (c.in_ok-accept.ensures.reads _ _) c.in-Some.is ∙ went (c.in_ok-more.ensures.reads (behind p iss))
-            ∙ behind_import p (iss ++ more ∷ []) (left c.imports_behind.new.parser) ∙ went (c.in_ok-expect.ensures.reads _),
+            ∙ behind_import c.imports_behind.new.parser.edition p (iss ++ more ∷ []) (left c.imports_behind.new.parser) ∙ went (c.in_ok-expect.ensures.reads _),
       );
       shorter = omega (arith, c.imports.invariant.shorter, c.in_ok-accept.ensures.no_longer, c.in_ok-more.ensures.shorter, c.in_ok-expect.ensures.shorter);
     }

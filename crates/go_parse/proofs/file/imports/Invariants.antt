@@ -8,7 +8,7 @@ use Rattle.go_parse.proofs.file.imports.Given as goal
 
 abbrev pub invariant-imports : goal.invariant-imports
 invariant-imports l = record {
-  reads : (iss : List (List trees.ImportSpec)) × (concat iss ≡ map import_of l.imports.items) × ((p : trees.Name) → run 250 (imports_at p []) (left l.initial.parser) ≡ run 250 (imports_at p iss) (left l.parser));
+  reads : (iss : List (List trees.ImportSpec)) × (concat iss ≡ map import_of l.imports.items) × ((p : trees.Name) → run l.initial.parser.edition 250 (imports_at p []) (left l.initial.parser) ≡ run l.parser.edition 250 (imports_at p iss) (left l.parser));
   shorter : size l.parser ≤ size l.fn.parser;
 }
 

@@ -61,5 +61,5 @@ returns-clause-reads c = λ next t e.
           ∙ went (c.in_ok-parameters.ensures.reads (behind_parameters next t.place n))
           ∙ went (c.in_ok-results.ensures.reads (behind_results next t.place n ps))
           ∙ went (c.in_ok-body.ensures.reads (behind_body next t.place n ps rs))
-          ∙ ap (λ p. run 250 (behind_body next p n ps rs b) (left c.block.new.parser)) e;
+          ∙ ap (λ p. run c.block.new.parser.edition 250 (behind_body next p n ps rs b) (left c.block.new.parser)) e;
     }

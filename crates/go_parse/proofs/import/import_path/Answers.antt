@@ -14,7 +14,7 @@ returns-then-not-is_next-clause-reads c = λ next.
     let x = expected_of c.args.expected in
     let ts = left c.args.parser.now in
     then_refuses c.wrong.result (fault_of x ts)
-    (no_path x (λ t. next (string_value t.text) t.place) ts (λ h. false_true (sym c.if-not-is_next.true ∙ c.is_next.ensures.1 h))) c.wrong.ensures
+    (no_path c.args.parser.now.edition x (λ t. next (string_value t.text) t.place) ts (λ h. false_true (sym c.if-not-is_next.true ∙ c.is_next.ensures.1 h))) c.wrong.ensures
 
 pub returns-then-eq-clause-reads : goal.returns-then-eq-clause-reads
 returns-then-eq-clause-reads c = λ next.
@@ -22,13 +22,13 @@ returns-then-eq-clause-reads c = λ next.
     let ts = left c.args.parser.now in
     let same = slice_eq-Decides Decides-eqb _ _ _ c.eq.ensures in
     then_refuses c.wrong-then-eq.result (fault_of x ts)
-    (path_c x (λ t. next (string_value t.text) t.place) c.in_ok-value.value.items ts c.in_ok-value.ensures.ok (sym c.as_slice.ensures.value ∙ same.0 c.if-eq.true ∙ c.as_slice-2.ensures)) c.wrong-then-eq.ensures
+    (path_c c.args.parser.now.edition x (λ t. next (string_value t.text) t.place) c.in_ok-value.value.items ts c.in_ok-value.ensures.ok (sym c.as_slice.ensures.value ∙ same.0 c.if-eq.true ∙ c.as_slice-2.ensures)) c.wrong-then-eq.ensures
 
 pub returns-in_err-token-clause-reads : goal.returns-in_err-token-clause-reads
 returns-in_err-token-clause-reads c = λ next.
     let v = c.in_ok-value.value.items in
     let same = slice_eq-Decides Decides-eqb _ _ _ c.eq.ensures in
-    then_fails (path_means (expected_of c.args.expected) next v (left c.args.parser.now) c.in_ok-value.ensures.ok
+    then_fails (path_means c.args.parser.now.edition (expected_of c.args.expected) next v (left c.args.parser.now) c.in_ok-value.ensures.ok
     (λ e. false_true (sym c.if-eq.false ∙ same.1 (c.as_slice.ensures.value ∙ e ∙ sym c.as_slice-2.ensures))))
     (c.in_err-token.ensures.reads (λ t. next v t.place)) c.from_residual-in_err-token.ensures.1
 
@@ -37,7 +37,7 @@ returns-clause-reads c = λ next.
     let v = c.in_ok-value.value.items in
     let same = slice_eq-Decides Decides-eqb _ _ _ c.eq.ensures in
     record {
-      by = path_means (expected_of c.args.expected) next v (left c.args.parser.now) c.in_ok-value.ensures.ok
+      by = path_means c.args.parser.now.edition (expected_of c.args.expected) next v (left c.args.parser.now) c.in_ok-value.ensures.ok
           (λ e. false_true (sym c.if-eq.false ∙ same.1 (c.as_slice.ensures.value ∙ e ∙ sym c.as_slice-2.ensures)))
           ∙ went (c.in_ok-token.ensures.reads (λ t. next v t.place));
     }

@@ -32,5 +32,5 @@ returns-clause-reads c = λ next.
     let path = c.in_ok-path-2.path in
     record {
       by = took (c.in_ok-name.ensures.reads _ _) c.in-Some.is ∙ went (c.in_ok-path-2.ensures.reads (behind_named next (lexeme_of c.in-Some.name)))
-          ∙ ap (λ p. run 250 (next (record { place = p; name = Some c.in-Some.name; path = path.value.items; path_place = path.place })) (left c.import_path-2.new.parser)) (sym c.place.ensures);
+          ∙ ap (λ p. run c.import_path-2.new.parser.edition 250 (next (record { place = p; name = Some c.in-Some.name; path = path.value.items; path_place = path.place })) (left c.import_path-2.new.parser)) (sym c.place.ensures);
     }

@@ -19,8 +19,8 @@ returns-in-Err-Fault-clause-err c = λ kind place e.
     let refuses = c.in-Err-Fault.ensures.err fault c.in-Err-Fault.place (ap Err c.in-Err-Fault.field-0-is) in
     let kind_is : c.scan_kind.result ≡ kind = cc (e) in
     let place_is : c.in-Err-Fault.place ≡ place = cc (e, c.in-Err-Fault.place-is) in
-    subst (λ p. IsParse text (Stopped kind p)) place_is
-    (has_none text fault kind c.in-Err-Fault.place refuses (sym kind_is ∙ c.scan_kind.ensures ∙ ap scan_kind c.in-Err-Fault.fault-is))
+    subst (λ p. IsParse c.args.edition text (Stopped kind p)) place_is
+    (has_none c.args.edition text fault kind c.in-Err-Fault.place refuses (sym kind_is ∙ c.scan_kind.ensures ∙ ap scan_kind c.in-Err-Fault.fault-is))
 
 pub invariant_of-parser : goal.invariant_of-parser
 invariant_of-parser c =
@@ -36,7 +36,7 @@ returns-in-Ok-file-clause-ok c =
     let ts = c.in-Ok.tokens.items in
     let seen : c.as_bytes-text.result.now ≡ text = c.as_bytes-text.ensures.value ∙ c.as_str.ensures.value ∙ c.text.ensures in
     let all : lexemes text ts ≡ lexemes c.as_bytes-text.result.now c.deref.result.now = same_tokens seen c.deref.ensures.value in
-    is_file text ts (file_of c.in-Ok-file.file) c.in-Ok.ensures.ok (ap (run 250 start) all ∙ c.in-Ok-file.ensures.ok)
+    is_file c.args.edition text ts (file_of c.in-Ok-file.file) c.in-Ok.ensures.ok (ap (run c.args.edition 250 start) all ∙ c.in-Ok-file.ensures.ok)
 
 pub returns-clause-err : goal.returns-clause-err
 returns-clause-err c = λ kind place e.
@@ -46,10 +46,10 @@ returns-clause-err c = λ kind place e.
     let fault = c.in-Err-Wrong.fault in
     let seen : c.as_bytes-text.result.now ≡ text = c.as_bytes-text.ensures.value ∙ c.as_str.ensures.value ∙ c.text.ensures in
     let all : lexemes text ts ≡ lexemes c.as_bytes-text.result.now c.deref.result.now = same_tokens seen c.deref.ensures.value in
-    let refused : run 250 start (lexemes c.as_bytes-text.result.now c.deref.result.now) ≡ Refused (number fault) bad =
+    let refused : run c.args.edition 250 start (lexemes c.as_bytes-text.result.now c.deref.result.now) ≡ Refused (number fault) bad =
     refused_by _ c.file.new.parser c.in-Err-Wrong.field-0-is c.in-Err-Wrong.ensures.err in
     let kind_is : c.token_kind.result ≡ kind = cc (e) in
     let place_is : c.place_before-place.result ≡ place = cc (e) in
-    stops_being text ts (number fault) bad kind place c.in-Ok.ensures.ok (ap (run 250 start) all ∙ refused)
+    stops_being c.args.edition text ts (number fault) bad kind place c.in-Ok.ensures.ok (ap (run c.args.edition 250 start) all ∙ refused)
     (ap fault_number (sym kind_is) ∙ c.token_kind.ensures ∙ ap number c.in-Err-Wrong.fault-is)
     (sym place_is ∙ c.place_before-place.ensures c.file.new.parser.text.now ∙ ap (λ t. place_before t bad) seen)

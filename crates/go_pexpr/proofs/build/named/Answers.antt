@@ -4,7 +4,7 @@ use Rattle.go_ast.proofs.Rows.{named_seen}
 use Rattle.go_pexpr.proofs.build.named.Goals as goal
 
 pub invariant_of-result : goal.invariant_of-result
-invariant_of-result c = record { counted = omega (arith, ap type_height (named_seen c.args.place c.args.name)) }
+invariant_of-result c = record { counted = omega (arith, ap type_height (named_seen c.args.place c.args.name)); one = omega arith }
 
 pub returns-clause-expr : goal.returns-clause-expr
 returns-clause-expr c = named_seen c.args.place c.args.name

@@ -19,7 +19,7 @@ returns-then-is_next-clause-reads c = λ p next.
     let ts = left c.args.parser.now in
     let body = for_body l p next i e None in
     let behind = λ (s : trees.Simple). block_at (l + 1) (for_body l p next i e (Some s)) in
-    record { by = optional_some opening_brace (l + 1) another (open_block (l + 1) body) (expr 5 true (l + 1) an_operand (list_lefts behind_turns true (l + 1) behind)) ts (c.if-is_next.ensures.0 refl) }
+    record { by = optional_some c.args.parser.now.edition opening_brace (l + 1) another (open_block (l + 1) body) (expr 5 true (l + 1) an_operand (list_lefts behind_turns true (l + 1) behind)) ts (c.if-is_next.ensures.0 refl) }
 
 pub returns-in_err-post-clause-reads : goal.returns-in_err-post-clause-reads
 returns-in_err-post-clause-reads c = λ p next.
@@ -29,7 +29,7 @@ returns-in_err-post-clause-reads c = λ p next.
     let ts = left c.args.parser.now in
     let body = for_body l p next i e None in
     let behind = λ (s : trees.Simple). block_at (l + 1) (for_body l p next i e (Some s)) in
-    let went = optional_none opening_brace (l + 1) (open_block (l + 1) body) (expr 5 true (l + 1) an_operand (list_lefts behind_turns true (l + 1) behind)) ts (λ f. false_true (c.if-is_next.ensures.1 f)) in
+    let went = optional_none c.args.parser.now.edition opening_brace (l + 1) (open_block (l + 1) body) (expr 5 true (l + 1) an_operand (list_lefts behind_turns true (l + 1) behind)) ts (λ f. false_true (c.if-is_next.ensures.1 f)) in
     then_fails went (c.in_err-post.ensures.reads behind) c.from_residual.ensures.1
 
 pub returns-clause-reads : goal.returns-clause-reads
@@ -40,5 +40,5 @@ returns-clause-reads c = λ p next.
     let ts = left c.args.parser.now in
     let body = for_body l p next i e None in
     let behind = λ (s : trees.Simple). block_at (l + 1) (for_body l p next i e (Some s)) in
-    let went = optional_none opening_brace (l + 1) (open_block (l + 1) body) (expr 5 true (l + 1) an_operand (list_lefts behind_turns true (l + 1) behind)) ts (λ f. false_true (c.if-is_next.ensures.1 f)) in
-    record { by = went ∙ (c.in_ok-post.ensures.reads behind).by ∙ ap (λ (x : Simple). run 250 (behind (simple_of x)) (left c.simple.new.parser)) (sym c.in_ok-post-2.ensures.ok) }
+    let went = optional_none c.args.parser.now.edition opening_brace (l + 1) (open_block (l + 1) body) (expr 5 true (l + 1) an_operand (list_lefts behind_turns true (l + 1) behind)) ts (λ f. false_true (c.if-is_next.ensures.1 f)) in
+    record { by = went ∙ (c.in_ok-post.ensures.reads behind).by ∙ ap (λ (x : Simple). run c.simple.new.parser.edition 250 (behind (simple_of x)) (left c.simple.new.parser)) (sym c.in_ok-post-2.ensures.ok) }

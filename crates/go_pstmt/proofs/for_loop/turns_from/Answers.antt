@@ -28,7 +28,7 @@ returns-then-is_next-clause-reads c = λ t next.
     let inner : State = optional (keyword keywords.Range) 0 ranged head in
     let outer : State = optional semicolon 0 condition inner in
     let body = open_block (l + 1) (for_body l t.place next None None None) in
-    record { by = optional_some opening_brace (l + 1) another body outer ts (c.if-is_next.ensures.0 refl) }
+    record { by = optional_some c.args.parser.now.edition opening_brace (l + 1) another body outer ts (c.if-is_next.ensures.0 refl) }
 
 pub returns-in_err-accept-clause-reads : goal.returns-in_err-accept-clause-reads
 returns-in_err-accept-clause-reads c = λ t next.
@@ -43,7 +43,7 @@ returns-in_err-accept-clause-reads c = λ t next.
     let inner : State = optional (keyword keywords.Range) 0 ranged head in
     let outer : State = optional semicolon 0 condition inner in
     let body = open_block (l + 1) (for_body l t.place next None None None) in
-    let zero = optional_none opening_brace (l + 1) body outer ts (λ f. false_true (c.if-is_next.ensures.1 f)) in
+    let zero = optional_none c.args.parser.now.edition opening_brace (l + 1) body outer ts (λ f. false_true (c.if-is_next.ensures.1 f)) in
     then_fails zero (c.in_err-accept.ensures.reads condition inner) c.from_residual.ensures.1
 
 pub returns-in-Some-clause-reads : goal.returns-in-Some-clause-reads
@@ -59,7 +59,7 @@ returns-in-Some-clause-reads c = λ t next.
     let inner : State = optional (keyword keywords.Range) 0 ranged head in
     let outer : State = optional semicolon 0 condition inner in
     let body = open_block (l + 1) (for_body l t.place next None None None) in
-    let zero = optional_none opening_brace (l + 1) body outer ts (λ f. false_true (c.if-is_next.ensures.1 f)) in
+    let zero = optional_none c.args.parser.now.edition opening_brace (l + 1) body outer ts (λ f. false_true (c.if-is_next.ensures.1 f)) in
     then_reads c.condition_behind.result (zero ∙ took (c.in_ok-accept.ensures.reads condition inner) c.in-Some.is) (c.condition_behind.ensures.reads t.place next)
 
 pub returns-in_err-accept-2-clause-reads : goal.returns-in_err-accept-2-clause-reads
@@ -75,7 +75,7 @@ returns-in_err-accept-2-clause-reads c = λ t next.
     let inner : State = optional (keyword keywords.Range) 0 ranged head in
     let outer : State = optional semicolon 0 condition inner in
     let body = open_block (l + 1) (for_body l t.place next None None None) in
-    let zero = optional_none opening_brace (l + 1) body outer ts (λ f. false_true (c.if-is_next.ensures.1 f)) in
+    let zero = optional_none c.args.parser.now.edition opening_brace (l + 1) body outer ts (λ f. false_true (c.if-is_next.ensures.1 f)) in
     let one = zero ∙ missed (c.in_ok-accept.ensures.reads condition inner) c.in_default.is in
     then_fails one (c.in_err-accept-2.ensures.reads ranged head) c.from_residual-in_err-accept-2.ensures.1
 
@@ -92,7 +92,7 @@ returns-in_err-operand-clause-reads c = λ t next.
     let inner : State = optional (keyword keywords.Range) 0 ranged head in
     let outer : State = optional semicolon 0 condition inner in
     let body = open_block (l + 1) (for_body l t.place next None None None) in
-    let zero = optional_none opening_brace (l + 1) body outer ts (λ f. false_true (c.if-is_next.ensures.1 f)) in
+    let zero = optional_none c.args.parser.now.edition opening_brace (l + 1) body outer ts (λ f. false_true (c.if-is_next.ensures.1 f)) in
     let one = zero ∙ missed (c.in_ok-accept.ensures.reads condition inner) c.in_default.is in
     then_fails (one ∙ took (c.in_ok-accept-2.ensures.reads ranged head) c.in-Some-2.is) (c.in_err-operand.ensures.reads (range_body l t.place next None)) c.from_residual-in_err-operand.ensures.1
 
@@ -109,11 +109,11 @@ returns-in-Some-2-clause-reads c = λ t next.
     let inner : State = optional (keyword keywords.Range) 0 ranged head in
     let outer : State = optional semicolon 0 condition inner in
     let body = open_block (l + 1) (for_body l t.place next None None None) in
-    let zero = optional_none opening_brace (l + 1) body outer ts (λ f. false_true (c.if-is_next.ensures.1 f)) in
+    let zero = optional_none c.args.parser.now.edition opening_brace (l + 1) body outer ts (λ f. false_true (c.if-is_next.ensures.1 f)) in
     let one = zero ∙ missed (c.in_ok-accept.ensures.reads condition inner) c.in_default.is in
     record {
       by = one ∙ took (c.in_ok-accept-2.ensures.reads ranged head) c.in-Some-2.is ∙ (c.in_ok-operand.ensures.reads (range_body l t.place next None)).by
-          ∙ ap (λ (x : Expr). run 250 (range_body l t.place next None (expr_of x)) (left c.expr_from.new.self)) (sym c.in_ok-operand-2.ensures.ok);
+          ∙ ap (λ (x : Expr). run c.expr_from.new.self.edition 250 (range_body l t.place next None (expr_of x)) (left c.expr_from.new.self)) (sym c.in_ok-operand-2.ensures.ok);
     }
 
 pub returns-in_err-init-clause-reads : goal.returns-in_err-init-clause-reads
@@ -129,7 +129,7 @@ returns-in_err-init-clause-reads c = λ t next.
     let inner : State = optional (keyword keywords.Range) 0 ranged head in
     let outer : State = optional semicolon 0 condition inner in
     let body = open_block (l + 1) (for_body l t.place next None None None) in
-    let zero = optional_none opening_brace (l + 1) body outer ts (λ f. false_true (c.if-is_next.ensures.1 f)) in
+    let zero = optional_none c.args.parser.now.edition opening_brace (l + 1) body outer ts (λ f. false_true (c.if-is_next.ensures.1 f)) in
     let one = zero ∙ missed (c.in_ok-accept.ensures.reads condition inner) c.in_default.is in
     let two = one ∙ missed (c.in_ok-accept-2.ensures.reads ranged head) c.in_default-2.is in
     then_fails two (c.in_err-init.ensures.reads ns al ra) c.from_residual-in_err-init.ensures.1
@@ -147,10 +147,10 @@ returns-in_err-expect-in-Simple-clause-reads c = λ t next.
     let inner : State = optional (keyword keywords.Range) 0 ranged head in
     let outer : State = optional semicolon 0 condition inner in
     let body = open_block (l + 1) (for_body l t.place next None None None) in
-    let zero = optional_none opening_brace (l + 1) body outer ts (λ f. false_true (c.if-is_next.ensures.1 f)) in
+    let zero = optional_none c.args.parser.now.edition opening_brace (l + 1) body outer ts (λ f. false_true (c.if-is_next.ensures.1 f)) in
     let one = zero ∙ missed (c.in_ok-accept.ensures.reads condition inner) c.in_default.is in
     let two = one ∙ missed (c.in_ok-accept-2.ensures.reads ranged head) c.in_default-2.is in
-    let here = two ∙ (c.in_ok-init.ensures.reads ns al ra).by ∙ ap (λ (x : Header). run 250 (by_header ns al ra x) (left c.header_from.new.parser)) c.in-Simple.is in
+    let here = two ∙ (c.in_ok-init.ensures.reads ns al ra).by ∙ ap (λ (x : Header). run c.header_from.new.parser.edition 250 (by_header ns al ra x) (left c.header_from.new.parser)) c.in-Simple.is in
     then_fails here (c.in_err-expect-in-Simple.ensures.reads (λ _. for_condition l t.place next (Some (simple_of c.in-Simple.init.value)))) c.from_residual-in_err-expect-in-Simple.ensures.1
 
 pub returns-in_ok-expect-in-Simple-clause-reads : goal.returns-in_ok-expect-in-Simple-clause-reads
@@ -166,10 +166,10 @@ returns-in_ok-expect-in-Simple-clause-reads c = λ t next.
     let inner : State = optional (keyword keywords.Range) 0 ranged head in
     let outer : State = optional semicolon 0 condition inner in
     let body = open_block (l + 1) (for_body l t.place next None None None) in
-    let zero = optional_none opening_brace (l + 1) body outer ts (λ f. false_true (c.if-is_next.ensures.1 f)) in
+    let zero = optional_none c.args.parser.now.edition opening_brace (l + 1) body outer ts (λ f. false_true (c.if-is_next.ensures.1 f)) in
     let one = zero ∙ missed (c.in_ok-accept.ensures.reads condition inner) c.in_default.is in
     let two = one ∙ missed (c.in_ok-accept-2.ensures.reads ranged head) c.in_default-2.is in
-    let here = two ∙ (c.in_ok-init.ensures.reads ns al ra).by ∙ ap (λ (x : Header). run 250 (by_header ns al ra x) (left c.header_from.new.parser)) c.in-Simple.is in
+    let here = two ∙ (c.in_ok-init.ensures.reads ns al ra).by ∙ ap (λ (x : Header). run c.header_from.new.parser.edition 250 (by_header ns al ra x) (left c.header_from.new.parser)) c.in-Simple.is in
     then_reads c.condition_behind-in-Simple.result (here ∙ (c.in_ok-expect-in-Simple.ensures.reads (λ _. for_condition l t.place next (Some (simple_of c.in-Simple.init.value)))).by) (c.condition_behind-in-Simple.ensures.reads t.place next)
 
 pub returns-in-Alone-clause-reads : goal.returns-in-Alone-clause-reads
@@ -185,10 +185,10 @@ returns-in-Alone-clause-reads c = λ t next.
     let inner : State = optional (keyword keywords.Range) 0 ranged head in
     let outer : State = optional semicolon 0 condition inner in
     let body = open_block (l + 1) (for_body l t.place next None None None) in
-    let zero = optional_none opening_brace (l + 1) body outer ts (λ f. false_true (c.if-is_next.ensures.1 f)) in
+    let zero = optional_none c.args.parser.now.edition opening_brace (l + 1) body outer ts (λ f. false_true (c.if-is_next.ensures.1 f)) in
     let one = zero ∙ missed (c.in_ok-accept.ensures.reads condition inner) c.in_default.is in
     let two = one ∙ missed (c.in_ok-accept-2.ensures.reads ranged head) c.in_default-2.is in
-    let here = two ∙ (c.in_ok-init.ensures.reads ns al ra).by ∙ ap (λ (x : Header). run 250 (by_header ns al ra x) (left c.header_from.new.parser)) c.in-Alone.is in
+    let here = two ∙ (c.in_ok-init.ensures.reads ns al ra).by ∙ ap (λ (x : Header). run c.header_from.new.parser.edition 250 (by_header ns al ra x) (left c.header_from.new.parser)) c.in-Alone.is in
     record { by = here }
 
 pub returns-in-Range-clause-reads : goal.returns-in-Range-clause-reads
@@ -204,8 +204,8 @@ returns-in-Range-clause-reads c = λ t next.
     let inner : State = optional (keyword keywords.Range) 0 ranged head in
     let outer : State = optional semicolon 0 condition inner in
     let body = open_block (l + 1) (for_body l t.place next None None None) in
-    let zero = optional_none opening_brace (l + 1) body outer ts (λ f. false_true (c.if-is_next.ensures.1 f)) in
+    let zero = optional_none c.args.parser.now.edition opening_brace (l + 1) body outer ts (λ f. false_true (c.if-is_next.ensures.1 f)) in
     let one = zero ∙ missed (c.in_ok-accept.ensures.reads condition inner) c.in_default.is in
     let two = one ∙ missed (c.in_ok-accept-2.ensures.reads ranged head) c.in_default-2.is in
-    let here = two ∙ (c.in_ok-init.ensures.reads ns al ra).by ∙ ap (λ (x : Header). run 250 (by_header ns al ra x) (left c.header_from.new.parser)) c.in-Range.is in
+    let here = two ∙ (c.in_ok-init.ensures.reads ns al ra).by ∙ ap (λ (x : Header). run c.header_from.new.parser.edition 250 (by_header ns al ra x) (left c.header_from.new.parser)) c.in-Range.is in
     record { by = here }

@@ -51,7 +51,7 @@ returns-in_err-expect-in-Simple-clause-reads c = λ t next.
     let head : State = expr 5 true (l + 1) an_operand (λ e. lefts in_header true (l + 1) (e ∷ []) ns al ra) in
     let one = missed (c.in_ok-accept.ensures.reads (λ _. switch_body l t.place next None None) (optional semicolon 0 (λ _. switch_tag l t.place next None) head)) c.in_default.is in
     let two = one ∙ missed (c.in_ok-accept-2.ensures.reads (λ _. switch_tag l t.place next None) head) c.in_default-2.is in
-    let here = two ∙ (c.in_ok-init.ensures.reads ns al ra).by ∙ ap (λ (x : Header). run 250 (by_header ns al ra x) (left c.header_from.new.parser)) c.in-Simple.is in
+    let here = two ∙ (c.in_ok-init.ensures.reads ns al ra).by ∙ ap (λ (x : Header). run c.header_from.new.parser.edition 250 (by_header ns al ra x) (left c.header_from.new.parser)) c.in-Simple.is in
     then_fails here (c.in_err-expect-in-Simple.ensures.reads (λ _. switch_tag l t.place next (Some (simple_of c.in-Simple.init.value)))) c.from_residual-in_err-expect-in-Simple.ensures.1
 
 pub returns-in_ok-expect-in-Simple-clause-reads : goal.returns-in_ok-expect-in-Simple-clause-reads
@@ -63,7 +63,7 @@ returns-in_ok-expect-in-Simple-clause-reads c = λ t next.
     let head : State = expr 5 true (l + 1) an_operand (λ e. lefts in_header true (l + 1) (e ∷ []) ns al ra) in
     let one = missed (c.in_ok-accept.ensures.reads (λ _. switch_body l t.place next None None) (optional semicolon 0 (λ _. switch_tag l t.place next None) head)) c.in_default.is in
     let two = one ∙ missed (c.in_ok-accept-2.ensures.reads (λ _. switch_tag l t.place next None) head) c.in_default-2.is in
-    let here = two ∙ (c.in_ok-init.ensures.reads ns al ra).by ∙ ap (λ (x : Header). run 250 (by_header ns al ra x) (left c.header_from.new.parser)) c.in-Simple.is in
+    let here = two ∙ (c.in_ok-init.ensures.reads ns al ra).by ∙ ap (λ (x : Header). run c.header_from.new.parser.edition 250 (by_header ns al ra x) (left c.header_from.new.parser)) c.in-Simple.is in
     then_reads c.compared_behind-in-Simple.result (here ∙ (c.in_ok-expect-in-Simple.ensures.reads (λ _. switch_tag l t.place next (Some (simple_of c.in-Simple.init.value)))).by) (c.compared_behind-in-Simple.ensures.reads t.place next)
 
 pub returns-in_err-expect-in-Alone-clause-reads : goal.returns-in_err-expect-in-Alone-clause-reads
@@ -75,7 +75,7 @@ returns-in_err-expect-in-Alone-clause-reads c = λ t next.
     let head : State = expr 5 true (l + 1) an_operand (λ e. lefts in_header true (l + 1) (e ∷ []) ns al ra) in
     let one = missed (c.in_ok-accept.ensures.reads (λ _. switch_body l t.place next None None) (optional semicolon 0 (λ _. switch_tag l t.place next None) head)) c.in_default.is in
     let two = one ∙ missed (c.in_ok-accept-2.ensures.reads (λ _. switch_tag l t.place next None) head) c.in_default-2.is in
-    let here = two ∙ (c.in_ok-init.ensures.reads ns al ra).by ∙ ap (λ (x : Header). run 250 (by_header ns al ra x) (left c.header_from.new.parser)) c.in-Alone.is in
+    let here = two ∙ (c.in_ok-init.ensures.reads ns al ra).by ∙ ap (λ (x : Header). run c.header_from.new.parser.edition 250 (by_header ns al ra x) (left c.header_from.new.parser)) c.in-Alone.is in
     then_fails here (c.in_err-expect-in-Alone.ensures.reads (λ _. switch_body l t.place next None (Some (expr_of c.in-Alone.value.value)))) c.from_residual-in_err-expect-in-Alone.ensures.1
 
 pub returns-in_ok-expect-in-Alone-clause-reads : goal.returns-in_ok-expect-in-Alone-clause-reads
@@ -87,7 +87,7 @@ returns-in_ok-expect-in-Alone-clause-reads c = λ t next.
     let head : State = expr 5 true (l + 1) an_operand (λ e. lefts in_header true (l + 1) (e ∷ []) ns al ra) in
     let one = missed (c.in_ok-accept.ensures.reads (λ _. switch_body l t.place next None None) (optional semicolon 0 (λ _. switch_tag l t.place next None) head)) c.in_default.is in
     let two = one ∙ missed (c.in_ok-accept-2.ensures.reads (λ _. switch_tag l t.place next None) head) c.in_default-2.is in
-    let here = two ∙ (c.in_ok-init.ensures.reads ns al ra).by ∙ ap (λ (x : Header). run 250 (by_header ns al ra x) (left c.header_from.new.parser)) c.in-Alone.is in
+    let here = two ∙ (c.in_ok-init.ensures.reads ns al ra).by ∙ ap (λ (x : Header). run c.header_from.new.parser.edition 250 (by_header ns al ra x) (left c.header_from.new.parser)) c.in-Alone.is in
     record { by = here ∙ (c.in_ok-expect-in-Alone.ensures.reads (λ _. switch_body l t.place next None (Some (expr_of c.in-Alone.value.value)))).by }
 
 pub returns-in-Range-clause-reads : goal.returns-in-Range-clause-reads
@@ -99,5 +99,5 @@ returns-in-Range-clause-reads c = λ t next.
     let head : State = expr 5 true (l + 1) an_operand (λ e. lefts in_header true (l + 1) (e ∷ []) ns al ra) in
     let one = missed (c.in_ok-accept.ensures.reads (λ _. switch_body l t.place next None None) (optional semicolon 0 (λ _. switch_tag l t.place next None) head)) c.in_default.is in
     let two = one ∙ missed (c.in_ok-accept-2.ensures.reads (λ _. switch_tag l t.place next None) head) c.in_default-2.is in
-    let here = two ∙ (c.in_ok-init.ensures.reads ns al ra).by ∙ ap (λ (x : Header). run 250 (by_header ns al ra x) (left c.header_from.new.parser)) c.in-Range.is in
+    let here = two ∙ (c.in_ok-init.ensures.reads ns al ra).by ∙ ap (λ (x : Header). run c.header_from.new.parser.edition 250 (by_header ns al ra x) (left c.header_from.new.parser)) c.in-Range.is in
     then_reads c.compared_behind-in-Range.result here (c.compared_behind-in-Range.ensures.reads t.place next)

@@ -38,7 +38,7 @@ returns-in_err-expect-in-Simple-clause-reads c = λ t next.
     let ra = λ (n : trees.Name) (e : trees.Expr). if_condition l t.place next None in
     let head : State = expr 5 true (l + 1) an_operand (λ e. lefts in_header true (l + 1) (e ∷ []) ns al ra) in
     let two = missed (c.in_ok-accept.ensures.reads (λ _. if_condition l t.place next None) head) c.in_default.is in
-    let here = two ∙ (c.in_ok-init.ensures.reads ns al ra).by ∙ ap (λ (x : Header). run 250 (by_header ns al ra x) (left c.header_from.new.parser)) c.in-Simple.is in
+    let here = two ∙ (c.in_ok-init.ensures.reads ns al ra).by ∙ ap (λ (x : Header). run c.header_from.new.parser.edition 250 (by_header ns al ra x) (left c.header_from.new.parser)) c.in-Simple.is in
     then_fails here (c.in_err-expect-in-Simple.ensures.reads (λ _. if_condition l t.place next (Some (simple_of c.in-Simple.init.value)))) c.from_residual-in_err-expect-in-Simple.ensures.1
 
 pub returns-in_ok-expect-in-Simple-clause-reads : goal.returns-in_ok-expect-in-Simple-clause-reads
@@ -49,7 +49,7 @@ returns-in_ok-expect-in-Simple-clause-reads c = λ t next.
     let ra = λ (n : trees.Name) (e : trees.Expr). if_condition l t.place next None in
     let head : State = expr 5 true (l + 1) an_operand (λ e. lefts in_header true (l + 1) (e ∷ []) ns al ra) in
     let two = missed (c.in_ok-accept.ensures.reads (λ _. if_condition l t.place next None) head) c.in_default.is in
-    let here = two ∙ (c.in_ok-init.ensures.reads ns al ra).by ∙ ap (λ (x : Header). run 250 (by_header ns al ra x) (left c.header_from.new.parser)) c.in-Simple.is in
+    let here = two ∙ (c.in_ok-init.ensures.reads ns al ra).by ∙ ap (λ (x : Header). run c.header_from.new.parser.edition 250 (by_header ns al ra x) (left c.header_from.new.parser)) c.in-Simple.is in
     then_reads c.condition_behind-in-Simple.result (here ∙ (c.in_ok-expect-in-Simple.ensures.reads (λ _. if_condition l t.place next (Some (simple_of c.in-Simple.init.value)))).by) (c.condition_behind-in-Simple.ensures.reads t.place next)
 
 pub returns-in-Alone-clause-reads : goal.returns-in-Alone-clause-reads
@@ -60,7 +60,7 @@ returns-in-Alone-clause-reads c = λ t next.
     let ra = λ (n : trees.Name) (e : trees.Expr). if_condition l t.place next None in
     let head : State = expr 5 true (l + 1) an_operand (λ e. lefts in_header true (l + 1) (e ∷ []) ns al ra) in
     let two = missed (c.in_ok-accept.ensures.reads (λ _. if_condition l t.place next None) head) c.in_default.is in
-    let here = two ∙ (c.in_ok-init.ensures.reads ns al ra).by ∙ ap (λ (x : Header). run 250 (by_header ns al ra x) (left c.header_from.new.parser)) c.in-Alone.is in
+    let here = two ∙ (c.in_ok-init.ensures.reads ns al ra).by ∙ ap (λ (x : Header). run c.header_from.new.parser.edition 250 (by_header ns al ra x) (left c.header_from.new.parser)) c.in-Alone.is in
     record { by = here }
 
 pub returns-in-Range-clause-reads : goal.returns-in-Range-clause-reads
@@ -71,5 +71,5 @@ returns-in-Range-clause-reads c = λ t next.
     let ra = λ (n : trees.Name) (e : trees.Expr). if_condition l t.place next None in
     let head : State = expr 5 true (l + 1) an_operand (λ e. lefts in_header true (l + 1) (e ∷ []) ns al ra) in
     let two = missed (c.in_ok-accept.ensures.reads (λ _. if_condition l t.place next None) head) c.in_default.is in
-    let here = two ∙ (c.in_ok-init.ensures.reads ns al ra).by ∙ ap (λ (x : Header). run 250 (by_header ns al ra x) (left c.header_from.new.parser)) c.in-Range.is in
+    let here = two ∙ (c.in_ok-init.ensures.reads ns al ra).by ∙ ap (λ (x : Header). run c.header_from.new.parser.edition 250 (by_header ns al ra x) (left c.header_from.new.parser)) c.in-Range.is in
     then_reads c.condition_behind-in-Range.result here (c.condition_behind-in-Range.ensures.reads t.place next)

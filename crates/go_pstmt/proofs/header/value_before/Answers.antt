@@ -32,5 +32,5 @@ returns-clause-reads c = λ next.
     let went = missed (c.in_ok-accept.ensures.reads (λ _. next None) (expr 5 true c.args.level an_operand behind)) c.in_default.is in
     record {
       by = went ∙ (c.in_ok-value.ensures.reads behind).by ∙ (c.in_ok-expect.ensures.reads (λ _. next (Some (expr_of c.in_ok-value.value)))).by
-          ∙ ap (λ (x : Expr). run 250 (next (Some (expr_of x))) (left c.expect.new.self)) (sym c.in_ok-value-2.ensures.ok);
+          ∙ ap (λ (x : Expr). run c.expect.new.self.edition 250 (next (Some (expr_of x))) (left c.expect.new.self)) (sym c.in_ok-value-2.ensures.ok);
     }

@@ -15,4 +15,4 @@ returns-clause-reads c = λ next.
     let items = ap (map expr_of) (c.in_ok-push.ensures.items ∙ ap (λ (xs : List Expr). xs ++ c.in-Some.value ∷ []) c.in_ok-values.ensures.items) in
     then_reads (
     took (c.in_ok-value.ensures.reads _ _) c.in-Some.is
-    ∙ ap (λ es. run 250 (more_exprs false c.args.level es (last next)) (left c.expr_if.new.self)) (sym items)) (c.more_exprs.ensures.reads (last next))
+    ∙ ap (λ es. run c.expr_if.new.self.edition 250 (more_exprs false c.args.level es (last next)) (left c.expr_if.new.self)) (sym items)) (c.more_exprs.ensures.reads (last next))

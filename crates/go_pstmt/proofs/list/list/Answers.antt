@@ -1,6 +1,6 @@
-use Rattle.std.proofs.Common.{arith, ◌≡◌, List, [], ◌∷◌, ◌++◌, map, sym, ap, ◌∙◌}
+use Rattle.std.proofs.Common.{arith, List, [], ◌∷◌, ◌++◌, map, sym, ap, ◌∙◌}
 use Rattle.go_ast.specs.Grammar.{Lexeme, closing}
-use Rattle.go_ast.specs.Machine.{State, Item, list_start, run}
+use Rattle.go_ast.specs.Machine.{State, list_start, run}
 use Rattle.go_pexpr.specs.Reads.{First, left}
 use Rattle.go_pexpr.proofs.Reading.{then_fails}
 use Rattle.go_pexpr.proofs.Steps.{Kind}
@@ -29,9 +29,9 @@ nodes-preserved-in_ok-expect g c =
           let n = seen c.in_ok-item.field-0 in
           let other : First (Kind closing) (left c.item.new.parser) → ⊥ = λ h. false_true (sym c.if-not-is_next.true ∙ c.is_next-in-nodes.ensures.1 h) in
           c.nodes.invariant.reads next ∙ went (c.in_ok-item.ensures.reads front next)
-          ∙ separator_there k (g.met.L.Items.closes items) (front ++ n ∷ []) next _ (g.L.Items.due items) _ _ c.behind.ensures c.separator.ensures other
+          ∙ separator_there c.item.new.parser.edition k (g.met.L.Items.closes items) (front ++ n ∷ []) next _ (g.L.Items.due items) _ _ c.behind.ensures c.separator.ensures other
           ∙ went (c.in_ok-expect.ensures.reads _)
-          ∙ ap (λ ns. run 250 (list_start k ns next) (left c.expect.new.self)) (sym (pushed seen c.nodes.nodes.items _ c.in_ok-item.field-0 c.in_ok-push.ensures.items));
+          ∙ ap (λ ns. run c.expect.new.self.edition 250 (list_start k ns next) (left c.expect.new.self)) (sym (pushed seen c.nodes.nodes.items _ c.in_ok-item.field-0 c.in_ok-push.ensures.items));
       shorter = omega (arith, c.nodes.invariant.shorter, c.in_ok-item.ensures.shorter, c.in_ok-expect.ensures.shorter);
     }
 
@@ -44,7 +44,7 @@ returns-in_err-expect-clause-reads g c = λ next.
     let other : First (Kind closing) (left c.item.new.parser) → ⊥ = λ h. false_true (sym c.if-not-is_next.true ∙ c.is_next-in-nodes.ensures.1 h) in
     then_fails (
     c.nodes.invariant.reads (last next) ∙ went (c.in_ok-item.ensures.reads front (last next))
-    ∙ separator_there k (g.met.L.Items.closes items) (front ++ n ∷ []) (last next) _ (g.L.Items.due items) _ _ c.behind.ensures c.separator.ensures other)
+    ∙ separator_there _ k (g.met.L.Items.closes items) (front ++ n ∷ []) (last next) _ (g.L.Items.due items) _ _ c.behind.ensures c.separator.ensures other)
     (c.in_err-expect.ensures.reads _) c.from_residual-in_err-expect.ensures.1
 
 pub nodes-preserved : goal.nodes-preserved
@@ -58,8 +58,8 @@ nodes-preserved g c =
           let n = seen c.in_ok-item.field-0 in
           let is : First (Kind closing) (left c.item.new.parser) = c.is_next-in-nodes.ensures.0 c.if-not-is_next.false in
           c.nodes.invariant.reads next ∙ went (c.in_ok-item.ensures.reads front next)
-          ∙ ends_there k (g.met.L.Items.closes items) (front ++ n ∷ []) next _ (g.L.Items.due items) is
-          ∙ ap (λ ns. run 250 (list_start k ns next) (left c.item.new.parser)) (sym (pushed seen c.nodes.nodes.items _ c.in_ok-item.field-0 c.in_ok-push.ensures.items));
+          ∙ ends_there c.item.new.parser.edition k (g.met.L.Items.closes items) (front ++ n ∷ []) next _ (g.L.Items.due items) is
+          ∙ ap (λ ns. run c.item.new.parser.edition 250 (list_start k ns next) (left c.item.new.parser)) (sym (pushed seen c.nodes.nodes.items _ c.in_ok-item.field-0 c.in_ok-push.ensures.items));
       shorter = omega (arith, c.nodes.invariant.shorter, c.in_ok-item.ensures.shorter);
     }
 
@@ -69,7 +69,7 @@ returns-in_err-expect-2-clause-reads g c = λ next.
     let k = g.L.Items.kind items in
     let front = map (g.L.Items.seen items) c.nodes.nodes.items in
     let is : First (Kind closing) (left c.nodes.parser) = c.is_next.ensures.0 c.nodes-test.false in
-    then_fails (c.nodes.invariant.reads (last next) ∙ closing_due k (g.met.L.Items.closes items) front (last next) _ is) (c.in_err-expect-2.ensures.reads _) c.from_residual-in_err-expect-2.ensures.1
+    then_fails (c.nodes.invariant.reads (last next) ∙ closing_due _ k (g.met.L.Items.closes items) front (last next) _ is) (c.in_err-expect-2.ensures.reads _) c.from_residual-in_err-expect-2.ensures.1
 
 pub returns-clause-reads : goal.returns-clause-reads
 returns-clause-reads g c = λ next.
@@ -77,4 +77,4 @@ returns-clause-reads g c = λ next.
     let k = g.L.Items.kind items in
     let front = map (g.L.Items.seen items) c.nodes.nodes.items in
     let is : First (Kind closing) (left c.nodes.parser) = c.is_next.ensures.0 c.nodes-test.false in
-    record { by = c.nodes.invariant.reads (last next) ∙ closing_due k (g.met.L.Items.closes items) front (last next) _ is ∙ went (c.in_ok-expect-2.ensures.reads _) }
+    record { by = c.nodes.invariant.reads (last next) ∙ closing_due _ k (g.met.L.Items.closes items) front (last next) _ is ∙ went (c.in_ok-expect-2.ensures.reads _) }

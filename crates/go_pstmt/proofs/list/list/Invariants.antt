@@ -9,7 +9,7 @@ abbrev pub invariant-nodes : goal.invariant-nodes
 invariant-nodes g l =
     let k = g.L.Items.kind l.items in
     record {
-      reads : (next : List (Item k) → Lexeme → State) → run 250 (list_start k [] next) (left l.fn.parser) ≡ run 250 (list_start k (map (g.L.Items.seen l.items) l.nodes.items) next) (left l.parser);
+      reads : (next : List (Item k) → Lexeme → State) → run l.fn.parser.edition 250 (list_start k [] next) (left l.fn.parser) ≡ run l.parser.edition 250 (list_start k (map (g.L.Items.seen l.items) l.nodes.items) next) (left l.parser);
       shorter : size l.parser ≤ size l.fn.parser;
     }
 

@@ -3,7 +3,7 @@ use Rattle.go_ast.specs.Grammar.{is_call}
 use Rattle.go_ast.specs.Views.{expr_of}
 use Rattle.go_ast.specs.declared.expression.Expr.{Expr}
 use Rattle.go_ast.specs.declared.expression.ExprKind.{ExprKind}
-use Rattle.go_ast.proofs.Rows.{name_seen, integer_seen, rune_seen, string_seen, parenthesized_seen, literal_seen, conversion_seen, selector_seen, index_seen, call_seen, unary_seen, binary_seen}
+use Rattle.go_ast.proofs.Rows.{name_seen, integer_seen, rune_seen, string_seen, parenthesized_seen, literal_seen, conversion_seen, selector_seen, index_seen, cut_seen, type_operand_seen, call_seen, unary_seen, binary_seen}
 use Rattle.go_pstmt.proofs.simple.+is_call.Goals as goal
 
 pub returns-in-Parenthesized : goal.returns-in-Parenthesized
@@ -56,6 +56,16 @@ pub returns-in-Index : goal.returns-in-Index
 returns-in-Index t c =
     let e = c.args.operand.now in
     sym (ap (λ (k : ExprKind). is_call (expr_of (record { place = e.place; kind = k }))) c.in-Index.is ∙ ap is_call (index_seen e.place c.in-Index.field-0 c.in-Index.field-1 c.in-Index.field-0.value c.in-Index.field-1.value refl refl))
+
+pub returns-in-Cut : goal.returns-in-Cut
+returns-in-Cut t c =
+    let e = c.args.operand.now in
+    sym (ap (λ (k : ExprKind). is_call (expr_of (record { place = e.place; kind = k }))) c.in-Cut.is ∙ ap is_call (cut_seen e.place c.in-Cut.field-0 c.in-Cut.field-1 c.in-Cut.field-2 c.in-Cut.field-0.value refl))
+
+pub returns-in-Type : goal.returns-in-Type
+returns-in-Type t c =
+    let e = c.args.operand.now in
+    sym (ap (λ (k : ExprKind). is_call (expr_of (record { place = e.place; kind = k }))) c.in-Type.is ∙ ap is_call (type_operand_seen e.place c.in-Type.field-0 c.in-Type.field-0.value refl))
 
 pub returns-in-Unary : goal.returns-in-Unary
 returns-in-Unary t c =

@@ -17,7 +17,7 @@ returns-in_err-expect-clause-reads c = λ side before next alone range one does.
     let m = position_of c.args.position in
     let h = is_bare c.args.position in
     then_fails
-    (does_at before (token (kinds.Punctuation marks.Increment) 0 another (λ _. next (trees.increment (expr_of side)))) (on_one m h c.args.level (expr_of side) next alone) (at_one (expr_of side) next) (kinds.Punctuation marks.Increment) (left c.args.parser.now) does (c.if-is_next.ensures.0 refl) (λ text p. refl))
+    (does_at c.args.parser.now.edition before (token (kinds.Punctuation marks.Increment) 0 another (λ _. next (trees.increment (expr_of side)))) (on_one c.args.parser.now.edition m h c.args.level (expr_of side) next alone) (at_one (expr_of side) next) (kinds.Punctuation marks.Increment) (left c.args.parser.now) does (c.if-is_next.ensures.0 refl) (λ text p. refl))
     (c.in_err-expect.ensures.reads (λ _. next (trees.increment (expr_of side)))) c.from_residual.ensures.1
 
 pub returns-then-is_next-clause-reads : goal.returns-then-is_next-clause-reads
@@ -25,9 +25,9 @@ returns-then-is_next-clause-reads c = λ side before next alone range one does.
     let m = position_of c.args.position in
     let h = is_bare c.args.position in
     then_makes c.stated.result (next (trees.increment (expr_of c.sole.result)))
-    (does_at before (token (kinds.Punctuation marks.Increment) 0 another (λ _. next (trees.increment (expr_of side)))) (on_one m h c.args.level (expr_of side) next alone) (at_one (expr_of side) next) (kinds.Punctuation marks.Increment) (left c.args.parser.now) does (c.if-is_next.ensures.0 refl) (λ text p. refl)
+    (does_at c.args.parser.now.edition before (token (kinds.Punctuation marks.Increment) 0 another (λ _. next (trees.increment (expr_of side)))) (on_one c.args.parser.now.edition m h c.args.level (expr_of side) next alone) (at_one (expr_of side) next) (kinds.Punctuation marks.Increment) (left c.args.parser.now) does (c.if-is_next.ensures.0 refl) (λ text p. refl)
     ∙ (c.in_ok-expect.ensures.reads (λ _. next (trees.increment (expr_of side)))).by
-    ∙ ap (λ (x : Expr). run 250 (next (trees.increment (expr_of x))) (left c.expect.new.self)) (same_only c.args.sides.items side c.sole.result one c.sole.ensures))
+    ∙ ap (λ (x : Expr). run c.expect.new.self.edition 250 (next (trees.increment (expr_of x))) (left c.expect.new.self)) (same_only c.args.sides.items side c.sole.result one c.sole.ensures))
     (c.stated.ensures.ok next alone range) c.stated.ensures.err
 
 pub returns-in_err-expect-2-clause-reads : goal.returns-in_err-expect-2-clause-reads
@@ -35,7 +35,7 @@ returns-in_err-expect-2-clause-reads c = λ side before next alone range one doe
     let m = position_of c.args.position in
     let h = is_bare c.args.position in
     then_fails
-    (does_at before (token (kinds.Punctuation marks.Decrement) 0 another (λ _. next (trees.decrement (expr_of side)))) (on_one m h c.args.level (expr_of side) next alone) (at_one (expr_of side) next) (kinds.Punctuation marks.Decrement) (left c.args.parser.now) does (c.if-is_next-2.ensures.0 refl) (λ text p. refl))
+    (does_at c.args.parser.now.edition before (token (kinds.Punctuation marks.Decrement) 0 another (λ _. next (trees.decrement (expr_of side)))) (on_one c.args.parser.now.edition m h c.args.level (expr_of side) next alone) (at_one (expr_of side) next) (kinds.Punctuation marks.Decrement) (left c.args.parser.now) does (c.if-is_next-2.ensures.0 refl) (λ text p. refl))
     (c.in_err-expect-2.ensures.reads (λ _. next (trees.decrement (expr_of side)))) c.from_residual-in_err-expect-2.ensures.1
 
 pub returns-then-is_next-2-clause-reads : goal.returns-then-is_next-2-clause-reads
@@ -43,9 +43,9 @@ returns-then-is_next-2-clause-reads c = λ side before next alone range one does
     let m = position_of c.args.position in
     let h = is_bare c.args.position in
     then_makes c.stated-then-is_next-2.result (next (trees.decrement (expr_of c.sole-then-is_next-2.result)))
-    (does_at before (token (kinds.Punctuation marks.Decrement) 0 another (λ _. next (trees.decrement (expr_of side)))) (on_one m h c.args.level (expr_of side) next alone) (at_one (expr_of side) next) (kinds.Punctuation marks.Decrement) (left c.args.parser.now) does (c.if-is_next-2.ensures.0 refl) (λ text p. refl)
+    (does_at c.args.parser.now.edition before (token (kinds.Punctuation marks.Decrement) 0 another (λ _. next (trees.decrement (expr_of side)))) (on_one c.args.parser.now.edition m h c.args.level (expr_of side) next alone) (at_one (expr_of side) next) (kinds.Punctuation marks.Decrement) (left c.args.parser.now) does (c.if-is_next-2.ensures.0 refl) (λ text p. refl)
     ∙ (c.in_ok-expect-2.ensures.reads (λ _. next (trees.decrement (expr_of side)))).by
-    ∙ ap (λ (x : Expr). run 250 (next (trees.decrement (expr_of x))) (left c.expect-then-is_next-2.new.self)) (same_only c.args.sides.items side c.sole-then-is_next-2.result one c.sole-then-is_next-2.ensures))
+    ∙ ap (λ (x : Expr). run c.expect-then-is_next-2.new.self.edition 250 (next (trees.decrement (expr_of x))) (left c.expect-then-is_next-2.new.self)) (same_only c.args.sides.items side c.sole-then-is_next-2.result one c.sole-then-is_next-2.ensures))
     (c.stated-then-is_next-2.ensures.ok next alone range) c.stated-then-is_next-2.ensures.err
 
 pub returns-in_err-bump-clause-reads : goal.returns-in_err-bump-clause-reads
@@ -54,7 +54,7 @@ returns-in_err-bump-clause-reads c = λ side before next alone range one does.
     let h = is_bare c.args.position in
     let op = c.in-Some.operator in
     let e = expr_of side in
-    let b = by_operator m h c.args.level e next alone before op (left c.args.parser.now) does (λ f. false_true (c.if-is_next.ensures.1 f)) (λ f. false_true (c.if-is_next-2.ensures.1 f)) (ap assigned (sym c.kind.ensures) ∙ sym c.in-Some.ensures) in
+    let b = by_operator c.args.parser.now.edition m h c.args.level e next alone before op (left c.args.parser.now) does (λ f. false_true (c.if-is_next.ensures.1 f)) (λ f. false_true (c.if-is_next-2.ensures.1 f)) (ap assigned (sym c.kind.ensures) ∙ sym c.in-Some.ensures) in
     let behind = λ (r : trees.Expr). next (trees.operator_assignment op e r) in
     then_fails b.2 (c.in_err-bump.ensures.reads b.0 another (λ _. expr 5 h c.args.level an_operand behind) b.1) c.from_residual-in_err-bump.ensures.1
 
@@ -64,11 +64,11 @@ returns-in_err-value-clause-reads c = λ side before next alone range one does.
     let h = is_bare c.args.position in
     let op = c.in-Some.operator in
     let e = expr_of side in
-    let b = by_operator m h c.args.level e next alone before op (left c.args.parser.now) does (λ f. false_true (c.if-is_next.ensures.1 f)) (λ f. false_true (c.if-is_next-2.ensures.1 f)) (ap assigned (sym c.kind.ensures) ∙ sym c.in-Some.ensures) in
+    let b = by_operator c.args.parser.now.edition m h c.args.level e next alone before op (left c.args.parser.now) does (λ f. false_true (c.if-is_next.ensures.1 f)) (λ f. false_true (c.if-is_next-2.ensures.1 f)) (ap assigned (sym c.kind.ensures) ∙ sym c.in-Some.ensures) in
     let behind = λ (r : trees.Expr). next (trees.operator_assignment op e r) in
     then_fails
     (b.2 ∙ (c.in_ok-bump.ensures.reads b.0 another (λ _. expr 5 h c.args.level an_operand behind) b.1).by
-    ∙ ap (λ x. run 250 (expr 5 x c.args.level an_operand behind) (left c.bump.new.self)) (sym c.is_bare.ensures))
+    ∙ ap (λ x. run c.bump.new.self.edition 250 (expr 5 x c.args.level an_operand behind) (left c.bump.new.self)) (sym c.is_bare.ensures))
     (c.in_err-value.ensures.reads behind) c.from_residual-in_err-value.ensures.1
 
 pub returns-in-Some-clause-reads : goal.returns-in-Some-clause-reads
@@ -77,13 +77,13 @@ returns-in-Some-clause-reads c = λ side before next alone range one does.
     let h = is_bare c.args.position in
     let op = c.in-Some.operator in
     let e = expr_of side in
-    let b = by_operator m h c.args.level e next alone before op (left c.args.parser.now) does (λ f. false_true (c.if-is_next.ensures.1 f)) (λ f. false_true (c.if-is_next-2.ensures.1 f)) (ap assigned (sym c.kind.ensures) ∙ sym c.in-Some.ensures) in
+    let b = by_operator c.args.parser.now.edition m h c.args.level e next alone before op (left c.args.parser.now) does (λ f. false_true (c.if-is_next.ensures.1 f)) (λ f. false_true (c.if-is_next-2.ensures.1 f)) (ap assigned (sym c.kind.ensures) ∙ sym c.in-Some.ensures) in
     let behind = λ (r : trees.Expr). next (trees.operator_assignment op e r) in
     then_makes c.stated-in-Some.result (next (trees.operator_assignment op (expr_of c.sole-in-Some.result) (expr_of c.in_ok-value.value)))
     (b.2 ∙ (c.in_ok-bump.ensures.reads b.0 another (λ _. expr 5 h c.args.level an_operand behind) b.1).by
-    ∙ ap (λ x. run 250 (expr 5 x c.args.level an_operand behind) (left c.bump.new.self)) (sym c.is_bare.ensures)
+    ∙ ap (λ x. run c.bump.new.self.edition 250 (expr 5 x c.args.level an_operand behind) (left c.bump.new.self)) (sym c.is_bare.ensures)
     ∙ (c.in_ok-value.ensures.reads behind).by
-    ∙ ap (λ (x : Expr). run 250 (next (trees.operator_assignment op (expr_of x) (expr_of c.in_ok-value.value))) (left c.expr_from.new.self)) (same_only c.args.sides.items side c.sole-in-Some.result one c.sole-in-Some.ensures))
+    ∙ ap (λ (x : Expr). run c.expr_from.new.self.edition 250 (next (trees.operator_assignment op (expr_of x) (expr_of c.in_ok-value.value))) (left c.expr_from.new.self)) (same_only c.args.sides.items side c.sole-in-Some.result one c.sole-in-Some.ensures))
     (c.stated-in-Some.ensures.ok next alone range) c.stated-in-Some.ensures.err
 
 pub returns-clause-reads : goal.returns-clause-reads
@@ -93,5 +93,5 @@ returns-clause-reads c = λ side before next alone range one does.
     let ts = left c.args.parser.now in
     let none = ap assigned (sym c.kind.ensures) ∙ sym c.assigned.ensures ∙ c.in_default.is in
     c.alone.ensures.reads before next alone range
-    (subst (λ (x : Expr). Does before (on_alone m (expr_of x) next alone) (at_one (expr_of x) next) ts) (same_only c.args.sides.items side c.sole-2.result one c.sole-2.ensures)
-    (by_none m h c.args.level (expr_of side) next alone before ts does (λ f. false_true (c.if-is_next.ensures.1 f)) (λ f. false_true (c.if-is_next-2.ensures.1 f)) none))
+    (subst (λ (x : Expr). Does c.args.parser.now.edition before (on_alone c.args.parser.now.edition m (expr_of x) next alone) (at_one (expr_of x) next) ts) (same_only c.args.sides.items side c.sole-2.result one c.sole-2.ensures)
+    (by_none c.args.parser.now.edition m h c.args.level (expr_of side) next alone before ts does (λ f. false_true (c.if-is_next.ensures.1 f)) (λ f. false_true (c.if-is_next-2.ensures.1 f)) none))

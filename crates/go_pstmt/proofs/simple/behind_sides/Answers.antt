@@ -17,8 +17,8 @@ returns-then-is_next-clause-reads c = λ next alone range.
     let h = is_bare c.args.position in
     let behind = λ (es : List trees.Expr). next (trees.assignment (exprs_in c.args.sides.items) (trees.pack es)) in
     then_reads c.assignment.result
-    (lefts_assign m h c.args.level next alone range (map expr_of c.args.sides.items) (left c.args.parser.now) (some_exprs c.args.sides.items c.requires.some) (c.if-is_next.ensures.0 refl)
-    ∙ ap (λ b. run 250 (token assign 0 another (λ _. expr 5 b c.args.level a_value (λ e. more_exprs b c.args.level (e ∷ []) behind))) (left c.args.parser.now)) (sym c.is_bare.ensures))
+    (lefts_assign c.args.parser.now.edition m h c.args.level next alone range (map expr_of c.args.sides.items) (left c.args.parser.now) (some_exprs c.args.sides.items c.requires.some) (c.if-is_next.ensures.0 refl)
+    ∙ ap (λ b. run c.args.parser.now.edition 250 (token assign 0 another (λ _. expr 5 b c.args.level a_value (λ e. more_exprs b c.args.level (e ∷ []) behind))) (left c.args.parser.now)) (sym c.is_bare.ensures))
     (c.assignment.ensures.reads next alone range)
 
 pub returns-in-Some-clause-reads : goal.returns-in-Some-clause-reads
@@ -27,7 +27,7 @@ returns-in-Some-clause-reads c = λ next alone range.
     let h = is_bare c.args.position in
     let g = c.in_ok-names.ensures.some c.in-Some.names c.in-Some.is in
     then_reads c.short_var_decl.result
-    (lefts_define m h c.args.level next alone range (map expr_of c.args.sides.items) c.in-Some.names.items (left c.args.parser.now) (some_exprs c.args.sides.items c.requires.some) g.0 g.1
+    (lefts_define c.args.parser.now.edition m h c.args.level next alone range (map expr_of c.args.sides.items) c.in-Some.names.items (left c.args.parser.now) (some_exprs c.args.sides.items c.requires.some) g.0 g.1
     (ap (λ (xs : List Expr). names_if (map expr_of xs)) (sym c.deref.ensures.value) ∙ g.2))
     (c.short_var_decl.ensures.reads next alone range)
 
@@ -37,7 +37,7 @@ returns-then-len-ne1-clause-reads c = λ next alone range.
     let h = is_bare c.args.position in
     let ts = left c.args.parser.now in
     then_refuses c.wrong.result (fault_of another ts)
-    (lefts_refused m h c.args.level next alone range (map expr_of c.args.sides.items) ts (two_exprs c.args.sides.items c.requires.some (λ e. c.if-len-ne1.true (c.len.ensures ∙ sym (ap (λ (xs : List Expr). length xs) (sym c.deref.ensures.value) ∙ c.deref.ensures.len) ∙ e))) c.requires.last (λ f. false_true (c.if-is_next.ensures.1 f))
+    (lefts_refused c.args.parser.now.edition m h c.args.level next alone range (map expr_of c.args.sides.items) ts (two_exprs c.args.sides.items c.requires.some (λ e. c.if-len-ne1.true (c.len.ensures ∙ sym (ap (λ (xs : List Expr). length xs) (sym c.deref.ensures.value) ∙ c.deref.ensures.len) ∙ e))) c.requires.last (λ f. false_true (c.if-is_next.ensures.1 f))
     (λ f may. ap (λ (xs : List Expr). names_if (map expr_of xs)) (sym c.deref.ensures.value) ∙ c.in_ok-names.ensures.none c.in_default.is f may))
     c.wrong.ensures
 
@@ -48,6 +48,6 @@ returns-clause-reads c = λ next alone range.
     let ts = left c.args.parser.now in
     let one = only c.args.sides.items (ap (λ (xs : List Expr). length xs) (sym c.deref.ensures.value) ∙ c.deref.ensures.len ∙ sym c.len.ensures ∙ c.if-len-ne1.false) in
     c.behind_one.ensures.reads one.0 (lefts m h c.args.level (map expr_of c.args.sides.items) next alone range) next alone range one.1
-    (subst (λ (xs : List Expr). Does (lefts m h c.args.level (map expr_of xs) next alone range) (on_one m h c.args.level (expr_of one.0) next alone) (at_one (expr_of one.0) next) ts) (sym one.1)
-    (lefts_one m h c.args.level next alone range (expr_of one.0) ts c.requires.last (λ f. false_true (c.if-is_next.ensures.1 f))
+    (subst (λ (xs : List Expr). Does c.args.parser.now.edition (lefts m h c.args.level (map expr_of xs) next alone range) (on_one c.args.parser.now.edition m h c.args.level (expr_of one.0) next alone) (at_one (expr_of one.0) next) ts) (sym one.1)
+    (lefts_one c.args.parser.now.edition m h c.args.level next alone range (expr_of one.0) ts c.requires.last (λ f. false_true (c.if-is_next.ensures.1 f))
     (λ f may. ap (λ (xs : List Expr). names_if (map expr_of xs)) (sym one.1 ∙ sym c.deref.ensures.value) ∙ c.in_ok-names.ensures.none c.in_default.is f may)))

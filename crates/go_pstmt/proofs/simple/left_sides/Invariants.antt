@@ -9,8 +9,8 @@ use Rattle.go_pstmt.proofs.simple.left_sides.Given as goal
 abbrev pub invariant-sides : goal.invariant-sides
 invariant-sides l = record {
   reads : (next : trees.Simple → State) (alone : trees.Expr → State) (range : trees.Name → trees.Expr → State) →
-      run 250 (expr 5 (is_bare l.fn.position) l.fn.level (beginning l.fn.position) (λ e. lefts (position_of l.fn.position) (is_bare l.fn.position) l.fn.level (e ∷ []) next alone range)) (left l.fn.parser)
-      ≡ run 250 (lefts (position_of l.fn.position) (is_bare l.fn.position) l.fn.level (map expr_of l.sides.items) next alone range) (left l.parser);
+      run l.fn.parser.edition 250 (expr 5 (is_bare l.fn.position) l.fn.level (beginning l.fn.position) (λ e. lefts (position_of l.fn.position) (is_bare l.fn.position) l.fn.level (e ∷ []) next alone range)) (left l.fn.parser)
+      ≡ run l.parser.edition 250 (lefts (position_of l.fn.position) (is_bare l.fn.position) l.fn.level (map expr_of l.sides.items) next alone range) (left l.parser);
   some : 1 ≤ length l.sides.items;
   shorter : size l.parser < size l.fn.parser;
 }

@@ -15,7 +15,7 @@ returns-then-is_range-clause-reads c = λ next alone range.
     let one = only c.args.names.items (ap (λ (ns : List trees.Name). length ns) (sym c.deref.ensures.value) ∙ f.1) in
     then_reads c.range.result
     ((c.in_ok-expect.ensures.reads (λ _. behind_define (position_of c.args.position) (is_bare c.args.position) c.args.level c.args.names.items next range)).by
-    ∙ define_range c.args.level next range (left c.expect.new.self) c.args.position c.args.names.items one.0 f.0 one.1 f.2)
+    ∙ define_range c.expect.new.self.edition c.args.level next range (left c.expect.new.self) c.args.position c.args.names.items one.0 f.0 one.1 f.2)
     (c.range.ensures.reads one.0 next alone range one.1)
 
 pub returns-in_err-values-clause-reads : goal.returns-in_err-values-clause-reads
@@ -23,8 +23,8 @@ returns-in_err-values-clause-reads c = λ next alone range.
     let behind = λ (es : List trees.Expr). next (trees.short_var_decl c.args.names.items (trees.pack es)) in
     then_fails
     ((c.in_ok-expect.ensures.reads (λ _. behind_define (position_of c.args.position) (is_bare c.args.position) c.args.level c.args.names.items next range)).by
-    ∙ define_values c.args.level next range (left c.expect.new.self) c.args.position c.args.names.items (λ f. false_true (c.if-is_range.ensures.1 (f.0, ap (λ (ns : List trees.Name). length ns) c.deref.ensures.value ∙ f.1, f.2)))
-    ∙ ap (λ b. run 250 (expr 5 b c.args.level an_operand (λ e. more_exprs b c.args.level (e ∷ []) behind)) (left c.expect.new.self)) (sym c.is_bare.ensures))
+    ∙ define_values c.expect.new.self.edition c.args.level next range (left c.expect.new.self) c.args.position c.args.names.items (λ f. false_true (c.if-is_range.ensures.1 (f.0, ap (λ (ns : List trees.Name). length ns) c.deref.ensures.value ∙ f.1, f.2)))
+    ∙ ap (λ b. run c.expect.new.self.edition 250 (expr 5 b c.args.level an_operand (λ e. more_exprs b c.args.level (e ∷ []) behind)) (left c.expect.new.self)) (sym c.is_bare.ensures))
     (c.in_err-values.ensures.reads behind) c.from_residual-in_err-values.ensures.1
 
 pub returns-clause-reads : goal.returns-clause-reads
@@ -32,7 +32,7 @@ returns-clause-reads c = λ next alone range.
     let behind = λ (es : List trees.Expr). next (trees.short_var_decl c.args.names.items (trees.pack es)) in
     then_makes c.stated.result (next (trees.short_var_decl c.args.names.items (exprs_in c.in_ok-values.values.items)))
     ((c.in_ok-expect.ensures.reads (λ _. behind_define (position_of c.args.position) (is_bare c.args.position) c.args.level c.args.names.items next range)).by
-    ∙ define_values c.args.level next range (left c.expect.new.self) c.args.position c.args.names.items (λ f. false_true (c.if-is_range.ensures.1 (f.0, ap (λ (ns : List trees.Name). length ns) c.deref.ensures.value ∙ f.1, f.2)))
-    ∙ ap (λ b. run 250 (expr 5 b c.args.level an_operand (λ e. more_exprs b c.args.level (e ∷ []) behind)) (left c.expect.new.self)) (sym c.is_bare.ensures)
+    ∙ define_values c.expect.new.self.edition c.args.level next range (left c.expect.new.self) c.args.position c.args.names.items (λ f. false_true (c.if-is_range.ensures.1 (f.0, ap (λ (ns : List trees.Name). length ns) c.deref.ensures.value ∙ f.1, f.2)))
+    ∙ ap (λ b. run c.expect.new.self.edition 250 (expr 5 b c.args.level an_operand (λ e. more_exprs b c.args.level (e ∷ []) behind)) (left c.expect.new.self)) (sym c.is_bare.ensures)
     ∙ (c.in_ok-values.ensures.reads behind).by)
     (c.stated.ensures.ok next alone range) c.stated.ensures.err

@@ -19,8 +19,8 @@ returns-in-Simple-clause-reads c = λ next.
     let as_call = λ (a : trees.Expr). next (trees.call_statement a) in
     record {
       by = (c.in_ok-simple.ensures.reads next as_call (λ n. as_call)).by
-          ∙ ap (λ (h : Header). run 250 (by_header next as_call (λ n. as_call) h) (left c.header_from.new.parser)) c.in-Simple.is
-          ∙ ap (λ (x : Simple). run 250 (next (simple_of x)) (left c.header_from.new.parser)) (sym c.into_inner.ensures);
+          ∙ ap (λ (h : Header). run c.header_from.new.parser.edition 250 (by_header next as_call (λ n. as_call) h) (left c.header_from.new.parser)) c.in-Simple.is
+          ∙ ap (λ (x : Simple). run c.header_from.new.parser.edition 250 (next (simple_of x)) (left c.header_from.new.parser)) (sym c.into_inner.ensures);
     }
 
 pub returns-in-Alone-clause-reads : goal.returns-in-Alone-clause-reads
@@ -28,8 +28,8 @@ returns-in-Alone-clause-reads c = λ next.
     let as_call = λ (a : trees.Expr). next (trees.call_statement a) in
     record {
       by = (c.in_ok-simple.ensures.reads next as_call (λ n. as_call)).by
-          ∙ ap (λ (h : Header). run 250 (by_header next as_call (λ n. as_call) h) (left c.header_from.new.parser)) c.in-Alone.is
-          ∙ ap (λ (x : Expr). run 250 (next (trees.call_statement (expr_of x))) (left c.header_from.new.parser)) (sym c.into_inner-in-Alone.ensures);
+          ∙ ap (λ (h : Header). run c.header_from.new.parser.edition 250 (by_header next as_call (λ n. as_call) h) (left c.header_from.new.parser)) c.in-Alone.is
+          ∙ ap (λ (x : Expr). run c.header_from.new.parser.edition 250 (next (trees.call_statement (expr_of x))) (left c.header_from.new.parser)) (sym c.into_inner-in-Alone.ensures);
     }
 
 pub returns-in-Range-clause-reads : goal.returns-in-Range-clause-reads
@@ -37,6 +37,6 @@ returns-in-Range-clause-reads c = λ next.
     let as_call = λ (a : trees.Expr). next (trees.call_statement a) in
     record {
       by = (c.in_ok-simple.ensures.reads next as_call (λ n. as_call)).by
-          ∙ ap (λ (h : Header). run 250 (by_header next as_call (λ n. as_call) h) (left c.header_from.new.parser)) c.in-Range.is
-          ∙ ap (λ (x : Expr). run 250 (next (trees.call_statement (expr_of x))) (left c.header_from.new.parser)) (sym c.into_inner-in-Range.ensures);
+          ∙ ap (λ (h : Header). run c.header_from.new.parser.edition 250 (by_header next as_call (λ n. as_call) h) (left c.header_from.new.parser)) c.in-Range.is
+          ∙ ap (λ (x : Expr). run c.header_from.new.parser.edition 250 (next (trees.call_statement (expr_of x))) (left c.header_from.new.parser)) (sym c.into_inner-in-Range.ensures);
     }

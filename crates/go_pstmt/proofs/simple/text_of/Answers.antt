@@ -3,7 +3,7 @@ use Rattle.go_ast.specs.Trees.{Name}
 use Rattle.go_ast.specs.Machine.{name_if}
 use Rattle.go_ast.specs.Views.{expr_of}
 use Rattle.go_ast.specs.declared.expression.ExprKind.{ExprKind}
-use Rattle.go_ast.proofs.Rows.{name_seen, integer_seen, rune_seen, string_seen, parenthesized_seen, literal_seen, conversion_seen, selector_seen, index_seen, call_seen, unary_seen, binary_seen}
+use Rattle.go_ast.proofs.Rows.{name_seen, integer_seen, rune_seen, string_seen, parenthesized_seen, literal_seen, conversion_seen, selector_seen, index_seen, cut_seen, type_operand_seen, call_seen, unary_seen, binary_seen}
 use Rattle.go_pstmt.proofs.simple.text_of.Goals as goal
 
 pub returns-in-Integer : goal.returns-in-Integer
@@ -45,6 +45,16 @@ pub returns-in-Index : goal.returns-in-Index
 returns-in-Index c =
     let e = c.args.operand.now in
     sym (ap (λ (k : ExprKind). name_if (expr_of (record { place = e.place; kind = k }))) c.in-Index.is ∙ ap name_if (index_seen e.place c.in-Index.field-0 c.in-Index.field-1 c.in-Index.field-0.value c.in-Index.field-1.value refl refl))
+
+pub returns-in-Cut : goal.returns-in-Cut
+returns-in-Cut c =
+    let e = c.args.operand.now in
+    sym (ap (λ (k : ExprKind). name_if (expr_of (record { place = e.place; kind = k }))) c.in-Cut.is ∙ ap name_if (cut_seen e.place c.in-Cut.field-0 c.in-Cut.field-1 c.in-Cut.field-2 c.in-Cut.field-0.value refl))
+
+pub returns-in-Type : goal.returns-in-Type
+returns-in-Type c =
+    let e = c.args.operand.now in
+    sym (ap (λ (k : ExprKind). name_if (expr_of (record { place = e.place; kind = k }))) c.in-Type.is ∙ ap name_if (type_operand_seen e.place c.in-Type.field-0 c.in-Type.field-0.value refl))
 
 pub returns-in-Call : goal.returns-in-Call
 returns-in-Call c =

@@ -38,7 +38,7 @@ decreases-clause_statements l = 4 * size l.parser.now + 3
 abbrev pub invariant-block-statements : goal.invariant-block-statements
 invariant-block-statements l = record {
   reads : (next : List trees.Stmt → Lexeme → State) →
-      run 250 (list_start (statements (l.fn.level + 1)) [] next) (left l.initial.parser) ≡ run 250 (list_start (statements (l.fn.level + 1)) (map stmt_of l.statements.items) next) (left l.parser);
+      run l.initial.parser.edition 250 (list_start (statements (l.fn.level + 1)) [] next) (left l.initial.parser) ≡ run l.parser.edition 250 (list_start (statements (l.fn.level + 1)) (map stmt_of l.statements.items) next) (left l.parser);
   shorter : size l.parser < size l.fn.parser;
 }
 
@@ -48,7 +48,7 @@ decreases-block-statements l = size l.parser
 abbrev pub invariant-clauses-clauses : goal.invariant-clauses-clauses
 invariant-clauses-clauses l = record {
   reads : (next : trees.Clauses → Lexeme → State) →
-      run 250 (clauses_behind l.fn.level [] next) (left l.fn.parser) ≡ run 250 (clauses_behind l.fn.level (map clause_of l.clauses.items) next) (left l.parser);
+      run l.fn.parser.edition 250 (clauses_behind l.fn.level [] next) (left l.fn.parser) ≡ run l.parser.edition 250 (clauses_behind l.fn.level (map clause_of l.clauses.items) next) (left l.parser);
   shorter : size l.parser ≤ size l.fn.parser;
 }
 
@@ -58,7 +58,7 @@ decreases-clauses-clauses l = size l.parser
 abbrev pub invariant-clause_statements-statements : goal.invariant-clause_statements-statements
 invariant-clause_statements-statements l = record {
   reads : (done : List Clause) (p : Place) (values : Option trees.Exprs) (next : trees.Clauses → Lexeme → State) →
-      run 250 (clause_start l.fn.level done p values [] next) (left l.fn.parser) ≡ run 250 (clause_start l.fn.level done p values (map stmt_of l.statements.items) next) (left l.parser);
+      run l.fn.parser.edition 250 (clause_start l.fn.level done p values [] next) (left l.fn.parser) ≡ run l.parser.edition 250 (clause_start l.fn.level done p values (map stmt_of l.statements.items) next) (left l.parser);
   shorter : size l.parser ≤ size l.fn.parser;
 }
 

@@ -1,11 +1,12 @@
 use Rattle.std.proofs.Common.{◌++◌, false, map, sym, ap, ◌∙◌}
 use Rattle.go_ast.specs.Trees.{pack_elements, pack_fields}
+use Rattle.go_ast.specs.declared.expression.Bound.{Bound}
 use Rattle.go_ast.specs.declared.expression.ExprKind.{ExprKind}
 use Rattle.go_ast.specs.declared.expression.TypeKind.{TypeKind}
-use Rattle.go_ast.specs.Views.{type_of, expr_of, exprs_in, value_of, element_of, field_of}
-use Rattle.go_ast.proofs.Rows.{array_seen, struct_seen, literal_seen, conversion_seen, index_seen, call_seen, binary_seen, expression_seen, value_seen}
-use Rattle.go_scope.specs.Names.{in_type, in_fields, in_expr, in_exprs, in_elements, in_element, used}
-use Rattle.go_scope.proofs.Uses.{added_once, added_twice}
+use Rattle.go_ast.specs.Views.{type_of, expr_of, bound_of, exprs_in, value_of, element_of, field_of}
+use Rattle.go_ast.proofs.Rows.{array_seen, struct_seen, literal_seen, conversion_seen, index_seen, bound_seen, cut_seen, type_operand_seen, call_seen, binary_seen, expression_seen, value_seen}
+use Rattle.go_scope.specs.Names.{in_type, in_fields, in_expr, in_bound, in_exprs, in_elements, in_element, used}
+use Rattle.go_scope.proofs.Uses.{added_once, added_twice, added_thrice}
 use Rattle.go_scope.proofs.names.+names.Goals as goal
 
 pub add_operand_names-returns-in_ok-add_type_names-in-CompositeLit : goal.add_operand_names-returns-in_ok-add_type_names-in-CompositeLit
@@ -44,6 +45,17 @@ add_operand_names-returns-in_ok-add_operand_names-in-Index t c =
     c.in_ok-add_operand_names-in-Index.ensures c.add_operand_names-in-Index-2.ensures
     (ap (λ (k : ExprKind). in_expr c.args.dotted (expr_of (record { place = place; kind = k }))) arm.is
     ∙ ap (in_expr c.args.dotted) (index_seen place arm.operand arm.index operand index (sym c.deref-in-Index.ensures) (sym c.deref-in-Index-2.ensures)))
+
+pub add_operand_names-returns-in_ok-add_bound_names-in-Cut : goal.add_operand_names-returns-in_ok-add_bound_names-in-Cut
+add_operand_names-returns-in_ok-add_bound_names-in-Cut t c =
+    let place = c.args.e.now.place in
+    let arm = c.in-Cut in
+    let operand = c.deref-in-Cut.result.now in
+    added_thrice c.add_bound_names-in-Cut.result (map used c.args.names.now.items) (map used c.add_operand_names-in-Cut.new.names.items) (map used c.add_bound_names.new.names.items) (map used c.add_bound_names-in-Cut.new.names.items)
+    (in_expr false (expr_of operand)) (in_bound (bound_of arm.low)) (in_bound (bound_of arm.high)) (in_expr c.args.dotted (expr_of c.args.e.now))
+    c.in_ok-add_operand_names-in-Cut.ensures c.in_ok-add_bound_names-in-Cut.ensures c.add_bound_names-in-Cut.ensures
+    (ap (λ (k : ExprKind). in_expr c.args.dotted (expr_of (record { place = place; kind = k }))) arm.is
+    ∙ ap (in_expr c.args.dotted) (cut_seen place arm.operand arm.low arm.high operand (sym c.deref-in-Cut.ensures)))
 
 pub add_operand_names-returns-in_ok-add_operand_names-in-Call : goal.add_operand_names-returns-in_ok-add_operand_names-in-Call
 add_operand_names-returns-in_ok-add_operand_names-in-Call t c =
@@ -92,6 +104,24 @@ add_type_names-returns-in-Struct t c =
     (ap (λ (k : TypeKind). in_type (type_of (record { place = place; kind = k }))) c.in-Struct.is
     ∙ ap in_type (struct_seen place c.in-Struct.fields)
     ∙ ap (λ fs. in_fields (pack_fields (map field_of fs))) (sym c.deref-in-Struct.ensures.value))
+
+pub add_operand_names-returns-in-Type : goal.add_operand_names-returns-in-Type
+add_operand_names-returns-in-Type t c =
+    let place = c.args.e.now.place in
+    let of = c.deref-in-Type.result.now in
+    added_once c.add_type_names-in-Type.result (map used c.args.names.now.items) (map used c.add_type_names-in-Type.new.names.items)
+    (in_type (type_of of)) (in_expr c.args.dotted (expr_of c.args.e.now))
+    c.add_type_names-in-Type.ensures
+    (ap (λ (k : ExprKind). in_expr c.args.dotted (expr_of (record { place = place; kind = k }))) c.in-Type.is
+    ∙ ap (in_expr c.args.dotted) (type_operand_seen place c.in-Type.of of (sym c.deref-in-Type.ensures)))
+
+pub add_bound_names-returns-in-At : goal.add_bound_names-returns-in-At
+add_bound_names-returns-in-At t c =
+    let e = c.deref.result.now in
+    added_once c.add_operand_names.result (map used c.args.names.now.items) (map used c.add_operand_names.new.names.items)
+    (in_expr false (expr_of e)) (in_bound (bound_of c.args.bound.now))
+    c.add_operand_names.ensures
+    (ap (λ (b : Bound). in_bound (bound_of b)) c.in-At.is ∙ ap in_bound (bound_seen c.in-At.e e (sym c.deref.ensures)))
 
 pub add_value_names-returns-in-Expression : goal.add_value_names-returns-in-Expression
 add_value_names-returns-in-Expression t c =

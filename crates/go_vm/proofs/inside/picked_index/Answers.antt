@@ -2,7 +2,7 @@ use Rattle.std.proofs.Common.{◌≡◌, ℕ, ◌+◌, ◌*◌, ◌≤◌, ◌<�
 use Rattle.std.specs.Prelude.{if◌then◌else◌}
 use Rattle.std.proofs.lemmas.Bool.{ltb-true}
 use Rattle.std.proofs.Math.Nat.{mul-le-mul_right}
-use Rattle.go_code.specs.declared.cell.Cell.TheVariants.{Int, Bool as Truth, Text}
+use Rattle.go_code.specs.declared.cell.Cell.TheVariants.{Int, Bool as Truth, Text, Slice}
 use Rattle.go_code.specs.declared.ending.PanicKind.TheVariants.{Index}
 use Rattle.go_code.specs.Parts.{picked, index_below, with_index}
 use Rattle.go_code.specs.Operators.{Operated, Gives, Panics, Senseless}
@@ -33,6 +33,7 @@ first_below count size (Int (pos i)) index e =
 first_below count size (Int (negsuc i)) index e = cc
 first_below count size (Truth b) index e = cc
 first_below count size (Text t) index e = cc
+first_below count size (Slice r b n l) index e = cc
 
 pub returns-clause-told : goal.returns-clause-told
 returns-clause-told c =

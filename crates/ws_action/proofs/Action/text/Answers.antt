@@ -2,16 +2,17 @@ use Rattle.std.proofs.Common.{rules, ◌≡◌, ℕ, List, ◌++◌, map, ap, su
 use Rattle.std.specs.Prelude.{codes}
 use Rattle.std.specs.Arc.{arc_value}
 use Rattle.std.specs.Fmt.{decimal}
+use Rattle.go_text.specs.Editions.{edition_number}
 use Rattle.go_export.specs.Fields.{field}
 use Rattle.ws_action.specs.Actions.{Action, import_of, list_text, action_text}
 use Rattle.ws_action.proofs.Imports.{named_imports}
 use Rattle.ws_action.proofs.Action.text.Goals as goal
 
 -- the text part by part
-in_parts : (a : Action) (t u v w x : List ℕ) → t ≡ field (codes "goset action") → u ≡ t ++ field (decimal a.edition) → v ≡ u ++ field a.path → w ≡ v ++ list_text a.files → x ≡ w ++ list_text a.imports → x ≡ action_text a
+in_parts : (a : Action) (t u v w x : List ℕ) → t ≡ field (codes "goset action") → u ≡ t ++ field (decimal (edition_number a.edition)) → v ≡ u ++ field a.path → w ≡ v ++ list_text a.files → x ≡ w ++ list_text a.imports → x ≡ action_text a
 unfolding action_text
 in_parts a t u v w x first second third fourth fifth =
-    fifth ∙ ap (λ s. s ++ list_text a.imports) (fourth ∙ ap (λ s. s ++ list_text a.files) (third ∙ ap (λ s. s ++ field a.path) (second ∙ ap (λ s. s ++ field (decimal a.edition)) first)))
+    fifth ∙ ap (λ s. s ++ list_text a.imports) (fourth ∙ ap (λ s. s ++ list_text a.files) (third ∙ ap (λ s. s ++ field a.path) (second ∙ ap (λ s. s ++ field (decimal (edition_number a.edition))) first)))
 
 pub returns : goal.returns
 returns c =

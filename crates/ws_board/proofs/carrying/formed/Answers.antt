@@ -30,7 +30,7 @@ returns-in_ok-new-in-Some-2-clause-some c =
     let are : Are h now imports summaries = subst (λ o. IfSome o (λ ss. Are h now imports (map arc_value ss.items))) c.in-Some.is c.in_ok-summaries.ensures.some in
     let written : All IsWritten summaries = subst (λ o. IfSome o (λ ss. All IsWritten (map arc_value ss.items))) c.in-Some.is c.in_ok-summaries.ensures.written in
     let is : action ≡ acted work summaries = subst (λ (o : Option Action). IfSome o (λ a. a ≡ acted work summaries)) c.in-Some-2.is c.in_ok-action.ensures.is in
-    let make : MakeAction work.files summaries = subst (λ (o : Option Action). IfSome o (λ a. MakeAction work.files summaries)) c.in-Some-2.is c.in_ok-action.ensures.make in
+    let make : MakeAction work.edition work.files summaries = subst (λ (o : Option Action). IfSome o (λ a. MakeAction work.edition work.files summaries)) c.in-Some-2.is c.in_ok-action.ensures.make in
     let sized : IsSized action = subst (λ (o : Option Action). IfSome o (λ a. IsSized a)) c.in-Some-2.is c.in_ok-action.ensures.sized in
     subst (IsFormed h now work imports) (sym c.in_ok-new-in-Some-2.ensures) (forms h now work imports summaries action are written is make sized)
 
@@ -42,4 +42,4 @@ returns-in-None-clause-none c =
     let imports = imports_at c.args.rows.now.jobs.items c.args.job in
     let summaries = map arc_value c.in-Some.summaries.items in
     let are : Are h now imports summaries = subst (λ o. IfSome o (λ ss. Are h now imports (map arc_value ss.items))) c.in-Some.is c.in_ok-summaries.ensures.some in
-    forms_none h now work imports summaries are (subst (λ (o : Option Action). IfNone o (¬ (MakeAction work.files summaries))) c.in-None.is c.in_ok-action.ensures.none)
+    forms_none h now work imports summaries are (subst (λ (o : Option Action). IfNone o (¬ (MakeAction work.edition work.files summaries))) c.in-None.is c.in_ok-action.ensures.none)

@@ -46,10 +46,10 @@ loop-found-preserved c =
     )
 
 pub returns : goal.returns
-returns c = λ sources targets all.
+returns c = λ ed sources targets all.
     let inv = c.loop-found.invariant in
     let none : c.loop-found.found-iterator.rest.items ≡ [] = (let long : length c.loop-found.found-iterator.rest.items ≡ 0 = first_of (omega (arith, c.in-None.ensures.steps.0, c.loop-found.found-iterator.rest.ok), grind (arith, common_steps, c.in-None.ensures.steps.0, c.loop-found.found-iterator.rest.ok), search rules) in nil_from_length c.loop-found.found-iterator.rest.items long) in
     let whole : c.args.founds.items ≡ inv.0 = inv.1 ∙ ap (λ l. inv.0 ++ l) none ∙ append-nil inv.0 in
     let are : AreLinks (texts c.args.paths.now) c.args.founds.items c.in_ok-links.links = subst (λ fs. AreLinks (texts c.args.paths.now) fs c.in_ok-links.links) c.as_slice.ensures.value c.in_ok-links.ensures in
-    build_plan sources targets (texts c.args.paths.now) c.args.founds.items c.in_ok-links.links all are (map directory_of c.loop-found.directories.items)
+    build_plan ed sources targets (texts c.args.paths.now) c.args.founds.items c.in_ok-links.links all are (map directory_of c.loop-found.directories.items)
     (subst (λ fs. AreLinkedFrom (texts c.args.paths.now) c.in_ok-links.links 0 fs (map directory_of c.loop-found.directories.items)) (sym whole) inv.2)

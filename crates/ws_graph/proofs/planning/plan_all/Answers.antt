@@ -21,6 +21,6 @@ returns-clause-ok g c = λ W stands.
     let wave : IsFirstWave sources (texts c.args.targets.now) c.in-Some.first.items = search rules in
     let first = waiting_paths c.in-Some.first.items in
     let paths : c.as_slice.result.now ≡ keys c.in_ok-met.met = c.as_slice.ensures.value ∙ c.in_ok-paths.ensures.paths in
-    let here : AreAll sources first (texts c.as_slice.result.now) c.in_ok-paths.founds.items =
-    subst (λ ps. AreAll sources first (texts ps) c.in_ok-paths.founds.items) (sym paths) (subst (AreAll sources first (met_paths c.in_ok-met.met.entries)) (sym c.in_ok-paths.ensures.founds) c.in_ok-met.ensures) in
-    (sources, (c.args.registers.now, stands, refl), joint_same sources first (texts c.args.targets.now) _ wave.are (c.in_ok-directories.ensures sources first here))
+    let here : AreAll c.args.edition sources first (texts c.as_slice.result.now) c.in_ok-paths.founds.items =
+    subst (λ ps. AreAll c.args.edition sources first (texts ps) c.in_ok-paths.founds.items) (sym paths) (subst (AreAll c.args.edition sources first (met_paths c.in_ok-met.met.entries)) (sym c.in_ok-paths.ensures.founds) c.in_ok-met.ensures) in
+    (sources, (c.args.registers.now, stands, refl), joint_same c.args.edition sources first (texts c.args.targets.now) _ wave.are (c.in_ok-directories.ensures c.args.edition sources first here))

@@ -27,4 +27,4 @@ returns g c = λ sources are.
     IfOk-then c.collect.result _ _ c.collect.ensures (λ v h.
     let chain = h.1 in
     let base : chain.0 ≡ c.args.wave.items = chain.1 ∙ items in
-    are_read sources c.args.wave.items v.items (rw h.2 (subst (λ l. AllZip (λ w r. (sources : Sources) → IsWaiting sources w → IfOk r (IsReadAs sources w)) l h.0) base (rw c.map.ensures.f at chain.2))) are)
+    are_read c.args.edition sources c.args.wave.items v.items (rw h.2 (subst (λ l. AllZip (λ w r. (sources : Sources) → IsWaiting sources w → IfOk r (IsReadAs c.args.edition sources w)) l h.0) base (rw c.map.ensures.f at chain.2))) are)

@@ -3,7 +3,6 @@ use Rattle.std.proofs.lemmas.List.{length-map}
 use Rattle.std.specs.Prelude.{Vec}
 use Rattle.std.specs.Global.{Global}
 use Rattle.std.specs.List.{AllZip}
-use Rattle.go_text.specs.Editions.{edition_number}
 use Rattle.ws_replica.specs.Builds.{target_of}
 use Rattle.ws_replica.specs.Jobs.{reached_of, all_reached_of}
 use Rattle.ws_replica.specs.Parts.{part_of, AllPartsWithin, IsPartOf, IsRunOf}
@@ -37,5 +36,5 @@ returns-clause-ok g c took stand sized =
     let parts_are : AllZip (IsPartOf all) targets parts = subst (λ (xs : List (Vec Reached Global)). AllZip (IsPartOf (all_reached_of xs)) targets parts) c.as_slice.ensures.value c.in_ok-parts.ensures.are in
     let run : IsRunOf c.in_ok-opening.opening all parts c.in_ok-reports.reports.items c.in_ok-reports.added =
     subst (λ (ps : List Part). IsRunOf c.in_ok-opening.opening all (map part_of ps) c.in_ok-reports.reports.items c.in_ok-reports.added) c.as_slice-2.ensures.value c.in_ok-reports.ensures in
-    are_built (edition_number c.args.edition) c.args.replicas.now c.give_results.new.replicas took targets stand sized
+    are_built c.args.edition c.args.replicas.now c.give_results.new.replicas took targets stand sized
     all c.in_ok-all.ensures.ok parts parts_are c.in_ok-opening.opening c.in_ok-opening.ensures c.in_ok-reports.reports.items c.in_ok-reports.added run c.in_ok-give_results.ensures.ok

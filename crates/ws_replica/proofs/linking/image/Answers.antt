@@ -4,7 +4,6 @@ use Rattle.std.specs.FinMap.{FinMap}
 use Rattle.std.proofs.lemmas.List.{length-map}
 use Rattle.std.specs.Global.{Global}
 use Rattle.std.specs.Prelude.{Vec}
-use Rattle.go_text.specs.Editions.{edition_number}
 use Rattle.go_init.specs.Packages.{package_order}
 use Rattle.ws_reach.specs.Reach.{rows_of}
 use Rattle.ws_version.specs.Writes.{held_cmp}
@@ -28,12 +27,12 @@ returns-in_default-clause-ok g c W E h sized =
     let registers : c.replica.inside.registers ≡ old.registers = ap (λ (r : Replica). r.registers) c.replica.view_is in
     let cache : c.in_ok-cache.cache ≡ old.cache = c.in_ok-cache.ensures ∙ ap (λ (r : Replica). r.cache) c.replica.view_is in
     let ds : List Directory = map directory_of c.in_ok-plan.plan.directories.items in
-    let of : IsBuildPlanOf W c.args.directory.now ds = c.in_ok-plan.ensures.ok W (subst (λ (m : Contents). StandsFor held_cmp m W) (sym registers) h.registers) in
+    let of : IsBuildPlanOf c.args.edition W c.args.directory.now ds = c.in_ok-plan.ensures.ok W (subst (λ (m : Contents). StandsFor held_cmp m W) (sym registers) h.registers) in
     let files : HasFiles W = c.see_files.ensures W (subst (λ (m : Contents). StandsFor held_cmp m W) (sym registers) h.registers) in
     let reached : List Reached = map reached_of c.in_ok-reached.reached.items in
     let size : length c.in_ok-rows.rows.items ≡ length reached =
     sym (length-map c.in_ok-rows.rows.items (λ (v : Vec ℕ Global). v.items)) ∙ ap length (c.in_ok-rows.ensures ∙ ap (λ zs. map (λ (r : Reached). r.imports) (map reached_of zs)) c.deref.ensures.value) ∙ length-map reached (λ (r : Reached). r.imports) in
-    no_image (edition_number c.args.edition) W E c.args.directory.now ds of files sized c.in_ok-cache.cache (subst (λ (m : FinMap id_cmp Action). CacheStandsFor m E) (sym cache) h.cache)
+    no_image c.args.edition W E c.args.directory.now ds of files sized c.in_ok-cache.cache (subst (λ (m : FinMap id_cmp Action). CacheStandsFor m E) (sym cache) h.cache)
     reached c.in_ok-reached.ensures c.in_ok-board.board c.in_ok-board.ensures.board c.len.result (search rules)
     (if_none c.in_ok-objects.field-0 (SomeLacks c.in_ok-board.board c.len.result) c.in_default.not-Some c.in_ok-objects.ensures.none)
 
@@ -43,7 +42,7 @@ returns-clause-ok g c W E h sized =
     let registers : c.replica.inside.registers ≡ old.registers = ap (λ (r : Replica). r.registers) c.replica.view_is in
     let cache : c.in_ok-cache.cache ≡ old.cache = c.in_ok-cache.ensures ∙ ap (λ (r : Replica). r.cache) c.replica.view_is in
     let ds : List Directory = map directory_of c.in_ok-plan.plan.directories.items in
-    let of : IsBuildPlanOf W c.args.directory.now ds = c.in_ok-plan.ensures.ok W (subst (λ (m : Contents). StandsFor held_cmp m W) (sym registers) h.registers) in
+    let of : IsBuildPlanOf c.args.edition W c.args.directory.now ds = c.in_ok-plan.ensures.ok W (subst (λ (m : Contents). StandsFor held_cmp m W) (sym registers) h.registers) in
     let files : HasFiles W = c.see_files.ensures W (subst (λ (m : Contents). StandsFor held_cmp m W) (sym registers) h.registers) in
     let reached : List Reached = map reached_of c.in_ok-reached.reached.items in
     let rows : rows_of c.deref-3.result.now ≡ map (λ (r : Reached). r.imports) reached =
@@ -55,5 +54,5 @@ returns-clause-ok g c W E h sized =
     let linked : IsLinkedTo (map arc_value c.in-Some.objects.items) (package_order (map (λ (r : Reached). r.imports) reached)) c.in_ok-image.image =
     subst (λ os. IsLinkedTo (map arc_value os) (package_order (map (λ (r : Reached). r.imports) reached)) c.in_ok-image.image) c.deref-2.ensures.value
     (subst (λ zs. IsLinkedTo (map arc_value c.deref-2.result.now) (package_order zs) c.in_ok-image.image) rows c.in_ok-image.ensures) in
-    linked_image (edition_number c.args.edition) W E c.args.directory.now ds of files sized c.in_ok-cache.cache (subst (λ (m : FinMap id_cmp Action). CacheStandsFor m E) (sym cache) h.cache)
+    linked_image c.args.edition W E c.args.directory.now ds of files sized c.in_ok-cache.cache (subst (λ (m : FinMap id_cmp Action). CacheStandsFor m E) (sym cache) h.cache)
     reached c.in_ok-reached.ensures c.in_ok-board.board c.in_ok-board.ensures.board (map arc_value c.in-Some.objects.items) c.len.result (search rules) have c.in_ok-image.image linked

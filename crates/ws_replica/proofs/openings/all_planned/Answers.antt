@@ -2,7 +2,6 @@ use Rattle.std.specs.Prelude.{Vec}
 use Rattle.std.specs.Global.{Global}
 use Rattle.std.proofs.Common.{◌≡◌, ◌++◌, ◌∷◌, [], ◌∙◌, length, map, ap, sym, subst, rules, arith, length-append}
 use Rattle.std.proofs.lemmas.List.{map-append}
-use Rattle.go_text.specs.Editions.{edition_number}
 use Rattle.ws_version.specs.Writes.{held_cmp}
 use Rattle.ws_map.specs.Kept.{StandsFor}
 use Rattle.ws_register.specs.Edits.{Contents}
@@ -16,12 +15,12 @@ use Rattle.ws_replica.proofs.openings.all_planned.Goals as goal
 
 pub returns-in_err-reached-clause-none : goal.returns-in_err-reached-clause-none
 returns-in_err-reached-clause-none g c is took stand =
-    lacks_at c.args.replicas.now (map target_of c.args.targets.now) c.loop-number.number c.replica_at.result.now (texts c.as_slice.result.now) c.replica_at.ensures (ap texts c.as_slice.ensures.value ∙ c.in_ok-directories.ensures)
+    lacks_at c.args.edition c.args.replicas.now (map target_of c.args.targets.now) c.loop-number.number c.replica_at.result.now (texts c.as_slice.result.now) c.replica_at.ensures (ap texts c.as_slice.ensures.value ∙ c.in_ok-directories.ensures)
     (λ W stands. c.in_err-reached.ensures.none (search rules) W (subst (λ (m : Contents). StandsFor held_cmp m W) (sym c.registers-registers.ensures) stands)) took stand
 
 pub loop-number-preserved : goal.loop-number-preserved
 loop-number-preserved g c =
-    let edition = edition_number c.args.edition in
+    let edition = c.args.edition in
     let targets = map target_of c.args.targets.now in
     let old = all_reached_of c.loop-number.all.items in
     let x = map reached_of c.in_ok-reached.reached.items in
@@ -45,4 +44,4 @@ returns-clause-ok g c = record {
 }
 
 pub returns-clause-order : goal.returns-clause-order
-returns-clause-order g c = λ k reached at. let it = c.loop-number.invariant.are k reached at in in_order (edition_number c.args.edition) it.replica.registers (directories_at (map target_of c.args.targets.now) k) reached it.by
+returns-clause-order g c = λ k reached at. let it = c.loop-number.invariant.are k reached at in in_order c.args.edition it.replica.registers (directories_at (map target_of c.args.targets.now) k) reached it.by

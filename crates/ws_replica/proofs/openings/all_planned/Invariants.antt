@@ -1,5 +1,4 @@
 use Rattle.std.proofs.Common.{◌≡◌, length, map}
-use Rattle.go_text.specs.Editions.{edition_number}
 use Rattle.ws_replica.specs.Builds.{target_of}
 use Rattle.ws_replica.specs.Jobs.{all_reached_of}
 use Rattle.ws_replica.specs.Targets.{AreReachedOf}
@@ -8,5 +7,5 @@ use Rattle.ws_replica.proofs.openings.all_planned.Given as goal
 abbrev pub invariant-loop-number : goal.invariant-loop-number
 invariant-loop-number g l = record {
   size : length (all_reached_of l.all.items) ≡ l.number;
-  are : AreReachedOf (edition_number l.edition) l.replicas (map target_of l.targets) (all_reached_of l.all.items);
+  are : AreReachedOf l.edition l.replicas (map target_of l.targets) (all_reached_of l.all.items);
 }

@@ -1,6 +1,5 @@
 use Rattle.std.proofs.Common.{◌≡◌, ◌++◌, map}
 use Rattle.std.specs.Vec.Iter.{into_iter_items}
-use Rattle.go_text.specs.Editions.{edition_number}
 use Rattle.ws_graph.specs.Node.{directory_of}
 use Rattle.ws_replica.specs.Jobs.{reached_of, reached_by}
 use Rattle.ws_replica.proofs.reached.all_reached.Given as goal
@@ -8,5 +7,5 @@ use Rattle.ws_replica.proofs.reached.all_reached.Given as goal
 -- those so far, and those of what is left
 abbrev pub invariant-loop-directory : goal.invariant-loop-directory
 invariant-loop-directory l =
-    map reached_of l.reached.items ++ map (reached_by (edition_number l.edition)) (map directory_of (into_iter_items l.directory-iterator))
-    ≡ map (reached_by (edition_number l.edition)) (map directory_of l.fn.directories.items)
+    map reached_of l.reached.items ++ map (reached_by l.edition) (map directory_of (into_iter_items l.directory-iterator))
+    ≡ map (reached_by l.edition) (map directory_of l.fn.directories.items)

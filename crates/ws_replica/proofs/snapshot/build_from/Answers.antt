@@ -4,7 +4,6 @@ use Rattle.std.specs.Prelude.{Vec}
 use Rattle.std.specs.Global.{Global}
 use Rattle.std.specs.FinMap.{FinMap}
 use Rattle.std.specs.List.{AllZip}
-use Rattle.go_text.specs.Editions.{edition_number}
 use Rattle.ws_map.specs.Kept.{joined}
 use Rattle.ws_action.specs.Actions.{Action}
 use Rattle.ws_cache.specs.Held.{id_cmp}
@@ -38,7 +37,7 @@ run-requires-clause-within g c κs within =
 
 pub returns-clause-ok : goal.returns-clause-ok
 returns-clause-ok g c took stand sized =
-    let edition = edition_number c.args.edition in
+    let edition = c.args.edition in
     let held : List Replica = c.args.snapshots.now in
     let targets = map target_of c.args.targets.now in
     let all = all_reached_of c.in_ok-all.all.items in

@@ -7,10 +7,10 @@ use Rattle.ws_run.proofs.run.image_of.Goals as goal
 
 pub returns-in-Ok : goal.returns-in-Ok
 returns-in-Ok g c files h =
-    let sources = c.see_files.ensures (writes_of files) (actions_of 1 h.build) h.stands in
-    has_image files c.args.directory.now c.args.replica.now h sources c.in-Ok.image (c.in-Ok.ensures.ok (writes_of files) (actions_of 1 h.build) h.stands h.sized)
+    let sources = c.see_files.ensures (writes_of files) (actions_of c.args.edition h.build) h.stands in
+    has_image c.args.edition files c.args.directory.now c.args.replica.now h sources c.in-Ok.image (c.in-Ok.ensures.ok (writes_of files) (actions_of c.args.edition h.build) h.stands h.sized)
 
 pub returns-in-Err-NoPackage : goal.returns-in-Err-NoPackage
 returns-in-Err-NoPackage g c files h =
-    absurd (some_files files c.args.directory.now h.build h.are
-    (c.image.ensures.none (c.in-Err-NoPackage.is ∙ ap (λ x. Err x) c.in-Err-NoPackage.field-0-is) (writes_of files) (actions_of 1 h.build) h.stands))
+    absurd (some_files c.args.edition files c.args.directory.now h.build h.are
+    (c.image.ensures.none (c.in-Err-NoPackage.is ∙ ap (λ x. Err x) c.in-Err-NoPackage.field-0-is) (writes_of files) (actions_of c.args.edition h.build) h.stands))

@@ -5,9 +5,9 @@ use Rattle.ws_run.proofs.Running.{runs_as, makes_sense}
 use Rattle.ws_run.proofs.run.ran.Goals as goal
 
 pub returns-in-Ok : goal.returns-in-Ok
-returns-in-Ok c files directory p = runs_as files directory c.args.image.now p c.args.ticks c.in-Ok.outcome c.in-Ok.ensures
+returns-in-Ok c edition files directory p = runs_as edition files directory c.args.image.now p c.args.ticks c.in-Ok.outcome c.in-Ok.ensures
 
 pub returns-in-Err-BadCode : goal.returns-in-Err-BadCode
-returns-in-Err-BadCode c files directory p =
-    absurd (makes_sense files directory c.args.image.now p c.args.ticks
+returns-in-Err-BadCode c edition files directory p =
+    absurd (makes_sense edition files directory c.args.image.now p c.args.ticks
     (subst (λ error. Answers c.args.image.now c.args.ticks (Err error)) c.in-Err-BadCode.field-0-is c.in-Err-BadCode.ensures))

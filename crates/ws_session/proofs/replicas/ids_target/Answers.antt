@@ -1,7 +1,6 @@
 use Rattle.std.proofs.Common.{◌≡◌, sym, ap, ◌∙◌, subst, map}
 use Rattle.std.proofs.lemmas.Str.{is_utf8-from_IsUtf8}
 use Rattle.std.specs.Prelude.{Err}
-use Rattle.go_text.specs.Editions.{edition_number}
 use Rattle.ws_report.specs.Reports.{id_row}
 use Rattle.ws_command.specs.IdsPrinting.{ids_text}
 use Rattle.ws_session.specs.Standing.{index_of, HasNoFilesAt, AreIdsAt}
@@ -26,10 +25,10 @@ returns-in-Ok-ids_at g c =
     let word : c.in-Ok.directory.now ≡ c.args.word.now = c.in-Ok.ensures.cases.0 in
     let rows = map id_row c.in-Ok-ids_at.lines.items in
     if_ok_map c.ids_lines.result (λ told t text world same h.
-    ids_told c.args.name.now c.args.word.now text world c.args.named.now.items h c.in-Some.index e (edition_number c.args.edition) rows told.items same
+    ids_told c.args.name.now c.args.word.now text world c.args.named.now.items h c.in-Some.index e c.args.edition rows told.items same
     (is_utf8-from_IsUtf8 c.args.word.now c.in-Ok.ensures.cases.1)
     (t ∙ ap (λ d. ids_text c.args.name.now d (map id_row c.deref.result.now)) word ∙ ap (λ ls. ids_text c.args.name.now c.args.word.now (map id_row ls)) c.deref.ensures.value)
-    (subst (λ d. AreIdsAt (edition_number c.args.edition) d c.args.named.now.items c.in-Some.index rows) word c.in-Ok-ids_at.ensures.ok)) c.ids_lines.ensures
+    (subst (λ d. AreIdsAt c.args.edition d c.args.named.now.items c.in-Some.index rows) word c.in-Ok-ids_at.ensures.ok)) c.ids_lines.ensures
 
 pub returns-in-Err-NoPackage : goal.returns-in-Err-NoPackage
 returns-in-Err-NoPackage g c =
@@ -38,4 +37,5 @@ returns-in-Err-NoPackage g c =
     let none = c.ids_at.ensures.none (c.in-Err-NoPackage.is ∙ ap (λ x. Err x) c.in-Err-NoPackage.field-0-is) in
     if_ok_map c.refused-in-Err-NoPackage.result (λ told t text world same h.
     ids_none c.args.name.now c.args.word.now text world c.args.named.now.items h c.in-Some.index e told.items (is_utf8-from_IsUtf8 c.args.word.now c.in-Ok.ensures.cases.1) t
-    (subst (λ d. HasNoFilesAt d c.args.named.now.items c.in-Some.index) word none)) c.refused-in-Err-NoPackage.ensures
+    (subst (λ d. HasNoFilesAt world.edition d c.args.named.now.items c.in-Some.index) word
+    (subst (λ n. HasNoFilesAt n c.in-Ok.directory.now c.args.named.now.items c.in-Some.index) same none))) c.refused-in-Err-NoPackage.ensures

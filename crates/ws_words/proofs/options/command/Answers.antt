@@ -13,9 +13,9 @@ use Rattle.ws_words.proofs.options.command.Goals as goal
 pub returns : goal.returns
 returns c =
     let most_64 : c.range.result ≡ Signed (pos 1) (pos 64) = rw (c.value_parser.ensures, c.new.ensures.start, c.new.ensures.end) at c.range.ensures in
-    let most_1 : c.range-2.result ≡ Signed (pos 1) (pos 1) = rw (c.value_parser-2.ensures, c.new-2.ensures.start, c.new-2.ensures.end) at c.range-2.ensures in
+    let most_2 : c.range-2.result ≡ Signed (pos 1) (pos 2) = rw (c.value_parser-2.ensures, c.new-2.ensures.start, c.new-2.ensures.end) at c.range-2.ensures in
     let workers_is = c.option-workers.ensures.rule 64 most_64 in
-    let edition_is = c.option-edition.ensures.rule 1 most_1 in
+    let edition_is = c.option-edition.ensures.rule 2 most_2 in
     let start_is : app_of c.about.result ≡ on_top (λ top. record top { has_version = true }) (new_app (codes "goset")) =
     ap app_of_fields c.about.ensures ∙ (ap app_of_fields c.version.ensures ∙ ap (on_top (λ top. record top { has_version = true })) c.new-3.ensures.app) in
     let no_args : args_of c.about.result ≡ [] = search rules in

@@ -2,7 +2,7 @@ use Rattle.std.proofs.Common.{ap, ◌∙◌, ◌≡◌, sym, map, arith, false}
 use Rattle.clap.specs.Values.{kind_of}
 use Rattle.ws_words.specs.CommandLine.{faults}
 use Rattle.ws_words.specs.Statuses.{is_asked}
-use Rattle.ws_words.proofs.Outcomes.{error_asked, error_memory, error_unasked, error_wrong, fails_unasked, is_done, is_failed, is_misused, memory_session, no_reads, not_memory, only_memory}
+use Rattle.ws_words.proofs.Outcomes.{error_asked, error_memory, error_unasked, error_wrong, fails_unasked, is_done, is_failed, is_misused, memory_session, no_reads, not_memory, only_memory, stopped_in}
 use Rattle.ws_words.proofs.running.run_words.Goals.{in-Ok, in-Err+in-Some-1, in-Err+in-None-1}
 use Rattle.ws_words.proofs.running.run_words.Goals as goal
 
@@ -11,7 +11,7 @@ returns-clause-session g c = λ none zero.
     let done = is_done c.match-read_options.status (sym c.code.ensures ∙ zero) in
     let found = faults (map g.S.AsStr.text c.args.words.now) in
     elim c.match-read_options.branch [
-      | in-Ok w ↦ rw (w.reader-is, w.writer-is) (w.run-status.ensures.done (sym w.status-is ∙ done))
+      | in-Ok w ↦ rw (w.reader-is, w.writer-is, sym w.in-Ok.ensures.edition) (w.run-status.ensures.done (sym w.status-is ∙ done))
       | in-Err+in-Some-1 w ↦
           absurd (not_memory (kind_of w.in-Err.error) (w.explain-status.ensures.done (sym w.status-is ∙ done)).0
           (error_memory found w.in-Err.error w.in-Err.ensures.refusals none))
@@ -39,7 +39,7 @@ returns-clause-failed g c = λ one.
     elim c.match-read_options.branch [
       | in-Ok w ↦
           let f = w.run-status.ensures.failed (sym w.status-is ∙ failed) in
-          rw (w.reader-is, w.writer-is, w.errors-is) (f.0, f.1, f.2, f.3, (λ none. f.4), (λ some. absurd (some w.in-Ok.ensures.refusals)))
+          rw (w.reader-is, w.writer-is, w.errors-is) (f.0, f.1, f.2, f.3, (λ none. stopped_in _ _ _ _ _ _ f.0 w.in-Ok.ensures.edition f.4), (λ some. absurd (some w.in-Ok.ensures.refusals)))
       | in-Err+in-Some-1 w ↦
           let f = w.explain-status.ensures.failed (sym w.status-is ∙ failed) in
           let none_read = no_reads f.0 f.1 in
@@ -51,7 +51,7 @@ returns-clause-failed g c = λ one.
             (λ none.
                 let memory = error_memory found w.in-Err.error w.in-Err.ensures.refusals none in
                 let unasked : is_asked (kind_of w.in-Err.error) ≡ false = ap is_asked memory in
-                rw (w.explain-status.ensures.unwritten unasked) (memory_session _ _ f.0 (only_memory _ f.0 f.1 unasked))),
+                rw (w.explain-status.ensures.unwritten unasked) (memory_session _ _ _ f.0 (only_memory _ f.0 f.1 unasked))),
             (λ some. fails_unasked found w.in-Err.error f.0 w.in-Err.ensures.refusals f.1),
           )
       | in-Err+in-None-1 w ↦
@@ -65,7 +65,7 @@ returns-clause-failed g c = λ one.
             (λ none.
                 let memory = error_memory found w.in-Err.error w.in-Err.ensures.refusals none in
                 let unasked : is_asked (kind_of w.in-Err.error) ≡ false = ap is_asked memory in
-                rw (w.explain-status.ensures.unwritten unasked) (memory_session _ _ f.0 (only_memory _ f.0 f.1 unasked))),
+                rw (w.explain-status.ensures.unwritten unasked) (memory_session _ _ _ f.0 (only_memory _ f.0 f.1 unasked))),
             (λ some. fails_unasked found w.in-Err.error f.0 w.in-Err.ensures.refusals f.1),
           )
     ]

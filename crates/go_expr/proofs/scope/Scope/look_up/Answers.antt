@@ -17,7 +17,7 @@ returns-in-Some c =
     let here : lookup (bytes_eq c.args.name.now) locals ≡ Some found =
     sym c.local.ensures ∙ ap (option_map (λ o. named (option_map declared_of o.now))) c.in-Some.is in
     subst (λ (v : Verdict Known). AnswersAt known_of c.named.result c.args.place v)
-    (sym (found_first_or (bytes_eq c.args.name.now) locals (names_in s.imports.now s.declared.now s.iota) found (Breaks Undeclared) here))
+    (sym (found_first_or (bytes_eq c.args.name.now) locals (names_in s.edition s.imports.now s.declared.now s.iota) found (Breaks Undeclared) here))
     c.named.ensures
 
 pub returns-in-None : goal.returns-in-None
@@ -28,5 +28,5 @@ returns-in-None c =
     let none : lookup (bytes_eq c.args.name.now) locals ≡ None =
     sym c.local.ensures ∙ ap (option_map (λ o. named (option_map declared_of o.now))) c.in-None.is in
     subst (λ (v : Verdict Known). AnswersAt known_of c.look_up_outside.result c.args.place v)
-    (sym (found_later_or (bytes_eq c.args.name.now) locals (names_in s.imports.now s.declared.now s.iota) (Breaks Undeclared) none))
+    (sym (found_later_or (bytes_eq c.args.name.now) locals (names_in s.edition s.imports.now s.declared.now s.iota) (Breaks Undeclared) none))
     c.look_up_outside.ensures

@@ -14,7 +14,7 @@ returns-in-Some c =
     let s = c.args.self.now in
     let here : lookup (bytes_eq c.args.name.now) (map import_of s.imports.now) ≡ Some (Fine (known_of c.in-Some.known)) =
     sym c.imported.ensures ∙ ap (option_map (λ k. Fine (known_of k))) c.in-Some.is in
-    rw (found_first_or (bytes_eq c.args.name.now) (map import_of s.imports.now) (package_names s.declared.now ++ (iota_of s.iota ++ universe)) (Fine (known_of c.in-Some.known)) (Breaks Undeclared) here) (refl, refl)
+    rw (found_first_or (bytes_eq c.args.name.now) (map import_of s.imports.now) (package_names s.declared.now ++ (iota_of s.iota ++ universe s.edition)) (Fine (known_of c.in-Some.known)) (Breaks Undeclared) here) (refl, refl)
 
 pub returns-in-None : goal.returns-in-None
 unfolding names_in
@@ -23,5 +23,5 @@ returns-in-None c =
     let none : lookup (bytes_eq c.args.name.now) (map import_of s.imports.now) ≡ None =
     sym c.imported.ensures ∙ ap (option_map (λ k. Fine (known_of k))) c.in-None.is in
     subst (λ (v : Verdict Known). AnswersAt known_of c.declared_or_other.result c.args.place v)
-    (sym (found_later_or (bytes_eq c.args.name.now) (map import_of s.imports.now) (package_names s.declared.now ++ (iota_of s.iota ++ universe)) (Breaks Undeclared) none))
+    (sym (found_later_or (bytes_eq c.args.name.now) (map import_of s.imports.now) (package_names s.declared.now ++ (iota_of s.iota ++ universe s.edition)) (Breaks Undeclared) none))
     c.declared_or_other.ensures

@@ -11,4 +11,4 @@ use Rattle.go_parse.proofs.function.ParametersItems.item.Goals as goal
 pub returns-clause-reads : goal.returns-clause-reads
 returns-clause-reads c = λ front next.
     let behind = λ (s : trees.Parameter). list_end parameters another (front ++ s ∷ []) next in
-    then_reads (list_item parameters front next (parameter_item behind) (left c.args.parser.now) (λ t. refl) refl c.requires.some) (c.parameter.ensures.reads behind)
+    then_reads (list_item c.args.parser.now.edition parameters front next (parameter_item behind) (left c.args.parser.now) (λ t. refl) refl c.requires.some) (c.parameter.ensures.reads behind)

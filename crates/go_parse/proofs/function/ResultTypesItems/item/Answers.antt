@@ -10,4 +10,4 @@ use Rattle.go_parse.proofs.function.ResultTypesItems.item.Goals as goal
 pub returns-clause-reads : goal.returns-clause-reads
 returns-clause-reads c = λ front next.
     let behind = λ (s : trees.TypeExpr). list_end results a_result_end (front ++ s ∷ []) next in
-    then_reads (list_item results front next (type 1 a_type behind) (left c.args.parser.now) (λ t. refl) refl c.requires.some) (c.type_from.ensures.reads behind)
+    then_reads (list_item c.args.parser.now.edition results front next (type 1 a_type behind) (left c.args.parser.now) (λ t. refl) refl c.requires.some) (c.type_from.ensures.reads behind)

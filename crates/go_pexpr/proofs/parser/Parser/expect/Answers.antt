@@ -25,14 +25,14 @@ pub returns-in_default-clause-reads : goal.returns-in_default-clause-reads
 returns-in_default-clause-reads c = λ next.
     let none = ap (lexemes c.args.self.now.text.now) (empty_list c.args.self.now.tokens.now c.in_default.len_below) in
     then_refuses c.wrong.result (fault_of (expected_of c.args.expected) (left c.args.self.now))
-    (token_fails c.args.kind c.args.need (expected_of c.args.expected) next (left c.args.self.now) (λ h. subst (First (Kind c.args.kind)) none h)) c.wrong.ensures
+    (token_fails c.args.self.now.edition c.args.kind c.args.need (expected_of c.args.expected) next (left c.args.self.now) (λ h. subst (First (Kind c.args.kind)) none h)) c.wrong.ensures
 
 pub returns-then-not-is_kind-clause-reads : goal.returns-then-not-is_kind-clause-reads
 returns-then-not-is_kind-clause-reads c = λ next.
     let ts = c.args.self.now.tokens.now in
     let some = ap (lexemes c.args.self.now.text.now) (first_and_rest ts _ c.in-len1-up.len_at_least) in
     then_refuses c.wrong-then-not-is_kind.result (fault_of (expected_of c.args.expected) (left c.args.self.now))
-    (token_fails c.args.kind c.args.need (expected_of c.args.expected) next (left c.args.self.now) (λ h. false_true (c.if-not-is_kind.ensures.1 (subst (First (Kind c.args.kind)) some h)))) c.wrong-then-not-is_kind.ensures
+    (token_fails c.args.self.now.edition c.args.kind c.args.need (expected_of c.args.expected) next (left c.args.self.now) (λ h. false_true (c.if-not-is_kind.ensures.1 (subst (First (Kind c.args.kind)) some h)))) c.wrong-then-not-is_kind.ensures
 
 pub returns-then-need-gt-LEVELS-clause-reads : goal.returns-then-need-gt-LEVELS-clause-reads
 returns-then-need-gt-LEVELS-clause-reads c = λ next.
@@ -40,8 +40,8 @@ returns-then-need-gt-LEVELS-clause-reads c = λ next.
     let text = c.args.self.now.text.now in
     let some = ap (lexemes text) (first_and_rest ts _ c.in-len1-up.len_at_least) in
     record {
-      by = ap (run 250 (token c.args.kind c.args.need (expected_of c.args.expected) next)) some
-          ∙ token_deep c.args.kind c.args.need (expected_of c.args.expected) next (lexeme text (first ts)) (lexemes text (rest ts)) (c.if-not-is_kind.ensures.0 refl) (omega (arith, c.if-need-gt-LEVELS.true))
+      by = ap (run c.args.self.now.edition 250 (token c.args.kind c.args.need (expected_of c.args.expected) next)) some
+          ∙ token_deep c.args.self.now.edition c.args.kind c.args.need (expected_of c.args.expected) next (lexeme text (first ts)) (lexemes text (rest ts)) (c.if-not-is_kind.ensures.0 refl) (omega (arith, c.if-need-gt-LEVELS.true))
           ∙ ap (Refused 4) (sym some);
     }
 
@@ -51,8 +51,8 @@ returns-clause-reads c = λ next.
     let text = c.args.self.now.text.now in
     let some = ap (lexemes text) (first_and_rest ts _ c.in-len1-up.len_at_least) in
     record {
-      by = ap (run 250 (token c.args.kind c.args.need (expected_of c.args.expected) next)) some
-          ∙ token_takes c.args.kind c.args.need (expected_of c.args.expected) next (lexeme text (first ts)) (lexemes text (rest ts)) (c.if-not-is_kind.ensures.0 refl) (omega (arith, c.if-need-gt-LEVELS.false));
+      by = ap (run c.args.self.now.edition 250 (token c.args.kind c.args.need (expected_of c.args.expected) next)) some
+          ∙ token_takes c.args.self.now.edition c.args.kind c.args.need (expected_of c.args.expected) next (lexeme text (first ts)) (lexemes text (rest ts)) (c.if-not-is_kind.ensures.0 refl) (omega (arith, c.if-need-gt-LEVELS.false));
     }
 
 pub invariant_of-self : goal.invariant_of-self

@@ -11,5 +11,5 @@ returns-clause-reads c = λ next.
     let seen = c.integer.ensures.expr ∙ ap (trees.integer token.place) (c.in_ok-text.ensures.ok ∙ ap (λ text. bytes_of text token) c.in_ok-token.ensures.text) in
     record {
       by = (c.in_ok-token.ensures.reads (λ t. next (trees.integer t.place t.text))).by
-          ∙ ap (λ e. run 250 (next e) (left c.expect.new.self)) (sym seen);
+          ∙ ap (λ e. run c.expect.new.self.edition 250 (next e) (left c.expect.new.self)) (sym seen);
     }

@@ -23,14 +23,14 @@ behind_comma h l front next t = expr 5 h l an_operand (behind h l front next)
 pub returns-in_err-expect-clause-reads : goal.returns-in_err-expect-clause-reads
 returns-in_err-expect-clause-reads c = λ next.
     let front = map expr_of c.exprs.exprs.items in
-    then_fails (c.exprs.invariant.reads next ∙ more_exprs_takes c.args.header c.args.level front next (left c.exprs.self) (c.exprs-test.ensures.0 refl))
+    then_fails (c.exprs.invariant.reads next ∙ more_exprs_takes c.exprs.self.edition c.args.header c.args.level front next (left c.exprs.self) (c.exprs-test.ensures.0 refl))
     (c.in_err-expect.ensures.reads (behind_comma c.args.header c.args.level front next)) c.from_residual.ensures.1
 
 pub returns-in_err-expr_from-clause-reads : goal.returns-in_err-expr_from-clause-reads
 returns-in_err-expr_from-clause-reads c = λ next.
     let front = map expr_of c.exprs.exprs.items in
     then_fails (
-    c.exprs.invariant.reads next ∙ more_exprs_takes c.args.header c.args.level front next (left c.exprs.self) (c.exprs-test.ensures.0 refl)
+    c.exprs.invariant.reads next ∙ more_exprs_takes c.exprs.self.edition c.args.header c.args.level front next (left c.exprs.self) (c.exprs-test.ensures.0 refl)
     ∙ (c.in_ok-expect.ensures.reads (behind_comma c.args.header c.args.level front next)).by)
     (c.in_err-expr_from.ensures.reads (behind c.args.header c.args.level front next)) c.from_residual-in_err-expr_from.ensures.1
 
@@ -40,13 +40,13 @@ exprs-preserved c =
     let all = ap (λ es. map expr_of es) c.in_ok-push.ensures.items ∙ map_push expr_of c.exprs.exprs.items c.in_ok-expr_from.field-0 in
     record {
       reads = λ next.
-          c.exprs.invariant.reads next ∙ more_exprs_takes c.args.header c.args.level front next (left c.exprs.self) (c.exprs-test.ensures.0 refl)
+          c.exprs.invariant.reads next ∙ more_exprs_takes c.exprs.self.edition c.args.header c.args.level front next (left c.exprs.self) (c.exprs-test.ensures.0 refl)
           ∙ (c.in_ok-expect.ensures.reads (behind_comma c.args.header c.args.level front next)).by
           ∙ (c.in_ok-expr_from.ensures.reads (behind c.args.header c.args.level front next)).by
-          ∙ ap (λ es. run 250 (more_exprs c.args.header c.args.level es next) (left c.expr_from.new.self)) (sym all);
+          ∙ ap (λ es. run c.expr_from.new.self.edition 250 (more_exprs c.args.header c.args.level es next) (left c.expr_from.new.self)) (sym all);
       no_longer = omega (arith, c.exprs.invariant.no_longer, c.in_ok-expect.ensures.shorter, c.in_ok-expr_from.ensures.shorter);
     }
 
 pub returns-clause-reads : goal.returns-clause-reads
 returns-clause-reads c = λ next.
-    record { by = c.exprs.invariant.reads next ∙ more_exprs_end c.args.header c.args.level (map expr_of c.exprs.exprs.items) next (left c.exprs.self) (λ h. false_true (c.exprs-test.ensures.1 h)) }
+    record { by = c.exprs.invariant.reads next ∙ more_exprs_end c.exprs.self.edition c.args.header c.args.level (map expr_of c.exprs.exprs.items) next (left c.exprs.self) (λ h. false_true (c.exprs-test.ensures.1 h)) }

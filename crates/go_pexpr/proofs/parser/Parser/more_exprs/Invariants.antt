@@ -7,7 +7,7 @@ use Rattle.go_pexpr.proofs.parser.Parser.more_exprs.Given as goal
 
 abbrev pub invariant-exprs : goal.invariant-exprs
 invariant-exprs l = record {
-  reads : (next : List trees.Expr → State) → run 250 (more_exprs l.header l.level (map expr_of l.fn.front.items) next) (left l.fn.self) ≡ run 250 (more_exprs l.header l.level (map expr_of l.exprs.items) next) (left l.self);
+  reads : (next : List trees.Expr → State) → run l.fn.self.edition 250 (more_exprs l.header l.level (map expr_of l.fn.front.items) next) (left l.fn.self) ≡ run l.self.edition 250 (more_exprs l.header l.level (map expr_of l.exprs.items) next) (left l.self);
   no_longer : size l.self ≤ size l.fn.self;
 }
 

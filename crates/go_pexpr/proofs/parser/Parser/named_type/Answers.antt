@@ -24,8 +24,8 @@ returns-then-not-is_next-clause-reads c = λ next.
     let n = c.in_ok-name.name in
     record {
       by = (c.in_ok-name.ensures.reads (behind_name next)).by
-          ∙ optional_none period 0 (behind_period next n) (alone next n) (left c.name.new.self) (λ h. false_true (c.if-not-is_next.ensures.1 h))
-          ∙ ap (λ a. run 250 (next a) (left c.name.new.self)) (sym (c.named.ensures.expr ∙ ap (λ p. trees.named p n) c.place-place.ensures));
+          ∙ optional_none c.name.new.self.edition period 0 (behind_period next n) (alone next n) (left c.name.new.self) (λ h. false_true (c.if-not-is_next.ensures.1 h))
+          ∙ ap (λ a. run c.name.new.self.edition 250 (next a) (left c.name.new.self)) (sym (c.named.ensures.expr ∙ ap (λ p. trees.named p n) c.place-place.ensures));
     }
 
 pub returns-in_err-package-clause-reads : goal.returns-in_err-package-clause-reads
@@ -33,7 +33,7 @@ returns-in_err-package-clause-reads c = λ next.
     let n = c.in_ok-name.name in
     then_fails (
     (c.in_ok-name.ensures.reads (behind_name next)).by
-    ∙ optional_some period 0 another (behind_period next n) (alone next n) (left c.name.new.self) (c.if-not-is_next.ensures.0 refl))
+    ∙ optional_some c.name.new.self.edition period 0 another (behind_period next n) (alone next n) (left c.name.new.self) (c.if-not-is_next.ensures.0 refl))
     (was_failing (c.selected_name.ensures.reads (λ s. next (trees.qualified n.place n (name_of s)))) c.in_err-package.ensures.err) c.from_residual-in_err-package.ensures.1
 
 pub returns-clause-reads : goal.returns-clause-reads
@@ -41,8 +41,8 @@ returns-clause-reads c = λ next.
     let n = c.in_ok-name.name in
     record {
       by = (c.in_ok-name.ensures.reads (behind_name next)).by
-          ∙ optional_some period 0 another (behind_period next n) (alone next n) (left c.name.new.self) (c.if-not-is_next.ensures.0 refl)
+          ∙ optional_some c.name.new.self.edition period 0 another (behind_period next n) (alone next n) (left c.name.new.self) (c.if-not-is_next.ensures.0 refl)
           ∙ was_read (c.selected_name.ensures.reads (λ s. next (trees.qualified n.place n (name_of s)))) c.in_ok-package.ensures.read
-          ∙ ap (λ a. run 250 (next a) (left c.selected_name.new.self)) (sym (c.qualified.ensures.expr
+          ∙ ap (λ a. run c.selected_name.new.self.edition 250 (next a) (left c.selected_name.new.self)) (sym (c.qualified.ensures.expr
           ∙ ap (λ m. trees.qualified c.place-place.result m c.in_ok-package.selected) c.in_ok-package.ensures.first ∙ ap (λ p. trees.qualified p n c.in_ok-package.selected) c.place-place.ensures));
     }

@@ -14,14 +14,14 @@ false_true e = cc (e)
 pub returns-in_err-expect-clause-reads : goal.returns-in_err-expect-clause-reads
 returns-in_err-expect-clause-reads c = λ next.
     let front = c.names.names.items in
-    then_fails (c.names.invariant.reads next ∙ more_names_takes front next (left c.names.self) (c.names-test.ensures.0 refl))
+    then_fails (c.names.invariant.reads next ∙ more_names_takes c.names.self.edition front next (left c.names.self) (c.names-test.ensures.0 refl))
     (c.in_err-expect.ensures.reads (λ _. token kinds.Name 0 another (λ n. more_names (front ++ name_of n ∷ []) next))) c.from_residual-in_err-expect.ensures.1
 
 pub returns-in_err-name-2-clause-reads : goal.returns-in_err-name-2-clause-reads
 returns-in_err-name-2-clause-reads c = λ next.
     let front = c.names.names.items in
     then_fails (
-    c.names.invariant.reads next ∙ more_names_takes front next (left c.names.self) (c.names-test.ensures.0 refl)
+    c.names.invariant.reads next ∙ more_names_takes c.names.self.edition front next (left c.names.self) (c.names-test.ensures.0 refl)
     ∙ (c.in_ok-expect.ensures.reads (λ _. token kinds.Name 0 another (λ n. more_names (front ++ name_of n ∷ []) next))).by)
     (c.in_err-name-2.ensures.reads (λ n. more_names (front ++ name_of n ∷ []) next)) c.from_residual-in_err-name-2.ensures.1
 
@@ -30,14 +30,14 @@ names-preserved c =
     let front = c.names.names.items in
     record {
       reads = λ next.
-          c.names.invariant.reads next ∙ more_names_takes front next (left c.names.self) (c.names-test.ensures.0 refl)
+          c.names.invariant.reads next ∙ more_names_takes c.names.self.edition front next (left c.names.self) (c.names-test.ensures.0 refl)
           ∙ (c.in_ok-expect.ensures.reads (λ _. token kinds.Name 0 another (λ n. more_names (front ++ name_of n ∷ []) next))).by
           ∙ (c.in_ok-name-2.ensures.reads (λ n. more_names (front ++ name_of n ∷ []) next)).by
-          ∙ ap (λ ns. run 250 (more_names ns next) (left c.name-in-names.new.self)) (sym c.in_ok-push-2.ensures.items);
+          ∙ ap (λ ns. run c.name-in-names.new.self.edition 250 (more_names ns next) (left c.name-in-names.new.self)) (sym c.in_ok-push-2.ensures.items);
       fits = c.names.invariant.fits;
       shorter = omega (arith, c.names.invariant.shorter, c.in_ok-expect.ensures.shorter, c.in_ok-name-2.ensures.shorter);
     }
 
 pub returns-clause-reads : goal.returns-clause-reads
 returns-clause-reads c = λ next.
-    record { by = c.names.invariant.reads next ∙ more_names_end c.names.names.items next (left c.names.self) (λ h. false_true (c.names-test.ensures.1 h)) }
+    record { by = c.names.invariant.reads next ∙ more_names_end c.names.self.edition c.names.names.items next (left c.names.self) (λ h. false_true (c.names-test.ensures.1 h)) }

@@ -6,7 +6,7 @@ use Rattle.go_pexpr.proofs.parser.Parser.names.Given as goal
 
 abbrev pub invariant-names : goal.invariant-names
 invariant-names l = record {
-  reads : (next : List trees.Name → State) → run 250 (names l.need next) (left l.fn.self) ≡ run 250 (more_names l.names.items next) (left l.self);
+  reads : (next : List trees.Name → State) → run l.fn.self.edition 250 (names l.need next) (left l.fn.self) ≡ run l.self.edition 250 (more_names l.names.items next) (left l.self);
   fits : l.need ≤ 250;
   shorter : size l.self < size l.fn.self;
 }

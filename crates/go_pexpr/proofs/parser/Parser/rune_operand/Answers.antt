@@ -12,5 +12,5 @@ returns-clause-reads c = λ next.
     let seen = c.rune.ensures.expr ∙ ap (trees.rune token.place) (c.rune_value-value.ensures ∙ ap rune_value (c.spelling.ensures ∙ ap (λ text. bytes_of text token) c.in_ok-token.ensures.text)) in
     record {
       by = (c.in_ok-token.ensures.reads (λ t. next (trees.rune t.place (rune_value t.text)))).by
-          ∙ ap (λ e. run 250 (next e) (left c.expect.new.self)) (sym seen);
+          ∙ ap (λ e. run c.expect.new.self.edition 250 (next e) (left c.expect.new.self)) (sym seen);
     }

@@ -10,18 +10,18 @@ use Rattle.go_pexpr.proofs.parser.Parser.separate.Goals as goal
 pub returns-then-is_next-clause-reads : goal.returns-then-is_next-clause-reads
 returns-then-is_next-clause-reads c = λ k front next between end.
     let ts = left c.args.self.now in
-    record { by = list_ends k front next (expected_of c.args.expected) ts (subst (λ m. First (Kind m) ts) end (c.if-is_next.ensures.0 refl)) }
+    record { by = list_ends c.args.self.now.edition k front next (expected_of c.args.expected) ts (subst (λ m. First (Kind m) ts) end (c.if-is_next.ensures.0 refl)) }
 
 pub returns-in_err-expect-clause-reads : goal.returns-in_err-expect-clause-reads
 returns-in_err-expect-clause-reads c = λ k front next between end.
     let ts = left c.args.self.now in
-    then_fails (list_separated k front next (expected_of c.args.expected) c.args.separator ts between (λ h. false_true (c.if-is_next.ensures.1 (subst (λ m. First (Kind m) ts) (sym end) h))))
+    then_fails (list_separated c.args.self.now.edition k front next (expected_of c.args.expected) c.args.separator ts between (λ h. false_true (c.if-is_next.ensures.1 (subst (λ m. First (Kind m) ts) (sym end) h))))
     (c.in_err-expect.ensures.reads (λ _. list_start k front next)) c.from_residual.ensures.1
 
 pub returns-clause-reads : goal.returns-clause-reads
 returns-clause-reads c = λ k front next between end.
     let ts = left c.args.self.now in
     record {
-      by = list_separated k front next (expected_of c.args.expected) c.args.separator ts between (λ h. false_true (c.if-is_next.ensures.1 (subst (λ m. First (Kind m) ts) (sym end) h)))
+      by = list_separated c.args.self.now.edition k front next (expected_of c.args.expected) c.args.separator ts between (λ h. false_true (c.if-is_next.ensures.1 (subst (λ m. First (Kind m) ts) (sym end) h)))
           ∙ (c.in_ok-expect.ensures.reads (λ _. list_start k front next)).by;
     }

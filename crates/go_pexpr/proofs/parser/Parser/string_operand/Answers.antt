@@ -12,5 +12,5 @@ returns-clause-reads c = λ next.
     let seen = c.string.ensures.expr ∙ ap (trees.string token.place) (c.in_ok-value.ensures ∙ ap string_value (c.spelling.ensures ∙ ap (λ text. bytes_of text token) c.in_ok-token.ensures.text)) in
     record {
       by = (c.in_ok-token.ensures.reads (λ t. next (trees.string t.place (string_value t.text)))).by
-          ∙ ap (λ e. run 250 (next e) (left c.expect.new.self)) (sym seen);
+          ∙ ap (λ e. run c.expect.new.self.edition 250 (next e) (left c.expect.new.self)) (sym seen);
     }

@@ -12,4 +12,4 @@ pub returns-clause-reads : goal.returns-clause-reads
 returns-clause-reads c = λ front next.
     let l = c.args.self.now.level in
     let behind = λ (s : trees.TypeSpec). list_end (type_specs l) another (front ++ s ∷ []) next in
-    then_reads (list_item (type_specs l) front next (token kinds.Name l another (type_rest l behind)) (left c.args.parser.now) (λ t. refl) refl c.requires.some) (c.type_spec.ensures.reads behind)
+    then_reads (list_item c.args.parser.now.edition (type_specs l) front next (token kinds.Name l another (type_rest l behind)) (left c.args.parser.now) (λ t. refl) refl c.requires.some) (c.type_spec.ensures.reads behind)

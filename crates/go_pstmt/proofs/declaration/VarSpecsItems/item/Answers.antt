@@ -11,4 +11,4 @@ pub returns-clause-reads : goal.returns-clause-reads
 returns-clause-reads c = λ front next.
     let l = c.args.self.now.level in
     let behind = λ (s : trees.VarSpec). list_end (var_specs l) another (front ++ s ∷ []) next in
-    then_reads (list_item (var_specs l) front next (names l (var_rest l behind)) (left c.args.parser.now) (λ t. refl) refl c.requires.some) (c.var_spec.ensures.reads behind)
+    then_reads (list_item c.args.parser.now.edition (var_specs l) front next (names l (var_rest l behind)) (left c.args.parser.now) (λ t. refl) refl c.requires.some) (c.var_spec.ensures.reads behind)

@@ -1,5 +1,4 @@
 use Rattle.std.proofs.Common.{List, [], refl, sym, subst}
-use Rattle.go_text.specs.Editions.{edition_number}
 use Rattle.ws_session.specs.declared.replicas.Named.{Named}
 use Rattle.ws_session.specs.Standing.{AllStand, AreCounted}
 use Rattle.ws_session.specs.World.{opening}
@@ -8,13 +7,13 @@ use Rattle.ws_session.proofs.replicas.Replicas.new.Goals as goal
 
 pub returns : goal.returns
 returns c =
-    let world = opening (edition_number c.args.edition) in
+    let world = opening c.args.edition in
     record {
       stands = record {
         edition = refl;
         replicas = subst (λ (ns : List Named). AllStand ns []) (sym c.new.ensures.items) tt;
         apart = tt;
         kept = subst (λ wrote. AreCounted wrote c.new-3.result world) (sym c.new-2.ensures)
-            (subst (λ compiled. AreCounted [] compiled world) (sym c.new-3.ensures) (opening_counted (edition_number c.args.edition)));
+            (subst (λ compiled. AreCounted [] compiled world) (sym c.new-3.ensures) (opening_counted c.args.edition));
       };
     }
