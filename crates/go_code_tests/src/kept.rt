@@ -23,6 +23,12 @@ pub(crate) fn copied_cell(alloc: Global, asked: &str) -> Result<String, RowError
             "text {}",
             hex::encode(alloc, text.copy()?.bytes())?
         )?,
+        Cell::Slice {
+            row,
+            start,
+            length,
+            capacity,
+        } => format!(in alloc; "slice {row} {start} {length} {capacity}")?,
     };
     Ok(told)
 }

@@ -2,6 +2,7 @@
 use Rattle.std.proofs.Common.{◌≡◌, ℕ, suc, ◌+◌, List, [], ◌∷◌, ◌++◌, map, Option, Some, Result, Ok, Err, OnOk, refl, sym, ap, ◌∙◌, subst, Vec, arith}
 use Rattle.std.specs.Global.{Global}
 use Rattle.std.proofs.lemmas.List.{append_assoc, append-nil}
+use Rattle.go_text.specs.declared.edition.Edition.TheVariants.{One}
 use Rattle.ws_script.specs.Told.{Told, Gave, End, Failed}
 use Rattle.ws_script.specs.Reading.{joined}
 use Rattle.ws_script.specs.Ends.{Session, Wrote}
@@ -22,15 +23,15 @@ bytes_given [] = refl
 bytes_given (piece ∷ pieces) = ap (λ l. piece ++ l) (bytes_given pieces)
 
 -- what a session read to its end wrote, whose reader had told nothing
-pub tells : (told told' : List Told) (written written' : Option (List ℕ)) (u : Unit {0}) → told ≡ [] → Session 1 (Ok u) (Some told) (Some told') written written'
-    → Wrote 1 (bytes_of told') written written'
+pub tells : (told told' : List Told) (written written' : Option (List ℕ)) (u : Unit {0}) → told ≡ [] → Session One (Ok u) (Some told) (Some told') written written'
+    → Wrote One (bytes_of told') written written'
 tells told told' written written' u none s =
     let same : bytes_of told' ≡ s.0 = ap bytes_of (s.1.1 ∙ ap (λ l. l ++ (map Gave s.1.0 ++ End ∷ [])) none) ∙ bytes_given s.1.0 ∙ s.1.2 in
-    subst (λ l. Wrote 1 l written written') (sym same) s.3
+    subst (λ l. Wrote One l written written') (sym same) s.3
 
 -- the same of each answer
 pub told_session : (result : Result (Unit {0}) SessionError) (told told' : List Told) (written written' : Option (List ℕ)) → told ≡ []
-    → Session 1 result (Some told) (Some told') written written' → OnOk result (Wrote 1 (bytes_of told') written written')
+    → Session One result (Some told) (Some told') written written' → OnOk result (Wrote One (bytes_of told') written written')
 told_session (Ok u) told told' written written' none s = tells told told' written written' u none s
 told_session (Err e) told told' written written' none s = tt
 

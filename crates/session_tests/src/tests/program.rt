@@ -101,7 +101,7 @@ fn ran<R: Threads + Wait + Sync>(rt: &R, alloc: Global, words: &[&str]) -> Outco
 
 #[test]
 fn a_script_is_run(rt: HostRuntime) {
-    let rows: [&[&str]; 9] = [
+    let rows: [&[&str]; 10] = [
         &[],
         &["goset"],
         &["goset", "--workers", "1"],
@@ -109,6 +109,7 @@ fn a_script_is_run(rt: HostRuntime) {
         &["goset", "--workers=4"],
         &["goset", "--workers", "+7"],
         &["goset", "--edition", "1"],
+        &["goset", "--edition", "2"],
         &["goset", "--edition=1", "--workers=2"],
         &["goset", "--"],
     ];
@@ -136,7 +137,7 @@ fn wrong_words(rt: HostRuntime) -> Result<(), Fail> {
             "'--workers <N>'",
         ),
         (&["goset", "--edition", "0"], "'0'"),
-        (&["goset", "--edition", "2"], "'2'"),
+        (&["goset", "--edition", "3"], "'3'"),
         (&["goset", "--worker", "1"], "'--worker'"),
         (&["goset", "-w"], "'-w'"),
         (&["goset", "a.goset"], "'a.goset'"),

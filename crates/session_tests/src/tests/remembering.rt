@@ -1,6 +1,7 @@
 //! A reader that remembers what it told, and a session over it.
 ghost use Rattle.std.specs.Prelude.{◌≡◌, ◌+◌, ◌<◌, ◌≤◌, ◌^◌, [], ◌∷◌, ◌++◌, Some, OnOk, OnErr};
 ghost use Rattle.std.specs.Option.{option_map};
+ghost use Rattle.go_text.specs.declared.edition.Edition.TheVariants.{One};
 ghost use Rattle.ws_script.specs.Ends.{Wrote};
 ghost use Rattle.session_tests.specs.Remembered.{all_shown, bytes_of, events, shown};
 
@@ -99,7 +100,7 @@ fn retell<R: Threads + Wait + Sync>(
 ) -> Result<(), SessionError>
     requires fresh { (reader.old.told.items ≡ []) × (reader.old.failed ≡ 0) }
     requires writable { writer.old.failures + 1 < 2 ^ 64 }
-    ensures { OnOk result (Wrote 1 (bytes_of (events reader.new.told.items reader.new.failed))
+    ensures { OnOk result (Wrote One (bytes_of (events reader.new.told.items reader.new.failed))
         (Some writer.old.written.items) (Some writer.new.written.items)) }
 {
     run_script(rt, alloc, reader, writer, 2, Edition::One, &Plain)
