@@ -8,14 +8,16 @@ import hashlib
 import sys
 
 sys.dont_write_bytecode = True
-from script import GREATEST, REFUSALS, Refused, directory, is_counted, is_of_package, is_path, name_of, number, targets_of, text_error
+from script import GREATEST, LONGEST_TEXTS, REFUSALS, Refused, directory, edition_of, is_counted, is_of_package, is_path, name_of, number, targets_of, text_error
 
 # A chain of 1,000 imports is asked for its end before it answers.
 sys.setrecursionlimit(20000)
-MOST_OPEN = 1000
+# how many calls may be open, by edition
+MOST_OPEN = {1: 1000, 2: 4000}
 FAULTS = {1: "scan", 2: "leftout", 3: "parse", 4: "deep", 5: "size", 6: "packagename", 7: "noimport", 8: "cycle", 9: "program"}
 FAULTS |= {10: "redeclared", 11: "undeclared", 12: "unusedimport", 13: "mismatch", 14: "range", 15: "constant", 16: "zero"}
 FAULTS |= {17: "index", 18: "noreturn", 19: "assign", 20: "count", 21: "recursive", 22: "initcycle", 23: "main", 24: "branch", 25: "unexported"}
+FAULTS |= {26: "large"}
 
 
 def numeral(count):
@@ -100,11 +102,12 @@ class Panic(Exception):
 
 
 class Run:
-    """A run of a program: the functions of its packages, by directory and name, the ticks that are left, and the output."""
+    """A run of a program: the functions of its packages, by directory and name, the ticks that are left, the output, and how many
+    calls may be open."""
 
-    def __init__(self, functions, exports, ticks, packages):
+    def __init__(self, functions, exports, ticks, packages, most_open):
         self.functions, self.exports, self.left, self.output, self.open = functions, exports, ticks, b"", 0
-        self.variables, self.packages = {}, packages
+        self.variables, self.packages, self.most_open = {}, packages, most_open
 
     def tick(self):
         if self.left == 0:
@@ -122,7 +125,7 @@ class Run:
 
     def enter(self, function, *arguments):
         self.tick()
-        if self.open == MOST_OPEN:
+        if self.open == self.most_open:
             raise Panic("depth")
         self.open += 1
         result = function(self, *arguments)
@@ -155,11 +158,11 @@ class Run:
 
 
 class Replica:
-    """Writes are (path, counter, number, text or None); actions are a directory, its files by name and text, and the summaries of its
-    imports, by path and text."""
+    """Writes are (path, counter, number, text or None); actions are an edition, a directory, its files by name and text, and the
+    summaries of its imports, by path and text."""
 
-    def __init__(self, number, edition):
-        self.number, self.edition, self.writes, self.actions = number, edition, frozenset(), frozenset()
+    def __init__(self, number):
+        self.number, self.writes, self.actions = number, frozenset(), frozenset()
 
     def held(self):
         """The greatest write of each path."""
@@ -185,9 +188,9 @@ class Replica:
         return there
 
 
-def id_of(edition, action):
-    """The id of an action of an edition in hexadecimal digits, by docs/TEXTS.md."""
-    at, *parts = action
+def id_of(action):
+    """The id of an action in hexadecimal digits, by docs/TEXTS.md."""
+    edition, at, *parts = action
     text = field(b"goset action") + field(b"%d" % edition) + field(at)
     text += b"".join(numeral(len(part)) + b"".join(field(name) + field(digest(it)) for name, it in part) for part in parts)
     return hashlib.sha256(text).hexdigest().encode()
@@ -206,23 +209,27 @@ def kept(method):
 
 
 class Plan:
-    """Of the directories that a target reaches in what a replica holds, by what each text is."""
+    """Of the directories that a target reaches in what a replica holds, by what each text is in an edition."""
 
-    def __init__(self, by_text, replica, target):
-        self.by_text, self.answers, self.known, self.packages, self.held = by_text, {}, {}, replica.packages(), replica.actions
-        self.edition = replica.edition
+    def __init__(self, edition, by_text, replica, target):
+        self.edition, self.by_text, self.answers, self.known = edition, by_text, {}, {}
+        self.packages, self.held = replica.packages(), replica.actions
         self.reached = self.reach(target)
 
     def files(self, at):
         return self.packages.get(at, [])
+
+    def text_fault(self, text):
+        """Of a text that is too long, or no file."""
+        return (1, 1, 26) if len(text) > LONGEST_TEXTS[self.edition] else self.by_text[text].fault
 
     @kept
     def own_fault(self, at):
         """Of a directory's files, by themselves."""
         files = self.files(at)
         for name, text in files:
-            if self.by_text[text].fault:
-                return name, *self.by_text[text].fault
+            if self.text_fault(text):
+                return name, *self.text_fault(text)
         first = self.by_text[files[0][1]]
         for name, text in files:
             if self.by_text[text].name != first.name:
@@ -253,7 +260,7 @@ class Plan:
 
     def is_program(self, at):
         files = self.files(at)
-        return bool(files) and not any(self.by_text[text].fault for _, text in files) and self.by_text[files[0][1]].name == "main"
+        return bool(files) and not any(self.text_fault(text) for _, text in files) and self.by_text[files[0][1]].name == "main"
 
     @kept
     def fault(self, at):
@@ -290,7 +297,7 @@ class Plan:
     @kept
     def action(self, at):
         """Of a directory whose imports are good."""
-        return at, tuple(self.files(at)), tuple((it, self.summary(it)) for it in sorted(self.imports(at)))
+        return self.edition, at, tuple(self.files(at)), tuple((it, self.summary(it)) for it in sorted(self.imports(at)))
 
     def actions(self):
         return [self.action(it) for it in self.reached if not self.fault(it) and not self.is_blocked(it)]
@@ -366,7 +373,7 @@ class Plan:
         """What ids say of a directory: nothing where one that it imports isn't held and good."""
         if self.fault(at) or not all(self.is_standing(it) for it in self.imports(at)):
             return b"none"
-        return id_of(self.edition, self.action(at)) + (b" held" if self.is_held(at) else b" absent")
+        return id_of(self.action(at)) + (b" held" if self.is_held(at) else b" absent")
 
     def report(self, name, target, count):
         """What a build of so many actions prints of this target."""
@@ -385,12 +392,18 @@ class Plan:
         """What a run of a program all of whose actions are held prints behind its words."""
         functions = {it: {name: f for _, text in self.files(it) for name, f in self.by_text[text].functions.items()} for it in self.reached}
         packages = [(it, [one for _, one in self.initials(it)[0]], [f for _, text in self.files(it) for f in self.by_text[text].inits]) for it in self.in_order()]
-        return Run(functions, {it: self.exports(it) for it in self.reached}, ticks, packages).told(at)
+        return Run(functions, {it: self.exports(it) for it in self.reached}, ticks, packages, MOST_OPEN[self.edition]).told(at)
 
 
 class World:
-    def __init__(self, script, by_text, edition=1):
-        self.left, self.by_text, self.edition, self.replicas, self.printed = script, by_text, edition, {}, b""
+    """The replicas of a session, the edition that commands go by, and what texts are, some of them something else in the second."""
+
+    def __init__(self, script, by_text, edition=1, second=None):
+        self.left, self.edition, self.replicas, self.printed = script, edition, {}, b""
+        self.by_text = {1: by_text, 2: collections.ChainMap(second or {}, by_text)}
+
+    def plan(self, replica, at):
+        return Plan(self.edition, self.by_text[self.edition], replica, at)
 
     def line(self):
         line, _, self.left = self.left.partition(b"\n")
@@ -433,7 +446,7 @@ class World:
             raise Refused(1)
         if name in self.replicas:
             raise Refused(3)
-        self.replicas[name] = Replica(len(self.replicas) + 1, self.edition)
+        self.replicas[name] = Replica(len(self.replicas) + 1)
 
     def do_write(self, word, path, lines):
         name, (text, lacks) = name_of(word), self.text(number(lines))
@@ -441,7 +454,7 @@ class World:
         if not is_path(path):
             raise Refused(4)
         write = replica.edit(path, text)
-        if lacks or text_error(text):
+        if lacks or text_error(text, self.edition):
             raise Refused(7)
         replica.writes |= {write}
 
@@ -459,9 +472,12 @@ class World:
         replica = self.replica(name)
         if not is_path(path):
             raise Refused(4)
-        if lacks or text is not None and text_error(text):
+        if lacks or text is not None and text_error(text, self.edition):
             raise Refused(7)
         replica.writes |= {(path, *version, text)}
+
+    def do_edition(self, word):
+        self.edition = edition_of(word)
 
     def do_merge(self, word, other):
         name, other = name_of(word), name_of(other)
@@ -486,7 +502,7 @@ class World:
         """All replicas that are named share what each of them holds and what is compiled."""
         targets = targets_of(words)
         replicas = [self.replica(name) for name, _ in targets]
-        plans = [Plan(self.by_text, replica, at) for replica, (_, at) in zip(replicas, targets)]
+        plans = [self.plan(replica, at) for replica, (_, at) in zip(replicas, targets)]
         if not all(plan.files(at) for plan, (_, at) in zip(plans, targets)):
             raise Refused(8)
         held = frozenset().union(*(it.actions for it in replicas))
@@ -496,7 +512,7 @@ class World:
         return b"".join(plan.report(*target, len(sought - held)) for plan, target in zip(plans, targets))
 
     def do_ids(self, word, at):
-        plan = Plan(self.by_text, self.replica(name_of(word)), at)
+        plan = self.plan(self.replica(name_of(word)), at)
         if not plan.files(at):
             raise Refused(8)
         lines = [b"id %s %s\n" % (it, plan.standing(it)) for it in sorted(plan.reached)]
@@ -504,7 +520,7 @@ class World:
 
     def do_run(self, word, at, ticks):
         name, ticks = name_of(word), number(ticks)
-        plan = Plan(self.by_text, self.replica(name), at)
+        plan = self.plan(self.replica(name), at)
         if not plan.files(at):
             raise Refused(8)
         if not all(plan.is_good(it) and plan.is_held(it) for it in plan.reached) or plan.package(at) != "main":

@@ -616,7 +616,7 @@ class Workspace:
     def command(self):
         """Builds and runs of the program are most of all."""
         replica, number = self.random.choice([b"a", b"b"]), self.random.randrange(len(self.packages))
-        kind = self.random.randrange(12)
+        kind = self.random.randrange(13)
         if kind < 4:
             self.packages[number].edit()
             return self.write(replica, number)
@@ -624,6 +624,8 @@ class Workspace:
             return self.random.choice([b"merge a b\n", b"merge b a\n", b"settle\n"])
         if kind < 8:
             return b"ids %s d%d\n" % (replica, self.random.choice([0, number]))
+        if kind == 12:
+            return b"edition %d\n" % self.random.choice([1, 2]) + self.run(replica)
         return self.run(replica) if kind < 10 else b"build a d0 b d%d %s d0\n" % (number, replica) + self.run(replica)
 
     def run(self, replica):

@@ -8,7 +8,8 @@ GREATEST = 2**64 - 1
 MOST_REPLICAS = 64
 MOST_TARGETS = 64
 LONGEST_PATH = 200
-LONGEST_TEXT = 1_048_576
+# how many bytes a text has at most, by edition
+LONGEST_TEXTS = {1: 1_048_576, 2: 4_194_304}
 LONGEST_SCRIPT = 16_777_216
 MARK = b"\xef\xbb\xbf"
 REFUSALS = {
@@ -24,7 +25,7 @@ REFUSALS = {
 }
 COUNTS = {
     **{b"replica": 1, b"write": 3, b"remove": 2, b"apply": 5, b"merge": 2, b"settle": 0},
-    **{b"show": 1, b"run": 3, b"ids": 2},
+    **{b"show": 1, b"run": 3, b"ids": 2, b"edition": 1},
 }
 
 
@@ -44,6 +45,11 @@ def name_of(word):
     if not re.fullmatch(rb"[A-Za-z0-9_-]{1,32}", word):
         raise Refused(1)
     return word
+
+
+def edition_of(word):
+    """The edition that a word is, or refusal 1."""
+    return number(word, min(LONGEST_TEXTS), max(LONGEST_TEXTS))
 
 
 def is_counted(command, words):
@@ -79,14 +85,14 @@ def is_of_package(name):
     return name[:1] not in (b".", b"_") and not name.endswith(b"_test.go")
 
 
-def text_error(text):
-    """Why these bytes are no text of a source, or nothing."""
+def text_error(text, edition=1):
+    """Why these bytes are no text of a source of an edition, or nothing."""
     try:
         text.decode("utf-8")
     except UnicodeDecodeError as error:
         return f"not UTF-8, at byte {error.start + 1}"
-    if len(text) > LONGEST_TEXT:
-        return f"too long, {len(text)} bytes of at most {LONGEST_TEXT}"
+    if len(text) > LONGEST_TEXTS[edition]:
+        return f"too long, {len(text)} bytes of at most {LONGEST_TEXTS[edition]}"
     if b"\0" in text:
         return f"a NUL, at byte {text.index(0) + 1}"
     if MARK in text[1:]:
@@ -160,10 +166,10 @@ class Replica:
 
 
 class Workspace:
-    """The replicas of a session as far as their writes go."""
+    """The replicas of a session as far as their writes go, and the edition that commands go by."""
 
     def __init__(self):
-        self.replicas = {}
+        self.replicas, self.edition = {}, 1
 
     def replica(self, name):
         if name not in self.replicas:
@@ -188,7 +194,7 @@ class Workspace:
         if not is_path(path):
             raise Refused(4)
         write = replica.edit(path, text)
-        if text is None or text_error(text):
+        if text is None or text_error(text, self.edition):
             raise Refused(7)
         replica.take(*write)
 
@@ -207,9 +213,12 @@ class Workspace:
         replica = self.replica(name)
         if not is_path(path):
             raise Refused(4)
-        if not is_removal and (text is None or text_error(text)):
+        if not is_removal and (text is None or text_error(text, self.edition)):
             raise Refused(7)
         replica.take(path, *version, text)
+
+    def do_edition(self, _, word):
+        self.edition = edition_of(word)
 
     def do_merge(self, _, word, other):
         name, other = name_of(word), name_of(other)

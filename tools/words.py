@@ -110,16 +110,17 @@ def options_and_files(words):
     return options, files
 
 
-def why_unread(file):
-    """Why a file can't be taken as a source, or nothing."""
+def why_unread(file, edition=1):
+    """Why a file can't be taken as a source of an edition, or nothing."""
+    longest = script.LONGEST_TEXTS[edition]
     try:
         with open(file, "rb") as opened:
-            text = opened.read(script.LONGEST_TEXT + 1)
+            text = opened.read(longest + 1)
     except OSError as error:
         return script.unread(error)
-    if len(text) > script.LONGEST_TEXT:
-        return f"longer than {script.LONGEST_TEXT} bytes"
-    return NO_TEXT if script.text_error(text) else None
+    if len(text) > longest:
+        return f"longer than {longest} bytes"
+    return NO_TEXT if script.text_error(text, edition) else None
 
 
 def is_folder(files):
@@ -158,14 +159,19 @@ def directories(files):
     return {it: ALONE if is_alone else directory_of(at) for it, at in folders.items()}
 
 
-def look_at_files(files):
-    """The files are texts at paths; in byte order of their names the first that isn't one is told."""
+def edition_in(options):
+    """The edition that options of the program behind --run name, or the first."""
+    return next((int(it) for option, it in zip(options[::2], options[1::2]) if option == "--edition"), 1)
+
+
+def look_at_files(options, files):
+    """The files are texts of the edition, at paths; in byte order of their names the first that isn't one is told."""
     if not all(map(is_utf8, files)):
         raise Answer(70, err="goset: a file's name isn't UTF-8\n")
     found = directories(files)
     for file in sorted(found, key=os.fsencode):
         path = os.fsencode(f"{found[file]}/{file.rpartition('/')[2]}")
-        why = why_unread(file) or ("" if script.is_path(path) else NO_PATH)
+        why = why_unread(file, edition_in(options)) or ("" if script.is_path(path) else NO_PATH)
         if why:
             raise Answer(70, err=f"goset: {file}: {why}\n")
 
@@ -175,4 +181,4 @@ def look_at(program, words):
     if program == "goset":
         look_at_session(words)
     else:
-        look_at_files(options_and_files(words)[1])
+        look_at_files(*options_and_files(words))

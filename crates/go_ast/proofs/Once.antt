@@ -45,7 +45,8 @@ kind_of n =
     else (if nat_eq n 22 then faults.InitCycle
     else (if nat_eq n 23 then faults.Main
     else (if nat_eq n 24 then faults.Branch
-    else faults.Unexported)))))))))))))))))))))))
+    else (if nat_eq n 25 then faults.Unexported
+    else faults.Large))))))))))))))))))))))))
 
 kind_again : (k : FaultKind) → kind_of (fault_number k) ≡ k
 unfolding kind_of
@@ -74,6 +75,7 @@ kind_again faults.InitCycle = refl
 kind_again faults.Main = refl
 kind_again faults.Branch = refl
 kind_again faults.Unexported = refl
+kind_again faults.Large = refl
 
 one_kind : (k l : FaultKind) → fault_number k ≡ fault_number l → k ≡ l
 one_kind k l e = sym (kind_again k) ∙ ap kind_of e ∙ kind_again l

@@ -16,7 +16,8 @@
 //! - An operator takes its operands from the stack and leaves what it gives, or it panics
 //!   (`specs/Operators.antt`); integers wrap by their types.
 //! - A call takes a tick, and so does each turn of a loop; without one the program is cut. A call
-//!   then panics if it makes more than 1,000 open calls. A panic and a cut keep what was printed.
+//!   then panics if it makes more open calls than the image's edition allows. A panic and a cut
+//!   keep what was printed.
 //! - Code that makes no sense is `BadCode`: an instruction that wants more cells than the stack
 //!   has, or others; a number or an offset below -2^63 or above 2^64-1; a place outside the frame or the
 //!   globals, or outside its row; a jump out of the code; a function that the image hasn't or that has more parameter

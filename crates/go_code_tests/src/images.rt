@@ -32,23 +32,37 @@ fn code(alloc: Global, words: &str) -> Result<Vec<Instr<usize>>, RowError> {
     Ok(code)
 }
 
-/// The zero cells, the functions and the start steps of an image that is being read.
+/// The edition, the zero cells, the functions and the start steps of an image that is being read.
 #[derive(Drop)]
 struct Parts {
+    edition: Edition,
     globals: Vec<Cell>,
     functions: Vec<Function<usize>>,
     starts: Vec<Start>,
 }
 
+/// The edition of a number.
+pub(crate) fn edition_of(text: &str) -> Result<Edition, RowError> {
+    match text {
+        "1" => Ok(Edition::One),
+        "2" => Ok(Edition::Two),
+        _ => Err(RowError::NoRow),
+    }
+}
+
 /// One part more: `f:2.5` and a code is a function of 2 parameters and 5 cells, `s:3` and a code
-/// a start step by a setup of 3 cells, `@:0` a start step that calls function 0, and `v:i5` a zero
-/// cell of a package variable.
+/// a start step by a setup of 3 cells, `@:0` a start step that calls function 0, `v:i5` a zero cell
+/// of a package variable, and `e:2` the second edition.
 fn read_part(alloc: Global, read: &mut Parts, part: &str) -> Result<(), RowError> {
     let (head, words) = part.split_once(' ').unwrap_or((part, ""));
     let (kind, size) = parts(head)?;
     if kind == "v" {
         let (kind, text) = size.split_at_checked(1).unwrap_or(("", ""));
         read.globals.push(cell(alloc, kind, text)?)?;
+        return Ok(());
+    }
+    if kind == "e" {
+        read.edition = edition_of(size)?;
         return Ok(());
     }
     if kind == "@" {
@@ -69,9 +83,10 @@ fn read_part(alloc: Global, read: &mut Parts, part: &str) -> Result<(), RowError
     Ok(())
 }
 
-/// The image of parts with semicolons between them, of edition 1.
+/// The image of parts with semicolons between them, of edition 1 where none of them says another.
 pub(crate) fn image(alloc: Global, text: &str) -> Result<Image, RowError> {
     let mut read = Parts {
+        edition: Edition::One,
         globals: Vec::new(alloc),
         functions: Vec::new(alloc),
         starts: Vec::new(alloc),
@@ -83,9 +98,10 @@ pub(crate) fn image(alloc: Global, text: &str) -> Result<Image, RowError> {
         }
     }
     let Parts {
+        edition,
         globals,
         functions,
         starts,
     } = read;
-    Ok(Image::new(Edition::One, globals, functions, starts))
+    Ok(Image::new(edition, globals, functions, starts))
 }

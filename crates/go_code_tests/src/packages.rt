@@ -1,4 +1,5 @@
 //! Images of packages that are written by hand.
+use crate::images::edition_of;
 use crate::notation::{global, number, parts, plain};
 use go_code::cell::Cell;
 use go_code::function::Function;
@@ -12,7 +13,6 @@ use go_const::constant::Text;
 use go_link::link::{LinkError, link};
 use go_packed::packed::Packed;
 use go_symbol::Symbol;
-use go_text::edition::Edition;
 use std::alloc::{AllocError, Global};
 use std::sync::Arc;
 use test_rows::answers::RowError;
@@ -75,11 +75,13 @@ fn functions(alloc: Global, text: &str) -> Result<Vec<PackageFunction>, RowError
     Ok(functions)
 }
 
-/// A package of edition 1: its path and its name, and functions with semicolons between them. It has a
-/// variable of two cells and a setup of two cells.
+/// A package: its path, its name and its edition, if it isn't edition 1, and functions with semicolons
+/// between them. It has a variable of two cells and a setup of two cells.
 pub(crate) fn object(alloc: Global, text: &str) -> Result<Object, RowError> {
     let (head, rest) = text.split_once(';').unwrap_or((text, ""));
     let (path, name) = head.trim().split_once(' ').unwrap_or((head, ""));
+    let (name, written) = name.trim().split_once(' ').unwrap_or((name, "1"));
+    let edition = edition_of(written)?;
     let zero = vec![in alloc;
         Cell::Int(0),
         Cell::Text(Text::new(alloc, path.as_bytes())?),
@@ -93,7 +95,7 @@ pub(crate) fn object(alloc: Global, text: &str) -> Result<Object, RowError> {
     let path = String::from_str(alloc, path)?;
     let name = String::from_str(alloc, name.trim())?;
     let functions = functions(alloc, rest)?;
-    Ok(Object::new(path, name, Edition::One, variables, functions, setups))
+    Ok(Object::new(path, name, edition, variables, functions, setups))
 }
 
 /// Objects that were packed.
@@ -190,6 +192,7 @@ pub(crate) fn linked(alloc: Global, asked: &str) -> Result<String, RowError> {
         Some(Ok(image)) => told(alloc, &image)?,
         Some(Err(LinkError::NoMain)) => String::from_str(alloc, "no main")?,
         Some(Err(LinkError::NameMissing)) => String::from_str(alloc, "a name is missing")?,
+        Some(Err(LinkError::EditionsDiffer)) => String::from_str(alloc, "the editions differ")?,
         Some(Err(LinkError::Memory)) => return Err(RowError::Memory),
         None => return Err(RowError::NoRow),
     };

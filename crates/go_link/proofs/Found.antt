@@ -12,8 +12,8 @@ use Rattle.go_code.specs.Packages.{Object, PackageFunction}
 use Rattle.go_symbol.specs.Symbols.{Symbol, same_symbol}
 use Rattle.go_code.specs.declared.instr.Instr.TheVariants.{Calls as By_call}
 use Rattle.go_code.specs.declared.instr.CallInstr.TheVariants.{Call}
-use Rattle.go_link.specs.declared.link.LinkError.TheVariants.{NoMain, NameMissing}
-use Rattle.go_link.specs.Links.{code_of, has_main, has_main_in, is_missing, last_package, link_refusal, name_missing, linked_function, variables, names, number_of, symbol_of}
+use Rattle.go_link.specs.declared.link.LinkError.TheVariants.{NoMain, NameMissing, EditionsDiffer}
+use Rattle.go_link.specs.Links.{code_of, editions_differ, has_main, has_main_in, is_missing, last_package, link_refusal, name_missing, linked_function, variables, names, number_of, symbol_of}
 use Rattle.go_link.specs.Found.{IsDeclared, Found}
 
 -- ---- indexes
@@ -187,14 +187,15 @@ and_right : (a b : Bool) → (a && b) ≡ true → b ≡ true
 and_right true b e = e
 and_right false b e = cc
 
--- what is not refused has a main, and misses no name
-allowed_if : (a b : Bool) → (if not a then Some NoMain else (if b then Some NameMissing else None)) ≡ None → (a ≡ true) × (b ≡ false)
-allowed_if true true e = cc
-allowed_if true false e = (refl, refl)
-allowed_if false b e = cc
+-- what is not refused has a main, misses no name, and is of one edition
+allowed_if : (a b c : Bool) → (if not a then Some NoMain else (if b then Some NameMissing else (if c then Some EditionsDiffer else None))) ≡ None → (a ≡ true) × (b ≡ false) × (c ≡ false)
+allowed_if true true c e = cc
+allowed_if true false true e = cc
+allowed_if true false false e = (refl, refl, refl)
+allowed_if false b c e = cc
 
-pub allowed : (packages : List Object) → link_refusal packages ≡ None → (has_main packages ≡ true) × (name_missing packages ≡ false)
-allowed packages e = allowed_if (has_main packages) (name_missing packages) e
+pub allowed : (packages : List Object) → link_refusal packages ≡ None → (has_main packages ≡ true) × (name_missing packages ≡ false) × (editions_differ packages ≡ false)
+allowed packages e = allowed_if (has_main packages) (name_missing packages) (editions_differ packages) e
 
 pub main_found : (packages : List Object) (o : Object) → has_main packages ≡ true → last_package packages ≡ Some o → Found packages (symbol_of o (codes "main"))
 main_found packages o main last =

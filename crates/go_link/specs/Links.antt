@@ -5,6 +5,7 @@ use Rattle.std.specs.Str.{bytes_eq}
 use Rattle.std.specs.Prelude.{nat_eq}
 use Rattle.go_text.specs.declared.edition.Edition.{Edition}
 use Rattle.go_text.specs.declared.edition.Edition.TheVariants.{One}
+use Rattle.go_text.specs.Editions.{edition_number}
 use Rattle.go_code.specs.declared.cell.Cell.{Cell}
 use Rattle.go_code.specs.declared.image.Start.{Start}
 use Rattle.go_code.specs.declared.image.Start.TheVariants.{Setup as Set_up, Function as Run}
@@ -18,7 +19,7 @@ use Rattle.go_code.specs.Packages.{Object, PackageFunction}
 use Rattle.go_code.specs.Referred.{Changes, place_of, refer_function, refer_setup}
 use Rattle.go_symbol.specs.Symbols.{Symbol, same_symbol}
 use Rattle.go_link.specs.declared.link.LinkError.{LinkError}
-use Rattle.go_link.specs.declared.link.LinkError.TheVariants.{Memory, NoMain, NameMissing}
+use Rattle.go_link.specs.declared.link.LinkError.TheVariants.{Memory, NoMain, NameMissing, EditionsDiffer}
 
 -- the objects at these indexes
 abbrev pub in_order : List Object → List ℕ → List Object
@@ -82,18 +83,37 @@ has_main_in (Some o) = bytes_eq o.name (codes "main") && list_any (λ f. bytes_e
 abbrev pub has_main : List Object → Bool
 has_main packages = has_main_in (last_package packages)
 
+-- ---- editions
+
+-- the edition that the last package is of
+abbrev pub edition_of : Option Object → Edition
+edition_of None = One
+edition_of (Some o) = o.edition
+
+-- the package is of another edition
+abbrev pub is_of_other : Edition → Object → Bool
+is_of_other edition o = not (nat_eq (edition_number o.edition) (edition_number edition))
+
+-- some package is of another edition than the last
+abbrev pub editions_differ : List Object → Bool
+editions_differ packages = list_any (is_of_other (edition_of (last_package packages))) packages
+
+-- ---- refusals
+
 -- why packages are not linked: the first that holds
 abbrev pub link_refusal : List Object → Option LinkError
 link_refusal packages =
     if not (has_main packages) then Some NoMain
     else (if name_missing packages then Some NameMissing
-    else None)
+    else (if editions_differ packages then Some EditionsDiffer
+    else None))
 
 -- memory may run out for any objects; each other answer is right
 abbrev pub IsRefusal : LinkError → Option LinkError → Type 0
 IsRefusal Memory wrong = Unit {0}
 IsRefusal NoMain wrong = wrong ≡ Some NoMain
 IsRefusal NameMissing wrong = wrong ≡ Some NameMissing
+IsRefusal EditionsDiffer wrong = wrong ≡ Some EditionsDiffer
 
 -- ---- the image
 
@@ -125,11 +145,6 @@ main_start names (Some o) = start_of names o (codes "main") ∷ []
 
 abbrev pub zeros_of : Object → List Cell
 zeros_of o = flat_map (λ v. v.zero) o.variables
-
--- the edition that the last package is of
-abbrev pub edition_of : Option Object → Edition
-edition_of None = One
-edition_of (Some o) = o.edition
 
 -- variables and functions package by package, each package's in declaration order; the start steps package by package, and main at last
 abbrev pub linked : List Object → Image

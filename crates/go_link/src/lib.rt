@@ -2,6 +2,7 @@
 #![tactic(auto)]
 
 mod code;
+mod editions;
 pub mod law;
 pub mod link;
 mod missing;

@@ -6,10 +6,11 @@ ghost use Rattle.go_link.specs.Links.{IsRefusal, Links, in_order, link_refusal, 
 ghost use Rattle.go_link.specs.declared.link.LinkError.TheVariants.{Memory};
 
 use crate::code::{link_functions, link_globals};
+use crate::editions::{edition_of, editions_differ};
 use crate::missing::name_missing;
 use crate::names::{Names, collect_names};
 use crate::places::{Places, collect_places};
-use crate::starts::{edition_of, has_main, link_starts};
+use crate::starts::{has_main, link_starts};
 use go_code::image::Image;
 use go_code::object::Object;
 use std::alloc::{AllocError, Global};
@@ -25,6 +26,9 @@ pub enum LinkError {
     /// An instruction refers to a function or a variable that no object has.
     #[error("a name is missing")]
     NameMissing,
+    /// An object is of another edition than the last.
+    #[error("the editions differ")]
+    EditionsDiffer,
     /// Memory ran out.
     #[error("out of memory")]
     Memory,
@@ -62,7 +66,8 @@ fn packages_in_order(
     Ok(packages)
 }
 
-/// The image of packages, once it is known that they have a main and that no name is missing.
+/// The image of packages, once it is known that they have a main, that no name is missing
+/// and that they are of one edition.
 fn image_of<'a>(
     alloc: Global,
     names: &Names<'a>,
@@ -94,6 +99,9 @@ fn link_packages(alloc: Global, packages: &[Arc<Object>]) -> Result<Image, LinkE
     if name_missing(&names, &places, packages) {
         return Err(LinkError::NameMissing);
     }
+    if editions_differ(packages) {
+        return Err(LinkError::EditionsDiffer);
+    }
     Ok(image_of(alloc, &names, &places, packages)?)
 }
 
@@ -101,7 +109,8 @@ fn link_packages(alloc: Global, packages: &[Arc<Object>]) -> Result<Image, LinkE
 /// their indexes. The image has the variables and the functions package by package, and the start
 /// steps: each package's setups and inits, package by package, and then the last one's main.
 ///
-/// An `Err` is the first that holds of `NoMain` and `NameMissing`, or says that memory ran out.
+/// An `Err` is the first that holds of `NoMain`, `NameMissing` and `EditionsDiffer`, or says that
+/// memory ran out.
 /// A symbol means the first function or variable of its path and name; where the paths of packages
 /// and the names in a package differ there is one at most.
 pub fn link(alloc: Global, objects: &[Arc<Object>], order: &[usize]) -> Result<Image, LinkError>

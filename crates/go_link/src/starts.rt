@@ -3,7 +3,7 @@ ghost use Rattle.std.specs.Prelude.{◌≡◌, ◌++◌, OnOk, IfOk, map, codes}
 ghost use Rattle.std.specs.Arc.{arc_value};
 ghost use Rattle.std.specs.List.{flat_map, filter, list_any};
 ghost use Rattle.std.specs.Str.{bytes_eq};
-ghost use Rattle.go_link.specs.Links.{edition_of, has_main, is_init, last_package, linked_setup, main_start, package_starts, start_of};
+ghost use Rattle.go_link.specs.Links.{has_main, is_init, last_package, linked_setup, main_start, package_starts, start_of};
 
 use crate::code::link_code;
 use crate::names::Names;
@@ -13,7 +13,6 @@ use go_code::object::Object;
 use go_code::object::function::PackageFunction;
 use go_code::setup::Setup;
 use go_symbol::Symbol;
-use go_text::edition::Edition;
 use std::alloc::{AllocError, Global};
 use std::sync::Arc;
 
@@ -107,16 +106,6 @@ pub(crate) fn link_starts<'a>(
     }
     push_main(&mut starts, names, packages)?;
     Ok(starts)
-}
-
-/// The edition that the last package is of; the first where there is none.
-pub(crate) fn edition_of(packages: &[Arc<Object>]) -> Edition
-    ensures { result ≡ edition_of (last_package (map arc_value packages.now)) }
-{
-    match packages.last() {
-        None => Edition::One,
-        Some(object) => object.edition(),
-    }
 }
 
 /// Whether a function is named main.

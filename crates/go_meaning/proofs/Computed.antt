@@ -74,7 +74,7 @@ ended ticks rows = Gives tt (record { ticks = ticks; variables = []; arrays = fi
 
 -- for { fmt.Println(1) }, with 3 ticks
 pub loop_is_cut : run (main_of [] (for_statement None no_stmts (pack_stmts (print (pack_exprs (n 1 ∷ [])) ∷ [])) ∷ [])) 3 ≡ Ends Cut (out [] (ints (1 ∷ []) ∷ ints (1 ∷ []) ∷ []))
-unfolding Rattle.go_meaning.specs.Programs.most_open
+unfolding Rattle.go_text.specs.Editions.most_open
 loop_is_cut = refl
 
 -- var x, y int = 7, 2; var m, n int8 = -128, -1; fmt.Println(-x/y, -x%y, m/n)
@@ -89,7 +89,7 @@ divisions =
     ∷ []
 
 pub divided : run (main_of (int ∷ int ∷ int8 ∷ int8 ∷ []) divisions) 1 ≡ ended 0 ((Int (negsuc 2) ∷ Int (negsuc 0) ∷ Int (negsuc 127) ∷ []) ∷ [])
-unfolding Rattle.go_meaning.specs.Programs.most_open
+unfolding Rattle.go_text.specs.Editions.most_open
 divided = refl
 
 -- var x [3]int; i := 0; i, x[i] = 1, 9; x[1], x[0] = x[0], x[1]; fmt.Println(i, x[0], x[1]); j := 3; x[j] = 1
@@ -105,7 +105,7 @@ tuples =
     ∷ []
 
 pub tuple_row : run (main_of (three ∷ int ∷ int ∷ []) tuples) 10 ≡ Ends (Panicked Index) (out [] (ints (1 ∷ 0 ∷ 9 ∷ []) ∷ []))
-unfolding Rattle.go_meaning.specs.Meaning.most_cells Rattle.go_meaning.specs.Programs.most_open
+unfolding Rattle.go_meaning.specs.Meaning.most_cells Rattle.go_text.specs.Editions.most_open
 tuple_row = refl
 
 -- func main() { main() }: the call that makes too many open ones panics, if it has its tick
@@ -128,16 +128,16 @@ ranges =
     ∷ []
 
 pub range_row : run (main_of (int ∷ []) ranges) 4 ≡ ended 0 (ints (0 ∷ []) ∷ ints (1 ∷ []) ∷ ints (2 ∷ []) ∷ [])
-unfolding Rattle.go_meaning.specs.Meaning.most_cells Rattle.go_meaning.specs.Programs.most_open
+unfolding Rattle.go_meaning.specs.Meaning.most_cells Rattle.go_text.specs.Editions.most_open
 range_row = refl
 
 pub range_cut : run (main_of (int ∷ []) ranges) 3 ≡ Ends Cut (out [] (ints (0 ∷ []) ∷ ints (1 ∷ []) ∷ []))
-unfolding Rattle.go_meaning.specs.Meaning.most_cells Rattle.go_meaning.specs.Programs.most_open
+unfolding Rattle.go_meaning.specs.Meaning.most_cells Rattle.go_text.specs.Editions.most_open
 range_cut = refl
 
 -- panic("no")
 pub panic_row : run (main_of [] (panic (constant string (consts.Text (codes "no"))) ∷ [])) 1 ≡ Ends (Panicked (User (codes "no"))) []
-unfolding Rattle.go_meaning.specs.Programs.most_open
+unfolding Rattle.go_text.specs.Editions.most_open
 panic_row = refl
 
 -- switch x := 2; x { case 1: fmt.Println(1); case 2: fmt.Println(2); fallthrough; default: fmt.Println(9) }
@@ -152,7 +152,7 @@ switches =
     ∷ []
 
 pub switch_row : run (main_of (int ∷ []) switches) 1 ≡ ended 0 (ints (2 ∷ []) ∷ ints (9 ∷ []) ∷ [])
-unfolding Rattle.go_meaning.specs.Programs.most_open
+unfolding Rattle.go_text.specs.Editions.most_open
 switch_row = refl
 
 -- s := "abc"; fmt.Println(s[1], len(s), s < "abd")
@@ -165,7 +165,7 @@ texts =
     ∷ []
 
 pub text_row : run (main_of (string ∷ []) texts) 1 ≡ ended 0 ((Int (pos 98) ∷ Int (pos 3) ∷ Truth true ∷ []) ∷ [])
-unfolding Rattle.go_meaning.specs.Programs.most_open
+unfolding Rattle.go_text.specs.Editions.most_open
 text_row = refl
 
 -- func t() bool { fmt.Println("t"); return true }; func main() { if t() || t() { } }
@@ -194,7 +194,7 @@ either_of =
     } ∷ []
 
 pub either_row : run either_of 2 ≡ ended 0 ((Text (codes "t") ∷ []) ∷ [])
-unfolding Rattle.go_meaning.specs.Programs.most_open
+unfolding Rattle.go_text.specs.Editions.most_open
 either_row = refl
 
 -- for i := 0; i < 5; i++ { if i == 1 { continue }; if i == 3 { break }; fmt.Println(i) }
@@ -209,5 +209,5 @@ loops =
     ∷ []
 
 pub loop_row : run (main_of (int ∷ []) loops) 9 ≡ ended 4 (ints (0 ∷ []) ∷ ints (2 ∷ []) ∷ [])
-unfolding Rattle.go_meaning.specs.Meaning.most_cells Rattle.go_meaning.specs.Programs.most_open
+unfolding Rattle.go_meaning.specs.Meaning.most_cells Rattle.go_text.specs.Editions.most_open
 loop_row = refl

@@ -60,7 +60,7 @@ one =
     ∷ []
 
 pub row_one : Prints (run (main_of (ints_type ∷ ints_type ∷ []) one) 1) (ints (9 ∷ 3 ∷ 3 ∷ []) ∷ [])
-unfolding Rattle.go_meaning.specs.Meaning.most_cells Rattle.go_meaning.specs.Programs.most_open Rattle.go_code.specs.Rows.most_room
+unfolding Rattle.go_meaning.specs.Meaning.most_cells Rattle.go_text.specs.Editions.most_open Rattle.go_code.specs.Rows.most_room
 row_one = refl
 
 -- s := []int{1, 2, 3}; u := append(s, 4); u[0] = 7; fmt.Println(s[0], u[0], len(u), cap(u)); u = u[:6]; fmt.Println(u[5])
@@ -75,7 +75,7 @@ two =
     ∷ []
 
 pub row_two : Prints (run (main_of (ints_type ∷ ints_type ∷ []) two) 1) (ints (1 ∷ 7 ∷ 4 ∷ 6 ∷ []) ∷ ints (4 ∷ 0 ∷ []) ∷ [])
-unfolding Rattle.go_meaning.specs.Meaning.most_cells Rattle.go_meaning.specs.Programs.most_open Rattle.go_code.specs.Rows.most_room
+unfolding Rattle.go_meaning.specs.Meaning.most_cells Rattle.go_text.specs.Editions.most_open Rattle.go_code.specs.Rows.most_room
 row_two = refl
 
 -- s := []int{1}; t := []int{2}; r := s; s, s[0] = t, 5; fmt.Println(r[0], s[0])
@@ -89,7 +89,7 @@ three_of =
     ∷ []
 
 pub row_three : Prints (run (main_of (ints_type ∷ ints_type ∷ ints_type ∷ []) three_of) 1) (ints (5 ∷ 2 ∷ []) ∷ [])
-unfolding Rattle.go_meaning.specs.Meaning.most_cells Rattle.go_meaning.specs.Programs.most_open Rattle.go_code.specs.Rows.most_room
+unfolding Rattle.go_meaning.specs.Meaning.most_cells Rattle.go_text.specs.Editions.most_open Rattle.go_code.specs.Rows.most_room
 row_three = refl
 
 -- s := "abc"; fmt.Println(s[1:])
@@ -100,7 +100,7 @@ four =
     ∷ []
 
 pub row_four : Prints (run (main_of (string ∷ []) four) 1) ((Text (codes "bc") ∷ []) ∷ [])
-unfolding Rattle.go_meaning.specs.Programs.most_open
+unfolding Rattle.go_text.specs.Editions.most_open
 row_four = refl
 
 -- s := []int{1}; fmt.Println(len(s[1:1]), len(s[1:])); and there s[1:3]
@@ -111,25 +111,25 @@ abbrev pub slice_of_it : ℕ → ℕ → Expr
 slice_of_it a b = cut ints_type (of 0) (n a) (present (n b))
 
 pub row_five : Prints (run (main_of (ints_type ∷ []) (five (slice_of_it 1 1))) 1) (ints (0 ∷ []) ∷ [])
-unfolding Rattle.go_meaning.specs.Programs.most_open Rattle.go_code.specs.Rows.most_room
+unfolding Rattle.go_text.specs.Editions.most_open Rattle.go_code.specs.Rows.most_room
 row_five = refl
 
 pub row_five_slice : run (main_of (ints_type ∷ []) (five (slice_of_it 1 3))) 1 ≡ Ends (Panicked Bounds) []
-unfolding Rattle.go_meaning.specs.Programs.most_open Rattle.go_code.specs.Rows.most_room
+unfolding Rattle.go_text.specs.Editions.most_open Rattle.go_code.specs.Rows.most_room
 row_five_slice = refl
 
 -- n := -1; s := make([]int, n)
 pub row_five_make : run (main_of (int ∷ ints_type ∷ []) (var 0 (constant int (consts.Integer (negsuc 0))) ∷ var 1 (make ints_type (local int 0) absent) ∷ [])) 1 ≡ Ends (Panicked Making) []
-unfolding Rattle.go_meaning.specs.Programs.most_open
+unfolding Rattle.go_text.specs.Editions.most_open
 row_five_make = refl
 
 -- s := make([]int, 2, 1); make([]int, 16777217)
 pub row_make_above : run (main_of (ints_type ∷ []) (var 0 (make ints_type (n 2) (present (n 1))) ∷ [])) 1 ≡ Ends (Panicked Making) []
-unfolding Rattle.go_meaning.specs.Programs.most_open
+unfolding Rattle.go_text.specs.Editions.most_open
 row_make_above = refl
 
 pub row_make_long : run (main_of (ints_type ∷ []) (var 0 (make ints_type (n 16777217) absent) ∷ [])) 1 ≡ Ends (Panicked Long) []
-unfolding Rattle.go_meaning.specs.Programs.most_open Rattle.go_code.specs.Rows.most_room
+unfolding Rattle.go_text.specs.Editions.most_open Rattle.go_code.specs.Rows.most_room
 row_make_long = refl
 
 -- s := [][2]int{{1, 2}, {3, 4}}; s[1][0] += 5; fmt.Println(s[0][0], s[1][0], s[1][1]); s[1][2] is out of range by a variable; s[2]
@@ -149,9 +149,9 @@ six i j =
     ∷ []
 
 pub row_six : Prints (run (main_of (pairs ∷ int ∷ int ∷ []) (six 1 0)) 1) (ints (1 ∷ 8 ∷ 4 ∷ []) ∷ [])
-unfolding Rattle.go_meaning.specs.Meaning.most_cells Rattle.go_meaning.specs.Programs.most_open Rattle.go_code.specs.Rows.most_room
+unfolding Rattle.go_meaning.specs.Meaning.most_cells Rattle.go_text.specs.Editions.most_open Rattle.go_code.specs.Rows.most_room
 row_six = refl
 
 pub row_six_index : run (main_of (pairs ∷ int ∷ int ∷ []) (six 2 0)) 1 ≡ Ends (Panicked Index) []
-unfolding Rattle.go_meaning.specs.Meaning.most_cells Rattle.go_meaning.specs.Programs.most_open Rattle.go_code.specs.Rows.most_room
+unfolding Rattle.go_meaning.specs.Meaning.most_cells Rattle.go_text.specs.Editions.most_open Rattle.go_code.specs.Rows.most_room
 row_six_index = refl

@@ -91,11 +91,11 @@ counted =
     ∷ []
 
 pub counted_row : ends (programs.run counted 3) ≡ Some (Ended, line (9 ∷ 4 ∷ 5 ∷ 5 ∷ []))
-unfolding Rattle.go_meaning.specs.Meaning.most_cells Rattle.go_meaning.specs.Programs.most_open
+unfolding Rattle.go_meaning.specs.Meaning.most_cells Rattle.go_text.specs.Editions.most_open
 counted_row = refl
 
 pub cut_row : ends (programs.run counted 2) ≡ Some (Cut, [])
-unfolding Rattle.go_meaning.specs.Meaning.most_cells Rattle.go_meaning.specs.Programs.most_open
+unfolding Rattle.go_meaning.specs.Meaning.most_cells Rattle.go_text.specs.Editions.most_open
 cut_row = refl
 
 -- var a = b; var c = g(); var b int; func g() int { b = 5; return b }; func main() { fmt.Println(a, c) }
@@ -108,7 +108,7 @@ later =
     ∷ []
 
 pub later_row : ends (programs.run later 2) ≡ Some (Ended, line (0 ∷ 5 ∷ []))
-unfolding Rattle.go_meaning.specs.Meaning.most_cells Rattle.go_meaning.specs.Programs.most_open
+unfolding Rattle.go_meaning.specs.Meaning.most_cells Rattle.go_text.specs.Editions.most_open
 later_row = refl
 
 -- lib: var N = 1; func Inc() { N++ }. app: func main() { lib.Inc(); lib.N += 2; fmt.Println(lib.N) }
@@ -123,11 +123,11 @@ two =
     ∷ []
 
 pub two_row : ends (programs.run two 2) ≡ Some (Ended, line (4 ∷ []))
-unfolding Rattle.go_meaning.specs.Meaning.most_cells Rattle.go_meaning.specs.Programs.most_open
+unfolding Rattle.go_meaning.specs.Meaning.most_cells Rattle.go_text.specs.Editions.most_open
 two_row = refl
 
 pub two_cut_row : ends (programs.run two 1) ≡ Some (Cut, [])
-unfolding Rattle.go_meaning.specs.Meaning.most_cells Rattle.go_meaning.specs.Programs.most_open
+unfolding Rattle.go_meaning.specs.Meaning.most_cells Rattle.go_text.specs.Editions.most_open
 two_cut_row = refl
 
 -- func init() { fmt.Println(a, b) }; var a, _ = f(); var b = a; func f() (int, int) { return 7, 8 }; func init() { b++ }; func main() { fmt.Println(b) }
@@ -142,9 +142,9 @@ first =
     ∷ []
 
 pub first_row : ends (programs.run first 4) ≡ Some (Ended, line (7 ∷ 7 ∷ []) ++ line (8 ∷ []))
-unfolding Rattle.go_meaning.specs.Meaning.most_cells Rattle.go_meaning.specs.Programs.most_open
+unfolding Rattle.go_meaning.specs.Meaning.most_cells Rattle.go_text.specs.Editions.most_open
 first_row = refl
 
 pub first_cut_row : ends (programs.run first 2) ≡ Some (Cut, line (7 ∷ 7 ∷ []))
-unfolding Rattle.go_meaning.specs.Meaning.most_cells Rattle.go_meaning.specs.Programs.most_open
+unfolding Rattle.go_meaning.specs.Meaning.most_cells Rattle.go_text.specs.Editions.most_open
 first_cut_row = refl

@@ -3,6 +3,9 @@ use Rattle.std.specs.Prelude.{◌≡◌, ℕ, zero, suc, ◌-◌, List, [], ◌�
 use Rattle.std.specs.List.{filter, find, flat_map, starts_with}
 use Rattle.std.specs.Option.{option_map}
 use Rattle.std.specs.Str.{bytes_eq}
+use Rattle.go_text.specs.declared.edition.Edition.{Edition}
+use Rattle.go_text.specs.declared.edition.Edition.TheVariants.{One}
+use Rattle.go_text.specs.Editions.{most_open}
 use Rattle.go_types.specs.Types.{Type'}
 use Rattle.go_code.specs.declared.ending.Ending.{Ending}
 use Rattle.go_code.specs.declared.ending.Ending.TheVariants.{Ended, Panicked}
@@ -60,12 +63,13 @@ call_at packages (suc left) s arguments w =
 -- ---- programs
 
 -- https://go.dev/ref/spec#Program_execution
--- how many calls may be open
-unfoldable pub most_open : ℕ
-most_open = 1000
-
 abbrev pub last_package : List Package → Option Package
 last_package packages = slice_get packages (length packages - 1)
+
+-- a program is of the edition of its last package
+abbrev pub edition_of : Option Package → Edition
+edition_of None = One
+edition_of (Some p) = p.edition
 
 -- the first function of a name
 abbrev pub function_named : List ℕ → List Function → Option Function
@@ -131,9 +135,9 @@ first_world packages ticks = record { ticks = ticks; variables = flat_map first_
 abbrev pub IsOver : Outcome ⊤ → Ending → List ℕ → Type 0
 IsOver outcome ending output = elim outcome [ Gives done w ↦ (ending ≡ Ended) × (output ≡ w.output) | Ends e o ↦ (ending ≡ e) × (output ≡ o) | Stuck ↦ ⊥ ]
 
--- what a program comes to that is given so many ticks
+-- what a program comes to that is given so many ticks; its edition says how many calls may be open
 abbrev pub run : List Package → ℕ → Outcome ⊤
-run packages ticks = step_all (call_at packages most_open) (start_steps packages) (first_world packages ticks)
+run packages ticks = step_all (call_at packages (most_open (edition_of (last_package packages)))) (start_steps packages) (first_world packages ticks)
 
 -- a program that is given so many ticks ends so; it has ended when main returns
 abbrev pub SourceMeaning : List Package → ℕ → Ending → List ℕ → Type 0

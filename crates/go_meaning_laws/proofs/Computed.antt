@@ -118,7 +118,7 @@ abbrev unset : List Package
 unset = package_of (main_of (int ∷ []) (print (pack_exprs (local int 0 ∷ [])) ∷ []) ∷ [])
 
 pub unset_is_stuck : run unset 1 ≡ Stuck
-unfolding Rattle.go_meaning.specs.Programs.most_open
+unfolding Rattle.go_text.specs.Editions.most_open
 unset_is_stuck = refl
 
 pub unset_isn't_typed : IsWellTyped unset → ⊥

@@ -85,7 +85,7 @@ is_typed = record {
 
 -- var a, _ = pair(), where a is a string
 pub other_is_stuck : run (with_variable string) 9 ≡ Stuck
-unfolding Rattle.go_meaning.specs.Meaning.most_cells Rattle.go_meaning.specs.Programs.most_open
+unfolding Rattle.go_meaning.specs.Meaning.most_cells Rattle.go_text.specs.Editions.most_open
 other_is_stuck = refl
 
 pub other_isn't_typed : IsWellTyped (with_variable string) → ⊥

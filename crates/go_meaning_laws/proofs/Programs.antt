@@ -5,6 +5,7 @@ use Rattle.std.specs.List.{All, find, flat_map}
 use Rattle.std.specs.Option.{option_map}
 use Rattle.std.proofs.lemmas.Bool.{ne_eqb}
 use Rattle.std.proofs.lemmas.List.Elements.{All-head, All-tail, All-nil, All-append, All-map}
+use Rattle.go_text.specs.Editions.{most_open}
 use Rattle.go_types.specs.Types.{Type'}
 use Rattle.go_code.specs.declared.ending.Ending.{Ending}
 use Rattle.go_code.specs.declared.ending.Ending.TheVariants.{Ended, Panicked}
@@ -14,7 +15,7 @@ use Rattle.go_typed.specs.Terminating.{list_terminates, breaks_any}
 use Rattle.go_meaning.specs.Values.{Value, zero_of}
 use Rattle.go_symbol.specs.Symbols.{same_symbol}
 use Rattle.go_meaning.specs.Meaning.{Stored, World, Outcome, Gives, Ends, Stuck, Local, Flow, Normal, Breaks, Continues, Returns, and_then, with_tick, source, exec_all}
-use Rattle.go_meaning.specs.Programs.{results_of, enter, with_arguments, first_locals, Declared, package_functions, function_at, call_at, Step, sets, calls, start_steps, step, stored, step_all, first_variables, first_world, most_open, run, IsOver, IsProgram, SourceMeaning}
+use Rattle.go_meaning.specs.Programs.{results_of, enter, with_arguments, first_locals, Declared, package_functions, function_at, call_at, Step, sets, calls, start_steps, step, stored, step_all, first_variables, first_world, edition_of, last_package, run, IsOver, IsProgram, SourceMeaning}
 use Rattle.go_meaning_laws.specs.WellTyped.{has, first, signature_at, variable_at, setting, are_none, source_types, outside, IsWhole, after_all, IsFunction, IsStart, IsWellTyped}
 use Rattle.go_meaning_laws.proofs.Shelf.{Shelf, grows_not}
 use Rattle.go_meaning_laws.proofs.Values.{Of, AllOf, all_are, zero_is}
@@ -179,7 +180,7 @@ module _ (packages : List Package) (typed : IsWellTyped packages) where
 
   -- nothing stands there yet but array 0
   runs : (ticks : ℕ) → Sound [] Starting (run packages ticks)
-  runs ticks = steps_go most_open (start_steps packages) [] (first_world packages ticks) typed.start (first_stores, (refl, tt))
+  runs ticks = steps_go (most_open (edition_of (last_package packages))) (start_steps packages) [] (first_world packages ticks) typed.start (first_stores, (refl, tt))
 
   pub never_stuck : (ticks : ℕ) → run packages ticks ≢ Stuck
   never_stuck ticks e = subst (Sound [] Starting) e (runs ticks)

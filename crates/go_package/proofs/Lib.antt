@@ -1,3 +1,4 @@
+pub mod ByPath
 pub mod Dotted
 pub mod OneFault
 pub mod OneTyped

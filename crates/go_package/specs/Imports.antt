@@ -11,6 +11,10 @@ pub record Importable : Type 0 where
   pub name : List ℕ
   pub exports : Names
 
+-- the path of each
+abbrev pub paths_of : List Importable → List (List ℕ)
+paths_of ps = map (λ (p : Importable). p.path) ps
+
 -- the first package of a path
 abbrev pub package_at : List Importable → List ℕ → Option Importable
 package_at ps path = find (λ (p : Importable). bytes_eq path p.path) ps

@@ -13,7 +13,7 @@ ghost use Rattle.go_objects.specs.Table.{IsTable};
 
 use crate::constants::check_constants;
 use crate::files::check_file;
-use crate::import::{Importable, imports_of};
+use crate::import::{Importable, Packages, imports_of};
 use crate::main_rule::check_reserved;
 use go_ast::file::File;
 use go_ast::name::Name;
@@ -48,18 +48,19 @@ pub fn check<'a>(
     ensures faulty { (file : ℕ) (place : Place) (kind : FaultKind) → result ≡ Err (errors.Faulty file place kind)
         → IsFaultOf edition path.now (files_of files.now) (importables_of packages.now) (Some (file, (place, kind))) }
 {
-    let package = package_of(alloc, edition, path, files, packages)?;
-    check_package(alloc, packages, &package, files)
+    let packages = Packages::new(alloc, packages)?;
+    let package = package_of(alloc, edition, path, files, &packages)?;
+    check_package(alloc, &packages, &package, files)
 }
 
 // The first fault, by what the files import and declare.
 fn check_package<'a>(
     alloc: Global,
-    packages: &[Importable<'a>],
+    packages: &Packages<'_, 'a>,
     package: &Package<'_>,
     files: &[&'a File],
 ) -> Result<(), DeclError>
-    ensures { Tells result (IsFaultIn (package_of «package».now) (files_of files.now) (importables_of packages.now)) }
+    ensures { Tells result (IsFaultIn (package_of «package».now) (files_of files.now) (importables_of packages.now.all.now)) }
 {
     let known = table(alloc, package)?;
     check_known(alloc, packages, package, &known, files)
@@ -68,13 +69,13 @@ fn check_package<'a>(
 // The first fault, by the table of the package.
 fn check_known<'a>(
     alloc: Global,
-    packages: &[Importable<'a>],
+    packages: &Packages<'_, 'a>,
     package: &Package<'_>,
     known: &Names,
     files: &[&'a File],
 ) -> Result<(), DeclError>
     requires { IsTable (package_of «package».now) (names_of known.now) }
-    ensures { Tells result (IsFaultIn (package_of «package».now) (files_of files.now) (importables_of packages.now)) }
+    ensures { Tells result (IsFaultIn (package_of «package».now) (files_of files.now) (importables_of packages.now.all.now)) }
 {
     let facts = Facts::new(alloc, package, known)?;
     check_facts(alloc, packages, &facts, files)
@@ -86,9 +87,9 @@ pub(crate) fn package_of<'a>(
     edition: Edition,
     path: &'a str,
     files: &[&'a File],
-    packages: &[Importable<'a>],
+    packages: &Packages<'_, 'a>,
 ) -> Result<Package<'a>, AllocError>
-    ensures { IfOk result (λ p. package_of p ≡ package_in edition path.now (files_of files.now) (importables_of packages.now)) }
+    ensures { IfOk result (λ p. package_of p ≡ package_in edition path.now (files_of files.now) (importables_of packages.now.all.now)) }
 {
     Ok(Package {
         path,
@@ -101,11 +102,11 @@ pub(crate) fn package_of<'a>(
 // The first fault, by what is known of the package.
 pub(crate) fn check_facts<'a>(
     alloc: Global,
-    packages: &[Importable<'a>],
+    packages: &Packages<'_, 'a>,
     facts: &Facts<'_>,
     files: &[&'a File],
 ) -> Result<(), DeclError>
-    ensures { FindsIn result (package_faults (importables_of packages.now) (facts_of facts.now) (files_of files.now)) }
+    ensures { FindsIn result (package_faults (importables_of packages.now.all.now) (facts_of facts.now) (files_of files.now)) }
 {
     check_files(alloc, packages, facts, files)?;
     check_constants(alloc, facts)?;
@@ -114,11 +115,11 @@ pub(crate) fn check_facts<'a>(
 
 fn check_files<'a>(
     alloc: Global,
-    packages: &[Importable<'a>],
+    packages: &Packages<'_, 'a>,
     facts: &Facts<'_>,
     files: &[&'a File],
 ) -> Result<(), DeclError>
-    ensures { FindsIn result (each_file (file_faults (importables_of packages.now) (facts_of facts.now)) 0 (files_of files.now)) }
+    ensures { FindsIn result (each_file (file_faults (importables_of packages.now.all.now) (facts_of facts.now)) 0 (files_of files.now)) }
 {
     for (number, file) in files.iter().enumerate() {
         check_numbered(alloc, packages, facts, number, *file)?;
@@ -128,12 +129,12 @@ fn check_files<'a>(
 
 fn check_numbered<'a>(
     alloc: Global,
-    packages: &[Importable<'a>],
+    packages: &Packages<'_, 'a>,
     facts: &Facts<'_>,
     number: usize,
     file: &'a File,
 ) -> Result<(), DeclError>
-    ensures { FindsIn result (map (λ x. (number, x)) (file_faults (importables_of packages.now) (facts_of facts.now) number (file_of file.now))) }
+    ensures { FindsIn result (map (λ x. (number, x)) (file_faults (importables_of packages.now.all.now) (facts_of facts.now) number (file_of file.now))) }
 {
     numbered(number, check_file(alloc, packages, facts, number, file))
 }

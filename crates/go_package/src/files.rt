@@ -10,7 +10,7 @@ ghost use Rattle.go_package.specs.Imports.{imports_in};
 ghost use Rattle.go_package.specs.Packages.{import_faults, imports_faults, file_faults};
 ghost use Rattle.go_package.specs.Seen.{importables_of};
 
-use crate::import::{Importable, declared_by};
+use crate::import::{Packages, declared_by};
 use go_ast::file::{File, TopLevel};
 use go_decl::declarations::check_top;
 use go_decl::facts::Facts;
@@ -24,12 +24,12 @@ use std::alloc::{AllocError, Global};
 /// The first fault in a file: of its imports, then of its declarations.
 pub(crate) fn check_file<'a>(
     alloc: Global,
-    packages: &[Importable<'a>],
+    packages: &Packages<'_, 'a>,
     facts: &Facts<'_>,
     number: usize,
     file: &'a File,
 ) -> Result<(), ExprError>
-    ensures { Finds result (file_faults (importables_of packages.now) (facts_of facts.now) number (file_of file.now)) }
+    ensures { Finds result (file_faults (importables_of packages.now.all.now) (facts_of facts.now) number (file_of file.now)) }
 {
     check_imports(alloc, packages, facts, file)?;
     check_tops(alloc, facts, number, &file.declarations)
@@ -40,11 +40,11 @@ pub(crate) fn check_file<'a>(
 // [Import declarations](https://go.dev/ref/spec#Import_declarations)
 fn check_imports<'a>(
     alloc: Global,
-    packages: &[Importable<'a>],
+    packages: &Packages<'_, 'a>,
     facts: &Facts<'_>,
     file: &'a File,
 ) -> Result<(), ExprError>
-    ensures { Finds result (imports_faults (facts_of facts.now) (file_of file.now) [] (imports_in (importables_of packages.now) (file_of file.now).imports)) }
+    ensures { Finds result (imports_faults (facts_of facts.now) (file_of file.now) [] (imports_in (importables_of packages.now.all.now) (file_of file.now).imports)) }
 {
     let used = dotted_in(alloc, file)?;
     let mut before = NameIndex::new(alloc);

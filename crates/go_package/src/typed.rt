@@ -15,7 +15,7 @@ ghost use Rattle.go_package.specs.Told.{Types};
 
 use crate::check::{check_facts, package_of};
 use crate::functions::functions_in;
-use crate::import::Importable;
+use crate::import::{Importable, Packages};
 use crate::initializations::initializations_in;
 use crate::inits::with_numbers;
 use crate::names::{constants_in, types_in, variables_in};
@@ -83,20 +83,21 @@ pub fn typed<'a>(
     ensures faulty { (file : ℕ) (place : Place) (kind : FaultKind) → result ≡ Err (errors.Faulty file place kind)
         → IsFaultOf edition path.now (files_of files.now) (importables_of packages.now) (Some (file, (place, kind))) }
 {
-    let package = package_of(alloc, edition, path, files, packages)?;
-    typed_in(alloc, packages, &package, edition, names, files)
+    let packages = Packages::new(alloc, packages)?;
+    let package = package_of(alloc, edition, path, files, &packages)?;
+    typed_in(alloc, &packages, &package, edition, names, files)
 }
 
 fn typed_in<'a>(
     alloc: Global,
-    packages: &[Importable<'a>],
+    packages: &Packages<'_, 'a>,
     package: &Package<'_>,
     edition: Edition,
     names: &[&str],
     files: &[&'a File],
 ) -> Result<Typed, DeclError>
-    ensures { Types result (IsTypedIn edition (package_of «package».now) (files_of files.now) (importables_of packages.now) (texts_of names.now))
-        (IsFaultIn (package_of «package».now) (files_of files.now) (importables_of packages.now)) }
+    ensures { Types result (IsTypedIn edition (package_of «package».now) (files_of files.now) (importables_of packages.now.all.now) (texts_of names.now))
+        (IsFaultIn (package_of «package».now) (files_of files.now) (importables_of packages.now.all.now)) }
 {
     let known = table(alloc, package)?;
     typed_by(alloc, packages, package, &known, edition, names, files)
@@ -104,7 +105,7 @@ fn typed_in<'a>(
 
 fn typed_by<'a>(
     alloc: Global,
-    packages: &[Importable<'a>],
+    packages: &Packages<'_, 'a>,
     package: &Package<'_>,
     known: &Names,
     edition: Edition,
@@ -112,8 +113,8 @@ fn typed_by<'a>(
     files: &[&'a File],
 ) -> Result<Typed, DeclError>
     requires { IsTable (package_of «package».now) (names_of known.now) }
-    ensures { Types result (IsTypedIn edition (package_of «package».now) (files_of files.now) (importables_of packages.now) (texts_of names.now))
-        (IsFaultIn (package_of «package».now) (files_of files.now) (importables_of packages.now)) }
+    ensures { Types result (IsTypedIn edition (package_of «package».now) (files_of files.now) (importables_of packages.now.all.now) (texts_of names.now))
+        (IsFaultIn (package_of «package».now) (files_of files.now) (importables_of packages.now.all.now)) }
 {
     let facts = Facts::new(alloc, package, known)?;
     check_facts(alloc, packages, &facts, files)?;

@@ -1,7 +1,7 @@
 -- Checked packages are linked, and their image means the same as their sources.
 use Rattle.std.proofs.Common.{◌≡◌, ◌≢◌, ℕ, List, [], ◌∷◌, Some, None, map, refl, sym, subst, append-nil}
 use Rattle.std.specs.List.{Contains}
-use Rattle.std.proofs.lemmas.List.Elements.{All-nil}
+use Rattle.std.proofs.lemmas.List.Elements.{All-nil, All-cons}
 use Rattle.go_ast.specs.Trees.{File}
 use Rattle.go_code.specs.Images.{Image}
 use Rattle.go_link.specs.declared.link.LinkError.TheVariants.{NoMain}
@@ -15,7 +15,7 @@ use Rattle.go_package.specs.Typed.{IsTypedIn}
 use Rattle.go_meaning_laws.specs.WellTyped.{IsWellTyped}
 use Rattle.go_meaning_laws.proofs.Programs.{never_stuck, means}
 use Rattle.go_gen.specs.Translation.{object_of}
-use Rattle.go_translation_laws.specs.Programs.{IsLinked, MeansTheSame, MakesSense}
+use Rattle.go_translation_laws.specs.Programs.{HaveOneEdition, IsLinked, MeansTheSame, MakesSense}
 use Rattle.go_translation_laws.proofs.LinkedNames.{program_linked}
 use Rattle.go_translation_laws.proofs.Refusals.{no_main}
 use Rattle.go_translation_laws.proofs.WellTyped.{means_the_same, always_sense}
@@ -27,8 +27,8 @@ pub packages_refused : (packages : List Package) → (IsNamedMain packages → �
 packages_refused packages other = no_main packages (λ program. other (named_main packages program))
 
 module _ (packages : List Package) (are : AreChecked packages) (named : IsNamedMain packages) where
-  pub packages_linked : link_refusal (map object_of packages) ≡ None
-  packages_linked = (let h = packages_typed packages are named in program_linked packages h.0 h.1)
+  pub packages_linked : HaveOneEdition packages → link_refusal (map object_of packages) ≡ None
+  packages_linked one = (let h = packages_typed packages are named in program_linked packages h.0 h.1 one)
 
   pub packages_same : (image : Image) → IsLinked packages image → MeansTheSame packages image
   packages_same image linked = means_the_same packages image (packages_typed packages are named).0 linked
@@ -70,7 +70,7 @@ module _ (path : List ℕ) (files : List File) (ps : List Importable) (names : L
   program_typed = packages_typed (p ∷ []) alone last
 
   pub checked_linked : link_refusal (object_of p ∷ []) ≡ None
-  checked_linked = packages_linked (p ∷ []) alone last
+  checked_linked = packages_linked (p ∷ []) alone last (All-cons (λ (q : Package). q.edition ≡ p.edition) p [] refl (All-nil (λ (q : Package). q.edition ≡ p.edition)))
 
   pub checked_same : (image : Image) → IsLinked (p ∷ []) image → MeansTheSame (p ∷ []) image
   checked_same = packages_same (p ∷ []) alone last

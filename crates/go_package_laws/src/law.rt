@@ -19,7 +19,7 @@ ghost use Rattle.go_package.specs.Packages.{package_in};
 ghost use Rattle.go_package.specs.Typed.{IsTypedIn};
 ghost use Rattle.go_meaning_laws.specs.WellTyped.{IsWellTyped};
 ghost use Rattle.go_gen.specs.Translation.{object_of};
-ghost use Rattle.go_translation_laws.specs.Programs.{IsLinked, MeansTheSame, MakesSense};
+ghost use Rattle.go_translation_laws.specs.Programs.{HaveOneEdition, IsLinked, MeansTheSame, MakesSense};
 ghost use Rattle.go_package_laws.specs.Packages.{AreLibraries, AreProgram, AreChecked, IsNamedMain, HavePlainPaths, HasMeaning};
 
 /// Packages whose files have no fault, each checked with packages that stand before it, are well
@@ -35,11 +35,12 @@ pub fn law_checked_program_is_never_stuck()
     ensures means { (packages : List Package) (ticks : ℕ) → AreChecked packages → IsNamedMain packages → HasMeaning packages ticks }
 {}
 
-/// Such a program is linked, and checked packages of which the last isn't named main are refused for
-/// that. Whatever its number of ticks, its image prints and ends as its sources mean and in no other
-/// way, and its code makes sense.
+/// Such a program is linked where its packages are of one edition, and checked packages of which the
+/// last isn't named main are refused for that. Whatever its number of ticks, its image prints and
+/// ends as its sources mean and in no other way, and its code makes sense.
 pub fn law_checked_program_means_its_sources()
-    ensures linked { (packages : List Package) → AreChecked packages → IsNamedMain packages → link_refusal (map object_of packages) ≡ None }
+    ensures linked { (packages : List Package) → AreChecked packages → IsNamedMain packages → HaveOneEdition packages
+        → link_refusal (map object_of packages) ≡ None }
     ensures refused { (packages : List Package) → AreChecked packages → (IsNamedMain packages → ⊥) → link_refusal (map object_of packages) ≡ Some NoMain }
     ensures same { (packages : List Package) (image : Image)
         → AreChecked packages → IsNamedMain packages → IsLinked packages image → MeansTheSame packages image }

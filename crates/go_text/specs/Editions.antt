@@ -12,3 +12,13 @@ edition_number Two = 2
 abbrev pub has_slices : Edition → Bool
 has_slices One = false
 has_slices Two = true
+
+-- how many bytes a text may have
+abbrev pub text_limit : Edition → ℕ
+text_limit One = 1048576
+text_limit Two = 4194304
+
+-- how many calls may be open
+unfoldable pub most_open : Edition → ℕ
+most_open One = 1000
+most_open Two = 4000

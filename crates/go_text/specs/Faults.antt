@@ -2,7 +2,7 @@
 use Rattle.std.specs.Prelude.{ℕ, List, codes}
 use Rattle.go_text.specs.declared.place.Place.{Place}
 use Rattle.go_text.specs.declared.fault.FaultKind.{FaultKind}
-use Rattle.go_text.specs.declared.fault.FaultKind.TheVariants.{Scan, LeftOut, Parse, Deep, Size, PackageName, NoImport, Cycle, Program, Redeclared, Undeclared, UnusedImport, Mismatch, Range, Constant, DivideByZero, Index, NoReturn, Assign, Count, Recursive, InitCycle, Main, Branch, Unexported}
+use Rattle.go_text.specs.declared.fault.FaultKind.TheVariants.{Scan, LeftOut, Parse, Deep, Size, PackageName, NoImport, Cycle, Program, Redeclared, Undeclared, UnusedImport, Mismatch, Range, Constant, DivideByZero, Index, NoReturn, Assign, Count, Recursive, InitCycle, Main, Branch, Unexported, Large}
 
 -- the file's name, the place in it, and what is wrong there
 pub record Fault : Type 0 where
@@ -37,6 +37,7 @@ fault_code InitCycle = (22, codes "initcycle")
 fault_code Main = (23, codes "main")
 fault_code Branch = (24, codes "branch")
 fault_code Unexported = (25, codes "unexported")
+fault_code Large = (26, codes "large")
 
 abbrev pub fault_number : FaultKind → ℕ
 fault_number kind = (fault_code kind).0

@@ -1,12 +1,10 @@
 -- Which texts may be source texts.
 use Rattle.std.specs.Prelude.{◌≡◌, ℕ, Bool, false, ◌||◌, nat_eq, nat_lt, List, [], ◌∷◌, length, drop, Option, Some, None, if◌then◌else◌}
 use Rattle.std.specs.List.{starts_with, list_any}
+use Rattle.go_text.specs.declared.edition.Edition.{Edition}
 use Rattle.go_text.specs.declared.text.TextError.{TextError}
 use Rattle.go_text.specs.declared.text.TextError.TheVariants.{TooLong, Nul, Mark, Memory}
-
--- how many bytes a text may have
-abbrev pub text_limit : ℕ
-text_limit = 1048576
+use Rattle.go_text.specs.Editions.{text_limit}
 
 -- the byte order mark, in UTF-8
 abbrev pub mark : List ℕ
@@ -21,10 +19,10 @@ abbrev pub holds_mark : List ℕ → Bool
 holds_mark [] = false
 holds_mark (b ∷ bs) = starts_with_mark (b ∷ bs) || holds_mark bs
 
--- what keeps a text from being a source text: it is too long, else it holds a NUL, else a mark behind its start
-abbrev pub text_error : List ℕ → Option TextError
-text_error bytes =
-    if nat_lt text_limit (length bytes) then Some TooLong
+-- what keeps a text from being a source text of an edition: it is too long, else it holds a NUL, else a mark behind its start
+abbrev pub text_error : Edition → List ℕ → Option TextError
+text_error edition bytes =
+    if nat_lt (text_limit edition) (length bytes) then Some TooLong
     else (if list_any (λ b. nat_eq b 0) bytes then Some Nul
     else (if holds_mark (drop 1 bytes) then Some Mark
     else None))

@@ -59,6 +59,8 @@ pub enum FaultKind {
     Branch,
     /// A name that its package doesn't export.
     Unexported,
+    /// A file that is longer than its edition allows.
+    Large,
 }
 
 impl FaultKind {
@@ -92,6 +94,7 @@ impl FaultKind {
             FaultKind::Main => 23,
             FaultKind::Branch => 24,
             FaultKind::Unexported => 25,
+            FaultKind::Large => 26,
         }
     }
 
@@ -125,6 +128,7 @@ impl FaultKind {
             FaultKind::Main => "main",
             FaultKind::Branch => "branch",
             FaultKind::Unexported => "unexported",
+            FaultKind::Large => "large",
         }
     }
 }

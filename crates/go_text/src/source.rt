@@ -1,7 +1,9 @@
 //! Source files: a text with its file's name.
 ghost use Rattle.std.specs.Prelude.{◌≡◌, IfOk, IfErr, OnOk, None, string_bytes};
 ghost use Rattle.go_text.specs.Texts.{text_error, IsTextError};
+ghost use Rattle.go_text.specs.declared.edition.Edition.TheVariants.{One};
 
+use crate::edition::Edition;
 use crate::text::{Text, TextError};
 use std::alloc::{AllocError, Global};
 use std::marker::Model;
@@ -23,14 +25,29 @@ impl Model for Source {
 }
 
 impl Source {
-    /// The source of a name and a text, if the text may be a source text. An `Err` says what the
-    /// text has that no source text may have, or that memory ran out.
+    /// The source of a name and a text, if the text may be a source text of the first edition. An
+    /// `Err` says what the text has that no such text may have, or that memory ran out.
     pub fn new(alloc: Global, name: String, text: String) -> Result<Source, TextError>
         ensures ok { IfOk result (λ s. s ≡ record { name = string_bytes name; text = string_bytes text }) }
-        ensures allowed { OnOk result (text_error (string_bytes text) ≡ None) }
-        ensures refused { IfErr result (λ e. IsTextError e (text_error (string_bytes text))) }
+        ensures allowed { OnOk result (text_error One (string_bytes text) ≡ None) }
+        ensures refused { IfErr result (λ e. IsTextError e (text_error One (string_bytes text))) }
     {
-        let text = Text::new(alloc, text)?;
+        Source::new_in(alloc, Edition::One, name, text)
+    }
+
+    /// The source of a name and a text, if the text may be a source text of the edition; else as
+    /// `new`.
+    pub fn new_in(
+        alloc: Global,
+        edition: Edition,
+        name: String,
+        text: String,
+    ) -> Result<Source, TextError>
+        ensures ok { IfOk result (λ s. s ≡ record { name = string_bytes name; text = string_bytes text }) }
+        ensures allowed { OnOk result (text_error edition (string_bytes text) ≡ None) }
+        ensures refused { IfErr result (λ e. IsTextError e (text_error edition (string_bytes text))) }
+    {
+        let text = Text::new_in(alloc, edition, text)?;
         Ok(Source { name, text })
     }
 

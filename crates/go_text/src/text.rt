@@ -1,20 +1,19 @@
 //! Texts that may be source files.
 ghost use Rattle.std.specs.Prelude.{◌≡◌, ◌<◌, length, IfOk, IfErr, OnOk, None, string_bytes, drop};
 ghost use Rattle.go_text.specs.Texts.{starts_with_mark, holds_mark, text_error, IsTextError};
+ghost use Rattle.go_text.specs.declared.edition.Edition.TheVariants.{One, Two};
 ghost use Rattle.go_text.specs.declared.text.TextError.TheVariants.{Memory};
 
+use crate::edition::Edition;
 use std::alloc::{AllocError, AllocFailed, Global};
 use std::marker::Model;
 use std::sync::Arc;
 use thiserror::Error;
 
-/// How many bytes a text may have at most.
-pub const TEXT_LIMIT: usize = 1_048_576;
-
 /// Why a text is no source text.
 #[derive(Debug, Drop, Error)]
 pub enum TextError {
-    /// It has more than `TEXT_LIMIT` bytes.
+    /// It has more bytes than its edition allows.
     #[error("the text is too long")]
     TooLong,
     /// It holds a byte 0.
@@ -57,12 +56,13 @@ fn holds_mark(bytes: &[u8]) -> bool
     false
 }
 
-/// What is wrong with the bytes of a text: the first of too long, a NUL, a misplaced mark.
-fn check(bytes: &[u8]) -> Result<(), TextError>
-    ensures ok { OnOk result (text_error bytes.now ≡ None) }
-    ensures err { IfErr result (λ e. text_error bytes.now ≡ Some e) }
+/// What is wrong with the bytes of a text of an edition: the first of too long, a NUL, a misplaced
+/// mark.
+fn check(edition: Edition, bytes: &[u8]) -> Result<(), TextError>
+    ensures ok { OnOk result (text_error edition bytes.now ≡ None) }
+    ensures err { IfErr result (λ e. text_error edition bytes.now ≡ Some e) }
 {
-    if bytes.len() > TEXT_LIMIT {
+    if bytes.len() > edition.text_limit() {
         return Err(TextError::TooLong);
     }
     if bytes.contains(&0) {
@@ -76,7 +76,7 @@ fn check(bytes: &[u8]) -> Result<(), TextError>
     Ok(())
 }
 
-/// A valid source text. Copies share its bytes.
+/// A valid source text, of either edition. Copies share its bytes.
 #[derive(Drop)]
 pub struct Text {
     held: Arc<String>,
@@ -86,23 +86,34 @@ impl Model for Text {
     ghost use Rattle.std.specs.Prelude.{List, ℕ, ◌≡◌, None, string_bytes};
     ghost use Rattle.std.specs.Arc.{arc_value};
     ghost use Rattle.go_text.specs.Texts.{text_error};
+    ghost use Rattle.go_text.specs.declared.edition.Edition.TheVariants.{Two};
 
     ghost Value = { List ℕ };
 
     ghost view = { λ a. string_bytes (arc_value a.held) };
 
-    ghost invariant = { λ a. text_error (string_bytes (arc_value a.held)) ≡ None };
+    ghost invariant = { λ a. text_error Two (string_bytes (arc_value a.held)) ≡ None };
 }
 
 impl Text {
-    /// The text, if it may be a source text. An `Err` says what the text has that no source
-    /// text may have, the first of `TooLong`, `Nul` and `Mark`, or that memory ran out.
+    /// The text, if it may be a source text of the first edition. An `Err` says what the text has
+    /// that no such text may have, the first of `TooLong`, `Nul` and `Mark`, or that memory ran
+    /// out.
     pub fn new(alloc: Global, text: String) -> Result<Text, TextError>
         ensures ok { IfOk result (λ t. t ≡ string_bytes text) }
-        ensures allowed { OnOk result (text_error (string_bytes text) ≡ None) }
-        ensures refused { IfErr result (λ e. IsTextError e (text_error (string_bytes text))) }
+        ensures allowed { OnOk result (text_error One (string_bytes text) ≡ None) }
+        ensures refused { IfErr result (λ e. IsTextError e (text_error One (string_bytes text))) }
     {
-        check(text.as_bytes())?;
+        Text::new_in(alloc, Edition::One, text)
+    }
+
+    /// The text, if it may be a source text of the edition; else as `new`.
+    pub fn new_in(alloc: Global, edition: Edition, text: String) -> Result<Text, TextError>
+        ensures ok { IfOk result (λ t. t ≡ string_bytes text) }
+        ensures allowed { OnOk result (text_error edition (string_bytes text) ≡ None) }
+        ensures refused { IfErr result (λ e. IsTextError e (text_error edition (string_bytes text))) }
+    {
+        check(edition, text.as_bytes())?;
         let held = Arc::new(alloc, text)?;
         Ok(Text { held })
     }
@@ -110,7 +121,7 @@ impl Text {
     /// The text.
     pub fn as_str(&self) -> &str
         ensures value { result.now ≡ self.now }
-        ensures valid { text_error self.now ≡ None }
+        ensures valid { text_error Two self.now ≡ None }
     {
         self.held.as_str()
     }

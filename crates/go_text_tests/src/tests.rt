@@ -5,6 +5,7 @@ use go_scan::punctuation::{Punctuation, punctuation_of};
 use go_scan::scanner::scan;
 use go_scan::token::{Token, TokenKind};
 use go_scan::values::{rune_code, string_bytes};
+use go_text::edition::Edition;
 use go_text::fault::{Fault, FaultKind};
 use go_text::place::Place;
 use go_text::source::Source;
@@ -243,9 +244,9 @@ fn spellings(rt: HostRuntime) -> Result<(), AllocError> {
     Ok(())
 }
 
-/// What is wrong with a text, or nothing.
-fn refusal(alloc: Global, text: &str) -> Result<String, AllocError> {
-    match Text::new(alloc, String::from_str(alloc, text)?) {
+/// What is wrong with a text of an edition, or nothing.
+fn refusal(alloc: Global, edition: Edition, text: &str) -> Result<String, AllocError> {
+    match Text::new_in(alloc, edition, String::from_str(alloc, text)?) {
         Ok(_) => Ok(String::new(alloc)),
         Err(TextError::Memory) => Err(AllocError),
         Err(error) => format!(in alloc; "{error}"),
@@ -255,15 +256,32 @@ fn refusal(alloc: Global, text: &str) -> Result<String, AllocError> {
 #[test]
 fn texts(rt: HostRuntime) -> Result<(), AllocError> {
     let alloc = rt.alloc();
-    assert!(rt; refusal(alloc, "\u{feff}package p\n")?.as_str() == "");
-    assert!(rt; refusal(alloc, "package\0")?.as_str() == "the text holds a NUL");
-    assert!(rt;
-        refusal(alloc, "p\u{feff}")?.as_str() == "the text holds a byte order mark behind its start"
-    );
-    let longest = " ".repeat(alloc, 1_048_576)?;
-    assert!(rt; refusal(alloc, longest.as_str())?.as_str() == "");
+    let limits = [
+        (Edition::One, 1_048_576, 1_048_577),
+        (Edition::Two, 4_194_304, 4_194_305),
+    ];
+    for (edition, most, more) in limits {
+        let rows = [
+            ("\u{feff}package p\n", ""),
+            ("package\0", "the text holds a NUL"),
+            (
+                "p\u{feff}",
+                "the text holds a byte order mark behind its start",
+            ),
+        ];
+        for (text, wanted) in rows {
+            assert!(rt;
+                refusal(alloc, edition, text)?.as_str() == wanted,
+                "{text:?}"
+            );
+        }
+        let longest = " ".repeat(alloc, most)?;
+        assert!(rt; refusal(alloc, edition, longest.as_str())?.as_str() == "");
+        let longer = " ".repeat(alloc, more)?;
+        assert!(rt; refusal(alloc, edition, longer.as_str())?.as_str() == "the text is too long");
+    }
     let longer = " ".repeat(alloc, 1_048_577)?;
-    assert!(rt; refusal(alloc, longer.as_str())?.as_str() == "the text is too long");
+    assert!(rt; Text::new(alloc, longer).is_err());
     Ok(())
 }
 

@@ -3,6 +3,7 @@
 use Rattle.std.proofs.Common.{◌≡◌, ℕ, zero, suc, ◌+◌, ◌-◌, ◌≤◌, ◌<◌, Bool, true, false, List, [], ◌∷◌, ◌++◌, length, map, replicate, Option, Some, None, refl, sym, ap, ◌∙◌, subst, arith, length-append, append_assoc, append-nil, pos}
 use Rattle.std.specs.Prelude.{if◌then◌else◌, slice_get, slice_index}
 use Rattle.std.specs.List.{flat_map}
+use Rattle.go_text.specs.Editions.{most_open}
 use Rattle.go_types.specs.Types.{Type'}
 use Rattle.go_types.specs.Sizes.{cells}
 use Rattle.go_code.specs.declared.cell.Cell.{Cell}
@@ -15,7 +16,7 @@ use Rattle.go_code.specs.declared.instr.Instr.TheVariants.{Calls as By_call}
 use Rattle.go_code.specs.declared.instr.CallInstr.TheVariants.{Call, Return}
 use Rattle.go_code.specs.Finals.{Final}
 use Rattle.go_code.specs.Images.{Image}
-use Rattle.go_code.specs.Machine.{Frame, State, Leads, most_open, opened}
+use Rattle.go_code.specs.Machine.{Frame, State, Leads, opened}
 use Rattle.go_code.proofs.Follows as follows
 use Rattle.go_code.proofs.Follows.{return_leads, return_over, call_leads, call_cut, call_deep}
 use Rattle.go_code.proofs.Stands.{stands_whole, stands_next}
@@ -179,7 +180,7 @@ module _ (image : Image) (final : Final) (starts : List Start) (packages : List 
   -- calls are followed in all frames where so many more may be open
   abbrev Within : ℕ → Type 0
   Within left =
-      (depth : ℕ) (code : List (Instr ℕ)) (callers : List Frame) (at : ℕ → ℕ) → depth + left ≡ most_open →
+      (depth : ℕ) (code : List (Instr ℕ)) (callers : List Frame) (at : ℕ → ℕ) → depth + left ≡ most_open image.edition →
       AllCalled image final depth code callers starts (places at) (call_at packages left)
 
   module _ (found : Found) (bodies : BodiesRun) where
@@ -191,7 +192,7 @@ module _ (image : Image) (final : Final) (starts : List Start) (packages : List 
       world ticks variables arrays output = record { ticks = ticks; variables = variables; arrays = arrays; output = output }
 
       -- with no more calls to be open it panics behind its tick
-      panics : depth + 0 ≡ most_open → (s : Symbol) (f : Function) → function_at packages s ≡ Some f → (vs : List Value) → are_of f.parameters vs ≡ true → (t : ℕ) (k : List (Instr ℕ)) (front : List Cell) (m : ℕ) (stack : List Cell) (ticks : ℕ) (variables : List Stored) (arrays : List (List Value)) (output : List ℕ) →
+      panics : depth + 0 ≡ most_open image.edition → (s : Symbol) (f : Function) → function_at packages s ≡ Some f → (vs : List Value) → are_of f.parameters vs ≡ true → (t : ℕ) (k : List (Instr ℕ)) (front : List Cell) (m : ℕ) (stack : List Cell) (ticks : ℕ) (variables : List Stored) (arrays : List (List Value)) (output : List ℕ) →
           Onward final (λ rs w1. Onto t k front m (stack ++ flat_map flat rs) w1) (with_tick (world ticks variables arrays output) (λ w1. Ends (Panicked Depth) w1.output)) →
           Onto t (By_call (Call (functions s)) ∷ k) front m (stack ++ flat_map flat vs) (world ticks variables arrays output)
       panics level s f is vs typed t k front m stack zero variables arrays output h known few place high long st =
@@ -200,12 +201,12 @@ module _ (image : Image) (final : Final) (starts : List Start) (packages : List 
           (call_cut image state _ callers stack (flat_map flat vs) (functions s) (translated globals functions f) k refl st (ready found s f is vs typed stack) refl)
       panics level s f is vs typed t k front m stack (suc left) variables arrays output h known few place high long st =
           let state : State = here image final depth code callers starts (places at) place (front ++ high) (stack ++ flat_map flat vs) (world (suc left) variables arrays output) in
-          let deep : most_open < depth + 1 = omega (arith, level) in
+          let deep : most_open image.edition < depth + 1 = omega (arith, level) in
           subst (Leads image state) (sym h)
           (call_deep image state _ callers stack (flat_map flat vs) (functions s) (translated globals functions f) k left refl st (ready found s f is vs typed stack) refl deep)
 
       -- else its body is followed
-      enters : (more : ℕ) → Within more → depth + suc more ≡ most_open → (s : Symbol) (f : Function) → function_at packages s ≡ Some f → (vs : List Value) → are_of f.parameters vs ≡ true → (t : ℕ) (k : List (Instr ℕ)) (front : List Cell) (m : ℕ) (stack : List Cell) (ticks : ℕ) (variables : List Stored) (arrays : List (List Value)) (output : List ℕ) →
+      enters : (more : ℕ) → Within more → depth + suc more ≡ most_open image.edition → (s : Symbol) (f : Function) → function_at packages s ≡ Some f → (vs : List Value) → are_of f.parameters vs ≡ true → (t : ℕ) (k : List (Instr ℕ)) (front : List Cell) (m : ℕ) (stack : List Cell) (ticks : ℕ) (variables : List Stored) (arrays : List (List Value)) (output : List ℕ) →
           Onward final (λ rs w1. Onto t k front m (stack ++ flat_map flat rs) w1) (with_tick (world ticks variables arrays output) (λ w1. and_then (exec_all (call_at packages more) f.body (first_locals f vs) w1) results_of)) →
           Onto t (By_call (Call (functions s)) ∷ k) front m (stack ++ flat_map flat vs) (world ticks variables arrays output)
       enters more called level s f is vs typed t k front m stack zero variables arrays output h known few place high long st =
@@ -214,8 +215,8 @@ module _ (image : Image) (final : Final) (starts : List Start) (packages : List 
           (call_cut image state _ callers stack (flat_map flat vs) (functions s) (translated globals functions f) k refl st (ready found s f is vs typed stack) refl)
       enters more called level s f is vs typed t k front m stack (suc left) variables arrays output h known few place high long st =
           let state : State = here image final depth code callers starts (places at) place (front ++ high) (stack ++ flat_map flat vs) (world (suc left) variables arrays output) in
-          let shallow : depth + 1 ≤ most_open = omega (arith, level) in
-          let next : depth + 1 + more ≡ most_open = omega (arith, level) in
+          let shallow : depth + 1 ≤ most_open image.edition = omega (arith, level) in
+          let next : depth + 1 + more ≡ most_open image.edition = omega (arith, level) in
           let caller : Frame = record { depth = depth; code = code; place = place + 1; cells = front ++ high; stack = stack } in
           let inner : Function → List (Instr ℕ) = λ g. (translated globals functions g).code in
           call_leads image state _ callers stack (flat_map flat vs) (functions s) (translated globals functions f) k left final refl st (ready found s f is vs typed stack) refl shallow
@@ -252,7 +253,7 @@ module _ (image : Image) (final : Final) (packages : List Package) (globals : Sy
   state frames starts w = record { frames = frames; starts = starts; globals = held w.variables; rows = held_rows w.arrays; ticks = w.ticks; output = w.output }
 
   -- a function that is entered, with so many calls open, so that n more may be
-  pub body_leads : ((s : Symbol) (f : Function) → function_at packages s ≡ Some f → slice_get image.functions (functions s) ≡ Some (translated globals functions f)) → ((starts : List Start) → BodiesRun image final starts packages globals functions) → (n depth : ℕ) → depth + n ≡ most_open → (t : ℕ) (callers : List Frame) (starts : List Start) (f : Function) (vs : List Value) (w : World) → are_of f.parameters vs ≡ true → Lies w → w.ticks ≤ t →
+  pub body_leads : ((s : Symbol) (f : Function) → function_at packages s ≡ Some f → slice_get image.functions (functions s) ≡ Some (translated globals functions f)) → ((starts : List Start) → BodiesRun image final starts packages globals functions) → (n depth : ℕ) → depth + n ≡ most_open image.edition → (t : ℕ) (callers : List Frame) (starts : List Start) (f : Function) (vs : List Value) (w : World) → are_of f.parameters vs ≡ true → Lies w → w.ticks ≤ t →
       Onward final (λ rs w1. Lies w1 → w1.ticks ≤ t → Leads image (state (back_in callers (flat_map flat rs)) starts w1) final) (and_then (exec_all (call_at packages n) f.body (first_locals f vs) w) results_of) →
       Leads image (state (opened depth (translated globals functions f).code (translated globals functions f).cells (flat_map flat vs) ∷ callers) starts w) final
   body_leads found bodies n depth level t callers starts f vs w typed lies few h =

@@ -83,7 +83,7 @@ tuples = main_of (three ∷ int ∷ []) (
     ∷ [])
 
 pub tuples_agree : Agrees tuples 10 100
-unfolding Rattle.go_meaning.specs.Meaning.most_cells Rattle.go_meaning.specs.Programs.most_open Rattle.go_code.specs.Machine.most_open
+unfolding Rattle.go_meaning.specs.Meaning.most_cells Rattle.go_text.specs.Editions.most_open
 tuples_agree = refl
 
 -- for i := 0; i < 5; i++ { if i == 1 { continue }; if i == 3 { break }; fmt.Println(i) }
@@ -98,12 +98,12 @@ loops = main_of (int ∷ []) (
     ∷ [])
 
 pub loops_agree : Agrees loops 9 200
-unfolding Rattle.go_meaning.specs.Meaning.most_cells Rattle.go_meaning.specs.Programs.most_open Rattle.go_code.specs.Machine.most_open
+unfolding Rattle.go_meaning.specs.Meaning.most_cells Rattle.go_text.specs.Editions.most_open
 loops_agree = refl
 
 -- it is cut where both say so
 pub loops_cut : Agrees loops 3 200
-unfolding Rattle.go_meaning.specs.Meaning.most_cells Rattle.go_meaning.specs.Programs.most_open Rattle.go_code.specs.Machine.most_open
+unfolding Rattle.go_meaning.specs.Meaning.most_cells Rattle.go_text.specs.Editions.most_open
 loops_cut = refl
 
 -- for i := range 3 { for { break }; fmt.Println(i); i = 9 }
@@ -114,7 +114,7 @@ ranges = main_of (int ∷ []) (
     ∷ [])
 
 pub ranges_agree : Agrees ranges 9 200
-unfolding Rattle.go_meaning.specs.Meaning.most_cells Rattle.go_meaning.specs.Programs.most_open Rattle.go_code.specs.Machine.most_open
+unfolding Rattle.go_meaning.specs.Meaning.most_cells Rattle.go_text.specs.Editions.most_open
 ranges_agree = refl
 
 -- i := 2; switch i { case 1: fmt.Println(1); case 2, 3: fmt.Println(2); fallthrough; default: fmt.Println(9); break }
@@ -127,7 +127,7 @@ switches = main_of (int ∷ []) (
     ∷ [])
 
 pub switches_agree : Agrees switches 1 100
-unfolding Rattle.go_meaning.specs.Meaning.most_cells Rattle.go_meaning.specs.Programs.most_open Rattle.go_code.specs.Machine.most_open
+unfolding Rattle.go_meaning.specs.Meaning.most_cells Rattle.go_text.specs.Editions.most_open
 switches_agree = refl
 
 -- fmt.Println(false && main's call), by an index out of range on the right
@@ -138,5 +138,5 @@ passed = main_of (three ∷ []) (
     ∷ [])
 
 pub passed_agrees : Agrees passed 1 50
-unfolding Rattle.go_meaning.specs.Meaning.most_cells Rattle.go_meaning.specs.Programs.most_open Rattle.go_code.specs.Machine.most_open
+unfolding Rattle.go_meaning.specs.Meaning.most_cells Rattle.go_text.specs.Editions.most_open
 passed_agrees = refl

@@ -102,17 +102,17 @@ over (meaning.Ends ending output) = Some (Ends ending output)
 over meaning.Stuck = None
 
 pub both_agree : within image 100 (started image 10) ≡ over (run both 10)
-unfolding Rattle.go_meaning.specs.Meaning.most_cells Rattle.go_meaning.specs.Programs.most_open Rattle.go_code.specs.Machine.most_open
+unfolding Rattle.go_meaning.specs.Meaning.most_cells Rattle.go_text.specs.Editions.most_open
 both_agree = refl
 
 -- the variables of lib lie before those of main
 pub both_print : within image 100 (started image 10) ≡ Some (Ends Ended (codes "9 8 9" ++ 10 ∷ []))
-unfolding Rattle.std.specs.Fmt.digits Rattle.go_meaning.specs.Meaning.most_cells Rattle.go_meaning.specs.Programs.most_open Rattle.go_code.specs.Machine.most_open
+unfolding Rattle.std.specs.Fmt.digits Rattle.go_meaning.specs.Meaning.most_cells Rattle.go_text.specs.Editions.most_open
 both_print = refl
 
 -- they are cut where both say so
 pub both_cut : within image 100 (started image 2) ≡ over (run both 2)
-unfolding Rattle.go_meaning.specs.Meaning.most_cells Rattle.go_meaning.specs.Programs.most_open Rattle.go_code.specs.Machine.most_open
+unfolding Rattle.go_meaning.specs.Meaning.most_cells Rattle.go_text.specs.Editions.most_open
 both_cut = refl
 
 -- they are linked; not in the other order, and not where a package's variables or functions are missing

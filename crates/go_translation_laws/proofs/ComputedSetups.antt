@@ -119,20 +119,20 @@ pub all_linked : link_refusal (map object_of all) ≡ None
 all_linked = refl
 
 pub all_agree : within image 200 (started image 5) ≡ over (run all 5)
-unfolding Rattle.go_meaning.specs.Meaning.most_cells Rattle.go_meaning.specs.Programs.most_open Rattle.go_code.specs.Machine.most_open
+unfolding Rattle.go_meaning.specs.Meaning.most_cells Rattle.go_text.specs.Editions.most_open
 all_agree = refl
 
 pub all_print : within image 200 (started image 5) ≡ Some (Ends Ended (codes "12" ++ 10 ∷ codes "12 4 8 4 8" ++ 10 ∷ []))
-unfolding Rattle.std.specs.Fmt.digits Rattle.go_meaning.specs.Meaning.most_cells Rattle.go_meaning.specs.Programs.most_open Rattle.go_code.specs.Machine.most_open
+unfolding Rattle.std.specs.Fmt.digits Rattle.go_meaning.specs.Meaning.most_cells Rattle.go_text.specs.Editions.most_open
 all_print = refl
 
 -- setups take no tick: f, pair, lib.Inc and init do
 pub all_cut : within image 200 (started image 4) ≡ Some (Ends Cut (codes "12" ++ 10 ∷ []))
-unfolding Rattle.std.specs.Fmt.digits Rattle.go_meaning.specs.Meaning.most_cells Rattle.go_meaning.specs.Programs.most_open Rattle.go_code.specs.Machine.most_open
+unfolding Rattle.std.specs.Fmt.digits Rattle.go_meaning.specs.Meaning.most_cells Rattle.go_text.specs.Editions.most_open
 all_cut = refl
 
 pub cut_agree : within image 200 (started image 2) ≡ over (run all 2)
-unfolding Rattle.go_meaning.specs.Meaning.most_cells Rattle.go_meaning.specs.Programs.most_open Rattle.go_code.specs.Machine.most_open
+unfolding Rattle.go_meaning.specs.Meaning.most_cells Rattle.go_text.specs.Editions.most_open
 cut_agree = refl
 
 -- package main; var x = 1; func main() {}

@@ -13,11 +13,11 @@ use Rattle.go_code.specs.Images.{Image}
 use Rattle.go_code.specs.Packages.{Object, PackageFunction, PackageVariable}
 use Rattle.go_symbol.specs.Symbols as symbols
 use Rattle.go_symbol.specs.Symbols.{same_symbol}
-use Rattle.go_link.specs.Links.{Held, symbol_of as code_symbol, names, variables, place_in, number_of, numbers, linked_function, linked_setup, zeros_of as object_zeros, is_init as is_object_init, package_starts, main_start, last_package as last_object, linked}
+use Rattle.go_link.specs.Links.{Held, symbol_of as code_symbol, names, variables, place_in, number_of, numbers, linked_function, linked_setup, zeros_of as object_zeros, is_init as is_object_init, package_starts, main_start, last_package as last_object, edition_of as object_edition, linked}
 use Rattle.go_typed.specs.Trees.{Symbol, Function, Initialization, Variable, Package}
 use Rattle.go_init.specs.Variables.{variable_order}
 use Rattle.go_meaning.specs.Values.{flat, zero_of}
-use Rattle.go_meaning.specs.Programs.{Declared, symbol_of, package_functions, function_at, is_init, last_package, Step, sets, calls, package_steps, main_steps, start_steps, first_variables}
+use Rattle.go_meaning.specs.Programs.{Declared, symbol_of, package_functions, function_at, is_init, last_package, edition_of, Step, sets, calls, package_steps, main_steps, start_steps, first_variables}
 use Rattle.go_gen.specs.Translation.{translated, symbol_code, translated_function, translated_variable, translated_setup, object_of}
 use Rattle.go_translation_laws.proofs.Runs.{held}
 use Rattle.go_translation_laws.proofs.FirstVariables.{stored_first, held_behind}
@@ -155,6 +155,18 @@ steps_linked all held (p ∷ packages) =
 -- the last package's object is the last
 pub last_linked : (packages : List Package) → last_object (objects_of packages) ≡ option_map object_of (last_package packages)
 last_linked packages = ap (λ n. slice_get (objects_of packages) (n - 1)) (length-map packages object_of) ∙ slice_get-map object_of packages (length packages - 1)
+
+edition_same : (o : Option Package) → object_edition (option_map object_of o) ≡ edition_of o
+edition_same None = refl
+edition_same (Some p) = refl
+
+-- the last object is of the edition of the last package
+pub last_edition : (packages : List Package) → object_edition (last_object (objects_of packages)) ≡ edition_of (last_package packages)
+last_edition packages = ap object_edition (last_linked packages) ∙ edition_same (last_package packages)
+
+-- and so is what the objects are linked to
+pub edition_linked : (packages : List Package) → (linked (objects_of packages)).edition ≡ edition_of (last_package packages)
+edition_linked packages = last_edition packages
 
 main_linked : (all : List symbols.Symbol) (globals : Symbol → ℕ) (o : Option Package) → main_start all (option_map object_of o) ≡ map (start_of globals (λ s. number_of all (symbol_code s))) (main_steps o)
 main_linked all globals None = refl

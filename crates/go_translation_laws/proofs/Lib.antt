@@ -9,6 +9,7 @@ pub mod ComputedSlices
 pub mod Counters
 pub mod Cuts
 pub mod Defines
+pub mod Editions
 pub mod Elements
 pub mod Expressions
 pub mod Exprs

@@ -1,5 +1,5 @@
--- The linker finds all that well typed packages refer to: where they are a program, they are linked.
-use Rattle.std.proofs.Common.{◌≡◌, ℕ, Bool, true, false, not, ◌||◌, List, [], ◌∷◌, ◌++◌, map, Option, Some, None, refl, sym, ap, ◌∙◌, cond}
+-- The linker finds all that well typed packages refer to: where they are a program of one edition, they are linked.
+use Rattle.std.proofs.Common.{◌≡◌, ℕ, ◌⊎◌, inl, inr, Bool, true, false, not, ◌||◌, List, [], ◌∷◌, ◌++◌, map, Option, Some, None, refl, sym, ap, ◌∙◌, cond}
 use Rattle.std.specs.Prelude.{is_some, if◌then◌else◌}
 use Rattle.std.specs.List.{All, filter, find, flat_map, list_any}
 use Rattle.std.specs.Option.{option_map}
@@ -8,15 +8,17 @@ use Rattle.go_code.specs.Functions.{Setup}
 use Rattle.go_code.specs.Packages.{PackageFunction}
 use Rattle.go_symbol.specs.Symbols as symbols
 use Rattle.go_link.specs.declared.link.LinkError.{LinkError}
-use Rattle.go_link.specs.declared.link.LinkError.TheVariants.{NoMain, NameMissing}
+use Rattle.go_link.specs.declared.link.LinkError.TheVariants.{NoMain, NameMissing, EditionsDiffer}
 use Rattle.go_symbol.specs.Symbols.{same_symbol}
-use Rattle.go_link.specs.Links.{Held, names, variables, is_missing, code_of, name_missing, has_main, link_refusal}
+use Rattle.go_link.specs.Links.{Held, names, variables, is_missing, code_of, editions_differ, name_missing, has_main, link_refusal}
 use Rattle.go_typed.specs.Trees.{Function, Initialization, Package}
 use Rattle.go_init.specs.Variables.{variable_order}
 use Rattle.go_meaning.specs.Meaning.{Stored}
 use Rattle.go_meaning.specs.Programs.{Declared, symbol_of, package_functions, first_variables, is_init, last_package, Step, sets, calls, package_steps, main_steps, IsProgram}
 use Rattle.go_gen.specs.Translation.{symbol_code, translated_function, translated_setup, object_of}
 use Rattle.go_meaning_laws.specs.WellTyped.{Setting, setting, outside, signature_at, variable_at, IsFunction, IsStart, IsWellTyped}
+use Rattle.go_translation_laws.specs.Programs.{HaveOneEdition}
+use Rattle.go_translation_laws.proofs.Editions.{alike, one_edition}
 use Rattle.go_translation_laws.proofs.FirstVariables.{placed, variables_linked}
 use Rattle.go_translation_laws.proofs.Images.{objects_of, all_functions, declared_in, symbol_in, names_linked}
 use Rattle.go_translation_laws.proofs.Named.{Present, Named, Callable, both_named}
@@ -114,15 +116,30 @@ names_found packages well =
 
 -- ---- the linker's answer
 
-pub program_linked : (packages : List Package) → IsWellTyped packages → IsProgram packages → link_refusal (map object_of packages) ≡ None
-program_linked packages well is =
-    ap (λ b. if not b then Some NoMain else (if name_missing (objects_of packages) then Some NameMissing else None)) (has_main_if packages is)
-    ∙ ap (λ b. if b then Some NameMissing else None) (names_found packages well)
+-- a program's answer hangs on the editions alone
+by_editions : (packages : List Package) → IsWellTyped packages → IsProgram packages → link_refusal (map object_of packages) ≡ (if editions_differ (objects_of packages) then Some EditionsDiffer else None)
+by_editions packages well is =
+    ap (λ b. if not b then Some NoMain else (if name_missing (objects_of packages) then Some NameMissing else (if editions_differ (objects_of packages) then Some EditionsDiffer else None))) (has_main_if packages is)
+    ∙ ap (λ b. if b then Some NameMissing else (if editions_differ (objects_of packages) then Some EditionsDiffer else None)) (names_found packages well)
 
--- a refusal is for want of a main alone
-pub refused_for : (packages : List Package) → IsWellTyped packages → (e : LinkError) → link_refusal (map object_of packages) ≡ Some e → e ≡ NoMain
-refused_for packages well e h = by_main (has_main (objects_of packages)) (ap (λ b. if not (has_main (objects_of packages)) then Some NoMain else (if b then Some NameMissing else None)) (sym (names_found packages well)) ∙ h)
+pub program_linked : (packages : List Package) → IsWellTyped packages → IsProgram packages → HaveOneEdition packages → link_refusal (map object_of packages) ≡ None
+program_linked packages well is one = by_editions packages well is ∙ ap (λ b. if b then Some EditionsDiffer else None) (one_edition packages one)
+
+-- a program of several editions is refused for that
+pub program_differs : (packages : List Package) → IsWellTyped packages → IsProgram packages → ¬ (HaveOneEdition packages) → link_refusal (map object_of packages) ≡ Some EditionsDiffer
+program_differs packages well is several = by_editions packages well is ∙ by_test (editions_differ (objects_of packages)) refl
   where
-    by_main : (b : Bool) → (if not b then Some NoMain else None) ≡ Some e → e ≡ NoMain
-    by_main true k = absurd (cc)
-    by_main false k = cc
+    by_test : (b : Bool) → editions_differ (objects_of packages) ≡ b → (if b then Some EditionsDiffer else None) ≡ Some EditionsDiffer
+    by_test true e = refl
+    by_test false e = absurd (several (alike packages e))
+
+-- no refusal is for a missing name
+pub refused_for : (packages : List Package) → IsWellTyped packages → (e : LinkError) → link_refusal (map object_of packages) ≡ Some e → (e ≡ NoMain) ⊎ ((e ≡ EditionsDiffer) × ¬ (HaveOneEdition packages))
+refused_for packages well e h =
+    by_main (has_main (objects_of packages)) (editions_differ (objects_of packages)) refl
+    (ap (λ b. if not (has_main (objects_of packages)) then Some NoMain else (if b then Some NameMissing else (if editions_differ (objects_of packages) then Some EditionsDiffer else None))) (sym (names_found packages well)) ∙ h)
+  where
+    by_main : (b c : Bool) → editions_differ (objects_of packages) ≡ c → (if not b then Some NoMain else (if c then Some EditionsDiffer else None)) ≡ Some e → (e ≡ NoMain) ⊎ ((e ≡ EditionsDiffer) × ¬ (HaveOneEdition packages))
+    by_main true true d k = inr (cc, λ one. (let wrong : true ≡ false = sym d ∙ one_edition packages one in cc (wrong)))
+    by_main true false d k = absurd (cc)
+    by_main false c d k = inl (cc)

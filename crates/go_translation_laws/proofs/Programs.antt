@@ -2,6 +2,7 @@
 use Rattle.std.proofs.Common.{◌≡◌, ℕ, zero, suc, ◌≤◌, Bool, true, false, List, [], ◌∷◌, map, Option, Some, None, refl, sym, ap, ◌∙◌, subst, arith}
 use Rattle.std.specs.Prelude.{slice_get, if◌then◌else◌, ⊤}
 use Rattle.std.specs.List.{list_all}
+use Rattle.go_text.specs.Editions.{most_open}
 use Rattle.go_types.specs.Types.{Type'}
 use Rattle.go_code.specs.declared.ending.Ending.{Ending}
 use Rattle.go_code.specs.declared.ending.Ending.TheVariants.{Ended}
@@ -18,7 +19,7 @@ use Rattle.go_link.specs.Links.{linked}
 use Rattle.go_typed.specs.Trees.{Symbol, Function, Initialization, Package}
 use Rattle.go_meaning.specs.Values.{Value, are_of}
 use Rattle.go_meaning.specs.Meaning.{Stored, World, Outcome, Gives, Ends, Stuck, and_then, with_tick, exec_all}
-use Rattle.go_meaning.specs.Programs.{results_of, enter, first_locals, function_at, call_at, most_open, IsProgram, Step, sets, calls, start_steps, step, step_all, first_world, IsOver, run, SourceMeaning}
+use Rattle.go_meaning.specs.Programs.{results_of, enter, first_locals, function_at, call_at, edition_of, last_package, IsProgram, Step, sets, calls, start_steps, step, step_all, first_world, IsOver, run, SourceMeaning}
 use Rattle.go_gen.specs.Translation.{total, translated}
 use Rattle.go_translation_laws.proofs.Runs.{Onward, onward_then, onward_map, Sized, held, global_at}
 use Rattle.go_translation_laws.proofs.Images.{objects_of, start_of, Starts, slot_in, linked_number, links_starts}
@@ -107,28 +108,23 @@ over_onward (Gives done w) ending output h = ap (λ e. Ends_with e output) h.0 �
 over_onward (Ends e o) ending output h = ap (λ x. Ends_with x output) h.0 ∙ ap (Ends_with e) h.1
 over_onward Stuck ending output h = absurd h
 
--- as many calls may be open in the source as in the machine; one is the start step's
-same_bound : most_open ≡ suc 999
-unfolding most_open
-same_bound = refl
-
 -- an image whose zero cells are known begins with its first start step
 begins : (image : Image) (ticks : ℕ) (final : Final) → list_all cell_fits image.globals ≡ true → Leads image (started image ticks) final → MachineMeaning image ticks final
 begins image ticks final known l = subst (λ b. LeadsFrom image (if b then Goes (started image ticks) else Stops BadCode) final) (sym known) l
 
--- what packages mean their image does
-module _ (packages : List Package) (image : Image) (bodies : (final : Final) → BodiesLead image final packages (slot_in packages) (linked_number packages) 999)
-    (setups : (final : Final) → SetupsLead image final packages (slot_in packages) (linked_number packages) 999) where
+-- what packages mean their image does; as many calls may be open in the source as in the machine, and one is the start step's
+module _ (packages : List Package) (image : Image) (n : ℕ) (bound : most_open (edition_of (last_package packages)) ≡ suc n) (bodies : (final : Final) → BodiesLead image final packages (slot_in packages) (linked_number packages) n)
+    (setups : (final : Final) → SetupsLead image final packages (slot_in packages) (linked_number packages) n) where
   starts_follow : (ticks : ℕ) (ending : Ending) (output : List ℕ) → Starts packages image (slot_in packages) (linked_number packages) → IsOver (run packages ticks) ending output → MachineMeaning image ticks (Ends_with ending output)
   starts_follow ticks ending output s h =
       let final : Final = Ends_with ending output in
       let w : World = first_world packages ticks in
-      let meant : IsOver (step_all (call_at packages (suc 999)) (start_steps packages) w) ending output = subst (λ n. IsOver (step_all (call_at packages n) (start_steps packages) w) ending output) same_bound h in
+      let meant : IsOver (step_all (call_at packages (suc n)) (start_steps packages) w) ending output = subst (λ k. IsOver (step_all (call_at packages k) (start_steps packages) w) ending output) bound h in
       begins image ticks final (ap (list_all cell_fits) s.globals_held ∙ variables_known packages)
       (subst (λ globals. Leads image (record { frames = []; starts = image.starts; globals = globals; rows = first_rows; ticks = ticks; output = [] }) final) (sym s.globals_held)
       (subst (λ starts. Leads image (between starts w) final) (sym s.starts)
-      (steps_run image final packages (slot_in packages) (linked_number packages) s.found 999 (bodies final) (setups final) ticks (start_steps packages) w
-      (over_onward (step_all (call_at packages (suc 999)) (start_steps packages) w) ending output meant)
+      (steps_run image final packages (slot_in packages) (linked_number packages) s.found n (bodies final) (setups final) ticks (start_steps packages) w
+      (over_onward (step_all (call_at packages (suc n)) (start_steps packages) w) ending output meant)
       (variables_sized packages, variables_lie packages) (omega arith))))
 
   pub program_follows : (ticks : ℕ) (ending : Ending) (output : List ℕ) → image ≡ linked (objects_of packages) → SourceMeaning packages ticks ending output → MachineMeaning image ticks (Ends_with ending output)

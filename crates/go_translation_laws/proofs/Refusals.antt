@@ -6,8 +6,8 @@ use Rattle.std.specs.Option.{option_map}
 use Rattle.std.specs.Str.{bytes_eq}
 use Rattle.std.proofs.lemmas.Slice.Eq.{bytes_eq-Decides}
 use Rattle.go_code.specs.Packages.{PackageFunction}
-use Rattle.go_link.specs.declared.link.LinkError.TheVariants.{NoMain, NameMissing}
-use Rattle.go_link.specs.Links.{has_main, has_main_in, name_missing, link_refusal}
+use Rattle.go_link.specs.declared.link.LinkError.TheVariants.{NoMain, NameMissing, EditionsDiffer}
+use Rattle.go_link.specs.Links.{editions_differ, has_main, has_main_in, name_missing, link_refusal}
 use Rattle.go_link.proofs.Found.{allowed}
 use Rattle.go_typed.specs.Trees.{Function, Package}
 use Rattle.go_meaning.specs.Programs.{function_named, last_package, HasMain, IsProgram}
@@ -62,6 +62,6 @@ linked_program packages e = program_if_main packages (allowed (map object_of pac
 pub no_main : (packages : List Package) → (IsProgram packages → ⊥) → link_refusal (map object_of packages) ≡ Some NoMain
 no_main packages h = by_main (has_main (map object_of packages)) refl
   where
-    by_main : (b : Bool) → has_main (map object_of packages) ≡ b → (if not b then Some NoMain else (if name_missing (map object_of packages) then Some NameMissing else None)) ≡ Some NoMain
+    by_main : (b : Bool) → has_main (map object_of packages) ≡ b → (if not b then Some NoMain else (if name_missing (map object_of packages) then Some NameMissing else (if editions_differ (map object_of packages) then Some EditionsDiffer else None))) ≡ Some NoMain
     by_main true e = absurd (h (program_if_main packages e))
     by_main false e = refl

@@ -14,7 +14,7 @@
 -- A meaning `Onward final P o` goes on by P where it gives an answer, or the end is `final`; it isn't stuck. So each lemma reads: what is
 -- known behind the meaning of a tree is known before its code. What a type says of a value is known from `given`.
 --
--- A call is a hypothesis here (Called). It is proved by induction on how many calls may be open still, with calls open + left = 1000:
+-- A call is a hypothesis here (Called). It is proved by induction on how many calls may be open still, with calls open + left = as many as the image's edition allows:
 -- Call leads into the function's body by its arguments' cells, where parameters' rows are these cells and all others are 0, and
 -- Return leads back to this frame.
 --

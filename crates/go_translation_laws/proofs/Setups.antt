@@ -3,6 +3,7 @@ use Rattle.std.proofs.Common.{◌≡◌, ℕ, ◌+◌, ◌-◌, ◌≤◌, Bool,
 use Rattle.std.specs.Prelude.{if◌then◌else◌, slice_get, slice_index, ⊤}
 use Rattle.std.specs.List.{find, flat_map}
 use Rattle.std.specs.Option.{option_map, option_and_then}
+use Rattle.go_text.specs.Editions.{most_open}
 use Rattle.go_code.specs.declared.cell.Cell.{Cell}
 use Rattle.go_code.specs.declared.image.Start.{Start}
 use Rattle.go_code.specs.declared.image.Start.TheVariants.{Setup as Set_up}
@@ -15,7 +16,7 @@ use Rattle.go_code.specs.Accesses.{cells_with, stored}
 use Rattle.go_code.specs.Referred.{Changes, refer, refer_setup}
 use Rattle.go_code.specs.Finals.{Final}
 use Rattle.go_code.specs.Images.{Image}
-use Rattle.go_code.specs.Machine.{Frame, State, Leads, most_open, opened}
+use Rattle.go_code.specs.Machine.{Frame, State, Leads, opened}
 use Rattle.go_code.proofs.Follows.{split_row, setup_leads}
 use Rattle.go_code.proofs.FollowsInside.{global_leads}
 use Rattle.go_code.proofs.Stands.{stands_next, stands_whole}
@@ -145,7 +146,7 @@ module _ (image : Image) (final : Final) (starts : List Start) (packages : List 
       (runs known few 0 (replicate temps nought) (replicate_long temps nought) (stands_whole code))
 
   -- from the start step, where the image has each function's code by its number; a setup is no open call
-  pub sets_lead : ((f : Symbol) (g : Function) → function_at packages f ≡ Some g → slice_get image.functions (functions f) ≡ Some (translated globals functions g)) → BodiesRun image final starts packages globals functions → (left : ℕ) → left ≡ most_open → (path : List ℕ) (s : Source) (ss : List (Option (List ℕ))) (t : ℕ) (w : World) → Lies image final packages globals functions w → w.ticks ≤ t →
+  pub sets_lead : ((f : Symbol) (g : Function) → function_at packages f ≡ Some g → slice_get image.functions (functions f) ≡ Some (translated globals functions g)) → BodiesRun image final starts packages globals functions → (left : ℕ) → left ≡ most_open image.edition → (path : List ℕ) (s : Source) (ss : List (Option (List ℕ))) (t : ℕ) (w : World) → Lies image final packages globals functions w → w.ticks ≤ t →
       Onward final (λ done w1. Lies image final packages globals functions w1 → w1.ticks ≤ t → Leads image (over w1) final) (variables_set (call_at packages left) path s ss w) →
       Leads image (record { frames = []; starts = Set_up (record { cells = source_temps s; code = setup_code (no_locals globals functions) path s ss }) ∷ starts; globals = held w.variables; rows = held_rows w.arrays; ticks = w.ticks; output = w.output }) final
   sets_lead found bodies left same path s ss t w known few h =

@@ -1,5 +1,6 @@
 -- What it is for the image of packages to mean their sources.
 use Rattle.std.specs.Prelude.{◌≡◌, ◌↔◌, ℕ, List, map}
+use Rattle.std.specs.List.{All}
 use Rattle.go_code.specs.declared.ending.Ending.{Ending}
 use Rattle.go_code.specs.Finals.{Ends, BadCode}
 use Rattle.go_code.specs.Images.{Image}
@@ -8,8 +9,12 @@ use Rattle.go_code.specs.Machine.{MachineMeaning}
 use Rattle.go_link.specs.Links.{in_order, Links}
 use Rattle.go_typed.specs.Trees.{Package}
 use Rattle.go_meaning.specs.Meaning.{Stuck}
-use Rattle.go_meaning.specs.Programs.{SourceMeaning, run}
+use Rattle.go_meaning.specs.Programs.{SourceMeaning, edition_of, last_package, run}
 use Rattle.go_gen.specs.Translation.{object_of}
+
+-- all packages are of the edition of the last, which is that of their program
+abbrev pub HaveOneEdition : List Package → Type 0
+HaveOneEdition packages = All (λ (p : Package). p.edition ≡ edition_of (last_package packages)) packages
 
 -- the packages' objects, in the packages' order, are linked to it
 abbrev pub IsLinked : List Package → Image → Type 0

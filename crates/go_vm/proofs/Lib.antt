@@ -1,3 +1,4 @@
+pub mod Begun
 pub mod Calling
 pub mod Coming
 pub mod Decoding

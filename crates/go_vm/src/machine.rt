@@ -16,9 +16,6 @@ use go_code::ending::{Ending, PanicKind};
 use go_code::instr::{CallInstr, Instr, OutputInstr};
 use std::alloc::{AllocError, Global};
 
-/// How many calls may be open.
-pub(crate) const MOST_OPEN: usize = 1000;
-
 /// What outlives frames: the cells of the package variables, the rows that slices are parts of, the ticks left, and the output
 /// so far.
 #[derive(Drop)]
@@ -70,7 +67,6 @@ fn print_top(frames: &mut Frames<'_>, world: &mut World, count: usize) -> Result
 }
 
 #[inline(always)]
-#[tactic(auto, unfolding(go_code::specs::Machine::most_open))]
 fn call_function<'a>(
     frames: &mut Frames<'a>,
     world: &mut World,
@@ -88,7 +84,7 @@ fn call_function<'a>(
     if world.ticks == 0 {
         return Ok(Flow::Leaves(Exit::Ends(Ending::Cut)));
     }
-    if frames.depth() >= MOST_OPEN {
+    if frames.depth() >= image.most_open() {
         return Ok(Flow::Leaves(Exit::Ends(Ending::Panicked(PanicKind::Depth))));
     }
     frames.call(function, frames.place())?;
@@ -194,7 +190,6 @@ pub(crate) fn one_step<'a>(
 }
 
 /// A function is called by no frame.
-#[tactic(auto, unfolding(go_code::specs::Machine::most_open))]
 pub(crate) fn begin_function<'a>(
     alloc: Global,
     world: &mut World,

@@ -1,4 +1,5 @@
 //! Why nothing is run, or it isn't told.
+use go_text::edition::Edition;
 use std::alloc::{AllocError, AllocFailed};
 use std::io;
 
@@ -9,8 +10,8 @@ pub enum Unread {
     Missing,
     /// It is a folder.
     Folder,
-    /// It has more bytes than a text may have.
-    Long,
+    /// It has more bytes than a text of the edition may have.
+    Long(Edition),
     /// Its bytes are no text.
     NoText,
     /// It has no path in a workspace.
@@ -25,7 +26,8 @@ impl Unread {
         match self {
             Unread::Missing => "no such file",
             Unread::Folder => "a folder, not a file",
-            Unread::Long => "longer than 1048576 bytes",
+            Unread::Long(Edition::One) => "longer than 1048576 bytes",
+            Unread::Long(Edition::Two) => "longer than 4194304 bytes",
             Unread::NoText => {
                 "not a text: it is UTF-8 without NUL, with a byte order mark at its start alone"
             }

@@ -1,6 +1,7 @@
 //! The files that are run, with their paths in a workspace.
 use crate::failure::{Failure, Unread};
-use go_text::text::{TEXT_LIMIT, Text, TextError};
+use go_text::edition::Edition;
+use go_text::text::{Text, TextError};
 use std::alloc::Global;
 use std::fs::File;
 use std::io::Read;
@@ -8,11 +9,11 @@ use std::{fs, io};
 use ws_path::FilePath;
 use ws_run::answer::Folder;
 
-/// What a file has, up to a byte more than a text may have.
-fn bytes_of(alloc: Global, file: &mut File) -> io::Result<Vec<u8>> {
+/// What a file has, up to a byte more than the limit.
+fn bytes_of(alloc: Global, limit: usize, file: &mut File) -> io::Result<Vec<u8>> {
     let mut bytes = Vec::new(alloc);
     let mut piece = [0u8; 16384];
-    while bytes.len() <= TEXT_LIMIT {
+    while bytes.len() <= limit {
         let count = file.read(&mut piece)?;
         if count == 0 {
             break;
@@ -33,10 +34,10 @@ fn failure_of(alloc: Global, name: &str, error: &io::Error) -> Result<Failure, F
     Ok(Failure::Unread(String::from_str(alloc, name)?, why))
 }
 
-/// The bytes of a file.
-fn read_bytes(rt: &HostRuntime, name: &str) -> Result<Vec<u8>, Failure> {
+/// The bytes of a file, up to a byte more than the limit.
+fn read_bytes(rt: &HostRuntime, limit: usize, name: &str) -> Result<Vec<u8>, Failure> {
     let read = match File::open(rt, name) {
-        Ok(mut file) => bytes_of(rt.alloc(), &mut file),
+        Ok(mut file) => bytes_of(rt.alloc(), limit, &mut file),
         Err(error) => Err(error),
     };
     match read {
@@ -45,16 +46,16 @@ fn read_bytes(rt: &HostRuntime, name: &str) -> Result<Vec<u8>, Failure> {
     }
 }
 
-/// The text of a file.
-fn read_text(rt: &HostRuntime, word: &str) -> Result<Text, Failure> {
-    let bytes = read_bytes(rt, word)?;
-    if bytes.len() > TEXT_LIMIT {
-        return Err(unread(rt.alloc(), word, Unread::Long)?);
+/// The text of a file, in an edition.
+fn read_text(rt: &HostRuntime, edition: Edition, word: &str) -> Result<Text, Failure> {
+    let bytes = read_bytes(rt, edition.text_limit(), word)?;
+    if bytes.len() > edition.text_limit() {
+        return Err(unread(rt.alloc(), word, Unread::Long(edition))?);
     }
     let Ok(text) = String::from_utf8(bytes) else {
         return Err(unread(rt.alloc(), word, Unread::NoText)?);
     };
-    match Text::new(rt.alloc(), text) {
+    match Text::new_in(rt.alloc(), edition, text) {
         Ok(text) => Ok(text),
         Err(TextError::Memory) => Err(Failure::Memory),
         Err(_) => Err(unread(rt.alloc(), word, Unread::NoText)?),
@@ -104,8 +105,14 @@ impl Workspace {
     }
 
     /// Takes the file of a word, in a directory.
-    fn add(&mut self, rt: &HostRuntime, directory: &str, word: &str) -> Result<(), Failure> {
-        let text = read_text(rt, word)?;
+    fn add(
+        &mut self,
+        rt: &HostRuntime,
+        edition: Edition,
+        directory: &str,
+        word: &str,
+    ) -> Result<(), Failure> {
+        let text = read_text(rt, edition, word)?;
         let path = path_in(rt.alloc(), directory, word)?;
         self.files.push((path, text))?;
         let (folder, _) = parted(word);
@@ -159,7 +166,7 @@ fn sorted(alloc: Global, words: &[String]) -> Result<Vec<String>, Failure> {
 /// The files of words, in byte order of the words. Where all are of one folder they are the
 /// directory main; else each stands where its word says, and the first word's directory has the
 /// program.
-fn read_files(rt: &HostRuntime, words: &[String]) -> Result<Workspace, Failure> {
+fn read_files(rt: &HostRuntime, edition: Edition, words: &[String]) -> Result<Workspace, Failure> {
     let [first, ..] = words else {
         return Err(Failure::Words);
     };
@@ -168,7 +175,7 @@ fn read_files(rt: &HostRuntime, words: &[String]) -> Result<Workspace, Failure> 
     let mut workspace = Workspace::new(rt.alloc(), directory)?;
     for word in &sorted(rt.alloc(), words)? {
         let its = directory_in(is_alone, word.as_str());
-        workspace.add(rt, its, word.as_str())?;
+        workspace.add(rt, edition, its, word.as_str())?;
     }
     Ok(workspace)
 }
@@ -225,7 +232,7 @@ fn files_below(rt: &HostRuntime, folder: &str) -> Result<Vec<String>, Failure> {
 
 /// The files at and below a folder, whose paths begin with the folder's own name; the folder has the
 /// program.
-fn read_folder(rt: &HostRuntime, folder: &str) -> Result<Workspace, Failure> {
+fn read_folder(rt: &HostRuntime, edition: Edition, folder: &str) -> Result<Workspace, Failure> {
     let name = match parted(folder).1 {
         "" | "." | ".." => ALONE,
         name => name,
@@ -235,13 +242,17 @@ fn read_folder(rt: &HostRuntime, folder: &str) -> Result<Workspace, Failure> {
         let below = parted(word.as_str()).0.strip_prefix(folder).unwrap_or("");
         let mut directory = String::from_str(rt.alloc(), name)?;
         directory.push_str(below)?;
-        workspace.add(rt, directory.as_str(), word.as_str())?;
+        workspace.add(rt, edition, directory.as_str(), word.as_str())?;
     }
     Ok(workspace)
 }
 
-/// What words name: a folder that stands alone, or files.
-pub fn read_workspace(rt: &HostRuntime, words: &[String]) -> Result<Workspace, Failure> {
+/// What words name: a folder that stands alone, or files; their texts are those of an edition.
+pub fn read_workspace(
+    rt: &HostRuntime,
+    edition: Edition,
+    words: &[String],
+) -> Result<Workspace, Failure> {
     if let [word] = words {
         let folder = word.as_str().trim_end_matches('/');
         let is_folder = match fs::metadata(rt, folder) {
@@ -249,8 +260,8 @@ pub fn read_workspace(rt: &HostRuntime, words: &[String]) -> Result<Workspace, F
             Err(_) => false,
         };
         if is_folder {
-            return read_folder(rt, folder);
+            return read_folder(rt, edition, folder);
         }
     }
-    read_files(rt, words)
+    read_files(rt, edition, words)
 }

@@ -67,7 +67,7 @@ fn asked(rt: &HostRuntime) -> Result<Option<Task>, Failure> {
     else {
         return Err(Failure::Words);
     };
-    let workspace = read_workspace(rt, files)?;
+    let workspace = read_workspace(rt, edition, files)?;
     Ok(Some(Task {
         workspace,
         edition,

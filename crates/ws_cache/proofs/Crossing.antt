@@ -6,6 +6,7 @@ use Rattle.go_text.proofs.fault.Fault.TheSendSync as faults
 use Rattle.go_packed.proofs.packed.Packed.TheSendSync as packed
 use Rattle.go_export.proofs.Crossing.{summary_send, summary_sync}
 use Rattle.ws_action.proofs.Crossing.{origin_send, origin_sync}
+use Rattle.ws_layers.proofs.Layers.TheSendSync as layers
 use Rattle.ws_cache.specs.contracts.Outcome as outcome
 use Rattle.ws_cache.specs.contracts.Entry as entry
 use Rattle.ws_cache.specs.contracts.Cache as cache
@@ -30,7 +31,7 @@ entry_sync = search (origin_send, origin_sync, outcome_field_sync, outcome_sync,
 
 -- what owners share has to be both
 pub cache_send : IsSend cache.the_row
-cache_send = search (entry_send, entry_sync, crosses, maps.crosses, sendable) depth 20
+cache_send = search (layers.the_send, entry_send, entry_sync, crosses, maps.crosses, sendable) depth 20
 
 pub cache_sync : IsSync cache.the_row
-cache_sync = search (entry_send, entry_sync, crosses, maps.crosses, sendable) depth 20
+cache_sync = search (layers.the_sync, entry_send, entry_sync, crosses, maps.crosses, sendable) depth 20

@@ -31,7 +31,8 @@ use std::cmp::Ordering;
 use std::marker::Model;
 use std::sync::Arc;
 use ws_action::{Action, Origin};
-use ws_map::{Ranked, SharedMap};
+use ws_layers::Layers;
+use ws_map::Ranked;
 use ws_version::Join;
 
 /// What compiling a package gives.
@@ -175,7 +176,7 @@ impl Ranked for Entry {
 /// Entries by their ids: for each id the entry of the least action that was put with it.
 #[derive(Drop)]
 pub struct Cache {
-    entries: SharedMap<[u8; 32], Entry>,
+    entries: Layers<[u8; 32], Entry>,
 }
 
 impl Model for Cache {
@@ -198,7 +199,7 @@ impl Cache {
         ensures stands { CacheStandsFor result [] }
     {
         Cache {
-            entries: SharedMap::new(alloc),
+            entries: Layers::new(alloc),
         }
     }
 

@@ -3,6 +3,8 @@ use Rattle.std.specs.Prelude.{ℕ, zero, suc, ◌==◌, ◌&&◌, ◌||◌, nat_
 use Rattle.std.specs.List.{list_all}
 use Rattle.std.specs.Str.{bytes_eq}
 use Rattle.std.specs.Option.{option_map}
+use Rattle.go_text.specs.declared.edition.Edition.{Edition}
+use Rattle.go_text.specs.declared.edition.Edition.TheVariants.{One, Two}
 use Rattle.ws_command.specs.Lines.{words_of, number_of, without_return, is_digit}
 
 -- A command with its words: names, a path, a directory, and a number of lines or of ticks. What is built are names, each with a directory. What is applied has a counter, a number,
@@ -20,6 +22,7 @@ pub data Command : Type 0 where
   Run : List ℕ → List ℕ → ℕ → Command
   Ids : List ℕ → List ℕ → Command
   Show : List ℕ → Command
+  Use : Edition → Command
 
 abbrev pub is_name_byte : ℕ → Bool
 is_name_byte b = is_digit b || (nat_lt 96 b && nat_lt b 123) || (nat_lt 64 b && nat_lt b 91) || (b == 95) || (b == 45)
@@ -43,12 +46,17 @@ is_version counter number = nat_lt 0 counter && (nat_lt 0 number && nat_lt numbe
 abbrev pub apply_of : List ℕ → List ℕ → ℕ → ℕ → List ℕ → Command
 apply_of name path counter number word = cond (bytes_eq word (codes "-")) (Apply name path counter number None) (if_number (number_of word) (λ lines. Apply name path counter number (Some lines)))
 
+-- an edition that there is
+abbrev pub use_of : Option ℕ → Command
+use_of number = if_number number (λ n. cond (n == 1) (Use One) (cond (n == 2) (Use Two) Bad))
+
 -- all commands but builds
 abbrev pub of_others : List (List ℕ) → Command
 of_others (word ∷ []) = cond (bytes_eq word (codes "settle")) Settle Bad
 of_others (word ∷ a ∷ []) =
     cond (bytes_eq word (codes "replica")) (if_good (is_name a) (Create a))
-    (cond (bytes_eq word (codes "show")) (if_good (is_name a) (Show a)) Bad)
+    (cond (bytes_eq word (codes "show")) (if_good (is_name a) (Show a))
+    (cond (bytes_eq word (codes "edition")) (use_of (number_of a)) Bad))
 of_others (word ∷ a ∷ b ∷ []) =
     cond (bytes_eq word (codes "merge")) (if_good (is_name a && is_name b) (Merge a b))
     (cond (bytes_eq word (codes "ids")) (if_good (is_name a) (Ids a b))

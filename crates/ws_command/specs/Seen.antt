@@ -1,6 +1,6 @@
 -- A command without where its words lie.
 use Rattle.std.specs.Prelude.{map}
-use Rattle.ws_command.specs.Commands.{Command, Nothing, Bad, Create, Write, Remove, Apply, Merge, Settle, Build, Run, Ids, Show}
+use Rattle.ws_command.specs.Commands.{Command, Nothing, Bad, Create, Write, Remove, Apply, Merge, Settle, Build, Run, Ids, Show, Use}
 use Rattle.ws_command.specs.declared.commands.Asked.{Asked}
 use Rattle.ws_command.specs.declared.commands.Asked.TheVariants as asked
 
@@ -18,3 +18,4 @@ seen (asked.Merge name other) = Merge name.now other.now
 seen (asked.Build targets) = Build (map (λ target. (target.0.now, target.1.now)) targets.items)
 seen (asked.Run name directory ticks) = Run name.now directory.now ticks
 seen (asked.Ids name directory) = Ids name.now directory.now
+seen (asked.Use edition) = Use edition

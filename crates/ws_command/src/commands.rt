@@ -1,10 +1,11 @@
 //! What a command line asks for.
 ghost use Rattle.std.specs.Prelude.{◌≡◌, ◌∷◌, [], IfOk};
-ghost use Rattle.ws_command.specs.Commands.{is_name, is_name_byte, is_version, if_good, apply_of, of_others, pairs_of, build_of, command_of, text_lines};
+ghost use Rattle.ws_command.specs.Commands.{is_name, is_name_byte, is_version, if_good, apply_of, of_others, pairs_of, build_of, use_of, command_of, text_lines};
 ghost use Rattle.ws_command.specs.Lines.{words_of};
 ghost use Rattle.ws_command.specs.Seen.{seen};
 
 use crate::lines::{first_word, number, trimmed};
+use go_text::edition::Edition;
 use std::alloc::{AllocError, Global};
 
 /// A command, whose words lie in the script.
@@ -40,6 +41,8 @@ pub enum Asked<'a> {
     Ids(&'a [u8], &'a [u8]),
     /// `show R`
     Show(&'a [u8]),
+    /// `edition N`
+    Use(Edition),
 }
 
 impl Asked<'_> {
@@ -92,6 +95,17 @@ fn asked_of_none(word: &[u8]) -> Asked<'static>
     Asked::Bad
 }
 
+/// The use of an edition, if there is one of that number.
+fn asked_of_edition(number: Option<u64>) -> Asked<'static>
+    ensures { seen result ≡ use_of number }
+{
+    match number {
+        Some(1) => Asked::Use(Edition::One),
+        Some(2) => Asked::Use(Edition::Two),
+        _ => Asked::Bad,
+    }
+}
+
 fn asked_of_one<'a>(word: &[u8], a: &'a [u8]) -> Asked<'a>
     ensures { seen result ≡ of_others (word.now ∷ a.now ∷ []) }
 {
@@ -100,6 +114,9 @@ fn asked_of_one<'a>(word: &[u8], a: &'a [u8]) -> Asked<'a>
     }
     if word == b"show".as_slice() && is_name(a) {
         return Asked::Show(a);
+    }
+    if word == b"edition".as_slice() {
+        return asked_of_edition(number(a));
     }
     Asked::Bad
 }

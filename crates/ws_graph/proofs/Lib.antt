@@ -5,9 +5,11 @@ pub mod Faults
 pub mod Filed
 pub mod First
 pub mod Imported
+pub mod InTurn
 pub mod Inserted
 pub mod Joint
 pub mod Judging
+mod KnownFiles
 pub mod Leading
 pub mod Linked
 pub mod Mains

@@ -1,5 +1,5 @@
 -- Files have one plan, and writes with the same members one.
-use Rattle.std.proofs.Common.{◌≡◌, ℕ, List, [], ◌∷◌, ◌++◌, map, sym, ap, subst, ◌∙◌, refl, inl, inr}
+use Rattle.std.proofs.Common.{◌≡◌, ℕ, Bool, true, false, List, [], ◌∷◌, ◌++◌, map, sym, ap, subst, ◌∙◌, refl, inl, inr}
 use Rattle.go_text.specs.declared.edition.Edition.{Edition}
 use Rattle.go_text.specs.Faults.{Fault}
 use Rattle.go_text.specs.declared.place.Place.{Place}
@@ -11,7 +11,7 @@ use Rattle.ws_graph.specs.Packages.{package_files}
 use Rattle.ws_register.proofs.Laws.{same_sources}
 use Rattle.go_ast.specs.Trees.{Name, File}
 use Rattle.go_ast.specs.Parse.{Parse, Parsed, Derived, Stopped, IsParse, IsPackage, IsNamed, IsOther}
-use Rattle.ws_graph.specs.Plan.{Planned, NoFiles, Faulty, Sound, source_of, IsFileIn, AllParsed, AreParsed, AllNamed, StopsIn, DiffersIn, IsSound, IsPlan, IsPlanOf}
+use Rattle.ws_graph.specs.Plan.{Planned, NoFiles, Faulty, Sound, source_of, is_large, IsFileIn, Stops, AllParsed, AreParsed, AllNamed, StopsIn, DiffersIn, IsSound, IsPlan, IsPlanOf}
 use Rattle.go_ast.proofs.Once.{one_parse}
 
 -- a file's name and text
@@ -42,8 +42,30 @@ pub one_file : (ed : Edition) (t : List ℕ) (a b : File) → IsParse ed t (Deri
 unfolding file_in
 one_file ed t a b g h = ap (file_in a) (one_parse ed t (Derived a) (Derived b) g h)
 
-not_both : (ed : Edition) (t : List ℕ) (k : FaultKind) (p : Place) (file : File) → IsParse ed t (Stopped k p) → IsParse ed t (Derived file) → ⊥
-not_both ed t k p file g h = let e = one_parse ed t (Stopped k p) (Derived file) g h in cc
+not_parsed : (ed : Edition) (t : List ℕ) (k : FaultKind) (p : Place) (file : File) → IsParse ed t (Stopped k p) → IsParse ed t (Derived file) → ⊥
+not_parsed ed t k p file g h = let e = one_parse ed t (Stopped k p) (Derived file) g h in cc
+
+-- a text isn't too long, and not
+not_long : (ed : Edition) (t : List ℕ) → is_large ed t ≡ true → is_large ed t ≡ false → ⊥
+not_long ed t g h = let e : true ≡ false = sym g ∙ h in cc
+
+-- a text that stops has one kind of fault, at one place
+kind_of_stop : (ed : Edition) (t : List ℕ) (k l : FaultKind) (p q : Place) → Stops ed t k p → Stops ed t l q → k ≡ l
+kind_of_stop ed t k l p q (inl g) (inl h) = g.kind_is ∙ sym h.kind_is
+kind_of_stop ed t k l p q (inl g) (inr h) = absurd (not_long ed t g.large h.short)
+kind_of_stop ed t k l p q (inr g) (inl h) = absurd (not_long ed t h.large g.short)
+kind_of_stop ed t k l p q (inr g) (inr h) = one_kind ed t k l p q g.parse h.parse
+
+place_of_stop : (ed : Edition) (t : List ℕ) (k l : FaultKind) (p q : Place) → Stops ed t k p → Stops ed t l q → p ≡ q
+place_of_stop ed t k l p q (inl g) (inl h) = g.place_is ∙ sym h.place_is
+place_of_stop ed t k l p q (inl g) (inr h) = absurd (not_long ed t g.large h.short)
+place_of_stop ed t k l p q (inr g) (inl h) = absurd (not_long ed t h.large g.short)
+place_of_stop ed t k l p q (inr g) (inr h) = one_place ed t k l p q g.parse h.parse
+
+-- and it is no file
+not_both : (ed : Edition) (t : List ℕ) (k : FaultKind) (p : Place) (file : File) → Stops ed t k p → is_large ed t ≡ false → IsParse ed t (Derived file) → ⊥
+not_both ed t k p file (inl g) short h = not_long ed t g.large short
+not_both ed t k p file (inr g) short h = not_parsed ed t k p file g.parse h
 
 -- a text has one package name
 pub one_package : (ed : Edition) (t : List ℕ) (m n : Name) → IsPackage ed t m → IsPackage ed t n → m ≡ n
@@ -58,12 +80,12 @@ parsed_in : (ed : Edition) (p : Parsed) (in_it : IsFileIn ed p) → IsParse ed p
 parsed_in ed p in_it = subst (λ e. IsParse e p.text (Derived in_it.file)) in_it.of in_it.parse
 
 -- a text that stops is not among texts that parse
-no_stop : (ed : Edition) (front ps : List Parsed) (n t : List ℕ) (rest : List Pair) (kind : FaultKind) (place : Place) → map source_of ps ≡ map source_of front ++ (n, t) ∷ rest → AllParsed ed ps → IsParse ed t (Stopped kind place) → ⊥
+no_stop : (ed : Edition) (front ps : List Parsed) (n t : List ℕ) (rest : List Pair) (kind : FaultKind) (place : Place) → map source_of ps ≡ map source_of front ++ (n, t) ∷ rest → AllParsed ed ps → Stops ed t kind place → ⊥
 no_stop ed [] [] n t rest kind place e all stops = cc
 no_stop ed [] (p ∷ ps) n t rest kind place e all stops =
     let heads : source_of p ≡ (n, t) = cc in
     let texts : p.text ≡ t = ap (λ (s : Pair). s.1) heads in
-    not_both ed t kind place all.0.file stops (subst (λ z. IsParse ed z (Derived all.0.file)) texts (parsed_in ed p all.0))
+    not_both ed t kind place all.0.file stops (subst (λ z. is_large ed z ≡ false) texts all.0.short) (subst (λ z. IsParse ed z (Derived all.0.file)) texts (parsed_in ed p all.0))
 no_stop ed (f ∷ front) [] n t rest kind place e all stops = cc
 no_stop ed (f ∷ front) (p ∷ ps) n t rest kind place e all stops =
     let tails : map source_of ps ≡ map source_of front ++ (n, t) ∷ rest = cc in
@@ -75,17 +97,17 @@ pub record SameStop (n m : List ℕ) (k l : FaultKind) (p q : Place) : Type 0 wh
   pub kinds : k ≡ l
   pub places : p ≡ q
 
-one_stop : (ed : Edition) (front back : List Parsed) (n t m s : List ℕ) (rest left : List Pair) (k l : FaultKind) (p q : Place) → map source_of front ++ (n, t) ∷ rest ≡ map source_of back ++ (m, s) ∷ left → AllParsed ed front → AllParsed ed back → IsParse ed t (Stopped k p) → IsParse ed s (Stopped l q) → SameStop n m k l p q
+one_stop : (ed : Edition) (front back : List Parsed) (n t m s : List ℕ) (rest left : List Pair) (k l : FaultKind) (p q : Place) → map source_of front ++ (n, t) ∷ rest ≡ map source_of back ++ (m, s) ∷ left → AllParsed ed front → AllParsed ed back → Stops ed t k p → Stops ed s l q → SameStop n m k l p q
 one_stop ed [] [] n t m s rest left k l p q e f b g h =
     let heads : ◌≡◌ {A = Pair} (n, t) (m, s) = cc in
-    let there : IsParse ed s (Stopped k p) = subst (λ z. IsParse ed z (Stopped k p)) (ap (λ (z : Pair). z.1) heads) g in
-    record { names = ap (λ (z : Pair). z.0) heads; kinds = one_kind ed s k l p q there h; places = one_place ed s k l p q there h }
+    let there : Stops ed s k p = subst (λ z. Stops ed z k p) (ap (λ (z : Pair). z.1) heads) g in
+    record { names = ap (λ (z : Pair). z.0) heads; kinds = kind_of_stop ed s k l p q there h; places = place_of_stop ed s k l p q there h }
 one_stop ed [] (x ∷ back) n t m s rest left k l p q e f b g h =
     let heads : (n, t) ≡ source_of x = cc in
-    absurd (not_both ed x.text k p b.0.file (subst (λ z. IsParse ed z (Stopped k p)) (ap (λ (z : Pair). z.1) heads) g) (parsed_in ed x b.0))
+    absurd (not_both ed x.text k p b.0.file (subst (λ z. Stops ed z k p) (ap (λ (z : Pair). z.1) heads) g) b.0.short (parsed_in ed x b.0))
 one_stop ed (x ∷ front) [] n t m s rest left k l p q e f b g h =
     let heads : source_of x ≡ (m, s) = cc in
-    absurd (not_both ed x.text l q f.0.file (subst (λ z. IsParse ed z (Stopped l q)) (sym (ap (λ (z : Pair). z.1) heads)) h) (parsed_in ed x f.0))
+    absurd (not_both ed x.text l q f.0.file (subst (λ z. Stops ed z l q) (sym (ap (λ (z : Pair). z.1) heads)) h) f.0.short (parsed_in ed x f.0))
 one_stop ed (x ∷ front) (y ∷ back) n t m s rest left k l p q e f b g h =
     let tails : map source_of front ++ (n, t) ∷ rest ≡ map source_of back ++ (m, s) ∷ left = cc in
     one_stop ed front back n t m s rest left k l p q tails f.1 b.1 g h

@@ -7,8 +7,8 @@ use Rattle.go_text.specs.Named.{Source}
 use Rattle.go_text.specs.declared.place.Place.{Place}
 use Rattle.go_text.specs.declared.fault.FaultKind.{FaultKind}
 use Rattle.ws_register.specs.Sources.{pair_of}
-use Rattle.go_ast.specs.Parse.{Parsed, Stopped, IsParse, IsNamed, IsOther}
-use Rattle.ws_graph.specs.Plan.{source_of, IsFileIn, AllParsed, AllNamed, HasOther, StopsIn}
+use Rattle.go_ast.specs.Parse.{Parsed, IsNamed, IsOther}
+use Rattle.ws_graph.specs.Plan.{source_of, IsFileIn, Stops, AllParsed, AllNamed, HasOther, StopsIn}
 
 -- what is said of the parsed that are left is said of all
 pub record Leads (name : List ℕ) (left all : List Parsed) : Type 0 where
@@ -41,7 +41,7 @@ pub parsed_more : (ed : Edition) (ps : List Parsed) (p : Parsed) → AllParsed e
 parsed_more ed [] p h here = (here, tt)
 parsed_more ed (q ∷ ps) p h here = (h.0, parsed_more ed ps p h.1 here)
 
-pub stops_here : (ed : Edition) (front : List Parsed) (source : Source) (rest files : List Source) (fault : Fault) (kind : FaultKind) (place : Place) → map source_of front ++ map pair_of (source ∷ rest) ≡ map pair_of files → AllParsed ed front → IsParse ed source.text (Stopped kind place) → fault ≡ record { file = source.name; place = place; kind = kind } → StopsIn ed (map pair_of files) fault
+pub stops_here : (ed : Edition) (front : List Parsed) (source : Source) (rest files : List Source) (fault : Fault) (kind : FaultKind) (place : Place) → map source_of front ++ map pair_of (source ∷ rest) ≡ map pair_of files → AllParsed ed front → Stops ed source.text kind place → fault ≡ record { file = source.name; place = place; kind = kind } → StopsIn ed (map pair_of files) fault
 stops_here ed front source rest files fault kind place whole parses stops is = record {
   front = front;
   name = source.name;

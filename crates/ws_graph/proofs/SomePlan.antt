@@ -6,14 +6,16 @@ use Rattle.std.specs.FinMap.{entries}
 use Rattle.std.proofs.lemmas.Slice.Eq.{bytes_eq-Decides}
 use Rattle.go_text.specs.declared.edition.Edition.{Edition}
 use Rattle.go_text.specs.Faults.{Fault}
-use Rattle.go_text.specs.declared.fault.FaultKind.TheVariants.{PackageName}
+use Rattle.go_text.specs.declared.fault.FaultKind.{FaultKind}
+use Rattle.go_text.specs.declared.fault.FaultKind.TheVariants.{PackageName, Large}
+use Rattle.go_text.specs.declared.place.Place.{Place}
 use Rattle.ws_version.specs.Writes.{Write}
 use Rattle.ws_register.proofs.Exists.{some_contents}
 use Rattle.ws_register.specs.Sources.{texts_of, IsSources}
 use Rattle.ws_graph.specs.Packages.{package_files}
 use Rattle.go_ast.specs.Trees.{Name, File}
 use Rattle.go_ast.specs.Parse.{Parse, Derived, Stopped, IsParse, IsPackage, IsNamed, Parsed}
-use Rattle.ws_graph.specs.Plan.{Planned, NoFiles, Faulty, Sound, AllParsed, AreParsed, AllNamed, HasOther, StopsIn, IsPlan, IsPlanOf}
+use Rattle.ws_graph.specs.Plan.{Planned, NoFiles, Faulty, Sound, is_large, Stops, AllParsed, AreParsed, AllNamed, HasOther, StopsIn, IsPlan, IsPlanOf}
 use Rattle.go_ast.proofs.Exists.{parse_exists}
 
 pub some_sources : (W : List Write) → (S : List (List ℕ × List ℕ)) × IsSources W S
@@ -24,11 +26,23 @@ some_sources W = let g = some_contents W in (texts_of (entries g.0), (g.0, g.1, 
 abbrev pub Read : Edition → List (List ℕ × List ℕ) → Type 0
 Read ed files = ((parsed : List Parsed) × AreParsed ed files parsed) ⊎ ((fault : Fault) × StopsIn ed files fault)
 
-read_one : (ed : Edition) (name text : List ℕ) (files : List (List ℕ × List ℕ)) (parse : Parse) → IsParse ed text parse → Read ed files → Read ed ((name, text) ∷ files)
-read_one ed name text files (Derived file) h (inl ps) =
+-- a text is too long, or a file, or stops
+abbrev ReadOne : Edition → List ℕ → Type 0
+ReadOne ed text = ((file : File) × (is_large ed text ≡ false) × IsParse ed text (Derived file)) ⊎ ((kind : FaultKind) × (place : Place) × Stops ed text kind place)
+
+by_length : (ed : Edition) (text : List ℕ) (large : Bool) → is_large ed text ≡ large → (parse : Parse) → IsParse ed text parse → ReadOne ed text
+by_length ed text true e parse h = inr (Large, record { line = 1; column = 1 }, inl (record { large = e; kind_is = refl; place_is = refl }))
+by_length ed text false e (Derived file) h = inl (file, e, h)
+by_length ed text false e (Stopped kind place) h = inr (kind, place, inr (record { short = e; parse = h }))
+
+read_text : (ed : Edition) (text : List ℕ) → ReadOne ed text
+read_text ed text = let p = parse_exists ed text in by_length ed text (is_large ed text) refl p.0 p.1
+
+read_one : (ed : Edition) (name text : List ℕ) (files : List (List ℕ × List ℕ)) → ReadOne ed text → Read ed files → Read ed ((name, text) ∷ files)
+read_one ed name text files (inl h) (inl ps) =
     let new : Parsed = record { name = name; text = text; edition = ed } in
-    inl (new ∷ ps.0, record { sources = ap (λ (z : List (List ℕ × List ℕ)). (name, text) ∷ z) ps.1.sources; parses = (record { file = file; parse = h; of = refl }, ps.1.parses) })
-read_one ed name text files (Derived file) h (inr stop) =
+    inl (new ∷ ps.0, record { sources = ap (λ (z : List (List ℕ × List ℕ)). (name, text) ∷ z) ps.1.sources; parses = (record { file = h.0; short = h.1; parse = h.2; of = refl }, ps.1.parses) })
+read_one ed name text files (inl h) (inr stop) =
     let new : Parsed = record { name = name; text = text; edition = ed } in
     let s = stop.1 in
     inr (
@@ -41,31 +55,31 @@ read_one ed name text files (Derived file) h (inr stop) =
         kind = s.kind;
         place = s.place;
         whole = ap (λ (z : List (List ℕ × List ℕ)). (name, text) ∷ z) s.whole;
-        parses = (record { file = file; parse = h; of = refl }, s.parses);
+        parses = (record { file = h.0; short = h.1; parse = h.2; of = refl }, s.parses);
         stops = s.stops;
         is = s.is;
       },
     )
-read_one ed name text files (Stopped kind place) h rest =
+read_one ed name text files (inr h) rest =
     inr (
-      record { file = name; place = place; kind = kind },
+      record { file = name; place = h.1; kind = h.0 },
       record {
         front = [];
         name = name;
         text = text;
         rest = files;
-        kind = kind;
-        place = place;
+        kind = h.0;
+        place = h.1;
         whole = refl;
         parses = tt;
-        stops = h;
+        stops = h.2;
         is = refl;
       },
     )
 
 pub read : (ed : Edition) (files : List (List ℕ × List ℕ)) → Read ed files
 read ed [] = inl ([], record { sources = refl; parses = tt })
-read ed (file ∷ files) = let p = parse_exists ed file.1 in read_one ed file.0 file.1 files p.0 p.1 (read ed files)
+read ed (file ∷ files) = read_one ed file.0 file.1 files (read_text ed file.1) (read ed files)
 
 abbrev Named : List ℕ → List Parsed → Type 0
 Named name ps = AllNamed name ps ⊎ ((other : Parsed) × HasOther name ps other)

@@ -13,7 +13,6 @@ use Rattle.go_text.specs.declared.fault.FaultKind.TheVariants as kinds
 use Rattle.go_text.specs.Named.{Source}
 use Rattle.go_text.specs.declared.place.Place.{Place}
 use Rattle.go_ast.specs.Trees.{File}
-use Rattle.go_ast.specs.Parse as parse
 use Rattle.go_ast.specs.Parse.{Parsed, Derived, IsParse, IsNamed}
 use Rattle.ws_reach.specs.Reach as reach
 use Rattle.ws_reach.specs.Reach.{Edge, Reaches, rows_of}
@@ -21,7 +20,7 @@ use Rattle.ws_version.specs.Writes.{Write, path_cmp}
 use Rattle.ws_register.specs.Edits.{Contents}
 use Rattle.ws_register.specs.Sources.{texts_of, pair_of, IsSources}
 use Rattle.ws_graph.specs.Packages.{package_files}
-use Rattle.ws_graph.specs.Plan.{Planned, NoFiles, Faulty, Sound, IsFileIn, IsPlan, source_of}
+use Rattle.ws_graph.specs.Plan.{Planned, NoFiles, Faulty, Sound, IsFileIn, Stops, IsPlan, source_of}
 use Rattle.ws_graph.specs.BuildPlan.{Sources, Import, imports_in, AreImports, IsJointPlan, Directory, HasImport, HasNoFiles, IsProgram, Imports, ReachedFrom}
 use Rattle.ws_graph.specs.Node.{planned_of}
 use Rattle.ws_graph.specs.declared.target.Target.{Target}
@@ -119,7 +118,7 @@ IsFileOf edition source p = (source_of p ≡ pair_of source) × IsFileIn edition
 
 -- a source stops being a file at the fault's place
 abbrev pub StopsAs : Edition → Source → Fault → Type 0
-StopsAs edition source fault = (kind : FaultKind) × (place : Place) × IsParse edition source.text (parse.Stopped kind place) × (fault ≡ record { file = source.name; place = place; kind = kind })
+StopsAs edition source fault = (kind : FaultKind) × (place : Place) × Stops edition source.text kind place × (fault ≡ record { file = source.name; place = place; kind = kind })
 
 -- what a source comes to
 pub record ComesTo (edition : Edition) (source : Source) (result : Result Parsed FileError) : Type 0 where

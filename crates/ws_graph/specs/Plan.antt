@@ -1,10 +1,11 @@
 -- What becomes of the files of a directory before anything is compiled.
-use Rattle.std.specs.Prelude.{◌≡◌, ℕ, ◌⊎◌, List, [], ◌∷◌, ◌++◌, map}
+use Rattle.std.specs.Prelude.{◌≡◌, ℕ, ◌⊎◌, Bool, true, false, nat_lt, List, [], ◌∷◌, ◌++◌, length, map}
 use Rattle.go_text.specs.declared.edition.Edition.{Edition}
+use Rattle.go_text.specs.Editions.{text_limit}
 use Rattle.go_text.specs.Faults.{Fault}
 use Rattle.go_text.specs.declared.place.Place.{Place}
 use Rattle.go_text.specs.declared.fault.FaultKind.{FaultKind}
-use Rattle.go_text.specs.declared.fault.FaultKind.TheVariants.{PackageName}
+use Rattle.go_text.specs.declared.fault.FaultKind.TheVariants.{PackageName, Large}
 use Rattle.ws_version.specs.Writes.{Write}
 use Rattle.ws_register.specs.Sources.{IsSources}
 use Rattle.ws_graph.specs.Packages.{package_files}
@@ -20,9 +21,14 @@ pub data Planned : Type 0 where
 abbrev pub source_of : Parsed → List ℕ × List ℕ
 source_of p = (p.name, p.text)
 
+-- the text is longer than the edition allows
+abbrev pub is_large : Edition → List ℕ → Bool
+is_large edition text = nat_lt (text_limit edition) (length text)
+
 -- a text that is a file in this edition
 pub record IsFileIn (edition : Edition) (p : Parsed) : Type 0 where
   pub file : File
+  pub short : is_large edition p.text ≡ false
   pub parse : IsParse p.edition p.text (Derived file)
   pub of : p.edition ≡ edition
 
@@ -41,7 +47,22 @@ abbrev pub AllNamed : List ℕ → List Parsed → Type 0
 AllNamed name [] = Unit {0}
 AllNamed name (p ∷ ps) = IsNamed p.edition name p.text × AllNamed name ps
 
--- the first file that doesn't parse stops there
+-- a text that is too long has its fault at its start
+pub record IsTooLong (edition : Edition) (text : List ℕ) (kind : FaultKind) (place : Place) : Type 0 where
+  pub large : is_large edition text ≡ true
+  pub kind_is : kind ≡ Large
+  pub place_is : place ≡ record { line = 1; column = 1 }
+
+-- a text that isn't has that of its parse
+pub record IsMalformed (edition : Edition) (text : List ℕ) (kind : FaultKind) (place : Place) : Type 0 where
+  pub short : is_large edition text ≡ false
+  pub parse : IsParse edition text (Stopped kind place)
+
+-- where a text that is no file of the edition stops
+abbrev pub Stops : Edition → List ℕ → FaultKind → Place → Type 0
+Stops edition text kind place = IsTooLong edition text kind place ⊎ IsMalformed edition text kind place
+
+-- the first file that doesn't parse, or is too long, stops there
 pub record StopsIn (edition : Edition) (files : List (List ℕ × List ℕ)) (fault : Fault) : Type 0 where
   pub front : List Parsed
   pub name : List ℕ
@@ -51,7 +72,7 @@ pub record StopsIn (edition : Edition) (files : List (List ℕ × List ℕ)) (fa
   pub place : Place
   pub whole : files ≡ map source_of front ++ (name, text) ∷ rest
   pub parses : AllParsed edition front
-  pub stops : IsParse edition text (Stopped kind place)
+  pub stops : Stops edition text kind place
   pub is : fault ≡ record { file = name; place = place; kind = kind }
 
 -- one of them is the first whose package has another name
@@ -85,7 +106,7 @@ pub record IsSound (edition : Edition) (files : List (List ℕ × List ℕ)) (pa
   pub package_is : IsPackage first.edition first.text clause
   pub named : AllNamed clause.text rest
 
--- A file that doesn't parse comes before names that differ. Without imports nothing else is a plan's fault.
+-- A file that doesn't parse, or is too long, comes before names that differ. Without imports nothing else is a plan's fault.
 abbrev pub IsPlan : Edition → List (List ℕ × List ℕ) → Planned → Type 0
 IsPlan edition files NoFiles = files ≡ []
 IsPlan edition files (Faulty fault) = StopsIn edition files fault ⊎ DiffersIn edition files fault

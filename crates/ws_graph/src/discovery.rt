@@ -4,6 +4,7 @@ ghost use Rattle.std.specs.BTreeMap.{IsOrdered, values};
 ghost use Rattle.ws_graph.specs.Node.{planned_of};
 ghost use Rattle.ws_graph.specs.Discovery.{held_sources, texts, met_paths, waiting_paths, AreAll, AreWaiting, TakesAll, AddsPath, AddsPaths, AddsImported, AddsUnmet, IsNextWave};
 
+use crate::known::Known;
 use crate::planned::Node;
 use crate::target::{Target, targets_of};
 use crate::waiting::{Waiting, text_of, waiting_at};
@@ -23,6 +24,7 @@ pub fn discover(
     edition: Edition,
     registers: &Registers,
     first: Vec<Waiting>,
+    known: &[Known<'_>],
 ) -> Result<BTreeMap<String, Found>, AllocError>
     requires { AreWaiting (held_sources registers.now) first.items }
     ensures { IfOk result (λ met. AreAll edition (held_sources registers.now) (waiting_paths first.items) (met_paths met.entries) (values met)) }
@@ -30,7 +32,7 @@ pub fn discover(
     let mut met = BTreeMap::new(alloc);
     let mut wave = first;
     while !wave.is_empty() {
-        let read = read_all(rt, alloc, edition, wave)?;
+        let read = read_all(rt, alloc, edition, wave, known)?;
         let imported = take_all(alloc, registers, read, &mut met)?;
         wave = next_wave(alloc, registers, &met, imported)?;
     }

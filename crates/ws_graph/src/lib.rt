@@ -16,11 +16,14 @@ ghost use Rattle.ws_graph.specs.Node.{planned_of};
 ghost use Rattle.ws_graph.specs.Discovery.{ComesTo, is_refused};
 ghost use Rattle.ws_graph.specs.declared.FileError.TheVariants.{Memory};
 
+use crate::known::known_file;
 use go_ast::parsed::Parsed;
 use go_parse::{ParseError, parse_in};
 use go_text::edition::Edition;
 use go_text::fault::{Fault, FaultKind};
+use go_text::place::Place;
 use go_text::source::Source;
+pub use known::Known;
 pub use law::{law_build_plan_is_ranked, law_one_build_plan, law_some_build_plan};
 pub use packages::package_files;
 pub use planned::{Node, PlanError};
@@ -29,6 +32,7 @@ use std::alloc::{AllocError, AllocFailed, Global};
 use std::thread::Threads;
 
 mod discovery;
+mod known;
 pub mod law;
 mod link;
 mod packages;
@@ -64,10 +68,22 @@ impl<T: Drop> From<AllocFailed<T>> for FileError {
     }
 }
 
-fn parsed_file(alloc: Global, edition: Edition, source: Source) -> Result<Parsed, FileError>
+fn parsed_file(
+    alloc: Global,
+    edition: Edition,
+    source: Source,
+    known: Option<&[Parsed]>,
+) -> Result<Parsed, FileError>
     ensures { ComesTo edition source result }
 {
     let name = String::from_str(alloc, source.name())?;
+    if source.text().as_str().len() > edition.text_limit() {
+        let fault = Fault::new(name, Place::first(), FaultKind::Large);
+        return Err(FileError::Stopped(fault));
+    }
+    if let Some(parsed) = known_file(edition, &source, known)? {
+        return Ok(parsed);
+    }
     match parse_in(alloc, edition, source) {
         Ok(parsed) => {
             // The accessor is what says that the text is a file.
@@ -86,10 +102,15 @@ fn parsed_files(
     alloc: Global,
     edition: Edition,
     files: Vec<Source>,
+    known: Option<&[Parsed]>,
 ) -> Result<Vec<Parsed>, FileError>
     ensures ok { IfOk result (λ parsed. AreParsed edition (map pair_of files.items) parsed.items) }
     ensures stopped { (fault : AFault) → result ≡ Err (FileError.Stopped fault) → StopsIn edition (map pair_of files.items) fault }
 {
+    if let Some(known) = known {
+        let each = each_known(alloc, edition, files, known)?;
+        return gathered(alloc, each);
+    }
     let each = each_parsed(rt, alloc, edition, files)?;
     gathered(alloc, each)
 }
@@ -139,9 +160,27 @@ fn each_parsed(
         .map(
             |source: Source| -> Result<Parsed, FileError>
                 ensures { ComesTo edition source result }
-            { parsed_file(alloc, edition, source) },
+            { parsed_file(alloc, edition, source, None) },
         )
         .collect(rt, alloc)
+}
+
+// The same, where an earlier plan has some of them: those are taken from it. They are told apart
+// one after another, which costs less than a thread.
+fn each_known(
+    alloc: Global,
+    edition: Edition,
+    files: Vec<Source>,
+    known: &[Parsed],
+) -> Result<Vec<Result<Parsed, FileError>>, AllocError>
+    ensures { IfOk result (λ each. AllZip (ComesTo edition) files.items each.items) }
+{
+    let mut each = Vec::new(alloc);
+    for source in files {
+        let parsed = parsed_file(alloc, edition, source, Some(known));
+        each.push(parsed)?;
+    }
+    Ok(each)
 }
 
 fn is_named(name: &str, parsed: &Parsed) -> bool

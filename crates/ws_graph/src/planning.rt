@@ -12,6 +12,7 @@ ghost use Rattle.ws_graph.specs.Node.{planned_of, directory_of};
 ghost use Rattle.ws_graph.specs.Discovery.{held_sources, texts, planned_with, IsWaveIfFilled, IsLinkedAt, ArePlanned};
 
 use crate::discovery::discover;
+use crate::known::Known;
 use crate::link::{Links, import_fault, links_of};
 use crate::planned::{Node, PlanError};
 use crate::target::Target;
@@ -69,18 +70,27 @@ pub fn plan_in(
     ensures none { (W : List Write) → StandsFor held_cmp registers.now W → result ≡ Err PlanError.NoPackage → IsPlanOf edition W target.now NoFiles }
 {
     let only = only(alloc, target)?;
-    plan_all(rt, alloc, edition, registers, only.as_slice())
+    let known = Vec::new(alloc);
+    plan_all(
+        rt,
+        alloc,
+        edition,
+        registers,
+        only.as_slice(),
+        known.as_slice(),
+    )
 }
 
 /// The joint plan of a build of several targets in an edition: what several of them reach is read once.
-/// `NoPackage` comes where one of them has no file that belongs to a package, and `Memory` for a
-/// refused allocation.
+/// So is nothing that an earlier plan has in the same texts. `NoPackage` comes where one of them has
+/// no file that belongs to a package, and `Memory` for a refused allocation.
 pub fn plan_all(
     rt: &(impl Threads + Sync),
     alloc: Global,
     edition: Edition,
     registers: &Registers,
     targets: &[String],
+    known: &[Known<'_>],
 ) -> Result<BuildPlan, PlanError>
     ensures ok { IfOk result (λ plan. IsJointPlanFor edition registers.now (texts targets.now) (map directory_of plan.directories.items)) }
     ensures none { (W : List Write) → StandsFor held_cmp registers.now W → result ≡ Err PlanError.NoPackage → SomeHasNoFiles edition W (texts targets.now) }
@@ -88,7 +98,7 @@ pub fn plan_all(
     let Some(first) = first_wave(alloc, registers, targets)? else {
         return Err(PlanError::NoPackage);
     };
-    let met = discover(rt, alloc, edition, registers, first)?;
+    let met = discover(rt, alloc, edition, registers, first, known)?;
     let (paths, founds) = parted(alloc, met)?;
     let directories = linked(alloc, paths.as_slice(), founds)?;
     Ok(BuildPlan { directories })

@@ -8,6 +8,7 @@ ghost use Rattle.ws_graph.specs.BuildPlan.{Sources};
 ghost use Rattle.ws_graph.specs.Node.{planned_of};
 ghost use Rattle.ws_graph.specs.Discovery.{IsFirstMain, IsFound, IsWaiting, AreWaiting, IsReadAs, AreRead};
 
+use crate::known::{Known, files_at};
 use crate::planned::Node;
 use crate::waiting::Waiting;
 use crate::{FILES_A_THREAD, FileError, is_named, judged, parsed_files};
@@ -26,9 +27,53 @@ pub struct Found {
     pub program: bool,
 }
 
-/// The directories of a wave, each with what becomes of its files, in their order. They are read
-/// by as many threads as there are processors, where they have files enough.
+/// The directories of a wave, each with what becomes of its files, in their order.
 pub fn read_all(
+    rt: &(impl Threads + Sync),
+    alloc: Global,
+    edition: Edition,
+    wave: Vec<Waiting>,
+    known: &[Known<'_>],
+) -> Result<Vec<Result<(String, Found), AllocError>>, AllocError>
+    ensures { (sources : Sources) → AreWaiting sources wave.items → IfOk result (λ read. AreRead edition sources wave.items read.items) }
+{
+    if is_any_known(wave.as_slice(), known) {
+        return read_in_turn(rt, alloc, edition, wave, known);
+    }
+    read_at_once(rt, alloc, edition, wave)
+}
+
+// Whether an earlier plan has one of them.
+fn is_any_known(wave: &[Waiting], known: &[Known<'_>]) -> bool {
+    for waiting in wave {
+        if files_at(known, waiting.path.as_str()).is_some() {
+            return true;
+        }
+    }
+    false
+}
+
+// They are read one after another, where an earlier plan has some of them.
+fn read_in_turn(
+    rt: &(impl Threads + Sync),
+    alloc: Global,
+    edition: Edition,
+    wave: Vec<Waiting>,
+    known: &[Known<'_>],
+) -> Result<Vec<Result<(String, Found), AllocError>>, AllocError>
+    ensures { (sources : Sources) → AreWaiting sources wave.items → IfOk result (λ read. AreRead edition sources wave.items read.items) }
+{
+    let mut all = Vec::new(alloc);
+    for waiting in wave {
+        let files = files_at(known, waiting.path.as_str());
+        let found = read(rt, alloc, edition, waiting, files);
+        all.push(found)?;
+    }
+    Ok(all)
+}
+
+// They are read by as many threads as there are processors, where they have files enough.
+fn read_at_once(
     rt: &(impl Threads + Sync),
     alloc: Global,
     edition: Edition,
@@ -42,7 +87,7 @@ pub fn read_all(
         .map(
             |waiting: Waiting| -> Result<(String, Found), AllocError>
                 ensures { (sources : Sources) → IsWaiting sources waiting → IfOk result (IsReadAs edition sources waiting) }
-            { read(rt, alloc, edition, waiting) },
+            { read(rt, alloc, edition, waiting, None) },
         )
         .collect(rt, alloc)
 }
@@ -61,11 +106,12 @@ fn read(
     alloc: Global,
     edition: Edition,
     waiting: Waiting,
+    known: Option<&[Parsed]>,
 ) -> Result<(String, Found), AllocError>
     ensures { (sources : Sources) → IsWaiting sources waiting → IfOk result (IsReadAs edition sources waiting) }
 {
     let Waiting { path, files } = waiting;
-    let found = found_in(rt, alloc, edition, files)?;
+    let found = found_in(rt, alloc, edition, files, known)?;
     Ok((path, found))
 }
 
@@ -74,10 +120,11 @@ fn found_in(
     alloc: Global,
     edition: Edition,
     files: Vec<Source>,
+    known: Option<&[Parsed]>,
 ) -> Result<Found, AllocError>
     ensures { (sources : Sources) (path : List ℕ) → map pair_of files.items ≡ package_files path sources → IfOk result (IsFound edition sources path) }
 {
-    match parsed_files(rt, alloc, edition, files) {
+    match parsed_files(rt, alloc, edition, files, known) {
         Ok(parsed) => {
             let program = is_first_main(parsed.as_slice());
             // A directory that waits has a package.

@@ -1,5 +1,5 @@
--- The packages of a plan, in their order, are without fault behind those that stand before.
-use Rattle.std.proofs.Common.{◌≡◌, ◌≢◌, ℕ, ◌<◌, List, [], ◌∷◌, ◌++◌, length, map, Some, refl, sym, ap, subst, ◌∙◌, arith}
+-- The packages of a plan, in their order, are without fault behind those that stand before, and of the plan's edition.
+use Rattle.std.proofs.Common.{◌≡◌, ◌≢◌, ℕ, suc, ◌<◌, List, [], ◌∷◌, ◌++◌, length, map, Some, refl, sym, ap, subst, ◌∙◌, arith}
 use Rattle.std.specs.Option.{option_map}
 use Rattle.std.specs.List.{All, Contains, slice_get}
 use Rattle.std.proofs.lemmas.List.{length-map}
@@ -27,13 +27,17 @@ use Rattle.ws_replica.specs.Reports.{Fate, Good, fate_at, ArePackages, IsReady, 
 use Rattle.ws_replica.proofs.Numbered.{at_member, member_at}
 use Rattle.ws_replica.proofs.OneBuild.{fate_of, at_fate}
 use Rattle.ws_replica.proofs.OrderedPackages.{one_number, cut_at, number_of, package_of, one_good}
-use Rattle.ws_replica.proofs.PlanMakes.{package_at, sound_edition}
+use Rattle.ws_replica.proofs.PlanMakes.{package_at, sound_edition, typed_edition}
 use Rattle.ws_replica.proofs.SourceTexts.{files_are_text, trees_are_of_texts}
 use Rattle.ws_replica.proofs.TargetPieces.{plan_inside}
 
 all_members : (P : Package → Type 0) (ps : List Package) → ((p : Package) → Contains ps p → P p) → All P ps
 all_members P [] h = All-nil P
 all_members P (p ∷ ps) h = All-cons P p ps (h p (at_head ps p p refl)) (all_members P ps (λ q c. h q (later p ps q c)))
+
+each_at : (P : Package → Type 0) (ps : List Package) → ((place : ℕ) (p : Package) → slice_get ps place ≡ Some p → P p) → All P ps
+each_at P [] h = All-nil P
+each_at P (p ∷ ps) h = All-cons P p ps (h 0 p refl) (each_at P ps (λ place q at. h (suc place) q at))
 
 abbrev pub rows_of : List Directory → List (List ℕ)
 rows_of ds = map (λ (d : Directory). d.imports) ds
@@ -113,6 +117,10 @@ module _ (edition : Edition) (W : List Write) (has : HasFiles W) (target : List 
         by : IsPlannedAs edition of.0 directory.path directory.planned → IsSound edition (package_files directory.path of.0) its.files
         by h = (subst (IsPlannedAs edition of.0 directory.path) its.ready.sound h).0
 
+    -- it is of the edition of its files
+    of_edition : p.edition ≡ edition
+    of_edition = typed_edition directory.path its.files (map importable_of its.imports) p its.good ∙ sound_edition edition (package_files directory.path of.0) its.files sound
+
     abbrev trees : List File
     trees = its.good.are.trees
 
@@ -137,13 +145,20 @@ module _ (edition : Edition) (W : List Write) (has : HasFiles W) (target : List 
       ordered = its.good.ordered;
     }
 
+  pub ordered_edition : All (λ (p : Package). p.edition ≡ edition) packages
+  ordered_edition = each_at (λ (p : Package). p.edition ≡ edition) packages (λ place p at. of_edition place p (placed place p at))
+
   pub ordered_checked : AreChecked packages
   ordered_checked = checked_each packages (λ place p at others same. is_checked place p (placed place p at) others same)
 
+ordered_once : (ds : List Directory) (fates : List Fate) → AreOrdered ds fates (package_order (rows_of ds))
+ordered_once ds fates = record { behind = λ before after k j whole leads lt q good. orders.behind (rows_of ds) before after k j whole leads lt; once = orders.once (rows_of ds) }
+
 -- in package order, where all are good
+pub all_edition : (edition : Edition) (W : List Write) → HasFiles W → (target : List ℕ) (ds : List Directory) (fates : List Fate) → IsBuildPlanOf edition W target ds → AreFates ds fates
+    → (packages : List Package) → ArePackages fates (package_order (rows_of ds)) packages → All (λ (p : Package). p.edition ≡ edition) packages
+all_edition edition W has target ds fates of are packages order = ordered_edition edition W has target ds fates of are (package_order (rows_of ds)) (ordered_once ds fates) packages order
+
 pub all_checked : (edition : Edition) (W : List Write) → HasFiles W → (target : List ℕ) (ds : List Directory) (fates : List Fate) → IsBuildPlanOf edition W target ds → AreFates ds fates
     → (packages : List Package) → ArePackages fates (package_order (rows_of ds)) packages → AreChecked packages
-all_checked edition W has target ds fates of are packages order = ordered_checked edition W has target ds fates of are (package_order (rows_of ds)) stand packages order
-  where
-    stand : AreOrdered ds fates (package_order (rows_of ds))
-    stand = record { behind = λ before after k j whole leads lt q good. orders.behind (rows_of ds) before after k j whole leads lt; once = orders.once (rows_of ds) }
+all_checked edition W has target ds fates of are packages order = ordered_checked edition W has target ds fates of are (package_order (rows_of ds)) (ordered_once ds fates) packages order

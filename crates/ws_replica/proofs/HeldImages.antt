@@ -17,7 +17,6 @@ use Rattle.go_init.specs.Packages.{package_order}
 use Rattle.go_init.proofs.Orders.{below, ranked}
 use Rattle.go_link.specs.declared.link.LinkError.{LinkError}
 use Rattle.go_link.specs.Links.{in_order, link_refusal, linked}
-use Rattle.go_translation_laws.proofs.LinkedNames.{program_linked}
 use Rattle.go_translation_laws.proofs.Refusals.{linked_program}
 use Rattle.ws_version.specs.Writes.{Write}
 use Rattle.ws_register.specs.Sources.{HasFiles}
@@ -50,7 +49,7 @@ use Rattle.ws_replica.proofs.OneBuild.{fate_of, at_fate, agree_refl, one_package
 use Rattle.ws_replica.proofs.OpenedBoards.{shown}
 use Rattle.ws_replica.proofs.SeveralPlans.{zip_length}
 use Rattle.ws_replica.proofs.TargetPieces.{plan_inside}
-use Rattle.ws_replica.proofs.WellTyped.{well_typed}
+use Rattle.ws_replica.proofs.WellTyped.{always_linked}
 
 -- ---- the object of an end is that of the fate's package
 
@@ -268,7 +267,7 @@ module _ (edition : Edition) (W : List Write) (paths : HasFiles W) (target : Lis
     refused_image e refused packages h =
         let ps = ordered in
         let same : ps.0 ≡ packages = one_packages fates fates (package_order rows) ps.0 packages (agree_refl fates (package_order rows)) ps.1 h.in_order in
-        let allowed : link_refusal (map object_of packages) ≡ None = program_linked packages (well_typed edition W paths target build of are h.good packages h.in_order h.program) h.program in
+        let allowed : link_refusal (map object_of packages) ≡ None = always_linked edition W paths target build of are packages h.in_order h.program in
         let no : None ≡ Some e = sym allowed ∙ ap (λ xs. link_refusal (map object_of xs)) (sym same) ∙ ap link_refusal (sym ps.2) ∙ refused in
         cc (no)
 

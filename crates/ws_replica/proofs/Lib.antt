@@ -21,8 +21,10 @@ pub mod Picked
 pub mod PlainPaths
 pub mod PlanMakes
 pub mod PlannedTargets
+pub mod Plans
 pub mod Removals
 pub mod SameCounts
+pub mod SameFiles
 pub mod Searched
 pub mod SettledReplicas
 pub mod SeveralPlans

@@ -361,7 +361,7 @@ package_at ds fates are k p good = let m = made_at ds fates are k p good in (m.0
 -- ---- editions
 
 -- a package is of the edition of its files
-typed_edition : (path : List ℕ) (files : List Parsed) (imports : List Importable) (p : Package) → AreGood path files imports p → p.edition ≡ edition_of files
+pub typed_edition : (path : List ℕ) (files : List Parsed) (imports : List Importable) (p : Package) → AreGood path files imports p → p.edition ≡ edition_of files
 typed_edition path files imports p h = ap (λ (x : Package). x.edition) h.are.is.is
 
 pub sound_edition : (edition : Edition) (pairs : List (List ℕ × List ℕ)) (files : List Parsed) → IsSound edition pairs files → edition_of files ≡ edition

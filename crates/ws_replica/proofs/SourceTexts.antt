@@ -1,12 +1,11 @@
 -- The files of a plan are texts, as the sources are that are held, and so are those that its trees are of.
-use Rattle.std.proofs.Common.{◌≡◌, ◌≤◌, ℕ, Bool, true, false, List, [], ◌∷◌, length, map, None, Some, Option, refl, sym, ap, subst, inl, inr, arith}
-use Rattle.std.specs.Prelude.{nat_lt, pos, if◌then◌else◌}
+use Rattle.std.proofs.Common.{◌≡◌, ◌≤◌, ℕ, Bool, true, false, List, [], ◌∷◌, length, map, Some, refl, sym, ap, subst, inl, inr, arith}
+use Rattle.std.specs.Prelude.{pos}
 use Rattle.std.specs.List.{Contains, list_all}
-use Rattle.std.proofs.lemmas.Bool.{and_from, lt-ltb, cases_lt}
+use Rattle.std.proofs.lemmas.Bool.{and_from, lt-ltb}
 use Rattle.go_text.specs.declared.edition.Edition.{Edition}
-use Rattle.go_text.specs.Texts.{text_limit}
-use Rattle.go_text.specs.declared.text.TextError.{TextError}
-use Rattle.go_text.specs.declared.text.TextError.TheVariants.{TooLong}
+use Rattle.go_text.specs.declared.edition.Edition.TheVariants.{Two}
+use Rattle.go_text.proofs.Texts.{valid_is_short}
 use Rattle.go_ast.specs.Parse.{Parsed, Derived, IsParse}
 use Rattle.go_ast.specs.Trees.{File}
 use Rattle.go_check.specs.Checked.{AreTrees}
@@ -28,16 +27,9 @@ Pair = List ℕ × List ℕ
 
 -- ---- source texts are no longer than an int counts
 
-too_long : (b : Bool) (rest : Option TextError) → b ≡ true → (if b then Some TooLong else rest) ≡ None → ⊥
-too_long true rest e f = cc (f)
-too_long false rest e f = cc (e)
-
 pub text_is : (text : List ℕ) → IsText text → is_text text ≡ true
 text_is text h =
-    let short : length text ≤ text_limit = elim (cases_lt text_limit (length text)) [
-      | inl lt ↦ absurd (too_long (nat_lt text_limit (length text)) _ (lt-ltb text_limit (length text) lt) h.valid)
-      | inr le ↦ omega (arith, le)
-    ] in
+    let short : length text ≤ 4194304 = valid_is_short Two text h.valid in
     and_from (list_all is_byte text) (fits (Some integers.Int) (pos (length text))) h.bytes (lt-ltb (length text) 9223372036854775808 (omega (arith, short)))
 
 -- ---- the files of a directory are sources

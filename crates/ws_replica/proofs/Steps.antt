@@ -11,12 +11,14 @@ use Rattle.ws_action.specs.Actions.{Action}
 use Rattle.ws_board.specs.Work.{Seen, State}
 use Rattle.ws_graph.specs.declared.planning.Directory.{Directory as RustDirectory}
 use Rattle.ws_graph.specs.Node.{directory_of}
+use Rattle.ws_graph.specs.BuildPlan.{Directory}
 use Rattle.ws_report.specs.declared.IdLine.{IdLine}
 use Rattle.ws_report.specs.declared.Standing.{Standing}
 use Rattle.ws_report.specs.Reports.{Verdict, id_row}
 use Rattle.ws_replica.specs.declared.reached.Place.{Place as RustPlace}
 use Rattle.ws_replica.specs.declared.reached.Reached.{Reached as RustReached}
-use Rattle.ws_replica.specs.Jobs.{Place, Reached, place_of, reached_of, reached_by, IsTold, AreTold}
+use Rattle.ws_replica.specs.declared.reached.Shared.{Shared}
+use Rattle.ws_replica.specs.Jobs.{Place, Reached, place_of, shared_of, reached_of, reached_by, IsTold, AreTold}
 use Rattle.ws_replica.specs.Opened.{standing_in, rows_from, IsObjectAt, AreObjects}
 use Rattle.ws_replica.proofs.Numbered.{some_same}
 
@@ -33,14 +35,22 @@ told_whole result from k rest all rows e h = subst (λ zs. AreTold result from a
 
 -- ---- what was reached
 
-pub reached_next : (edition : Edition) (done pushed : List RustReached) (x : RustReached) (d : RustDirectory) (left rest : List RustDirectory) (total : List Reached) → pushed ≡ done ++ x ∷ [] → left ≡ d ∷ rest → reached_of x ≡ reached_by edition (directory_of d) → map reached_of done ++ map (reached_by edition) (map directory_of left) ≡ total → map reached_of pushed ++ map (reached_by edition) (map directory_of rest) ≡ total
-reached_next edition done pushed x d left rest total p l one h =
-    let others : List Reached = map (reached_by edition) (map directory_of rest) in
-    ap (λ zs. map reached_of zs ++ others) p
-    ∙ ap (λ zs. zs ++ others) (map-append reached_of done (x ∷ []))
-    ∙ append_assoc (map reached_of done) (reached_of x ∷ []) others
-    ∙ ap (λ z. map reached_of done ++ (z ∷ others)) one
-    ∙ ap (λ zs. map reached_of done ++ map (reached_by edition) (map directory_of zs)) (sym l) ∙ h
+pub shared_next : (done pushed : List Shared) (x : Shared) (d : RustDirectory) (left rest : List RustDirectory) (total : List Directory) → pushed ≡ done ++ x ∷ [] → left ≡ d ∷ rest → shared_of x ≡ directory_of d → map shared_of done ++ map directory_of left ≡ total → map shared_of pushed ++ map directory_of rest ≡ total
+shared_next done pushed x d left rest total p l one h =
+    let others : List Directory = map directory_of rest in
+    ap (λ zs. map shared_of zs ++ others) p
+    ∙ ap (λ zs. zs ++ others) (map-append shared_of done (x ∷ []))
+    ∙ append_assoc (map shared_of done) (shared_of x ∷ []) others
+    ∙ ap (λ z. map shared_of done ++ (z ∷ others)) one
+    ∙ ap (λ zs. map shared_of done ++ map directory_of zs) (sym l) ∙ h
+
+pub reached_next : (edition : Edition) (directories : List Shared) (i : ℕ) (d : Shared) (done pushed : List RustReached) (x : RustReached) → i < length directories → d ≡ get_or directories i d → pushed ≡ done ++ x ∷ [] → reached_of x ≡ reached_by edition (shared_of d)
+    → map reached_of done ≡ map (reached_by edition) (map shared_of (take i directories)) → map reached_of pushed ≡ map (reached_by edition) (map shared_of (take (i + 1) directories))
+reached_next edition directories i d done pushed x within at push one h =
+    let done_by : List Shared → List Reached = λ ds. map (reached_by edition) (map shared_of ds) in
+    let more : take (i + 1) directories ≡ take i directories ++ d ∷ [] = take_more directories i d within ∙ ap (λ z. take i directories ++ z ∷ []) (sym at) in
+    ap (map reached_of) push ∙ map-append reached_of done (x ∷ []) ∙ ap (λ zs. zs ++ reached_of x ∷ []) h ∙ ap (λ z. done_by (take i directories) ++ z ∷ []) one
+    ∙ sym (ap done_by more ∙ ap (map (reached_by edition)) (map-append shared_of (take i directories) (d ∷ [])) ∙ map-append (reached_by edition) (map shared_of (take i directories)) (shared_of d ∷ []))
 
 -- ---- ids
 

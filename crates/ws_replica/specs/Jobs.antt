@@ -1,6 +1,7 @@
 -- The steps from a plan to what is said of its directories.
 use Rattle.std.specs.Prelude.{Vec, ◌≡◌, ℕ, suc, ◌+◌, List, [], ◌∷◌, ◌++◌, length, map, Option, Some, None, string_bytes}
 use Rattle.std.specs.List.{All, count_by}
+use Rattle.std.specs.Arc.{arc_value}
 use Rattle.std.specs.FinMap.{FinMap}
 use Rattle.std.specs.Global.{Global}
 use Rattle.go_text.specs.declared.edition.Edition.{Edition}
@@ -19,6 +20,17 @@ use Rattle.ws_report.specs.declared.Report.{Report}
 use Rattle.ws_report.specs.Reports.{Verdict, Good, Blocked, Wrong, rows}
 use Rattle.ws_replica.specs.declared.reached.Place.{Place as RustPlace}
 use Rattle.ws_replica.specs.declared.reached.Reached.{Reached as RustReached}
+use Rattle.ws_replica.specs.declared.reached.Shared.{Shared}
+use Rattle.ws_replica.specs.declared.reached.SharedNode.{SharedNode}
+use Rattle.ws_replica.specs.declared.reached.SharedNode.TheVariants as nodes
+
+-- the directory of a plan, of what the code keeps
+abbrev pub node_of : SharedNode → Planned
+node_of (nodes.Faulty fault) = Faulty fault
+node_of (nodes.Sound files) = Sound (arc_value files)
+
+abbrev pub shared_of : Shared → Directory
+shared_of d = record { path = string_bytes d.path; planned = node_of d.node; imports = d.imports.items }
 
 -- a directory, with the fault of its plan, if it has one
 pub record Place : Type 0 where

@@ -8,3 +8,4 @@ pub mod Jobs
 pub mod Parts
 pub mod Opened
 pub mod Targets
+pub mod Plans

@@ -11,7 +11,7 @@ use Rattle.ws_register.specs.Sources.{HasFiles}
 use Rattle.ws_action.specs.Actions.{Action}
 use Rattle.ws_cache.specs.Held.{id_cmp, CacheStandsFor}
 use Rattle.ws_cache.specs.Joined.{lesser}
-use Rattle.ws_graph.specs.BuildPlan.{Directory, IsJointPlanFor}
+use Rattle.ws_graph.specs.BuildPlan.{Directory, IsJointPlanFor, SomeHasNoFiles}
 use Rattle.ws_reach.specs.Reach.{EdgesStayWithin}
 use Rattle.ws_replica.specs.Holdings.{Replica, Took, AllStandFor}
 use Rattle.ws_replica.specs.Jobs.{Reached, reached_by}
@@ -25,15 +25,25 @@ pub record IsReachedBy (edition : Edition) (registers : Contents) (targets : Lis
   pub files : (W : List Write) → StandsFor held_cmp registers W → HasFiles W
   pub same : reached ≡ map (reached_by edition) directories
 
+-- the same of the replica of that number
+pub record IsReachedAt (edition : Edition) (replicas : List Replica) (k : ℕ) (targets : List (List ℕ)) (reached : List Reached) : Type 0 where
+  pub replica : Replica
+  pub at : slice_get replicas k ≡ Some replica
+  pub by : IsReachedBy edition replica.registers targets reached
+
+-- one of them has no files there
+pub record LacksFilesAt (edition : Edition) (replicas : List Replica) (k : ℕ) (targets : List (List ℕ)) : Type 0 where
+  pub replica : Replica
+  pub at : slice_get replicas k ≡ Some replica
+  pub lacks : (W : List Write) → StandsFor held_cmp replica.registers W → SomeHasNoFiles edition W targets
+
 -- the directories of those targets that are the replica's of that number
 abbrev pub directories_at : List (ℕ × List ℕ) → ℕ → List (List ℕ)
 directories_at targets k = map (λ t. t.1) (filter (λ t. t.0 == k) targets)
 
 -- what is reached of the targets of the replica of that number
-pub record IsReached (edition : Edition) (replicas : List Replica) (targets : List (ℕ × List ℕ)) (k : ℕ) (reached : List Reached) : Type 0 where
-  pub replica : Replica
-  pub at : slice_get replicas k ≡ Some replica
-  pub by : IsReachedBy edition replica.registers (directories_at targets k) reached
+abbrev pub IsReached : Edition → List Replica → List (ℕ × List ℕ) → ℕ → List Reached → Type 0
+IsReached edition replicas targets k reached = IsReachedAt edition replicas k (directories_at targets k) reached
 
 -- the same of the first replicas
 abbrev pub AreReachedOf : Edition → List Replica → List (ℕ × List ℕ) → List (List Reached) → Type 0

@@ -1,12 +1,12 @@
 //! Replicas: what is written and what is compiled, and builds.
 #![tactic(auto)]
 
-ghost use Rattle.std.specs.Prelude.{◌≡◌, ℕ, ◌++◌, ◌∷◌, [], List, Option, IfOk, IfErr, OnOk, OnErr, Some, None, option_copied, map, string_bytes};
+ghost use Rattle.std.specs.Prelude.{◌≡◌, ℕ, ◌++◌, ◌∷◌, [], List, Option, IfOk, IfErr, IfSome, OnOk, OnErr, Err, Some, None, option_copied, map, string_bytes};
 ghost use Rattle.std.specs.List.{All, Contains};
 ghost use Rattle.std.specs.Map.{values_of};
 ghost use Rattle.ws_map.specs.Kept.{SameMembers};
 ghost use Rattle.ws_version.specs.Writes.{Write as AWrite, held_cmp};
-ghost use Rattle.ws_map.specs.Kept.{StandsAt, joined};
+ghost use Rattle.ws_map.specs.Kept.{StandsAt, StandsFor, joined};
 ghost use Rattle.ws_register.specs.Edits.{top, greatest_at, edit_refusal, removal_refusal, IsRefusal, edited, removed};
 ghost use Rattle.ws_register.specs.Sources.{HasFiles, IsShown, IsSources};
 ghost use Rattle.ws_register.specs.Texted.{texted};
@@ -20,7 +20,8 @@ ghost use Rattle.go_typed.specs.Trees.{Package as APackage};
 ghost use Rattle.ws_action.specs.Actions.{Action as AnAction, MakeAction, action_of};
 ghost use Rattle.ws_action.specs.Clash.{NoClash, hashed_actions};
 ghost use Rattle.ws_cache.specs.Held.{CacheStandsFor};
-ghost use Rattle.ws_graph.specs.BuildPlan.{Directory};
+ghost use Rattle.ws_graph.specs.BuildPlan.{Directory, SomeHasNoFiles};
+ghost use Rattle.ws_graph.specs.Discovery.{texts};
 ghost use Rattle.ws_cache.specs.Joined.{lesser};
 ghost use Rattle.ws_pool.specs.Unshown.{IsUnshown};
 ghost use Rattle.ws_replica.specs.Holdings.{Replica as AReplica, ReplicaStandsFor, both};
@@ -28,16 +29,24 @@ ghost use Rattle.ws_replica.specs.declared.BuildError.TheVariants.{Memory};
 ghost use Rattle.ws_replica.specs.Reports.{TargetBuild, IsTargetBuild, IsReady, Good, actions_of};
 ghost use Rattle.ws_replica.specs.Programs.{IsHeldProgram, IsImage};
 ghost use Rattle.ws_replica.specs.Builds.{refusal_of};
+ghost use Rattle.ws_replica.specs.Jobs.{reached_of};
+ghost use Rattle.ws_replica.specs.Plans.{IsKeptPlan};
+ghost use Rattle.ws_replica.specs.Targets.{IsReachedBy};
 ghost use Rattle.ws_version_vector.specs.Told.{Brings};
 
 pub use building::{Target, build};
+use go_text::edition::Edition;
 use go_text::source::Source;
 use go_text::text::Text;
 pub use linking::image;
+use past::Past;
+use plan::{Plan, kept_or_planned};
+use reached::{Reached, all_reached};
 pub use snapshot::{Snapshot, build_from};
 pub use standings::ids;
 use std::alloc::{AllocError, Global};
 use std::marker::Model;
+use std::thread::Threads;
 use thiserror::Error;
 use ws_cache::Cache;
 use ws_graph::PlanError;
@@ -52,6 +61,8 @@ mod linking;
 mod opened;
 mod openings;
 mod parts;
+mod past;
+mod plan;
 mod reached;
 mod sharing;
 mod snapshot;
@@ -88,11 +99,14 @@ impl From<AllocError> for BuildError {
     }
 }
 
-/// What is held at each path, and what is compiled.
+/// What is held at each path, and what is compiled; the plan of the last build, while the writes
+/// stay; and the files of that plan, for the next one. A copy has no plan.
 #[derive(Drop)]
 pub struct Replica {
     registers: Registers,
     cache: Cache,
+    plan: Option<Plan>,
+    past: Option<Past>,
 }
 
 impl Model for Replica {
@@ -103,6 +117,10 @@ impl Model for Replica {
     ghost coded = { holdings.replica_code };
 
     ghost view = { λ a. record { registers = a.registers; cache = a.cache } };
+
+    ghost use Rattle.ws_replica.specs.Plans as plans;
+
+    ghost invariant = { λ a. plans.KeepsPlan a.registers a.plan };
 }
 
 impl Replica {
@@ -113,6 +131,8 @@ impl Replica {
         Replica {
             registers: Registers::new(alloc),
             cache: Cache::new(alloc),
+            plan: None,
+            past: None,
         }
     }
 
@@ -126,6 +146,50 @@ impl Replica {
         ensures { result.now ≡ self.now.cache }
     {
         &self.cache
+    }
+
+    /// What the next plan may take of the last one.
+    pub(crate) fn past(&self) -> Option<&Past> {
+        self.past.as_ref()
+    }
+
+    /// The plan that is kept, if it is of that edition and of these targets.
+    pub(crate) fn plan_of(&self, edition: Edition, targets: &[String]) -> Option<&Plan>
+        ensures { IfSome result (λ plan. IsKeptPlan edition self.now.registers (texts targets.now) plan.now) }
+    {
+        let plan = self.plan.as_ref()?;
+        if plan.is_of(edition, targets) {
+            Some(plan)
+        } else {
+            None
+        }
+    }
+
+    /// What is reached of some directories. Its plan is kept, in the place of another.
+    pub(crate) fn reach(
+        &mut self,
+        rt: &(impl Threads + Sync),
+        alloc: Global,
+        targets: Vec<String>,
+        edition: Edition,
+    ) -> Result<Vec<Reached>, BuildError>
+        ensures same { self.new ≡ self.old }
+        ensures ok { IfOk result (λ reached. IsReachedBy edition self.old.registers (texts targets.items) (map reached_of reached.items)) }
+        ensures none { result ≡ Err BuildError.NoPackage → (W : List AWrite) → StandsFor held_cmp self.old.registers W → SomeHasNoFiles edition W (texts targets.items) }
+    {
+        let kept = self.plan.take();
+        let plan = kept_or_planned(
+            rt,
+            alloc,
+            &self.registers,
+            &mut self.past,
+            kept,
+            targets,
+            edition,
+        )?;
+        let reached = all_reached(alloc, edition, plan.directories.as_slice())?;
+        self.plan = Some(plan);
+        Ok(reached)
     }
 
     pub(crate) fn put_cache(&mut self, cache: Cache)
@@ -165,6 +229,7 @@ impl Replica {
     {
         // So that the counter is known as that of the writes.
         let _greatest = self.registers.greatest_counter();
+        self.plan = None;
         self.registers.edit(path, source, number)
     }
 
@@ -180,6 +245,7 @@ impl Replica {
         ensures err { OnErr result (self.new ≡ self.old) }
         ensures stands { OnOk result ((writes : List AWrite) (actions : List AnAction) → ReplicaStandsFor self.old writes actions → ReplicaStandsFor self.new (writes ++ (string_bytes path, removed (top writes) number) ∷ []) actions) }
     {
+        self.plan = None;
         self.registers.remove(path, number)
     }
 
@@ -189,6 +255,7 @@ impl Replica {
         ensures err { OnErr result (self.new ≡ self.old) }
         ensures stands { OnOk result ((writes : List AWrite) (actions : List AnAction) → ReplicaStandsFor self.old writes actions → ReplicaStandsFor self.new (writes ++ write ∷ []) actions) }
     {
+        self.plan = None;
         self.registers.apply(write)
     }
 
@@ -244,6 +311,7 @@ impl Replica {
         // Registers go into a copy, so that an `Err` of the caches changes nothing.
         let registers = sharing::registers_of(&self.registers, &other.registers, writes)?;
         sharing::merge_cache(&mut self.cache, &other.cache, results)?;
+        self.plan = None;
         self.registers = registers;
         Ok(())
     }
@@ -263,7 +331,13 @@ impl Join for Replica {
     fn copy(&self) -> Result<Replica, AllocError> {
         let registers = self.registers.copy()?;
         let cache = self.cache.copy()?;
-        Ok(Replica { registers, cache })
+        let past = past::copied(self.past.as_ref())?;
+        Ok(Replica {
+            registers,
+            cache,
+            plan: None,
+            past,
+        })
     }
 
     fn merge(&mut self, other: &Replica) -> Result<(), AllocError>
@@ -275,6 +349,7 @@ impl Join for Replica {
         let mut registers = self.registers.copy()?;
         registers.merge(&other.registers)?;
         self.cache.merge(&other.cache)?;
+        self.plan = None;
         self.registers = registers;
         Ok(())
     }

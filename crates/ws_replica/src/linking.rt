@@ -12,7 +12,8 @@ ghost use Rattle.ws_replica.specs.Programs.{IsImage};
 ghost use Rattle.ws_replica.specs.Reports.{IsTargetBuild};
 
 use crate::opened::opened;
-use crate::reached::{all_reached, import_rows};
+use crate::plan::reach_one;
+use crate::reached::import_rows;
 use crate::{BuildError, Replica};
 use go_code::image::Image;
 use go_code::object::Object;
@@ -24,7 +25,6 @@ use std::sync::Arc;
 use std::thread::Threads;
 use ws_board::Stopped;
 use ws_cache::Outcome;
-use ws_graph::planning::plan_in;
 use ws_version::Join;
 
 /// The object of a job, where it is done and good.
@@ -79,6 +79,7 @@ fn linked(
         Ok(image) => Ok(Some(image)),
         Err(LinkError::NoMain) => Ok(None),
         Err(LinkError::NameMissing) => Ok(None),
+        Err(LinkError::EditionsDiffer) => Ok(None),
         Err(LinkError::Memory) => Err(AllocError),
     }
 }
@@ -97,9 +98,7 @@ pub fn image<R: Threads + Sync>(
         → IsImage edition W E directory.now image) }
     ensures none { result ≡ Err BuildError.NoPackage → (W : List AWrite) (E : List AnAction) → ReplicaStandsFor replica.now W E → IsTargetBuild edition W directory.now None }
 {
-    replica.registers.see_files();
-    let plan = plan_in(rt, alloc, edition, &replica.registers, directory)?;
-    let reached = all_reached(alloc, edition, plan.directories)?;
+    let reached = reach_one(rt, alloc, replica, directory, edition)?;
     let rows = import_rows(alloc, &reached)?;
     let cache = replica.cache.copy()?;
     let (_, board) = opened(alloc, reached, cache)?;

@@ -2,27 +2,22 @@
 ghost use Rattle.std.specs.Prelude.{◌≡◌, ◌==◌, ◌<◌, ◌++◌, ◌∷◌, [], ℕ, List, length, map, IfOk, OnOk, OnErr, Err, Some, All};
 ghost use Rattle.std.specs.FinMap.{FinMap};
 ghost use Rattle.std.specs.List.{slice_get, list_all};
-ghost use Rattle.ws_map.specs.Kept.{StandsFor};
-ghost use Rattle.ws_version.specs.Writes.{Write as AWrite, held_cmp};
 ghost use Rattle.ws_action.specs.Actions.{Action as AnAction};
 ghost use Rattle.ws_cache.specs.Held.{id_cmp};
-ghost use Rattle.ws_graph.specs.BuildPlan.{SomeHasNoFiles};
 ghost use Rattle.ws_graph.specs.Discovery.{texts};
 ghost use Rattle.ws_replica.specs.Holdings.{Took, AllStandFor};
 ghost use Rattle.ws_replica.specs.Jobs.{reached_of, all_reached_of};
 ghost use Rattle.ws_replica.specs.Builds.{target_of, LacksPackage};
-ghost use Rattle.ws_replica.specs.Targets.{directories_at, IsReachedBy, AreReached, AllInOrder, IsOpening, HaveCache, TakesInto, TakeResults};
+ghost use Rattle.ws_replica.specs.Targets.{directories_at, IsReachedAt, LacksFilesAt, AreReached, AllInOrder, IsOpening, HaveCache, TakesInto, TakeResults};
 
 use crate::building::Target;
 use crate::join::copies;
-use crate::reached::{Reached, all_reached};
+use crate::reached::Reached;
 use crate::{BuildError, Replica};
 use go_text::edition::Edition;
 use std::alloc::{AllocError, Global};
 use std::thread::Threads;
 use ws_cache::Cache;
-use ws_graph::planning::plan_all;
-use ws_register::Registers;
 use ws_version::Join;
 
 fn replica_at(replicas: &[Replica], number: usize) -> &Replica
@@ -63,42 +58,43 @@ fn directories_at(
     Ok(directories)
 }
 
-/// What is reached of some directories, by the sources of the registers.
-fn planned(
+/// What is reached of some directories, by the replica of that number, which keeps their plan.
+fn reach_at(
     rt: &(impl Threads + Sync),
     alloc: Global,
-    registers: &Registers,
-    directories: &[String],
+    replicas: &mut [Replica],
+    number: usize,
+    directories: Vec<String>,
     edition: Edition,
 ) -> Result<Vec<Reached>, BuildError>
-    ensures ok { IfOk result (λ reached. IsReachedBy edition registers.now (texts directories.now) (map reached_of reached.items)) }
-    ensures none { result ≡ Err BuildError.NoPackage → (W : List AWrite) → StandsFor held_cmp registers.now W → SomeHasNoFiles edition W (texts directories.now) }
+    requires { number < length replicas.old }
+    ensures same { replicas.new ≡ replicas.old }
+    ensures ok { IfOk result (λ reached. IsReachedAt edition replicas.old number (texts directories.items) (map reached_of reached.items)) }
+    ensures none { result ≡ Err BuildError.NoPackage → LacksFilesAt edition replicas.old number (texts directories.items) }
 {
-    registers.see_files();
-    let plan = plan_all(rt, alloc, edition, registers, directories)?;
-    let reached = all_reached(alloc, edition, plan.directories)?;
-    Ok(reached)
+    replicas[number].reach(rt, alloc, directories, edition)
 }
 
-/// What is reached of the targets of each replica, all of its targets in one plan. `NoPackage`
-/// comes where a target's directory has no files that belong to a build.
+/// What is reached of the targets of each replica, all of its targets in one plan, which it keeps
+/// in the place of another. `NoPackage` comes where a target's directory has no files that belong
+/// to a build.
 pub(crate) fn all_planned(
     rt: &(impl Threads + Sync),
     alloc: Global,
-    replicas: &[Replica],
+    replicas: &mut [Replica],
     targets: &[Target<'_>],
     edition: Edition,
 ) -> Result<Vec<Vec<Reached>>, BuildError>
-    ensures ok { IfOk result (λ all. AreReached edition replicas.now (map target_of targets.now) (all_reached_of all.items)) }
+    ensures same { replicas.new ≡ replicas.old }
+    ensures ok { IfOk result (λ all. AreReached edition replicas.old (map target_of targets.now) (all_reached_of all.items)) }
     ensures order { IfOk result (λ all. AllInOrder (all_reached_of all.items)) }
-    ensures none { result ≡ Err BuildError.NoPackage → (took : List Took) → AllStandFor replicas.now took
+    ensures none { result ≡ Err BuildError.NoPackage → (took : List Took) → AllStandFor replicas.old took
         → LacksPackage edition took (map target_of targets.now) }
 {
     let mut all = Vec::new(alloc);
     for number in 0..replicas.len() {
         let directories = directories_at(alloc, targets, number)?;
-        let registers = replica_at(replicas, number).registers();
-        let reached = planned(rt, alloc, registers, directories.as_slice(), edition)?;
+        let reached = reach_at(rt, alloc, replicas, number, directories, edition)?;
         if let Err(e) = all.push(reached) {
             return Err(AllocError::from(e).into());
         }

@@ -2,8 +2,9 @@
 ghost use Rattle.std.specs.Prelude.{◌≡◌, map, IfOk};
 ghost use Rattle.ws_graph.specs.Node.{directory_of};
 ghost use Rattle.ws_reach.specs.Reach.{rows_of};
-ghost use Rattle.ws_replica.specs.Jobs.{reached_by, reached_of};
+ghost use Rattle.ws_replica.specs.Jobs.{shared_of, reached_by, reached_of};
 
+use crate::past::{Past, shared_files};
 use go_text::edition::Edition;
 use go_text::fault::Fault;
 use std::alloc::{AllocError, Global};
@@ -12,6 +13,21 @@ use ws_action::Files;
 use ws_board::Work;
 use ws_graph::Node;
 use ws_graph::planning::Directory;
+
+/// A directory of a plan, of which the files are shared: many boards take jobs of one plan.
+#[derive(Drop)]
+pub(crate) struct Shared {
+    pub(crate) path: String,
+    pub(crate) node: SharedNode,
+    pub(crate) imports: Vec<usize>,
+}
+
+/// The files of a directory, or the fault that stands in the way.
+#[derive(Drop)]
+pub(crate) enum SharedNode {
+    Faulty(Fault),
+    Sound(Arc<Files>),
+}
 
 /// A directory, and the fault of its plan, if it has one.
 #[derive(Drop)]
@@ -29,27 +45,62 @@ pub(crate) struct Reached {
     pub(crate) imports: Vec<usize>,
 }
 
-/// A directory with its work. The files are hashed here, where no lock is held.
-fn reached_as(alloc: Global, edition: Edition, directory: Directory) -> Result<Reached, AllocError>
-    ensures { IfOk result (λ reached. reached_of reached ≡ reached_by edition (directory_of directory)) }
+/// A directory whose files are shared. They are hashed here, where no lock is held, unless the past
+/// has them.
+fn share(alloc: Global, past: Option<&Past>, directory: Directory) -> Result<Shared, AllocError>
+    ensures { IfOk result (λ shared. shared_of shared ≡ directory_of directory) }
 {
     let Directory {
         path,
         node,
         imports,
     } = directory;
-    match node {
-        Node::Faulty(fault) => {
-            let fault = Some(fault);
+    let node = match node {
+        Node::Faulty(fault) => SharedNode::Faulty(fault),
+        Node::Sound(files) => {
+            SharedNode::Sound(shared_files(alloc, past, path.as_str(), files)?)
+        }
+    };
+    Ok(Shared {
+        path,
+        node,
+        imports,
+    })
+}
+
+/// The directories of a plan, of which the files are shared.
+pub(crate) fn all_shared(
+    alloc: Global,
+    past: Option<&Past>,
+    directories: Vec<Directory>,
+) -> Result<Vec<Shared>, AllocError>
+    ensures { IfOk result (λ all. map shared_of all.items ≡ map directory_of directories.items) }
+{
+    let mut all = Vec::new(alloc);
+    for directory in directories {
+        let one = share(alloc, past, directory)?;
+        all.push(one)?;
+    }
+    Ok(all)
+}
+
+/// A directory with its work.
+fn reached_as(alloc: Global, edition: Edition, directory: &Shared) -> Result<Reached, AllocError>
+    ensures { IfOk result (λ reached. reached_of reached ≡ reached_by edition (shared_of directory.now)) }
+{
+    let path = directory.path.clone()?;
+    let imports = Vec::from_slice(alloc, &directory.imports)?;
+    match &directory.node {
+        SharedNode::Faulty(fault) => {
+            let fault = Some(fault.copy()?);
             Ok(Reached {
                 place: Place { path, fault },
                 work: None,
                 imports,
             })
         }
-        Node::Sound(files) => {
-            let files = Arc::new(alloc, Files::new(alloc, files)?)?;
-            let work = Work::new(edition, path.clone()?, files);
+        SharedNode::Sound(files) => {
+            let work = Work::new(edition, path.clone()?, Arc::try_clone(files)?);
             Ok(Reached {
                 place: Place { path, fault: None },
                 work: Some(work),
@@ -63,9 +114,9 @@ fn reached_as(alloc: Global, edition: Edition, directory: Directory) -> Result<R
 pub(crate) fn all_reached(
     alloc: Global,
     edition: Edition,
-    directories: Vec<Directory>,
+    directories: &[Shared],
 ) -> Result<Vec<Reached>, AllocError>
-    ensures { IfOk result (λ reached. map reached_of reached.items ≡ map (reached_by edition) (map directory_of directories.items)) }
+    ensures { IfOk result (λ reached. map reached_of reached.items ≡ map (reached_by edition) (map shared_of directories.now)) }
 {
     let mut reached = Vec::new(alloc);
     for directory in directories {

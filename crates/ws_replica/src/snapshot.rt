@@ -83,11 +83,11 @@ pub fn build_from<R: Threads + Wait + Sync, G: Gate>(
     ensures none { result ≡ Err BuildError.NoPackage → (took : List Took) → AllStandFor snapshots.now took
         → LacksPackage edition took (map target_of targets.now) }
 {
-    let replicas = replicas_of(alloc, snapshots)?;
-    let all = all_planned(rt, alloc, &replicas, targets, edition)?;
-    let parts = all_parts(alloc, all.as_slice(), targets)?;
+    let mut replicas = replicas_of(alloc, snapshots)?;
     let opening = opening_of(alloc, &replicas, targets)?;
     let mut cache = opening.copy()?;
+    let all = all_planned(rt, alloc, replicas.as_mut_slice(), targets, edition)?;
+    let parts = all_parts(alloc, all.as_slice(), targets)?;
     let (reports, added) = run(rt, alloc, all, parts.as_slice(), opening, workers, gate)?;
     cache.merge(&added)?;
     Ok((reports, cache))

@@ -11,13 +11,13 @@ ghost use Rattle.ws_replica.specs.Opened.{standing_in, rows_from};
 ghost use Rattle.ws_replica.specs.Reports.{IsTargetBuild};
 
 use crate::opened::opened;
-use crate::reached::{Place, all_reached};
+use crate::plan::reach_one;
+use crate::reached::Place;
 use crate::{BuildError, Replica};
 use go_text::edition::Edition;
 use std::alloc::{AllocError, Global};
 use std::thread::Threads;
 use ws_board::{Status, Stopped};
-use ws_graph::planning::plan_in;
 use ws_report::{IdLine, Standing};
 use ws_version::Join;
 
@@ -63,9 +63,7 @@ pub fn ids<R: Threads + Sync>(
         → AreIds edition W E directory.now (map id_row lines.items)) }
     ensures none { result ≡ Err BuildError.NoPackage → (W : List AWrite) (E : List AnAction) → ReplicaStandsFor replica.now W E → IsTargetBuild edition W directory.now None }
 {
-    replica.registers.see_files();
-    let plan = plan_in(rt, alloc, edition, &replica.registers, directory)?;
-    let reached = all_reached(alloc, edition, plan.directories)?;
+    let reached = reach_one(rt, alloc, replica, directory, edition)?;
     let cache = replica.cache.copy()?;
     let (places, board) = opened(alloc, reached, cache)?;
     let lines = lines(alloc, &board, places)?;

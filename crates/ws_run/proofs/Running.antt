@@ -6,7 +6,6 @@ use Rattle.go_text.specs.declared.edition.Edition.{Edition}
 use Rattle.go_code.specs.Finals.{Ends, BadCode}
 use Rattle.go_code.specs.Images.{Image}
 use Rattle.go_code.specs.Machine.{MachineMeaning}
-use Rattle.go_translation_laws.proofs.LinkedNames.{program_linked}
 use Rattle.go_translation_laws.proofs.Linking.{LinksTo, program_meant, program_sense}
 use Rattle.go_meaning_laws.proofs.Programs.{never_stuck}
 use Rattle.go_meaning_laws.specs.WellTyped.{IsWellTyped}
@@ -21,7 +20,7 @@ use Rattle.ws_replica.specs.Holdings.{Replica}
 use Rattle.ws_replica.specs.Programs.{IsImage, IsImageOf}
 use Rattle.ws_replica.specs.Reports.{TargetBuild, IsTargetBuild, actions_of}
 use Rattle.ws_replica.proofs.OneBuild.{one_build}
-use Rattle.ws_replica.proofs.WellTyped.{well_typed}
+use Rattle.ws_replica.proofs.WellTyped.{always_linked, well_typed}
 use Rattle.ws_run.specs.Files.{Files, writes_of, IsBuildOf, RunsAs}
 use Rattle.ws_run.specs.Steps.{HoldsProgram, IsProgramImage, HasImage}
 
@@ -87,7 +86,7 @@ module _ (edition : Edition) (files : Files) (directory : List ℕ) (image : Ima
   well = well_typed edition (writes_of files) p.sources directory p.build p.are.0 p.are.1 p.good p.packages p.in_order p.program
 
   links : LinksTo p.packages image
-  links = (program_linked p.packages well p.program, p.image_is)
+  links = (always_linked edition (writes_of files) p.sources directory p.build p.are.0 p.are.1 p.packages p.in_order p.program, p.image_is)
 
   pub runs_as : (ticks : ℕ) (o : Outcome) → MachineMeaning image ticks (Ends o.ending o.output) → RunsAs edition files directory ticks o
   runs_as ticks o machine = record {

@@ -11,7 +11,7 @@ use Rattle.ws_version_vector.specs.Told.{AreKept, took_at}
 use Rattle.ws_version_vector.proofs.Told.{grown as with_batch}
 use Rattle.ws_version_vector.proofs.Kept.{same_kept, raised_kept, merged_kept, shared_kept, none_kept, AnyTook}
 use Rattle.ws_command.specs.declared.refusal.Refusal.{Refusal}
-use Rattle.ws_command.specs.Commands.{Nothing, Bad, Create, Write, Remove, Apply, Merge, Settle, Run, Ids, Show}
+use Rattle.ws_command.specs.Commands.{Nothing, Bad, Create, Write, Remove, Apply, Merge, Settle, Run, Ids, Show, Use}
 use Rattle.ws_session.specs.declared.replicas.Named.{Named}
 use Rattle.ws_session.specs.World.{World, Replica, opening, taking, edit_of, removal_of, content_in, settled, writes_of, actions_held, AfterBy, After, refusals}
 use Rattle.ws_command.specs.Refusals.{first_of}
@@ -189,6 +189,10 @@ show_by : (refusal : Option Refusal) (name : List ℕ) (text : Option (List ℕ)
 show_by None name text world next a = ap (λ z. z.replicas) a
 show_by (Some refusal) name text world next a = ap (λ z. z.replicas) a
 
+use_by : (refusal : Option Refusal) (edition : Edition) (text : Option (List ℕ)) (world next : World) → AfterBy refusal (Use edition) text world next → next.replicas ≡ world.replicas
+use_by None edition text world next a = ap (λ z. z.replicas) a
+use_by (Some refusal) edition text world next a = ap (λ z. z.replicas) a
+
 run_by : (refusal : Option Refusal) (name directory : List ℕ) (ticks : ℕ) (text : Option (List ℕ)) (world next : World) → AfterBy refusal (Run name directory ticks) text world next → next.replicas ≡ world.replicas
 run_by None name directory ticks text world next a = ap (λ z. z.replicas) a.2
 run_by (Some refusal) name directory ticks text world next a = ap (λ z. z.replicas) a
@@ -208,6 +212,10 @@ after_bad text world next a = bad_by (first_of (refusals Bad text world)) text w
 pub after_show : (name : List ℕ) (text : Option (List ℕ)) (world next : World) → After (Show name) text world next → next.replicas ≡ world.replicas
 unfolding After
 after_show name text world next a = show_by (first_of (refusals (Show name) text world)) name text world next a
+
+pub after_use : (edition : Edition) (text : Option (List ℕ)) (world next : World) → After (Use edition) text world next → next.replicas ≡ world.replicas
+unfolding After
+after_use edition text world next a = use_by (first_of (refusals (Use edition) text world)) edition text world next a
 
 pub after_run : (name directory : List ℕ) (ticks : ℕ) (text : Option (List ℕ)) (world next : World) → After (Run name directory ticks) text world next → next.replicas ≡ world.replicas
 unfolding After

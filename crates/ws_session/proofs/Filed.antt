@@ -5,7 +5,9 @@ use Rattle.std.specs.List.{Contains, flat_map, list_any}
 use Rattle.std.specs.Str.{bytes_eq, is_utf8}
 use Rattle.std.proofs.lemmas.Bool.{and_parts}
 use Rattle.std.proofs.lemmas.List.Elements.{Contains-append_cases}
+use Rattle.go_text.specs.declared.edition.Edition.{Edition}
 use Rattle.go_text.specs.Texts.{text_error}
+use Rattle.go_text.proofs.Texts.{valid_in_any}
 use Rattle.go_text.specs.declared.text.TextError.{TextError}
 use Rattle.ws_path.specs.Paths.{is_path}
 use Rattle.ws_version.specs.Writes.{Write as AWrite, IsText, IsOfFile}
@@ -16,7 +18,7 @@ use Rattle.ws_action.proofs.Members.{none_in_empty, head_or_later}
 use Rattle.ws_replica.specs.Reports.{TargetBuild}
 use Rattle.ws_command.specs.declared.refusal.Refusal.{Refusal}
 use Rattle.ws_command.specs.declared.refusal.Refusal.TheVariants.{Unknown, BadPath, NoFile, CounterFull, BadText}
-use Rattle.ws_command.specs.Commands.{Command, Nothing, Bad, Create, Write, Remove, Apply, Merge, Settle, Build, Run, Ids, Show}
+use Rattle.ws_command.specs.Commands.{Command, Nothing, Bad, Create, Write, Remove, Apply, Merge, Settle, Build, Run, Ids, Show, Use}
 use Rattle.ws_command.specs.Refusals.{first_of}
 use Rattle.ws_session.specs.World.{World, Replica, replica_at, or_new, knows, writes_of, actions_held, lacks, taking, grown, sharing, after_builds, edit_of, removal_of, is_text, is_path_word, is_content, content_in, refusals, Accepted, AfterBy, After}
 use Rattle.ws_session.proofs.Bytes.{utf8_bytes}
@@ -124,27 +126,27 @@ no_error (Some x) e = cc
 path_is : (path : List ℕ) → is_path_word path ≡ true → is_path path ≡ true
 path_is path e = (and_parts (is_utf8 path) (is_path path) e).1
 
-text_is : (text : Option (List ℕ)) (s : List ℕ) → is_text text ≡ true → unwrap_or text [] ≡ s → IsText s
-text_is None s e same = cc
-text_is (Some t) s e same =
-    let both = and_parts (is_utf8 t) (is_none (text_error t)) e in
-    subst IsText same (record { valid = no_error (text_error t) both.1; bytes = utf8_bytes t both.0 })
+text_is : (edition : Edition) (text : Option (List ℕ)) (s : List ℕ) → is_text edition text ≡ true → unwrap_or text [] ≡ s → IsText s
+text_is edition None s e same = cc
+text_is edition (Some t) s e same =
+    let both = and_parts (is_utf8 t) (is_none (text_error edition t)) e in
+    subst IsText same (record { valid = valid_in_any edition t (no_error (text_error edition t) both.1); bytes = utf8_bytes t both.0 })
 
 some_same : (s t : List ℕ) → Some s ≡ Some t → s ≡ t
 some_same s t e = cc
 
-edit_is : (name path : List ℕ) (text : Option (List ℕ)) (world : World) → is_path_word path ≡ true → is_text text ≡ true → IsOfFile (edit_of name path (unwrap_or text []) world)
-edit_is name path text world p t = record { path = path_is path p; text = λ s e. text_is text s t (some_same (unwrap_or text []) s e) }
+edit_is : (name path : List ℕ) (text : Option (List ℕ)) (world : World) → is_path_word path ≡ true → is_text world.edition text ≡ true → IsOfFile (edit_of name path (unwrap_or text []) world)
+edit_is name path text world p t = record { path = path_is path p; text = λ s e. text_is world.edition text s t (some_same (unwrap_or text []) s e) }
 
 removal_is : (name path : List ℕ) (world : World) → is_path_word path ≡ true → IsOfFile (removal_of name path world)
 removal_is name path world p = record { path = path_is path p; text = λ s e. cc }
 
-content_is : (lines : Option ℕ) (text : Option (List ℕ)) (s : List ℕ) → is_content lines text ≡ true → content_in lines text ≡ Some s → IsText s
-content_is None text s c e = cc
-content_is (Some n) text s c e = text_is text s c (some_same (unwrap_or text []) s e)
+content_is : (edition : Edition) (lines : Option ℕ) (text : Option (List ℕ)) (s : List ℕ) → is_content edition lines text ≡ true → content_in lines text ≡ Some s → IsText s
+content_is edition None text s c e = cc
+content_is edition (Some n) text s c e = text_is edition text s c (some_same (unwrap_or text []) s e)
 
-applied_is : (path : List ℕ) (counter number : ℕ) (lines : Option ℕ) (text : Option (List ℕ)) → is_path_word path ≡ true → is_content lines text ≡ true → IsOfFile (path, record { counter = counter; number = number; text = content_in lines text })
-applied_is path counter number lines text p c = record { path = path_is path p; text = λ s e. content_is lines text s c e }
+applied_is : (edition : Edition) (path : List ℕ) (counter number : ℕ) (lines : Option ℕ) (text : Option (List ℕ)) → is_path_word path ≡ true → is_content edition lines text ≡ true → IsOfFile (path, record { counter = counter; number = number; text = content_in lines text })
+applied_is edition path counter number lines text p c = record { path = path_is path p; text = λ s e. content_is edition lines text s c e }
 
 -- ---- after a command
 
@@ -161,8 +163,8 @@ filed_accepted Bad text world next none e f = same_filed world next e f
 filed_accepted (Create name) text world next none e f = subst IsFiled (sym e) (push_filed world.replicas _ f no_files)
 filed_accepted (Write name path lines) text world next none e f =
     let w : AWrite = edit_of name path (unwrap_or text []) world in
-    let is = write_passed (not (knows name world)) (not (is_path_word path)) (top (writes_of name world) == 18446744073709551615) (not (is_text text)) none in
-    let file : IsOfFile w = edit_is name path text world (is_true (is_path_word path) is.0) (is_true (is_text text) is.1) in
+    let is = write_passed (not (knows name world)) (not (is_path_word path)) (top (writes_of name world) == 18446744073709551615) (not (is_text world.edition text)) none in
+    let file : IsOfFile w = edit_is name path text world (is_true (is_path_word path) is.0) (is_true (is_text world.edition text) is.1) in
     subst IsFiled (sym e) (taking_filed name (w ∷ []) [] (one_file w file) world.replicas f)
 filed_accepted (Remove name path) text world next none e f =
     let w : AWrite = removal_of name path world in
@@ -171,8 +173,8 @@ filed_accepted (Remove name path) text world next none e f =
     subst IsFiled (sym e) (taking_filed name (w ∷ []) [] (one_file w file) world.replicas f)
 filed_accepted (Apply name path counter number lines) text world next none e f =
     let w : AWrite = (path, record { counter = counter; number = number; text = content_in lines text }) in
-    let is = apply_passed (not (knows name world)) (not (is_path_word path)) (not (is_content lines text)) none in
-    let file : IsOfFile w = applied_is path counter number lines text (is_true (is_path_word path) is.0) (is_true (is_content lines text) is.1) in
+    let is = apply_passed (not (knows name world)) (not (is_path_word path)) (not (is_content world.edition lines text)) none in
+    let file : IsOfFile w = applied_is world.edition path counter number lines text (is_true (is_path_word path) is.0) (is_true (is_content world.edition lines text) is.1) in
     subst IsFiled (sym e) (taking_filed name (w ∷ []) [] (one_file w file) world.replicas f)
 filed_accepted (Merge name other) text world next none e f = subst IsFiled (sym e) (taking_filed name (writes_of other world) (actions_held other world) (files_at other world.replicas f) world.replicas f)
 filed_accepted Settle text world next none e f =
@@ -181,6 +183,7 @@ filed_accepted (Build targets) text world next none (builds, are, e) f = subst I
 filed_accepted (Run name directory ticks) text world next none (build, is, e) f = subst IsFiled (sym e) f
 filed_accepted (Ids name directory) text world next none (build, is, e) f = subst IsFiled (sym e) f
 filed_accepted (Show name) text world next none e f = same_filed world next e f
+filed_accepted (Use edition) text world next none e f = subst IsFiled (sym e) f
 
 filed_by : (refusal : Option Refusal) (command : Command) (text : Option (List ℕ)) (world next : World) → first_of (refusals command text world) ≡ refusal → AfterBy refusal command text world next → IsFiled world → IsFiled next
 filed_by None command text world next is after f = filed_accepted command text world next is after f

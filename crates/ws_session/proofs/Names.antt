@@ -11,7 +11,7 @@ use Rattle.ws_action.proofs.Members.{none_in_empty, head_or_later, later, at_hea
 use Rattle.ws_replica.specs.Reports.{TargetBuild}
 use Rattle.ws_replica.proofs.Numbered.{some_same}
 use Rattle.ws_command.specs.declared.refusal.Refusal.{Refusal}
-use Rattle.ws_command.specs.Commands.{Command, Nothing, Bad, Create, Write, Remove, Apply, Merge, Settle, Build, Run, Ids, Show}
+use Rattle.ws_command.specs.Commands.{Command, Nothing, Bad, Create, Write, Remove, Apply, Merge, Settle, Build, Run, Ids, Show, Use}
 use Rattle.ws_command.specs.Refusals.{first_of}
 use Rattle.ws_session.specs.World.{World, Replica, replica_at, taking, grown, sharing, after_builds, refusals, Accepted, AfterBy, After}
 use Rattle.ws_session.specs.Standing.{AreApart, names_in}
@@ -105,6 +105,7 @@ apart_accepted (Build targets) text world next none (builds, are, e) = kept worl
 apart_accepted (Run name directory ticks) text world next none (plan, is, e) = kept world next (ap names_in e)
 apart_accepted (Ids name directory) text world next none (plan, is, e) = kept world next (ap names_in e)
 apart_accepted (Show name) text world next none e = kept world next (ap names_in e)
+apart_accepted (Use edition) text world next none e = kept world next (ap names_in e)
 
 apart_by : (refusal : Option Refusal) (command : Command) (text : Option (List ℕ)) (world next : World) → first_of (refusals command text world) ≡ refusal → AfterBy refusal command text world next → AreApart (names_in world) → AreApart (names_in next)
 apart_by None command text world next is after = apart_accepted command text world next is after

@@ -6,7 +6,7 @@ use Rattle.ws_version.specs.Writes.{Write as AWrite}
 use Rattle.ws_replica.specs.Reports.{TargetBuild, IsTargetBuild, actions_in}
 use Rattle.ws_action.proofs.Members.{none_in_empty, head_or_later}
 use Rattle.ws_command.specs.declared.refusal.Refusal.{Refusal}
-use Rattle.ws_command.specs.Commands.{Command, Nothing, Bad, Create, Write, Remove, Apply, Merge, Settle, Build, Run, Ids, Show, command_of, text_lines, text_of}
+use Rattle.ws_command.specs.Commands.{Command, Nothing, Bad, Create, Write, Remove, Apply, Merge, Settle, Build, Run, Ids, Show, Use, command_of, text_lines, text_of}
 use Rattle.ws_command.specs.Refusals.{first_of}
 use Rattle.ws_command.specs.RunPrinting.{run_text}
 use Rattle.ws_command.specs.IdsPrinting.{ids_text}
@@ -103,6 +103,7 @@ one_answer (Remove name path) world a b g h = g ∙ sym h
 one_answer (Apply name path counter number lines) world a b g h = g ∙ sym h
 one_answer (Merge name other) world a b g h = g ∙ sym h
 one_answer Settle world a b g h = g ∙ sym h
+one_answer (Use edition) world a b g h = g ∙ sym h
 one_answer (Show name) world a b g h = g.2 ∙ ap (show_text name) (one_shown (writes_of name world) g.0 h.0 g.1 h.1) ∙ sym h.2
 
 one_print_by : (refusal : Option Refusal) (command : Command) (world : World) (a b : List ℕ) → PrintsBy refusal command world a → PrintsBy refusal command world b → a ≡ b
@@ -130,6 +131,7 @@ one_accepted (Apply name path counter number lines) text world a b g h = g ∙ s
 one_accepted (Merge name other) text world a b g h = g ∙ sym h
 one_accepted Settle text world a b g h = g ∙ sym h
 one_accepted (Show name) text world a b g h = g ∙ sym h
+one_accepted (Use edition) text world a b g h = g ∙ sym h
 
 one_after_by : (refusal : Option Refusal) (command : Command) (text : Option (List ℕ)) (world a b : World) → AfterBy refusal command text world a → AfterBy refusal command text world b → a ≡ b
 one_after_by None command text world a b g h = one_accepted command text world a b g h

@@ -9,7 +9,6 @@ use Rattle.go_init.specs.Packages.{package_order}
 use Rattle.go_link.specs.Links.{link_refusal}
 use Rattle.go_link.specs.declared.link.LinkError.{LinkError}
 use Rattle.go_meaning.specs.Programs.{SourceMeaning}
-use Rattle.go_translation_laws.proofs.LinkedNames.{program_linked}
 use Rattle.go_translation_laws.proofs.Refusals.{linked_program}
 use Rattle.go_meaning_laws.proofs.Programs.{means}
 use Rattle.go_meaning_laws.specs.WellTyped.{IsWellTyped}
@@ -23,7 +22,7 @@ use Rattle.ws_replica.specs.Reports.{Fate, ArePackages, actions_of, TargetBuild,
 use Rattle.ws_replica.specs.Programs.{IsGood, IsHeldProgram}
 use Rattle.ws_replica.proofs.OneBuild.{one_packages, agree_refl}
 use Rattle.ws_replica.proofs.SomeBuild.{good_or_not, some_packages}
-use Rattle.ws_replica.proofs.WellTyped.{well_typed}
+use Rattle.ws_replica.proofs.WellTyped.{always_linked, well_typed}
 
 -- ---- what holds of all of a list, or not
 
@@ -60,6 +59,9 @@ module _ (edition : Edition) (W : List Write) (files : HasFiles W) (target : Lis
   pub program_well : (packages : List Package) → IsHeldProgram edition held build packages → IsWellTyped packages
   program_well packages h = well_typed edition W files target build are.0 are.1 h.good packages h.in_order h.program
 
+  pub program_linked : (packages : List Package) → IsHeldProgram edition held build packages → link_refusal (map object_of packages) ≡ None
+  program_linked packages h = always_linked edition W files target build are.0 are.1 packages h.in_order h.program
+
   -- a program has a meaning
   pub some_meaning : (packages : List Package) → IsHeldProgram edition held build packages → (ticks : ℕ) → (ending : Ending) × (output : List ℕ) × SourceMeaning packages ticks ending output
   some_meaning packages h ticks = means packages (program_well packages h) ticks h.program
@@ -74,7 +76,7 @@ module _ (edition : Edition) (W : List Write) (files : HasFiles W) (target : Lis
   by_link all compiled packages in_order None e = inl (packages, record { good = all; compiled = compiled; in_order = in_order; program = linked_program packages e })
   by_link all compiled packages in_order (Some error) e = inr (λ others h.
       let same : others ≡ packages = one_packages build.fates build.fates order others packages (agree_refl build.fates order) h.in_order in_order in
-      let linked : link_refusal (map object_of others) ≡ None = program_linked others (program_well others h) h.program in
+      let linked : link_refusal (map object_of others) ≡ None = program_linked others h in
       let wrong : None ≡ Some error = sym linked ∙ ap (λ (ps : List Package). link_refusal (map object_of ps)) same ∙ e in
       absurd (cc (wrong)))
 

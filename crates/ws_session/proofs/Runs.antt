@@ -8,7 +8,6 @@ use Rattle.go_code.specs.Machine.{MachineMeaning}
 use Rattle.go_gen.specs.Translation.{object_of}
 use Rattle.go_link.specs.Links.{linked}
 use Rattle.go_meaning.specs.Programs.{SourceMeaning}
-use Rattle.go_translation_laws.proofs.LinkedNames.{program_linked}
 use Rattle.go_translation_laws.proofs.Linking.{LinksTo, program_meant, program_sense}
 use Rattle.go_meaning_laws.proofs.Programs.{never_stuck}
 use Rattle.go_meaning_laws.specs.WellTyped.{IsWellTyped}
@@ -19,7 +18,7 @@ use Rattle.ws_register.specs.Sources.{HasFiles}
 use Rattle.ws_action.specs.Actions.{Action}
 use Rattle.ws_replica.specs.Reports.{TargetBuild, IsTargetBuild}
 use Rattle.ws_replica.specs.Programs.{IsHeldProgram, IsImage}
-use Rattle.ws_session.proofs.Programs.{program_well}
+use Rattle.ws_session.proofs.Programs.{program_linked, program_well}
 use Rattle.ws_session.specs.Standing.{RunOf}
 
 -- ---- the image of a program that is held
@@ -32,7 +31,7 @@ module _ (edition : Edition) (W : List Write) (files : HasFiles W) (target : Lis
   well = program_well edition W files target E build are packages held
 
   links : LinksTo packages its_image
-  links = (program_linked packages well held.program, λ i. its_image)
+  links = (program_linked edition W files target E build are packages held, λ i. its_image)
 
   pub image_meant : (ticks : ℕ) (ending : Ending) (output : List ℕ) → MachineMeaning its_image ticks (Ends ending output) → SourceMeaning packages ticks ending output
   image_meant ticks ending output = program_meant packages its_image ticks ending output links (never_stuck packages well ticks)

@@ -79,7 +79,7 @@ module _ (name path : List ℕ) (lines : ℕ) (text : Option (List ℕ)) (world 
     pub write_full : is_path_word path ≡ true → top (writes_of name world) ≡ 18446744073709551615 → Settles (Write name path lines) text world (Some CounterFull) ns
     write_full f g = refused_settles (Write name path lines) text world CounterFull ns (write_rows _ _ _ _ false false true _ known (ap not f) (eq-eqb _ _ g) refl) h
 
-    pub write_text : is_path_word path ≡ true → (top (writes_of name world) ≡ 18446744073709551615 → ⊥) → is_text text ≡ false → Settles (Write name path lines) text world (Some BadText) ns
+    pub write_text : is_path_word path ≡ true → (top (writes_of name world) ≡ 18446744073709551615 → ⊥) → is_text world.edition text ≡ false → Settles (Write name path lines) text world (Some BadText) ns
     write_text f g t = refused_settles (Write name path lines) text world BadText ns (write_rows _ _ _ _ false false false true known (ap not f) (false_from_ne_true _ (λ q. g (eqb-true _ _ q))) (ap not t)) h
 
     -- what the definition reads of the replica is what the code keeps
@@ -91,7 +91,7 @@ module _ (name path : List ℕ) (lines : ℕ) (text : Option (List ℕ)) (world 
         let f = found name k ns world.replicas h e in
         tops f.one f.replica.writes f.replica.actions f.is (f.stands f.one f.is).holds ∙ ap top (sym writes_are)
 
-    pub written : (bytes : List ℕ) (ms : List Named) → is_path_word path ≡ true → (top (writes_of name world) ≡ 18446744073709551615 → ⊥) → is_text text ≡ true → Some bytes ≡ text → ChangedAt (Edited path bytes) ns k ms → Settles (Write name path lines) text world None ms
+    pub written : (bytes : List ℕ) (ms : List Named) → is_path_word path ≡ true → (top (writes_of name world) ≡ 18446744073709551615 → ⊥) → is_text world.edition text ≡ true → Some bytes ≡ text → ChangedAt (Edited path bytes) ns k ms → Settles (Write name path lines) text world None ms
     written bytes ms p g t b change =
         let f = found name k ns world.replicas h e in
         let r = f.replica in

@@ -5,7 +5,7 @@ use Rattle.ws_action.proofs.Members.{later, at_head}
 use Rattle.ws_replica.specs.Reports.{TargetBuild, actions_in}
 use Rattle.ws_command.specs.declared.refusal.Refusal.{Refusal}
 use Rattle.ws_command.specs.declared.refusal.Refusal.TheVariants.{NoPackage, NotBuilt}
-use Rattle.ws_command.specs.Commands.{Command, Nothing, Bad, Create, Write, Remove, Apply, Merge, Settle, Build, Run, Ids, Show, command_of, text_lines, text_of}
+use Rattle.ws_command.specs.Commands.{Command, Nothing, Bad, Create, Write, Remove, Apply, Merge, Settle, Build, Run, Ids, Show, Use, command_of, text_lines, text_of}
 use Rattle.ws_command.specs.Refusals.{first_of, refused}
 use Rattle.ws_command.specs.RunPrinting.{run_text}
 use Rattle.ws_command.specs.IdsPrinting.{ids_text}
@@ -13,7 +13,7 @@ use Rattle.ws_command.specs.ShowPrinting.{show_text}
 use Rattle.std.specs.FinMap.{entries}
 use Rattle.ws_register.proofs.Exists.{some_contents}
 use Rattle.ws_command.specs.Lines.{lines_of}
-use Rattle.ws_session.specs.World.{World, opening, writes_of, actions_held, seeking, AreBuilds, after_builds, builds_text, refusals, Accepted, AfterBy, After, Answers, PrintsBy, Prints, IsBuild, Ran, Listed}
+use Rattle.ws_session.specs.World.{World, opening, writes_of, actions_held, seeking, using, AreBuilds, after_builds, builds_text, refusals, Accepted, AfterBy, After, Answers, PrintsBy, Prints, IsBuild, Ran, Listed}
 use Rattle.ws_session.specs.Text.{TextFrom, SessionText}
 use Rattle.ws_replica.proofs.SomeBuild.{some_build}
 use Rattle.ws_session.proofs.Filed.{IsFiled, files_of, filed_after}
@@ -72,6 +72,7 @@ some_answer (Remove name path) world filed = ([], refl)
 some_answer (Apply name path counter number lines) world filed = ([], refl)
 some_answer (Merge name other) world filed = ([], refl)
 some_answer Settle world filed = ([], refl)
+some_answer (Use edition) world filed = ([], refl)
 some_answer (Show name) world filed =
     let m = some_contents (writes_of name world) in
     (show_text name (entries m.0), (entries m.0, (m.0, m.1, refl), refl))
@@ -101,6 +102,7 @@ some_accepted (Apply name path counter number lines) text world = (_, refl)
 some_accepted (Merge name other) text world = (_, refl)
 some_accepted Settle text world = (_, refl)
 some_accepted (Show name) text world = (world, refl)
+some_accepted (Use edition) text world = (using edition world, refl)
 
 some_after_by : (refusal : Option Refusal) (command : Command) (text : Option (List ℕ)) (world : World) → (next : World) × AfterBy refusal command text world next
 some_after_by None command text world = some_accepted command text world

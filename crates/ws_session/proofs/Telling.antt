@@ -9,10 +9,11 @@ use Rattle.ws_action.specs.Clash.{NoClash, hashed_actions, hashed as hashed_acti
 use Rattle.ws_session.specs.declared.replicas.Named.{Named}
 use Rattle.ws_command.specs.declared.refusal.Refusal.{Refusal}
 use Rattle.ws_command.specs.declared.refusal.Refusal.TheVariants.{BadCommand, Unknown, NoPackage}
+use Rattle.go_text.specs.declared.edition.Edition.{Edition}
 use Rattle.ws_session.specs.declared.replicas.Replicas.{Replicas}
-use Rattle.ws_command.specs.Commands.{Command, Nothing, Bad, Create, Write, Remove, Apply, Merge, Settle}
+use Rattle.ws_command.specs.Commands.{Command, Nothing, Bad, Create, Write, Remove, Apply, Merge, Settle, Use}
 use Rattle.ws_command.specs.Refusals.{first_of}
-use Rattle.ws_session.specs.World.{World, seeking, refusals, AfterBy, After, PrintsBy, Prints, hashed, texts_of_replica}
+use Rattle.ws_session.specs.World.{World, seeking, using, refusals, AfterBy, After, PrintsBy, Prints, hashed, texts_of_replica}
 use Rattle.ws_session.specs.Standing.{StandFor, AreCounted, AllStand, AreApart, names_in, Settles, Tells, told_of}
 use Rattle.ws_session.proofs.Names.{apart_after}
 
@@ -93,6 +94,19 @@ nothing_settles text world ns h = record { refuses = refl; next = world; after =
 
 pub bad_settles : (text : Option (List ℕ)) (world : World) (ns : List Named) → AllStand ns world.replicas → Settles Bad text world (Some BadCommand) ns
 bad_settles text world ns h = record { refuses = refl; next = world; after = refl; edition = refl; stand = h }
+
+-- commands go by another edition from here on
+pub used : (asked : Command) (edition : Edition) (text : Option (List ℕ)) (world : World) (told : List ℕ) (s : Replicas) → asked ≡ Use edition → told ≡ told_of None → StandFor s world
+    → (next : World) × After asked text world next × (NoClash (hashed next) → Prints asked text world told × StandFor (record s { edition = edition }) next)
+unfolding After Prints
+used asked edition text world told s is e h = (
+  using edition world,
+  subst (λ k. After k text world (using edition world)) (sym is) refl,
+  λ clear. (
+    subst (λ k. Prints k text world told) (sym is) e,
+    record { edition = refl; replicas = h.replicas; apart = h.apart; kept = record { writes = h.kept.writes; actions = h.kept.actions } },
+  ),
+)
 
 -- what a step owes, of a command that is what was asked
 pub stepped : (s : Replicas) (asked command : Command) (text : Option (List ℕ)) (world : World) (told : List ℕ) → asked ≡ command → s.edition ≡ world.edition → AreApart (names_in world)

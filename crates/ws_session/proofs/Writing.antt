@@ -115,10 +115,10 @@ module _ (name path : List ℕ) (counter number : ℕ) (lines : Option ℕ) (tex
     pub apply_path : is_path_word path ≡ false → Settles (Apply name path counter number lines) text world (Some BadPath) ns
     apply_path f = refused_settles (Apply name path counter number lines) text world BadPath ns (content_rows _ _ _ false true _ (ap not (knows_some name k world ns h e)) (ap not f) refl) h
 
-    pub apply_content : is_path_word path ≡ true → is_content lines text ≡ false → Settles (Apply name path counter number lines) text world (Some BadText) ns
+    pub apply_content : is_path_word path ≡ true → is_content world.edition lines text ≡ false → Settles (Apply name path counter number lines) text world (Some BadText) ns
     apply_content p c = refused_settles (Apply name path counter number lines) text world BadText ns (content_rows _ _ _ false false true (ap not (knows_some name k world ns h e)) (ap not p) (ap not c)) h
 
-    pub applied : (content : Option (List ℕ)) (ms : List Named) → is_path_word path ≡ true → is_content lines text ≡ true → content ≡ content_in lines text
+    pub applied : (content : Option (List ℕ)) (ms : List Named) → is_path_word path ≡ true → is_content world.edition lines text ≡ true → content ≡ content_in lines text
         → ChangedAt (Applied (path, record { counter = counter; number = number; text = content })) ns k ms → Settles (Apply name path counter number lines) text world None ms
     applied content ms p c is change =
         let f = found name k ns world.replicas h e in

@@ -108,6 +108,10 @@ applied_by name path version lines = Apply name path version.counter version.num
 abbrev pub SettlesFrom : Command → Option (List ℕ) → Vec Named Global → Option Refusal → Vec Named Global → Type 0
 SettlesFrom command text old refusal new = (world : World) → AllStand old.items world.replicas → Settles command text world refusal new.items
 
+-- the same where commands go by an edition
+abbrev pub SettlesIn : Edition → Command → Option (List ℕ) → Vec Named Global → Option Refusal → Vec Named Global → Type 0
+SettlesIn edition command text old refusal new = (world : World) → edition ≡ world.edition → AllStand old.items world.replicas → Settles command text world refusal new.items
+
 -- where what each took was counted so
 abbrev pub SettlesCounted : Command → List (List ℕ) → List (List ℕ) → Vec Named Global → Option Refusal → Vec Named Global → Type 0
 SettlesCounted command wrote compiled old refusal new =
@@ -204,9 +208,9 @@ pub record Applied (write : Write) (old new : Named) : Type 0 where
   pub number : new.number ≡ old.number
   pub holds : (W : List Write) (E : List Action) → ReplicaStandsFor old.replica W E → ReplicaStandsFor new.replica (W ++ write ∷ []) E
 
--- the source of a text at a path, if it is a source text
-abbrev pub IsSourceIn : List ℕ → Option (List ℕ) → Option Source → Type 0
-IsSourceIn path text source = MatchOption source (is_text text ≡ false) (λ s. (is_text text ≡ true) × (s.name ≡ file_name path) × (Some s.text ≡ text))
+-- the source of a text at a path, if it is a source text of the edition
+abbrev pub IsSourceIn : Edition → List ℕ → Option (List ℕ) → Option Source → Type 0
+IsSourceIn edition path text source = MatchOption source (is_text edition text ≡ false) (λ s. (is_text edition text ≡ true) × (s.name ≡ file_name path) × (Some s.text ≡ text))
 
 -- the greatest counter of what the replica at an index took
 abbrev pub IsTopAt : Vec Named Global → ℕ → ℕ → Type 0
@@ -214,9 +218,9 @@ IsTopAt named index counter =
     (n : Named) (W : List Write) (E : List Action) → n ≡ slice_index_or named.items index n → ReplicaStandsFor n.replica W E → counter ≡ top W
 
 -- what is applied, or that it is no content
-abbrev pub IsContent : Option ℕ → Option (List ℕ) → Result (Option (List ℕ)) Refusal → Type 0
-IsContent lines text (Ok content) = (is_content lines text ≡ true) × (content ≡ content_in lines text)
-IsContent lines text (Err refusal) = (is_content lines text ≡ false) × (refusal ≡ BadText)
+abbrev pub IsContent : Edition → Option ℕ → Option (List ℕ) → Result (Option (List ℕ)) Refusal → Type 0
+IsContent edition lines text (Ok content) = (is_content edition lines text ≡ true) × (content ≡ content_in lines text)
+IsContent edition lines text (Err refusal) = (is_content edition lines text ≡ false) × (refusal ≡ BadText)
 
 -- names with their numbers
 abbrev pub labels_of : List Named → List (Vec ℕ Global × ℕ)

@@ -26,7 +26,7 @@ use Rattle.ws_command.specs.Printing.{report_text}
 use Rattle.ws_command.specs.RunPrinting.{run_text}
 use Rattle.ws_command.specs.IdsPrinting.{ids_text}
 use Rattle.ws_command.specs.ShowPrinting.{show_text}
-use Rattle.ws_command.specs.Commands.{Command, Bad, Create, Write, Remove, Apply, Merge, Settle, Build, Run, Ids, Show}
+use Rattle.ws_command.specs.Commands.{Command, Bad, Create, Write, Remove, Apply, Merge, Settle, Build, Run, Ids, Show, Use}
 
 -- A replica: what it took, as two sets that are read by membership. A number is never given twice.
 pub record Replica : Type 0 where
@@ -35,7 +35,7 @@ pub record Replica : Type 0 where
   pub writes : List AWrite
   pub actions : List Action
 
--- The replicas in order of creation, the edition that all is built in, and the actions that builds, runs and ids looked for, which
+-- The replicas in order of creation, the edition that commands go by, and the actions that builds, runs and ids looked for, which
 -- no command reads: their texts are hashed too.
 pub record World : Type 0 where
   pub edition : Edition
@@ -85,13 +85,13 @@ removal_of name path world = (path, removed (top (writes_of name world)) (or_new
 abbrev pub lacks : List ℕ → List ℕ → World → Bool
 lacks name path world = is_missing (greatest_at path (writes_of name world))
 
--- a whole text: there are so many lines, they are UTF-8, and a source may hold them
-abbrev pub is_text : Option (List ℕ) → Bool
-is_text text = elim text [ None ↦ false | Some its ↦ is_utf8 its && is_none (text_error its) ]
+-- a whole text: there are so many lines, they are UTF-8, and a source of the edition may hold them
+abbrev pub is_text : Edition → Option (List ℕ) → Bool
+is_text edition text = elim text [ None ↦ false | Some its ↦ is_utf8 its && is_none (text_error edition its) ]
 
 -- what is applied: a removal, or a whole text
-abbrev pub is_content : Option ℕ → Option (List ℕ) → Bool
-is_content lines text = is_none lines || is_text text
+abbrev pub is_content : Edition → Option ℕ → Option (List ℕ) → Bool
+is_content edition lines text = is_none lines || is_text edition text
 
 -- a word that is UTF-8 and spells a path
 abbrev pub is_path_word : List ℕ → Bool
@@ -103,11 +103,11 @@ abbrev pub refusals : Command → Option (List ℕ) → World → List (Bool × 
 refusals Bad text world = (true, BadCommand) ∷ []
 refusals (Create name) text world = (nat_lt 63 (length world.replicas), BadCommand) ∷ (knows name world, Exists) ∷ []
 refusals (Write name path lines) text world =
-    (not (knows name world), Unknown) ∷ (not (is_path_word path), BadPath) ∷ (top (writes_of name world) == 18446744073709551615, CounterFull) ∷ (not (is_text text), BadText) ∷ []
+    (not (knows name world), Unknown) ∷ (not (is_path_word path), BadPath) ∷ (top (writes_of name world) == 18446744073709551615, CounterFull) ∷ (not (is_text world.edition text), BadText) ∷ []
 refusals (Remove name path) text world =
     (not (knows name world), Unknown) ∷ (not (is_path_word path), BadPath) ∷ (lacks name path world, NoFile) ∷ (top (writes_of name world) == 18446744073709551615, CounterFull) ∷ []
 refusals (Apply name path counter number lines) text world =
-    (not (knows name world), Unknown) ∷ (not (is_path_word path), BadPath) ∷ (not (is_content lines text), BadText) ∷ []
+    (not (knows name world), Unknown) ∷ (not (is_path_word path), BadPath) ∷ (not (is_content world.edition lines text), BadText) ∷ []
 refusals (Show name) text world = (not (knows name world), Unknown) ∷ []
 refusals (Merge name other) text world = (not (knows name world && knows other world), Unknown) ∷ []
 refusals (Build targets) text world =
@@ -123,6 +123,10 @@ content_in lines text = option_map (λ _. unwrap_or text []) lines
 -- every replica takes what all took
 abbrev pub settled : List Replica → List Replica
 settled rs = map (λ r. record { name = r.name; number = r.number; writes = flat_map (λ s. s.writes) rs; actions = flat_map (λ s. s.actions) rs }) rs
+
+-- the world in which commands go by another edition
+abbrev pub using : Edition → World → World
+using edition world = record { edition = edition; replicas = world.replicas; sought = world.sought }
 
 abbrev pub with_replicas : World → List Replica → World
 with_replicas world replicas = record { edition = world.edition; replicas = replicas; sought = world.sought }
@@ -170,6 +174,7 @@ Accepted (Merge name other) text world next =
 Accepted (Build targets) text world next = (builds : Option (List TargetBuild)) × AreBuilds world targets builds × (next ≡ after_builds world targets builds)
 Accepted (Run name directory ticks) text world next = (build : Option TargetBuild) × IsBuild name directory world build × (next ≡ seeking world (actions_in world.edition build))
 Accepted (Ids name directory) text world next = (build : Option TargetBuild) × IsBuild name directory world build × (next ≡ seeking world (actions_in world.edition build))
+Accepted (Use edition) text world next = next ≡ using edition world
 Accepted _ text world next = next ≡ world
 
 abbrev pub AfterBy : Option Refusal → Command → Option (List ℕ) → World → World → Type 0

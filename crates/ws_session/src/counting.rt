@@ -3,10 +3,11 @@
 ghost use Rattle.std.specs.Prelude.{ℕ, List, map, vec_len, Option, None, IfOk, OnOk};
 ghost use Rattle.ws_version_vector.specs.Counts.{AreRaisedAndShared};
 ghost use Rattle.ws_command.specs.Commands.{Write, Remove, Merge, Settle};
-ghost use Rattle.ws_session.specs.Standing.{index_of, text_in, applied_by, SettlesFrom, SettlesCounted, IsWriteCounted, IsMergeCounted, MergesCounted, SharesCounted};
+ghost use Rattle.ws_session.specs.Standing.{index_of, text_in, applied_by, SettlesFrom, SettlesIn, SettlesCounted, IsWriteCounted, IsMergeCounted, MergesCounted, SharesCounted};
 
 use crate::replicas::{Named, apply, index_of, remove, write};
 use crate::taking::{merge, settle_all};
+use go_text::edition::Edition;
 use std::alloc::{AllocError, Global};
 use std::thread::Threads;
 use ws_command::refusal::Refusal;
@@ -17,17 +18,18 @@ use ws_version_vector::Vectors;
 /// A write of a text to a path by the replica of that name, which is counted.
 pub(crate) fn write_counted(
     alloc: Global,
+    edition: Edition,
     named: &mut Vec<Named>,
     wrote: &mut Vectors,
     name: &[u8],
     word: &[u8],
     text: Option<Vec<u8>>,
 ) -> Result<Option<Refusal>, AllocError>
-    ensures settles { IfOk result (λ refusal. (lines : ℕ) → SettlesFrom (Write name.now word.now lines) (text_in text) named.old refusal named.new) }
+    ensures settles { IfOk result (λ refusal. (lines : ℕ) → SettlesIn edition (Write name.now word.now lines) (text_in text) named.old refusal named.new) }
     ensures counted { IfOk result (λ refusal. IsWriteCounted refusal (index_of name.now named.old.items) wrote.old wrote.new) }
 {
     let at = index_of(named.as_slice(), name);
-    let refusal = write(alloc, named, name, word, text)?;
+    let refusal = write(alloc, edition, named, name, word, text)?;
     count_write(wrote, at, &refusal)?;
     Ok(refusal)
 }
@@ -52,6 +54,7 @@ pub(crate) fn remove_counted(
 /// The replica of that name takes a write that another may have made, and it is counted there.
 pub(crate) fn apply_counted(
     alloc: Global,
+    edition: Edition,
     named: &mut Vec<Named>,
     wrote: &mut Vectors,
     name: &[u8],
@@ -60,11 +63,11 @@ pub(crate) fn apply_counted(
     lines: Option<u64>,
     text: Option<Vec<u8>>,
 ) -> Result<Option<Refusal>, AllocError>
-    ensures settles { IfOk result (λ refusal. SettlesFrom (applied_by name.now word.now version lines) (text_in text) named.old refusal named.new) }
+    ensures settles { IfOk result (λ refusal. SettlesIn edition (applied_by name.now word.now version lines) (text_in text) named.old refusal named.new) }
     ensures counted { IfOk result (λ refusal. IsWriteCounted refusal (index_of name.now named.old.items) wrote.old wrote.new) }
 {
     let at = index_of(named.as_slice(), name);
-    let refusal = apply(alloc, named, name, word, version, lines, text)?;
+    let refusal = apply(alloc, edition, named, name, word, version, lines, text)?;
     count_write(wrote, at, &refusal)?;
     Ok(refusal)
 }

@@ -6,7 +6,7 @@ ghost use Rattle.ws_path.specs.Paths.{file_name};
 ghost use Rattle.ws_replica.specs.Builds.{target_of};
 ghost use Rattle.ws_report.specs.Reports.{id_row};
 ghost use Rattle.ws_path.specs.Paths.{is_path};
-ghost use Rattle.ws_session.specs.Standing.{StandFor, index_of, told_of, ChangedAt, Edited, Removal, Applied, asked_of, AreTargets, AreBuiltBy, words_of, report_line, HasNoFilesAt, RanAt, AreIdsAt, IsContent, TellsFrom, text_in, applied_by, SettlesFrom, TellsStill, TellsIn, IsSourceIn, IsTopAt};
+ghost use Rattle.ws_session.specs.Standing.{StandFor, index_of, told_of, ChangedAt, Edited, Removal, Applied, asked_of, AreTargets, AreBuiltBy, words_of, report_line, HasNoFilesAt, RanAt, AreIdsAt, IsContent, TellsFrom, text_in, applied_by, SettlesFrom, SettlesIn, TellsStill, TellsIn, IsSourceIn, IsTopAt};
 ghost use Rattle.ws_session.specs.World.{World, opening, is_text, is_path_word, hashed, After, Prints};
 ghost use Rattle.ws_action.specs.Clash.{NoClash};
 ghost use Rattle.ws_command.specs.Seen.{seen};
@@ -45,7 +45,7 @@ pub struct Named {
     pub(crate) replica: Replica,
 }
 
-/// The replicas of a session in order of creation, the edition in which they build, and how much
+/// The replicas of a session in order of creation, the edition that commands go by, and how much
 /// each took of what was first written, and of what was first compiled, at each.
 #[derive(Drop)]
 pub struct Replicas {
@@ -92,9 +92,14 @@ fn file_path_of(alloc: Global, word: &[u8]) -> Result<Option<FilePath>, AllocErr
     }
 }
 
-/// A text as the source of a path's file, if a source may hold it.
-fn source_of(alloc: Global, path: &str, text: Option<Vec<u8>>) -> Result<Option<Source>, AllocError>
-    ensures { IfOk result (λ source. IsSourceIn path.now (text_in text) source) }
+/// A text as the source of a path's file, if a source of the edition may hold it.
+fn source_of(
+    alloc: Global,
+    edition: Edition,
+    path: &str,
+    text: Option<Vec<u8>>,
+) -> Result<Option<Source>, AllocError>
+    ensures { IfOk result (λ source. IsSourceIn edition path.now (text_in text) source) }
 {
     let Some(bytes) = text else {
         return Ok(None);
@@ -103,7 +108,7 @@ fn source_of(alloc: Global, path: &str, text: Option<Vec<u8>>) -> Result<Option<
         return Ok(None);
     };
     let name = String::from_str(alloc, file_name(path))?;
-    match Source::new(alloc, name, text) {
+    match Source::new_in(alloc, edition, name, text) {
         Ok(source) => Ok(Some(source)),
         Err(TextError::Memory) => Err(AllocError),
         Err(_) => Ok(None),
@@ -162,12 +167,13 @@ fn edit_at(
 /// A write of a text to a path by the replica of that name.
 pub(crate) fn write(
     alloc: Global,
+    edition: Edition,
     named: &mut Vec<Named>,
     name: &[u8],
     word: &[u8],
     text: Option<Vec<u8>>,
 ) -> Result<Option<Refusal>, AllocError>
-    ensures { IfOk result (λ refusal. (lines : ℕ) → SettlesFrom (Write name.now word.now lines) (text_in text) named.old refusal named.new) }
+    ensures { IfOk result (λ refusal. (lines : ℕ) → SettlesIn edition (Write name.now word.now lines) (text_in text) named.old refusal named.new) }
 {
     let Some(index) = index_of(named.as_slice(), name) else {
         return Ok(Some(Refusal::Unknown));
@@ -178,7 +184,7 @@ pub(crate) fn write(
     if greatest_at(named, index) == u64::MAX {
         return Ok(Some(Refusal::CounterFull));
     }
-    let Some(source) = source_of(alloc, path, text)? else {
+    let Some(source) = source_of(alloc, edition, path, text)? else {
         return Ok(Some(Refusal::BadText));
     };
     edit_at(alloc, named, index, path, source)?;
@@ -243,16 +249,17 @@ fn apply_at(
 /// What is applied to a path: a text, or none for a removal; or why it isn't.
 fn content_of(
     alloc: Global,
+    edition: Edition,
     path: &str,
     lines: Option<u64>,
     text: Option<Vec<u8>>,
 ) -> Result<Result<Option<Text>, Refusal>, AllocError>
-    ensures { IfOk result (λ content. IsContent lines (option_map (λ v. v.items) text) content) }
+    ensures { IfOk result (λ content. IsContent edition lines (option_map (λ v. v.items) text) content) }
 {
     if lines.is_none() {
         return Ok(Ok(None));
     }
-    let Some(source) = source_of(alloc, path, text)? else {
+    let Some(source) = source_of(alloc, edition, path, text)? else {
         return Ok(Err(Refusal::BadText));
     };
     let (_, text) = source.into_parts();
@@ -262,6 +269,7 @@ fn content_of(
 /// The replica of that name takes a write that another may have made.
 pub(crate) fn apply(
     alloc: Global,
+    edition: Edition,
     named: &mut Vec<Named>,
     name: &[u8],
     word: &[u8],
@@ -269,7 +277,7 @@ pub(crate) fn apply(
     lines: Option<u64>,
     text: Option<Vec<u8>>,
 ) -> Result<Option<Refusal>, AllocError>
-    ensures { IfOk result (λ refusal. SettlesFrom (applied_by name.now word.now version lines) (text_in text) named.old refusal named.new) }
+    ensures { IfOk result (λ refusal. SettlesIn edition (applied_by name.now word.now version lines) (text_in text) named.old refusal named.new) }
 {
     let Some(index) = index_of(named.as_slice(), name) else {
         return Ok(Some(Refusal::Unknown));
@@ -277,7 +285,7 @@ pub(crate) fn apply(
     let Some(path) = file_path_of(alloc, word)? else {
         return Ok(Some(Refusal::BadPath));
     };
-    match content_of(alloc, path.as_str(), lines, text)? {
+    match content_of(alloc, edition, path.as_str(), lines, text)? {
         Err(refusal) => Ok(Some(refusal)),
         Ok(content) => {
             apply_at(named, index, path, Held::new(version, content))?;
@@ -554,6 +562,7 @@ impl Replicas {
             Asked::Write(name, path, _) => {
                 let refusal = write_counted(
                     alloc,
+                    self.edition,
                     &mut self.named,
                     &mut self.wrote,
                     name,
@@ -579,6 +588,7 @@ impl Replicas {
                 };
                 let refusal = apply_counted(
                     alloc,
+                    self.edition,
                     &mut self.named,
                     &mut self.wrote,
                     name,
@@ -600,6 +610,10 @@ impl Replicas {
                 told(alloc, None)
             }
             Asked::Show(name) => show(alloc, &self.named, name),
+            Asked::Use(edition) => {
+                self.edition = *edition;
+                told(alloc, None)
+            }
             Asked::Merge(name, other) => {
                 let refusal = merge_counted(
                     alloc,

@@ -55,7 +55,7 @@ fn planned_all(
     }
     listed(
         alloc,
-        plan_all(rt, alloc, Edition::One, registers, targets.as_slice()),
+        plan_all(rt, alloc, Edition::One, registers, targets.as_slice(), &[]),
     )
 }
 

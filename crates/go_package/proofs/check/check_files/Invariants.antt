@@ -7,5 +7,5 @@ use Rattle.go_package.proofs.check.check_files.Given as goal
 
 abbrev pub invariant-loop-number : goal.invariant-loop-number
 invariant-loop-number l =
-    each_file (file_faults (map importable_of l.packages) (facts_of l.facts)) l.number (map (λ f. file_of f.now) (drop l.number l.files))
-    ≡ each_file (file_faults (map importable_of l.packages) (facts_of l.facts)) 0 (map (λ f. file_of f.now) l.files)
+    each_file (file_faults (map importable_of l.packages.all.now) (facts_of l.facts)) l.number (map (λ f. file_of f.now) (drop l.number l.files))
+    ≡ each_file (file_faults (map importable_of l.packages.all.now) (facts_of l.facts)) 0 (map (λ f. file_of f.now) l.files)

@@ -27,7 +27,7 @@ returns-in_err-check_import c =
     let doubled = c.is_some-doubled.ensures ∙ ap is_some c.in_ok-insert.ensures.first ∙ is_some_position (bytes_eq x.import.name.now) c.loop-spec.before in
     let refers = c.is_some-refers.ensures ∙ ap is_some c.get.ensures ∙ is_referred x.import.name.now c.in_ok-used.used file c.in_ok-used.ensures in
     let fails = c.in_err-check_import.ensures file c.loop-spec.before doubled refers in
-    rw (p.1, p.2) (imports_here (facts_of c.args.facts.now) file c.loop-spec.before (map importable_of c.args.packages.now) specs c.loop-spec.spec-index c.spec-item.result
+    rw (p.1, p.2) (imports_here (facts_of c.args.facts.now) file c.loop-spec.before (map importable_of c.args.packages.now.all.now) specs c.loop-spec.spec-index c.spec-item.result
     (imported_of x) c.in_err-check_import.field-0.0 _ within item found invariant fails)
 
 pub loop-spec-preserved : goal.loop-spec-preserved
@@ -38,7 +38,7 @@ loop-spec-preserved c =
     let found = sym c.declared_by.ensures ∙ ap (option_map imported_of) c.in-Some.is in
     let t = facts_of c.args.facts.now in
     let file = file_of c.args.file.now in
-    let ps = map importable_of c.args.packages.now in
+    let ps = map importable_of c.args.packages.now.all.now in
     let before = c.loop-spec.before in
     let doubled = c.is_some-doubled.ensures ∙ ap is_some c.in_ok-insert.ensures.first ∙ is_some_position (bytes_eq x.import.name.now) before in
     let refers = c.is_some-refers.ensures ∙ ap is_some c.get.ensures ∙ is_referred x.import.name.now c.in_ok-used.used file c.in_ok-used.ensures in

@@ -8,5 +8,5 @@ use Rattle.go_package.proofs.files.check_imports.Given as goal
 
 abbrev pub invariant-loop-spec : goal.invariant-loop-spec
 invariant-loop-spec l =
-    imports_faults (facts_of l.facts) (file_of l.file) l.before (imports_in (map importable_of l.packages) (map import_of (drop l.spec-index l.spec-items)))
-    ≡ imports_faults (facts_of l.facts) (file_of l.file) [] (imports_in (map importable_of l.packages) (map import_of l.spec-items))
+    imports_faults (facts_of l.facts) (file_of l.file) l.before (imports_in (map importable_of l.packages.all.now) (map import_of (drop l.spec-index l.spec-items)))
+    ≡ imports_faults (facts_of l.facts) (file_of l.file) [] (imports_in (map importable_of l.packages.all.now) (map import_of l.spec-items))

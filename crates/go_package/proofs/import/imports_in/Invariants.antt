@@ -7,5 +7,5 @@ use Rattle.go_package.proofs.import.imports_in.Given as goal
 
 abbrev pub invariant-loop-spec : goal.invariant-loop-spec
 invariant-loop-spec l =
-    imports_of l.found.items ++ map (λ i. i.1) (imports_in (map importable_of l.packages) (map import_of (drop l.spec-index l.specs)))
-    ≡ map (λ i. i.1) (imports_in (map importable_of l.packages) (map import_of l.specs))
+    imports_of l.found.items ++ map (λ i. i.1) (imports_in (map importable_of l.packages.all.now) (map import_of (drop l.spec-index l.specs)))
+    ≡ map (λ i. i.1) (imports_in (map importable_of l.packages.all.now) (map import_of l.specs))

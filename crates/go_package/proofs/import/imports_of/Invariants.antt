@@ -7,5 +7,5 @@ use Rattle.go_package.proofs.import.imports_of.Given as goal
 
 abbrev pub invariant-loop-file : goal.invariant-loop-file
 invariant-loop-file l =
-    map (λ is. imports_seen is.items) l.found.items ++ imports_of (map importable_of l.packages) (map (λ f. file_of f.now) (drop l.file-index l.files))
-    ≡ imports_of (map importable_of l.packages) (map (λ f. file_of f.now) l.files)
+    map (λ is. imports_seen is.items) l.found.items ++ imports_of (map importable_of l.packages.all.now) (map (λ f. file_of f.now) (drop l.file-index l.files))
+    ≡ imports_of (map importable_of l.packages.all.now) (map (λ f. file_of f.now) l.files)

@@ -2,7 +2,7 @@ use Rattle.go_package_laws.proofs.Meant.{packages_linked, packages_refused, pack
 use Rattle.go_package_laws.proofs.law.law_checked_program_means_its_sources.Goals as goal
 
 pub returns-clause-linked : goal.returns-clause-linked
-returns-clause-linked c packages are named = packages_linked packages are named
+returns-clause-linked c packages are named one = packages_linked packages are named one
 
 pub returns-clause-same : goal.returns-clause-same
 returns-clause-same c packages image are named = packages_same packages are named image

@@ -3,6 +3,7 @@ use Rattle.std.proofs.lemmas.List.{take_rest, drop_all}
 use Rattle.go_text.specs.declared.place.Place.{Place}
 use Rattle.go_text.specs.Places.{place_after, place_at, mark_size}
 use Rattle.go_text.proofs.Places.{place_at-bound, before_more}
+use Rattle.go_text.specs.declared.edition.Edition.TheVariants.{Two}
 use Rattle.go_text.proofs.Texts.{valid_is_short}
 use Rattle.go_scan.specs.declared.fault.ScanFault.TheVariants.{Malformed}
 use Rattle.go_scan.specs.declared.token.Token.{Token}
@@ -42,7 +43,7 @@ returns-in-Some-shape_fault-clause-err c = λ fault place e.
     refuses_same text c.args.source.now.text found fault c.pieces.place place (c.as_bytes-text.ensures.value ∙ c.as_str.ensures.value ∙ c.text.ensures) same_fault same_place refused
 
 -- a place of a short text has room for the text
-fits : (text : List ℕ) (p : Place) (at m n : ℕ) → length text ≤ 1048576 → p ≡ place_at text at → (p.line + length (take n (take m (drop at text))) < 4294967296) × (p.column + length (take n (take m (drop at text))) < 4294967296)
+fits : (text : List ℕ) (p : Place) (at m n : ℕ) → length text ≤ 4194304 → p ≡ place_at text at → (p.line + length (take n (take m (drop at text))) < 4294967296) × (p.column + length (take n (take m (drop at text))) < 4294967296)
 fits text p at m n short e =
     let line : p.line ≤ 1 + length text = subst (λ (q : Place). q.line ≤ 1 + length text) (sym e) (place_at-bound text at).0 in
     let column : p.column ≤ 1 + length text = subst (λ (q : Place). q.column ≤ 1 + length text) (sym e) (place_at-bound text at).1 in
@@ -53,13 +54,13 @@ pub after-behind-requires-clause-line : goal.after-behind-requires-clause-line
 after-behind-requires-clause-line c =
     let text = c.as_bytes-text.result.now in
     (fits text c.pieces.place c.pieces.at (length text - c.pieces.at) c.in-Some.len
-    (subst (λ (t : List ℕ). length t ≤ 1048576) (sym (c.as_bytes-text.ensures.value ∙ c.as_str.ensures.value)) (valid_is_short c.text.result.now c.as_str.ensures.valid)) c.pieces.invariant.place).0
+    (subst (λ (t : List ℕ). length t ≤ 4194304) (sym (c.as_bytes-text.ensures.value ∙ c.as_str.ensures.value)) (valid_is_short Two c.text.result.now c.as_str.ensures.valid)) c.pieces.invariant.place).0
 
 pub after-behind-requires-clause-column : goal.after-behind-requires-clause-column
 after-behind-requires-clause-column c =
     let text = c.as_bytes-text.result.now in
     (fits text c.pieces.place c.pieces.at (length text - c.pieces.at) c.in-Some.len
-    (subst (λ (t : List ℕ). length t ≤ 1048576) (sym (c.as_bytes-text.ensures.value ∙ c.as_str.ensures.value)) (valid_is_short c.text.result.now c.as_str.ensures.valid)) c.pieces.invariant.place).1
+    (subst (λ (t : List ℕ). length t ≤ 4194304) (sym (c.as_bytes-text.ensures.value ∙ c.as_str.ensures.value)) (valid_is_short Two c.text.result.now c.as_str.ensures.valid)) c.pieces.invariant.place).1
 
 pub pieces-preserved : goal.pieces-preserved
 pieces-preserved c =

@@ -6,6 +6,7 @@ use Rattle.ws_replica.proofs.openings.all_planned.Given as goal
 
 abbrev pub invariant-loop-number : goal.invariant-loop-number
 invariant-loop-number g l = record {
+  same : l.replicas ≡ l.fn.replicas;
   size : length (all_reached_of l.all.items) ≡ l.number;
-  are : AreReachedOf l.edition l.replicas (map target_of l.targets) (all_reached_of l.all.items);
+  are : AreReachedOf l.edition l.fn.replicas (map target_of l.targets) (all_reached_of l.all.items);
 }

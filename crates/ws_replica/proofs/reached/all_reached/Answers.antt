@@ -1,12 +1,8 @@
-use Rattle.std.proofs.Common.{◌≡◌, ◌∷◌, rules, map}
-use Rattle.std.specs.Vec.Iter.{into_iter_items}
-use Rattle.ws_graph.specs.Node.{directory_of}
-use Rattle.ws_replica.specs.Jobs.{reached_by}
+use Rattle.std.proofs.Common.{◌<◌, length, arith}
 use Rattle.ws_replica.proofs.Steps.{reached_next}
 use Rattle.ws_replica.proofs.reached.all_reached.Goals as goal
 
 pub loop-directory-preserved : goal.loop-directory-preserved
 loop-directory-preserved c =
-    let edition = c.args.edition in
-    let left : into_iter_items c.loop-directory.directory-iterator ≡ c.in-Some.directory ∷ into_iter_items c.next.new.self = search rules in
-    reached_next edition c.loop-directory.reached.items c.push.new.self.items c.in_ok-one.one c.in-Some.directory (into_iter_items c.loop-directory.directory-iterator) (into_iter_items c.next.new.self) (map (reached_by edition) (map directory_of c.args.directories.items)) c.in_ok-push.ensures.items left c.in_ok-one.ensures c.loop-directory.invariant
+    let within : c.loop-directory.directory-index < length c.args.directories.now = omega arith in
+    reached_next c.args.edition c.args.directories.now c.loop-directory.directory-index c.directory-item.result c.loop-directory.reached.items c.push.new.self.items c.in_ok-one.one within c.directory-item.is c.in_ok-push.ensures.items c.in_ok-one.ensures c.loop-directory.invariant

@@ -1,11 +1,7 @@
-use Rattle.std.proofs.Common.{◌≡◌, ◌++◌, map}
-use Rattle.std.specs.Vec.Iter.{into_iter_items}
-use Rattle.ws_graph.specs.Node.{directory_of}
-use Rattle.ws_replica.specs.Jobs.{reached_of, reached_by}
+use Rattle.std.proofs.Common.{◌≡◌, map, take}
+use Rattle.ws_replica.specs.Jobs.{shared_of, reached_of, reached_by}
 use Rattle.ws_replica.proofs.reached.all_reached.Given as goal
 
--- those so far, and those of what is left
+-- those so far
 abbrev pub invariant-loop-directory : goal.invariant-loop-directory
-invariant-loop-directory l =
-    map reached_of l.reached.items ++ map (reached_by l.edition) (map directory_of (into_iter_items l.directory-iterator))
-    ≡ map (reached_by l.edition) (map directory_of l.fn.directories.items)
+invariant-loop-directory l = map reached_of l.reached.items ≡ map (reached_by l.edition) (map shared_of (take l.directory-index l.directories))

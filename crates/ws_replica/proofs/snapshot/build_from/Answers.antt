@@ -22,7 +22,7 @@ use Rattle.ws_replica.proofs.snapshot.build_from.Goals as goal
 pub all_parts-requires-clause-named : goal.all_parts-requires-clause-named
 all_parts-requires-clause-named g c =
     let all = c.in_ok-all.all.items in
-    let held : c.deref.result.now ≡ c.args.snapshots.now = c.deref.ensures.value ∙ c.in_ok-replicas.ensures in
+    let held : c.as_mut_slice.result.now ≡ c.args.snapshots.now = c.as_mut_slice.ensures.value ∙ c.in_ok-replicas.ensures in
     let same : length c.args.snapshots.now ≡ length c.as_slice.result.now =
     ap (λ (rs : List Replica). length rs) (sym held) ∙ sym c.in_ok-all.ensures.ok.size ∙ length-map all (λ (v : Vec Reached Global). map reached_of v.items) ∙ ap (λ (xs : List (Vec Reached Global)). length xs) (sym c.as_slice.ensures.value) in
     named_within c.args.targets.now (length c.args.snapshots.now) (length c.as_slice.result.now) same c.requires.within
@@ -43,11 +43,11 @@ returns-clause-ok g c took stand sized =
     let all = all_reached_of c.in_ok-all.all.items in
     let parts = map part_of c.in_ok-parts.parts.items in
     let opening = c.in_ok-opening.opening in
-    let reached : AreReached edition held targets all = subst (λ (rs : List Replica). AreReached edition rs targets all) (c.deref.ensures.value ∙ c.in_ok-replicas.ensures) c.in_ok-all.ensures.ok in
+    let reached : AreReached edition held targets all = subst (λ (rs : List Replica). AreReached edition rs targets all) (c.as_mut_slice.ensures.value ∙ c.in_ok-replicas.ensures) c.in_ok-all.ensures.ok in
     let parts_are : AllZip (IsPartOf all) targets parts = subst (λ (xs : List (Vec Reached Global)). AllZip (IsPartOf (all_reached_of xs)) targets parts) c.as_slice.ensures.value c.in_ok-parts.ensures.are in
     let run : IsRunOf opening all parts c.in_ok-reports.reports.items c.in_ok-reports.added =
     subst (λ (ps : List Part). IsRunOf opening all (map part_of ps) c.in_ok-reports.reports.items c.in_ok-reports.added) c.as_slice-2.ensures.value c.in_ok-reports.ensures in
-    let opens : IsOpening held targets opening = subst (λ (rs : List Replica). IsOpening rs targets opening) (c.deref-2.ensures.value ∙ c.in_ok-replicas.ensures) c.in_ok-opening.ensures in
+    let opens : IsOpening held targets opening = subst (λ (rs : List Replica). IsOpening rs targets opening) (c.deref.ensures.value ∙ c.in_ok-replicas.ensures) c.in_ok-opening.ensures in
     let merged : c.merge.new.self ≡ joined lesser opening c.in_ok-reports.added = c.in_ok-merge.ensures.ok ∙ ap (λ (m : FinMap id_cmp Action). joined lesser m c.in_ok-reports.added) c.in_ok-cache.ensures in
     subst (AreBuiltFrom edition took targets c.in_ok-reports.reports.items) (sym merged)
     (are_built_from edition held took targets stand sized all reached parts parts_are opening opens c.in_ok-reports.reports.items c.in_ok-reports.added run)

@@ -1,29 +1,25 @@
-use Rattle.std.proofs.Common.{◌≡◌, ◌∙◌, sym, ap, subst, map, List, ℕ}
+use Rattle.std.proofs.Common.{rules, ◌≡◌, ◌∙◌, sym, ap, subst, map, List, ℕ}
 use Rattle.std.specs.FinMap.{FinMap}
-use Rattle.ws_version.specs.Writes.{held_cmp}
-use Rattle.ws_map.specs.Kept.{StandsFor}
-use Rattle.ws_register.specs.Edits.{Contents}
-use Rattle.ws_register.specs.Sources.{HasFiles}
 use Rattle.ws_action.specs.Actions.{Action}
 use Rattle.ws_cache.specs.Held.{id_cmp, CacheStandsFor}
-use Rattle.ws_graph.specs.BuildPlan.{Directory, IsBuildPlanOf}
-use Rattle.ws_graph.specs.Node.{directory_of}
 use Rattle.ws_report.specs.Reports.{id_row}
 use Rattle.ws_replica.specs.Holdings.{Replica}
 use Rattle.ws_replica.specs.Jobs.{reached_of}
 use Rattle.ws_replica.specs.Opened.{rows_from}
 use Rattle.ws_replica.proofs.OpenedTargets.{are_ids}
+use Rattle.ws_replica.proofs.Plans.{one_plan, lacks_plan}
 use Rattle.ws_replica.proofs.standings.ids.Goals as goal
 
 pub returns-clause-ok : goal.returns-clause-ok
 returns-clause-ok g c W E h sized =
     let target : List ℕ = c.args.directory.now in
     let old : Replica = c.args.replica.now in
-    let registers : c.replica.inside.registers ≡ old.registers = ap (λ (r : Replica). r.registers) c.replica.view_is in
     let cache : c.in_ok-cache.cache ≡ old.cache = c.in_ok-cache.ensures ∙ ap (λ (r : Replica). r.cache) c.replica.view_is in
-    let ds : List Directory = map directory_of c.in_ok-plan.plan.directories.items in
-    let of : IsBuildPlanOf c.args.edition W target ds = c.in_ok-plan.ensures.ok W (subst (λ (m : Contents). StandsFor held_cmp m W) (sym registers) h.registers) in
-    let files : HasFiles W = c.see_files.ensures W (subst (λ (m : Contents). StandsFor held_cmp m W) (sym registers) h.registers) in
-    are_ids c.args.edition W E target ds of files sized c.in_ok-cache.cache (subst (λ (m : FinMap id_cmp Action). CacheStandsFor m E) (sym cache) h.cache)
-    (map reached_of c.in_ok-reached.reached.items) c.in_ok-reached.ensures c.in_ok-places.board c.in_ok-places.ensures.board (map id_row c.in_ok-lines.lines.items)
+    let by = c.in_ok-reached.ensures.ok in
+    let planned = one_plan c.args.edition old.registers target by.directories by.planned W h.registers in
+    are_ids c.args.edition W E target by.directories planned (by.files W h.registers) sized c.in_ok-cache.cache (subst (λ (m : FinMap id_cmp Action). CacheStandsFor m E) (sym cache) h.cache)
+    (map reached_of c.in_ok-reached.reached.items) by.same c.in_ok-places.board c.in_ok-places.ensures.board (map id_row c.in_ok-lines.lines.items)
     (c.in_ok-lines.ensures ∙ ap (rows_from c.in_ok-places.board.state 0) c.in_ok-places.ensures.places)
+
+pub returns-in_err-reached-clause-none : goal.returns-in_err-reached-clause-none
+returns-in_err-reached-clause-none g c is W E h = lacks_plan c.args.edition c.args.replica.now.registers c.args.directory.now (c.in_err-reached.ensures.none (search rules)) W h.registers

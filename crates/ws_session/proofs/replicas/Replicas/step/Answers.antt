@@ -5,14 +5,14 @@ use Rattle.std.specs.Option.{option_map}
 use Rattle.ws_command.specs.declared.refusal.Refusal.TheVariants.{BadCommand}
 use Rattle.ws_session.specs.declared.replicas.Replicas.{Replicas}
 use Rattle.ws_session.specs.declared.replicas.Named.{Named}
-use Rattle.ws_command.specs.Commands.{Nothing, Bad, Create, Write, Remove, Apply, Merge, Settle, Build, Run, Ids, Show}
+use Rattle.ws_command.specs.Commands.{Nothing, Bad, Create, Write, Remove, Apply, Merge, Settle, Build, Run, Ids, Show, Use}
 use Rattle.ws_command.specs.Seen.{seen}
 use Rattle.ws_session.specs.Standing.{asked_of, index_of, TellsCounted}
 use Rattle.ws_session.specs.World.{edit_of, removal_of, content_in}
 use Rattle.ws_session.proofs.Standings.{if_ok_map}
-use Rattle.ws_session.proofs.Counted.{same_counted, create_counted, write_counted, after_write, after_remove, after_apply, merge_counted, settle_counted, after_nothing, after_bad, after_show, after_run, after_ids}
+use Rattle.ws_session.proofs.Counted.{same_counted, create_counted, write_counted, after_write, after_remove, after_apply, merge_counted, settle_counted, after_nothing, after_bad, after_show, after_use, after_run, after_ids}
 use Rattle.ws_session.proofs.CountedBuild.{written_after}
-use Rattle.ws_session.proofs.Telling.{after_by, settled_tells, stepped, prints_nothing, prints_bad, prints_create, prints_write, prints_remove, prints_apply, prints_merge, prints_settle, nothing_settles, bad_settles}
+use Rattle.ws_session.proofs.Telling.{after_by, settled_tells, stepped, prints_nothing, prints_bad, prints_create, prints_write, prints_remove, prints_apply, prints_merge, prints_settle, used, nothing_settles, bad_settles}
 use Rattle.ws_session.proofs.replicas.Replicas.step.Goals as goal
 
 abbrev given : Option (Vec ℕ Global) → Option (List ℕ)
@@ -53,6 +53,11 @@ returns-in-Show g c = λ world h. if_ok_map c.show.result (λ told tells.
     stepped s (seen c.args.asked.now) (Show name) (given c.args.text) world told.items (ap seen c.in-Show.is) h.edition h.apart t
     (same_counted s.wrote s.compiled world t.next (after_show name (given c.args.text) world t.next t.after) h.kept)) c.show.ensures
 
+pub returns-in-Use : goal.returns-in-Use
+returns-in-Use g c = λ world h. if_ok_map c.told-in-Use.result (λ told e.
+    let s = c.args.self.now in
+    used (seen c.args.asked.now) c.in-Use.edition (given c.args.text) world told.items s (ap seen c.in-Use.is) e h) c.told-in-Use.ensures
+
 pub returns-in-Run : goal.returns-in-Run
 returns-in-Run g c = λ world h. if_ok_map c.run_target.result (λ told tells.
     let s = c.args.self.now in
@@ -91,7 +96,7 @@ returns-in_ok-refusal-in-Write g c = λ world h. if_ok_map c.told-in-Write.resul
     let path = c.in-Write.path.now in
     let lines = c.in-Write.field-2 in
     let refusal = c.in_ok-refusal-in-Write.refusal in
-    let settles = c.in_ok-refusal-in-Write.ensures.settles lines world h.replicas in
+    let settles = c.in_ok-refusal-in-Write.ensures.settles lines world h.edition h.replicas in
     let t = settled_tells (Write name path lines) (given c.args.text) world refusal told.items c.write_counted.new.named.items (prints_write name path lines world refusal) e settles in
     let after = after_by (Write name path lines) (given c.args.text) world t.next refusal settles.refuses t.after in
     stepped (with_all s c.write_counted.new.named c.write_counted.new.wrote s.compiled) (seen c.args.asked.now) (Write name path lines) (given c.args.text) world told.items (ap seen c.in-Write.is) h.edition h.apart t
@@ -120,7 +125,7 @@ returns-in_ok-refusal-in-Apply g c = λ world h. if_ok_map c.told-in-Apply.resul
     let number = c.in-Apply.number in
     let lines = c.in-Apply.lines in
     let refusal = c.in_ok-refusal-in-Apply.refusal in
-    let settles = c.in_ok-refusal-in-Apply.ensures.settles world h.replicas in
+    let settles = c.in_ok-refusal-in-Apply.ensures.settles world h.edition h.replicas in
     let t = settled_tells (Apply name path counter number lines) (given c.args.text) world refusal told.items c.apply_counted.new.named.items (prints_apply name path counter number lines world refusal) e settles in
     let after = after_by (Apply name path counter number lines) (given c.args.text) world t.next refusal settles.refuses t.after in
     stepped (with_all s c.apply_counted.new.named c.apply_counted.new.wrote s.compiled) (seen c.args.asked.now) (Apply name path counter number lines) (given c.args.text) world told.items (ap seen c.in-Apply.is) h.edition h.apart t

@@ -1,0 +1,153 @@
+//! What a new plan takes of the last one: files that are the same are neither parsed nor hashed again.
+ghost use Rattle.std.specs.Prelude.{◌≡◌, IfOk, IfSome};
+ghost use Rattle.std.specs.Arc.{arc_value};
+ghost use Rattle.std.specs.Bool.{OnTrue};
+
+use crate::reached::{Shared, SharedNode};
+use go_ast::parsed::Parsed;
+use std::alloc::{AllocError, Global};
+use std::sync::Arc;
+use ws_action::Files;
+use ws_graph::Known;
+
+/// The files of a directory, which had no fault.
+#[derive(Drop)]
+pub(crate) struct PastFiles {
+    pub(crate) path: String,
+    pub(crate) files: Arc<Files>,
+}
+
+/// The files of the last plan that a replica made, by the paths of their directories, which ascend.
+/// Nothing is asked of them: what isn't found is parsed. Copies share them.
+#[derive(Drop)]
+pub(crate) struct Past {
+    pub(crate) directories: Arc<Vec<PastFiles>>,
+}
+
+/// The files of a plan's directories, which it shares.
+pub(crate) fn past_of(alloc: Global, plan: &[Shared]) -> Result<Past, AllocError> {
+    let mut directories = Vec::new(alloc);
+    for directory in plan {
+        if let SharedNode::Sound(files) = &directory.node {
+            directories.push(PastFiles {
+                path: directory.path.clone()?,
+                files: Arc::try_clone(files)?,
+            })?;
+        }
+    }
+    let directories = Arc::new(alloc, directories)?;
+    Ok(Past { directories })
+}
+
+/// Another owner of the same.
+pub(crate) fn copied(past: Option<&Past>) -> Result<Option<Past>, AllocError> {
+    let Some(past) = past else {
+        return Ok(None);
+    };
+    let directories = Arc::try_clone(&past.directories)?;
+    Ok(Some(Past { directories }))
+}
+
+/// What a plan may take of the past.
+pub(crate) fn known_of<'a>(
+    alloc: Global,
+    past: Option<&'a Past>,
+) -> Result<Vec<Known<'a>>, AllocError> {
+    let mut known = Vec::new(alloc);
+    let Some(past) = past else {
+        return Ok(known);
+    };
+    for directory in past.directories.as_slice() {
+        known.push(Known {
+            path: directory.path.as_str(),
+            files: directory.files.parsed(),
+        })?;
+    }
+    Ok(known)
+}
+
+fn files_at<'a>(past: &'a Past, path: &str) -> Option<&'a Arc<Files>> {
+    let directories = past.directories.as_slice();
+    let found = directories.binary_search_by(|one| one.path.as_str().cmp(path));
+    let Ok(number) = found else {
+        return None;
+    };
+    let one = directories.get(number)?;
+    Some(&one.files)
+}
+
+fn are_of_one_edition(one: &Parsed, other: &Parsed) -> bool
+    ensures { OnTrue result (one.now.edition ≡ other.now.edition) }
+{
+    one.edition() == other.edition()
+}
+
+fn have_one_name(one: &Parsed, other: &Parsed) -> bool
+    ensures { OnTrue result (one.now.name ≡ other.now.name) }
+{
+    one.name() == other.name()
+}
+
+fn have_one_text(one: &Parsed, other: &Parsed) -> bool
+    ensures { OnTrue result (one.now.text ≡ other.now.text) }
+{
+    one.text().as_str() == other.text().as_str()
+}
+
+fn is_same(one: &Parsed, other: &Parsed) -> bool
+    ensures { OnTrue result (one.now ≡ other.now) }
+{
+    if !are_of_one_edition(one, other) {
+        return false;
+    }
+    if !have_one_name(one, other) {
+        return false;
+    }
+    have_one_text(one, other)
+}
+
+fn are_same(files: &[Parsed], others: &[Parsed]) -> bool
+    ensures { OnTrue result (files.now ≡ others.now) }
+{
+    let mut left = others;
+    for file in files {
+        let Some((other, rest)) = left.split_first() else {
+            return false;
+        };
+        if !is_same(file, other) {
+            return false;
+        }
+        left = rest;
+    }
+    left.is_empty()
+}
+
+/// The files that the past has at a path, if they are these.
+fn same_files<'a>(past: Option<&'a Past>, path: &str, files: &[Parsed]) -> Option<&'a Arc<Files>>
+    ensures { IfSome result (λ kept. arc_value kept.now ≡ files.now) }
+{
+    let kept = files_at(past?, path)?;
+    if are_same(kept.parsed(), files) {
+        Some(kept)
+    } else {
+        None
+    }
+}
+
+/// The files of a directory as actions take them: those of the past, if they are the same.
+pub(crate) fn shared_files(
+    alloc: Global,
+    past: Option<&Past>,
+    path: &str,
+    files: Vec<Parsed>,
+) -> Result<Arc<Files>, AllocError>
+    ensures { IfOk result (λ shared. arc_value shared ≡ files.items) }
+{
+    if let Some(kept) = same_files(past, path, files.as_slice()) {
+        let shared = Arc::try_clone(kept)?;
+        return Ok(shared);
+    }
+    let files = Files::new(alloc, files)?;
+    let shared = Arc::new(alloc, files)?;
+    Ok(shared)
+}
