@@ -8,6 +8,7 @@ use Rattle.std.proofs.MapsCrossing as maps
 use Rattle.go_text.proofs.place.Place.TheSendSync as places
 use Rattle.go_text.proofs.source.Source.TheSendSync as sources
 use Rattle.go_ast.proofs.name.Name.TheSendSync as names
+use Rattle.go_ast.proofs.key.Key.TheSendSync as keys
 use Rattle.go_ast.proofs.expression.UnaryOperator.TheSendSync as unary
 use Rattle.go_ast.proofs.expression.BinaryOperator.TheSendSync as binary
 use Rattle.go_ast.proofs.file.ImportSpec.TheSendSync as imports
@@ -57,7 +58,7 @@ type_kind_layer_send : (A0 A1 A2 A3 : RattleType) → IsSend A0 → IsSend A1 �
 type_kind_layer_send A0 A1 A2 A3 a0 a1 a2 a3 = search (names.the_send, places.the_field_send, places.the_send, unary.the_send, binary.the_send, crosses, maps.crosses, sendable) depth 30
 
 element_layer_send : (A0 : RattleType) → IsSend A0 → IsSend (knot.layer-Element A0)
-element_layer_send A0 a0 = search (names.the_send, places.the_field_send, places.the_send, unary.the_send, binary.the_send, crosses, maps.crosses, sendable) depth 30
+element_layer_send A0 a0 = search (names.the_send, keys.the_send, places.the_field_send, places.the_send, unary.the_send, binary.the_send, crosses, maps.crosses, sendable) depth 30
 
 expr_layer_send : (A0 : RattleType) → IsSend A0 → IsSend (knot.layer-Expr A0)
 expr_layer_send A0 a0 = search (names.the_send, places.the_field_send, places.the_send, unary.the_send, binary.the_send, crosses, maps.crosses, sendable) depth 30
@@ -139,7 +140,7 @@ element_value_send : IsSend element_value_type.the_row
 element_value_send = recorded_send (element_value_type.the_field).row _ _ (element_value_type.the_type).to_one element_value_field_send
 
 element_field_send : IsSend (element_type.the_field).row
-element_field_send = search (element_value_field_send, element_value_send, type_expr_field_send, type_expr_send, expr_field_send, expr_send, type_kind_field_send, type_kind_send, expr_kind_field_send, expr_kind_send, bound_inside_send, element_value_inside_send, expr_kind_inside_send, type_kind_inside_send, element_inside_send, expr_inside_send, field_inside_send, type_expr_inside_send, names.the_send, places.the_field_send, places.the_send, unary.the_send, binary.the_send, crosses, maps.crosses, sendable) depth 30
+element_field_send = search (element_value_field_send, element_value_send, type_expr_field_send, type_expr_send, expr_field_send, expr_send, type_kind_field_send, type_kind_send, expr_kind_field_send, expr_kind_send, bound_inside_send, element_value_inside_send, expr_kind_inside_send, type_kind_inside_send, element_inside_send, expr_inside_send, field_inside_send, type_expr_inside_send, names.the_send, keys.the_send, places.the_field_send, places.the_send, unary.the_send, binary.the_send, crosses, maps.crosses, sendable) depth 30
 
 element_send : IsSend element_type.the_row
 element_send = recorded_send (element_type.the_field).row _ _ (element_type.the_type).to_one element_field_send
@@ -314,7 +315,7 @@ type_kind_layer_sync : (A0 A1 A2 A3 : RattleType) → IsSync A0 → IsSync A1 �
 type_kind_layer_sync A0 A1 A2 A3 a0 a1 a2 a3 = search (names.the_sync, places.the_field_sync, places.the_sync, unary.the_sync, binary.the_sync, crosses, maps.crosses, sendable) depth 30
 
 element_layer_sync : (A0 : RattleType) → IsSync A0 → IsSync (knot.layer-Element A0)
-element_layer_sync A0 a0 = search (names.the_sync, places.the_field_sync, places.the_sync, unary.the_sync, binary.the_sync, crosses, maps.crosses, sendable) depth 30
+element_layer_sync A0 a0 = search (names.the_sync, keys.the_sync, places.the_field_sync, places.the_sync, unary.the_sync, binary.the_sync, crosses, maps.crosses, sendable) depth 30
 
 expr_layer_sync : (A0 : RattleType) → IsSync A0 → IsSync (knot.layer-Expr A0)
 expr_layer_sync A0 a0 = search (names.the_sync, places.the_field_sync, places.the_sync, unary.the_sync, binary.the_sync, crosses, maps.crosses, sendable) depth 30
@@ -396,7 +397,7 @@ element_value_sync : IsSync element_value_type.the_row
 element_value_sync = recorded_sync (element_value_type.the_field).row _ _ (element_value_type.the_type).to_one element_value_field_sync
 
 element_field_sync : IsSync (element_type.the_field).row
-element_field_sync = search (element_value_field_sync, element_value_sync, type_expr_field_sync, type_expr_sync, expr_field_sync, expr_sync, type_kind_field_sync, type_kind_sync, expr_kind_field_sync, expr_kind_sync, bound_inside_sync, element_value_inside_sync, expr_kind_inside_sync, type_kind_inside_sync, element_inside_sync, expr_inside_sync, field_inside_sync, type_expr_inside_sync, names.the_sync, places.the_field_sync, places.the_sync, unary.the_sync, binary.the_sync, crosses, maps.crosses, sendable) depth 30
+element_field_sync = search (element_value_field_sync, element_value_sync, type_expr_field_sync, type_expr_sync, expr_field_sync, expr_sync, type_kind_field_sync, type_kind_sync, expr_kind_field_sync, expr_kind_sync, bound_inside_sync, element_value_inside_sync, expr_kind_inside_sync, type_kind_inside_sync, element_inside_sync, expr_inside_sync, field_inside_sync, type_expr_inside_sync, names.the_sync, keys.the_sync, places.the_field_sync, places.the_sync, unary.the_sync, binary.the_sync, crosses, maps.crosses, sendable) depth 30
 
 element_sync : IsSync element_type.the_row
 element_sync = recorded_sync (element_type.the_field).row _ _ (element_type.the_type).to_one element_field_sync
@@ -556,7 +557,7 @@ file_sync : IsSync file_type.the_row
 file_sync = recorded_sync (file_type.the_field).row _ _ (file_type.the_type).to_one file_field_sync
 
 pub parsed_send : IsSend parsed.the_row
-parsed_send = search (file_field_send, file_send, file_field_sync, file_sync, sources.the_send, crosses, maps.crosses, sendable) depth 30
+parsed_send = search (file_send, file_sync, sources.the_send, sources.the_sync, crosses, maps.crosses, sendable) depth 30
 
 pub parsed_sync : IsSync parsed.the_row
-parsed_sync = search (file_field_send, file_send, file_field_sync, file_sync, sources.the_sync, crosses, maps.crosses, sendable) depth 30
+parsed_sync = search (file_send, file_sync, sources.the_send, sources.the_sync, crosses, maps.crosses, sendable) depth 30

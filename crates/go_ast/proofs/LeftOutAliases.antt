@@ -15,7 +15,7 @@ use Rattle.go_ast.proofs.LeftOutStates.{Last, other, name_last, names, passed, f
 use Rattle.go_ast.proofs.LeftOutLabels.{by_call, call_end, or_right, token_starts}
 use Rattle.go_ast.proofs.LeftOutLed.{optional_not, newer_starts, newer_label}
 use Rattle.go_ast.proofs.LeftOutPlaces.{optional_type_is}
-use Rattle.go_ast.proofs.LeftOutIndexes.{import_off, expr_off, left_off, clause_off, newer_off}
+use Rattle.go_ast.proofs.LeftOutTests.{import_off, expr_off, newer_off, left_off, clause_off}
 
 abbrev pub is_declared : Expected → Bool
 is_declared a_declared_type = true

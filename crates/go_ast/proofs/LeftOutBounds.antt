@@ -6,10 +6,10 @@ use Rattle.go_scan.specs.declared.token.TokenKind.{TokenKind}
 use Rattle.go_scan.specs.declared.token.TokenKind.TheVariants as kinds
 use Rattle.go_scan.specs.declared.punctuation.Punctuation.TheVariants as marks
 use Rattle.go_ast.specs.Kinds.{same}
-use Rattle.go_ast.specs.Expected.{Expected, an_operand, a_length, a_type, an_index, an_index_end, is_left_out_at, a_value}
-use Rattle.go_ast.specs.Trees.{Expr, Simple, call_statement, conditional, no_else}
-use Rattle.go_ast.specs.Grammar.{Lexeme, closing_bracket, period, colon, is_call}
-use Rattle.go_ast.specs.Machine.{ListKind, fields, arguments, elements, const_specs, var_specs, type_specs, import_specs, statements, parameters, results, State, ended, token, package_name, import_path, optional, newer, type, optional_type, expr, optional_expr, suffixes, operators, more_names, more_exprs, list_start, list_end, operands, lefts, else_part, clause_start, clause_end, import_end, decl_end, Move, Take, Fail, cond, behind_left, literal_type, step}
+use Rattle.go_ast.specs.Expected.{Expected, an_operand, a_length, a_type, an_index, is_left_out_at, a_value}
+use Rattle.go_ast.specs.Trees.{Simple, call_statement, conditional, no_else}
+use Rattle.go_ast.specs.Grammar.{Lexeme, closing_bracket, period, is_call}
+use Rattle.go_ast.specs.Machine.{ListKind, fields, arguments, elements, const_specs, var_specs, type_specs, import_specs, statements, parameters, results, State, ended, token, package_name, import_path, optional, newer, type, optional_type, expr, optional_expr, suffixes, operators, more_names, more_exprs, list_start, list_end, operands, lefts, else_part, clause_start, clause_end, import_end, decl_end, Take, Fail, cond, behind_left, literal_type, step}
 use Rattle.go_ast.proofs.Same.{are_same}
 use Rattle.go_ast.proofs.Base.{false_true}
 use Rattle.go_ast.proofs.LeftOutStates.{Last, other, names, nameable, keyed, bracket, bounded, is_end, tok, GoesBy, Goes, start_label, label, pick, OptionalOk, OptionalKind, NewerOk, ExprOk, Right, under, equals}
@@ -17,10 +17,10 @@ use Rattle.go_ast.proofs.LeftOutMay.{starts_goes}
 use Rattle.go_ast.proofs.LeftOutLed.{newer_label}
 use Rattle.go_ast.proofs.LeftOutLabels.{by_call, call_end}
 use Rattle.go_ast.proofs.LeftOutPlaces.{optional_type_is}
-use Rattle.go_ast.proofs.LeftOutIndexes.{index_end, import_off, type_off, left_off, clause_off, brace_step, moved}
+use Rattle.go_ast.proofs.LeftOutTests.{import_off, type_off, left_off, clause_off, list_off}
+use Rattle.go_ast.proofs.LeftOutIndexes.{index_end, brace_step, moved}
 use Rattle.go_ast.proofs.LeftOutEnds.{token_off, nowhere}
 use Rattle.go_ast.proofs.LeftOutPassed.{optional_goes, left_step}
-use Rattle.go_ast.proofs.LeftOutImports.{list_off}
 use Rattle.go_ast.proofs.LeftOutLengths.{is_indexed}
 
 -- the last token is the bracket, or one may come here; in a part of a state one may come in front of it

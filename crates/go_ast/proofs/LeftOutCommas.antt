@@ -20,7 +20,8 @@ use Rattle.go_ast.proofs.LeftOutLed.{mark_not, newer_not}
 use Rattle.go_ast.proofs.LeftOutMay.{goes_starts}
 use Rattle.go_ast.proofs.LeftOutLabels.{by_call, call_end, token_mark}
 use Rattle.go_ast.proofs.LeftOutPlaces.{optional_type_is, pick_other}
-use Rattle.go_ast.proofs.LeftOutIndexes.{import_off, type_off, expr_off, left_off, clause_off, brace_step, moved, newer_off, operand_step}
+use Rattle.go_ast.proofs.LeftOutTests.{import_off, type_off, expr_off, newer_off, left_off, clause_off}
+use Rattle.go_ast.proofs.LeftOutIndexes.{brace_step, moved, operand_step}
 
 -- a colon may come for a key, in front of the state or in it
 abbrev pub is_keyed : Last → Bool

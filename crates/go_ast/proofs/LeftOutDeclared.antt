@@ -5,15 +5,16 @@ use Rattle.go_text.specs.declared.edition.Edition.{Edition}
 use Rattle.go_scan.specs.declared.token.TokenKind.{TokenKind}
 use Rattle.go_scan.specs.declared.keyword.Keyword.TheVariants as keywords
 use Rattle.go_ast.specs.Kinds.{same}
-use Rattle.go_ast.specs.Expected.{Expected, an_operand, a_value, a_type, a_declared_type, a_parameter_type, a_length, an_index, an_index_end, a_selected_name, a_function_name, a_function_opening, an_element_end, a_field_end, a_result_end, behind_a_jump, an_import, an_import_path, another, is_left_out_at}
+use Rattle.go_ast.specs.Expected.{Expected, a_type, a_declared_type, a_parameter_type, an_index_end, a_selected_name, a_function_name, a_function_opening, an_element_end, a_field_end, a_result_end, behind_a_jump, another, is_left_out_at}
 use Rattle.go_ast.specs.Trees.{TypeExpr, Expr, name, call_statement, conditional, no_else}
 use Rattle.go_ast.specs.Grammar.{Lexeme, is_call, opening}
 use Rattle.go_ast.specs.Machine.{ListKind, fields, arguments, elements, const_specs, var_specs, type_specs, import_specs, statements, parameters, results, separator, closer, Position, in_list, in_header, in_for, behind_turns, State, ended, token, package_name, import_path, optional, type, optional_type, expr, optional_expr, suffixes, operators, more_names, more_exprs, list_start, list_end, lefts, else_part, clause_start, clause_end, import_end, decl_end, keyword, behind_left, newer, operands}
 use Rattle.go_ast.proofs.Base.{false_true, either_false}
-use Rattle.go_ast.proofs.LeftOutStates.{Last, other, name_last, names, bracket, equals, nameable, starts, starts_item, veto, pick, start_label, label, ImportOk, TypeOk, TokenOk, ExprOk, EndOk, ClauseOk, Right, under, bounded}
+use Rattle.go_ast.proofs.LeftOutStates.{Last, other, name_last, names, starts, starts_item, veto, pick, start_label, label, TypeOk, TokenOk, EndOk, Right, under}
 use Rattle.go_ast.proofs.LeftOutLed.{optional_not, newer_starts, newer_label}
 use Rattle.go_ast.proofs.LeftOutLabels.{by_call, call_end, token_silent, token_starts, or_right}
 use Rattle.go_ast.proofs.LeftOutPlaces.{optional_type_is}
+use Rattle.go_ast.proofs.LeftOutTests.{import_off, type_off, expr_off, left_off, clause_off}
 
 abbrev a_type_word : TokenKind
 a_type_word = keyword keywords.Type
@@ -24,25 +25,8 @@ a_return = keyword keywords.Return
 abbrev a_struct : TokenKind
 a_struct = keyword keywords.Struct
 
-import_local : (p : Last) (x : Expected) → ImportOk p x → is_left_out_at x a_type_word ≡ false
-import_local nameable an_import h = refl
-import_local name_last an_import_path h = refl
-import_local _ _ h = absurd h
-
-type_local : (ed : Edition) → (p : Last) (x : Expected) (next : TypeExpr → State) → TypeOk ed p x next → is_left_out_at x a_type_word ≡ false
-type_local ed other a_type next h = refl
-type_local ed names a_type next h = refl
-type_local ed names a_parameter_type next h = refl
-type_local ed name_last a_declared_type next h = refl
-type_local ed _ _ next h = absurd h
-
-expr_local : (ed : Edition) → (p : Last) (x : Expected) (s : State) → ExprOk ed p x s → is_left_out_at x a_type_word ≡ false
-expr_local ed other an_operand s h = refl
-expr_local ed equals a_value s h = refl
-expr_local ed bracket a_length s h = refl
-expr_local ed bracket an_index s h = refl
-expr_local ed bounded an_index s h = refl
-expr_local ed _ _ s h = absurd h
+abbrev is_local : Expected → Bool
+is_local x = is_left_out_at x a_type_word
 
 start_local : (k : ListKind) → is_left_out_at (start_label k) a_type_word ≡ (same (closer k) a_return || starts_item k a_return)
 start_local (fields l) = refl
@@ -72,34 +56,22 @@ list_local import_specs another p h = refl
 list_local parameters another p h = refl
 list_local _ _ p h = absurd h
 
-left_local : (m : Position) (e : Expr) → is_left_out_at (behind_left m e) a_type_word ≡ false
-left_local in_list (name q text) = refl
-left_local in_list _ = refl
-left_local in_header e = refl
-left_local in_for e = refl
-left_local behind_turns e = refl
-
-clause_local : (x : Expected) (p : Last) → ClauseOk x p → is_left_out_at x a_type_word ≡ false
-clause_local behind_a_jump p h = refl
-clause_local another p h = refl
-clause_local _ p h = absurd h
-
 pub local : (ed : Edition) → (s : State) (p : Last) → Right ed s p → is_left_out_at (label s a_type_word) a_type_word ≡ starts ed s a_return
 local ed (ended f) p r = refl
 local ed (token kind need x next) p r =
     token_silent ed a_type_word x p kind next refl refl refl refl refl r.0 ∙ sym (token_starts ed a_return x p kind next refl r.0)
 local ed (package_name next) p r = refl
-local ed (import_path x next) p r = import_local p x r.0
+local ed (import_path x next) p r = import_off ed is_local refl refl p x r.0
 local ed (optional kind need some none) p r =
     local ed none (under kind p) r.2 ∙ or_right (same kind a_return) (starts ed none a_return) (starts ed none a_return) (optional_not kind a_return r.0.1 refl) refl
 local ed (newer kind need x some none) p r =
     ap (λ y. is_left_out_at y a_type_word) (newer_label kind need x some none a_type_word (r.3 a_type_word)) ∙ local ed none p r.2
     ∙ sym (newer_starts ed p kind need x some none a_return r.0 refl)
-local ed (type l x next) p r = type_local ed p x next r.0
+local ed (type l x next) p r = type_off ed is_local refl refl refl p x next r.0
 local ed (optional_type l x some none) p r =
     subst (λ y. is_left_out_at (pick (is_left_out_at y a_type_word) y (label none a_type_word)) a_type_word ≡ veto (is_left_out_at y a_return) (starts ed none a_return))
     (sym (optional_type_is ed p x some none r.0)) (local ed none p r.2)
-local ed (expr n h l x next) p r = expr_local ed p x (expr n h l x next) r.0
+local ed (expr n h l x next) p r = expr_off ed is_local refl refl refl refl p x (expr n h l x next) r.0
 local ed (optional_expr h l x some none) p r =
     subst (λ y. is_left_out_at (pick (is_left_out_at y a_type_word) y (label none a_type_word)) a_type_word ≡ veto (is_left_out_at y a_return) (starts ed none a_return))
     (sym r.1) (local ed none p r.4)
@@ -115,11 +87,11 @@ local ed (lefts m h l (e ∷ []) next alone range) p r =
     by_call
     (λ c. is_left_out_at (pick c (label (next (call_statement e)) a_type_word) (behind_left m e)) a_type_word
     ≡ (c && starts ed (next (call_statement e)) a_return)) (is_call e)
-    (λ c. local ed (next (call_statement e)) p (r.1 (call_statement e) p (call_end m e p r.0 c))) (λ c. left_local m e)
+    (λ c. local ed (next (call_statement e)) p (r.1 (call_statement e) p (call_end m e p r.0 c))) (λ c. left_off ed is_local refl refl m e)
 local ed (lefts m h l (e ∷ f ∷ es) next alone range) p r = refl
 local ed (else_part l q i c b next) p r = local ed (next (conditional q i c b no_else)) other (r.1 (conditional q i c b no_else))
 local ed (clause_start l done q values front next) p r = refl
-local ed (clause_end l x done q values front next) p r = clause_local x p r.0
+local ed (clause_end l x done q values front next) p r = clause_off ed is_local refl refl x p r.0
 local ed (import_end q iss) p r = refl
 local ed (decl_end q is ds) p r = refl
 
@@ -138,11 +110,6 @@ token_typed ed a_selected_name p kind next h = refl
 token_typed ed a_function_name p kind next h = refl
 token_typed ed a_function_opening p kind next h = refl
 token_typed ed _ p kind next h = absurd h
-
-import_typed : (p : Last) (x : Expected) → ImportOk p x → is_typed x ≡ false
-import_typed nameable an_import h = refl
-import_typed name_last an_import_path h = refl
-import_typed _ _ h = absurd h
 
 type_typed : (ed : Edition) → (p : Last) (x : Expected) (next : TypeExpr → State) → TypeOk ed p x next → is_typed x ≡ true
 type_typed ed other a_type next h = refl
@@ -187,16 +154,11 @@ left_typed in_header e = refl
 left_typed in_for e = refl
 left_typed behind_turns e = refl
 
-clause_typed : (x : Expected) (p : Last) → ClauseOk x p → is_typed x ≡ false
-clause_typed behind_a_jump p h = refl
-clause_typed another p h = refl
-clause_typed _ p h = absurd h
-
 pub typed : (ed : Edition) → (s : State) (p : Last) → Right ed s p → starts ed s opening ≡ false → is_typed (label s opening) ≡ starts ed s a_struct
 typed ed (ended f) p r o = refl
 typed ed (token kind need x next) p r o = token_typed ed x p kind next r.0 ∙ sym (token_starts ed a_struct x p kind next refl r.0)
 typed ed (package_name next) p r o = refl
-typed ed (import_path x next) p r o = import_typed p x r.0
+typed ed (import_path x next) p r o = import_off ed is_typed refl refl p x r.0
 typed ed (optional kind need some none) p r o =
     typed ed none (under kind p) r.2 (either_false (same kind opening) (starts ed none opening) o).1
     ∙ or_right (same kind a_struct) (starts ed none a_struct) (starts ed none a_struct) (optional_not kind a_struct r.0.1 refl) refl
@@ -225,6 +187,6 @@ typed ed (lefts m h l (e ∷ []) next alone range) p r o =
 typed ed (lefts m h l (e ∷ f ∷ es) next alone range) p r o = refl
 typed ed (else_part l q i c b next) p r o = typed ed (next (conditional q i c b no_else)) other (r.1 (conditional q i c b no_else)) o
 typed ed (clause_start l done q values front next) p r o = absurd (false_true (sym o))
-typed ed (clause_end l x done q values front next) p r o = clause_typed x p r.0
+typed ed (clause_end l x done q values front next) p r o = clause_off ed is_typed refl refl x p r.0
 typed ed (import_end q iss) p r o = refl
 typed ed (decl_end q is ds) p r o = refl

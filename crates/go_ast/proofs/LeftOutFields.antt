@@ -16,7 +16,8 @@ use Rattle.go_ast.proofs.LeftOutStates.{Last, other, names, tok, GoesBy, Goes, s
 use Rattle.go_ast.proofs.LeftOutLed.{optional_not, newer_not, newer_starts, newer_label}
 use Rattle.go_ast.proofs.LeftOutLabels.{by_call, call_end, or_right}
 use Rattle.go_ast.proofs.LeftOutPlaces.{optional_type_is}
-use Rattle.go_ast.proofs.LeftOutIndexes.{import_off, type_off, expr_off, left_off, clause_off, brace_step, moved, newer_off}
+use Rattle.go_ast.proofs.LeftOutTests.{import_off, type_off, expr_off, newer_off, left_off, clause_off}
+use Rattle.go_ast.proofs.LeftOutIndexes.{brace_step, moved}
 use Rattle.go_ast.proofs.LeftOutEnds.{token_off, nowhere}
 use Rattle.go_ast.proofs.LeftOutPassed.{optional_goes, goes_optional, left_step, goes_newer}
 

@@ -8,17 +8,18 @@ use Rattle.go_scan.specs.declared.token.TokenKind.{TokenKind}
 use Rattle.go_scan.specs.declared.token.TokenKind.TheVariants as kinds
 use Rattle.go_scan.specs.declared.punctuation.Punctuation.TheVariants as marks
 use Rattle.go_ast.specs.Kinds.{same}
-use Rattle.go_ast.specs.Expected.{Expected, an_operand, a_type, an_element_end, a_field_end, a_result_end, behind_a_jump, an_import, an_import_path, another, is_left_out_at}
+use Rattle.go_ast.specs.Expected.{Expected, an_operand, a_type, an_import, an_import_path, another, is_left_out_at}
 use Rattle.go_ast.specs.Trees.{Simple, call_statement, conditional, no_else}
 use Rattle.go_ast.specs.Grammar.{Lexeme, period, is_call}
 use Rattle.go_ast.specs.Machine.{ListKind, fields, arguments, elements, const_specs, var_specs, type_specs, import_specs, statements, parameters, results, separator, closer, State, ended, token, package_name, import_path, optional, type, optional_type, expr, optional_expr, suffixes, operators, more_names, more_exprs, list_start, list_end, lefts, else_part, clause_start, clause_end, import_end, decl_end, Move, Take, Fail, cond, literal_type, is_string, behind_left, step, newer, operands}
 use Rattle.go_ast.proofs.Base.{false_true, either_false, neither}
-use Rattle.go_ast.proofs.LeftOutStates.{Last, other, name_last, names, keyed, nameable, is_end, tok, GoesBy, Goes, starts, start_label, label, pick, ImportOk, EndOk, Right, under, bounded}
+use Rattle.go_ast.proofs.LeftOutStates.{Last, other, name_last, names, keyed, nameable, is_end, tok, GoesBy, Goes, starts, start_label, label, pick, ImportOk, Right, under, bounded}
 use Rattle.go_ast.proofs.LeftOutLed.{optional_not, newer_not, newer_starts, newer_label}
 use Rattle.go_ast.proofs.LeftOutMay.{goes_starts}
 use Rattle.go_ast.proofs.LeftOutLabels.{by_call, call_end, or_right, token_starts}
 use Rattle.go_ast.proofs.LeftOutPlaces.{optional_type_is, pick_other}
-use Rattle.go_ast.proofs.LeftOutIndexes.{type_off, expr_off, left_off, clause_off, brace_step, moved, newer_off, operand_step}
+use Rattle.go_ast.proofs.LeftOutTests.{type_off, expr_off, newer_off, left_off, clause_off, list_off}
+use Rattle.go_ast.proofs.LeftOutIndexes.{brace_step, moved, operand_step}
 use Rattle.go_ast.proofs.LeftOutEnds.{token_off, nowhere}
 use Rattle.go_ast.proofs.LeftOutAliases.{not_end, under_not, optional_type_end}
 use Rattle.go_ast.proofs.LeftOutPassed.{optional_goes, left_step}
@@ -32,23 +33,6 @@ is_path _ = false
 abbrev pub is_import : Expected → Bool
 is_import an_import = true
 is_import _ = false
-
--- tests of labels that fail at the end of a list
-pub list_off : (T : Expected → Bool) → T another ≡ false → T an_element_end ≡ false → T a_field_end ≡ false → T a_result_end ≡ false → T behind_a_jump ≡ false →
-    (k : ListKind) (x : Expected) (p : Last) → EndOk k x p → T x ≡ false
-list_off T a b c d e (fields l) a_field_end p h = c
-list_off T a b c d e (elements l) an_element_end p h = b
-list_off T a b c d e (elements l) another p h = a
-list_off T a b c d e (statements l) behind_a_jump p h = e
-list_off T a b c d e (statements l) another p h = a
-list_off T a b c d e results a_result_end p h = d
-list_off T a b c d e (arguments l) another p h = a
-list_off T a b c d e (const_specs l) another p h = a
-list_off T a b c d e (var_specs l) another p h = a
-list_off T a b c d e (type_specs l) another p h = a
-list_off T a b c d e import_specs another p h = a
-list_off T a b c d e parameters another p h = a
-list_off T a b c d e _ _ p h = absurd h
 
 list_integer : (k : ListKind) → (same (separator k) kinds.Integer || (same (closer k) kinds.Integer || false)) ≡ false
 list_integer (fields l) = refl

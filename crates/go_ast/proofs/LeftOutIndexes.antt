@@ -6,65 +6,18 @@ use Rattle.go_text.specs.declared.place.Place.{Place}
 use Rattle.go_scan.specs.declared.token.TokenKind.{TokenKind}
 use Rattle.go_scan.specs.declared.keyword.Keyword.TheVariants as keywords
 use Rattle.go_ast.specs.Kinds.{same}
-use Rattle.go_ast.specs.Expected.{Expected, an_operand, a_value, a_type, a_declared_type, a_parameter_type, a_length, an_index, an_index_end, a_selected_name, an_element_end, a_field_end, a_result_end, behind_a_name, behind_a_jump, a_function_name, a_function_opening, an_import, an_import_path, another, is_left_out_at}
-use Rattle.go_ast.specs.Trees.{Name, TypeExpr, Expr, name, Simple, call_statement, conditional, no_else}
+use Rattle.go_ast.specs.Expected.{Expected, an_operand, a_length, an_index, an_index_end, a_selected_name, an_element_end, a_field_end, a_result_end, behind_a_jump, a_function_name, a_function_opening, another, is_left_out_at}
+use Rattle.go_ast.specs.Trees.{Name, TypeExpr, Expr, Simple, call_statement, conditional, no_else}
 use Rattle.go_ast.specs.Grammar.{Lexeme, opening_brace, closing_bracket, period, colon, define, is_call, opening_bracket}
-use Rattle.go_ast.specs.Machine.{ListKind, fields, arguments, elements, const_specs, var_specs, type_specs, import_specs, statements, parameters, results, Position, in_list, in_header, in_for, behind_turns, State, ended, token, package_name, import_path, optional, type, optional_type, expr, optional_expr, suffixes, operators, more_names, more_exprs, list_start, list_end, lefts, else_part, clause_start, clause_end, import_end, decl_end, Move, Take, Fail, cond, names_if, may_define, is_header, literal_type, on_brace, on_define, behind_left, step, newer, operands, on_operand, on_expr, keyword}
+use Rattle.go_ast.specs.Machine.{ListKind, fields, arguments, elements, const_specs, var_specs, type_specs, import_specs, statements, parameters, results, Position, State, ended, token, package_name, import_path, optional, type, optional_type, expr, optional_expr, suffixes, operators, more_names, more_exprs, list_start, list_end, lefts, else_part, clause_start, clause_end, import_end, decl_end, Move, Take, Fail, cond, names_if, may_define, is_header, literal_type, on_brace, on_define, behind_left, step, newer, operands, on_operand, on_expr, keyword}
 use Rattle.go_ast.proofs.Same.{are_same}
 use Rattle.go_ast.proofs.Base.{false_true}
-use Rattle.go_ast.proofs.LeftOutStates.{Last, other, name_last, names, bracket, equals, nameable, tok, GoesBy, Goes, label, pick, MarkOk, TokenOk, ImportOk, TypeOk, ExprOk, EndOk, ClauseOk, Right, under, bounded, NewerOk, OptionalOk, OptionalKind, starts}
-use Rattle.go_ast.proofs.LeftOutLed.{optional_not, newer_label}
+use Rattle.go_ast.proofs.LeftOutStates.{Last, other, names, tok, GoesBy, Goes, label, pick, MarkOk, TokenOk, EndOk, Right, under, NewerOk, OptionalOk, OptionalKind, starts}
+use Rattle.go_ast.proofs.LeftOutLed.{newer_label}
+use Rattle.go_ast.proofs.LeftOutTests.{import_off, type_off, expr_off, left_off, clause_off}
 use Rattle.go_ast.proofs.LeftOutMay.{goes_starts, starts_goes}
 use Rattle.go_ast.proofs.LeftOutLabels.{by_call, call_end}
 use Rattle.go_ast.proofs.LeftOutPlaces.{optional_type_is}
-
--- tests of labels that fail in states of a kind
-module _ (ed : Edition) (T : Expected → Bool) where
-  pub import_off : T an_import ≡ false → T an_import_path ≡ false → (p : Last) (x : Expected) → ImportOk p x → T x ≡ false
-  import_off a b nameable an_import h = a
-  import_off a b name_last an_import_path h = b
-  import_off a b _ _ h = absurd h
-
-  pub type_off : T a_type ≡ false → T a_declared_type ≡ false → T a_parameter_type ≡ false → (p : Last) (x : Expected) (next : TypeExpr → State) →
-      TypeOk ed p x next →
-      T x ≡ false
-  type_off a b c other a_type next h = a
-  type_off a b c names a_type next h = a
-  type_off a b c names a_parameter_type next h = c
-  type_off a b c name_last a_declared_type next h = b
-  type_off a b c _ _ next h = absurd h
-
-  pub expr_off : T an_operand ≡ false → T a_value ≡ false → T a_length ≡ false → T an_index ≡ false → (p : Last) (x : Expected) (s : State) →
-      ExprOk ed p x s →
-      T x ≡ false
-  expr_off a b c d other an_operand s h = a
-  expr_off a b c d equals a_value s h = b
-  expr_off a b c d bracket a_length s h = c
-  expr_off a b c d bracket an_index s h = d
-  expr_off a b c d bounded an_index s h = d
-  expr_off a b c d _ _ s h = absurd h
-
-  pub newer_off : T a_length ≡ false → T an_index ≡ false → T an_index_end ≡ false → (p : Last) (kind : TokenKind) (need : ℕ) (x : Expected)
-      (some : Lexeme → State) (none : State) (k : TokenKind) → NewerOk ed p kind x some → label none k ≡ x → T (label (newer kind need x some none) k) ≡ false
-  newer_off a b c p kind need x some none k h e = ap T (newer_label kind need x some none k e ∙ e) ∙ at x h
-    where
-      at : (y : Expected) → NewerOk ed p kind y some → T y ≡ false
-      at a_length h = a
-      at an_index h = b
-      at an_index_end h = c
-      at _ h = absurd h
-
-  pub left_off : T behind_a_name ≡ false → T another ≡ false → (m : Position) (e : Expr) → T (behind_left m e) ≡ false
-  left_off a b in_list (name p text) = a
-  left_off a b in_list _ = b
-  left_off a b in_header e = b
-  left_off a b in_for e = b
-  left_off a b behind_turns e = b
-
-  pub clause_off : T behind_a_jump ≡ false → T another ≡ false → (x : Expected) (p : Last) → ClauseOk x p → T x ≡ false
-  clause_off a b behind_a_jump p h = a
-  clause_off a b another p h = b
-  clause_off a b _ p h = absurd h
 
 -- what is passed on to the state behind
 

@@ -9,7 +9,8 @@ use Rattle.go_ast.specs.Grammar.{closing_bracket, period, colon}
 use Rattle.go_ast.specs.Machine.{ListKind, fields, arguments, elements, const_specs, var_specs, type_specs, import_specs, statements, parameters, results, State, ended, token, package_name, import_path, optional, type, optional_type, expr, optional_expr, suffixes, operators, more_names, more_exprs, list_start, list_end, lefts, else_part, clause_start, clause_end, import_end, decl_end, literal_type, step, newer, operands}
 use Rattle.go_ast.proofs.Base.{false_true}
 use Rattle.go_ast.proofs.LeftOutStates.{bracket, tok, Goes, label, ExprOk, EndOk, Right, index_tail, is_alone, LeftsOk}
-use Rattle.go_ast.proofs.LeftOutIndexes.{import_off, type_off, clause_off, brace_step, moved}
+use Rattle.go_ast.proofs.LeftOutTests.{import_off, type_off, clause_off}
+use Rattle.go_ast.proofs.LeftOutIndexes.{brace_step, moved}
 use Rattle.go_ast.proofs.LeftOutEnds.{token_off}
 use Rattle.go_ast.proofs.LeftOutAliases.{optional_type_end}
 use Rattle.go_ast.proofs.LeftOutLed.{newer_not, newer_label}

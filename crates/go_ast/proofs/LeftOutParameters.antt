@@ -17,11 +17,11 @@ use Rattle.go_ast.proofs.LeftOutStates.{Last, other, name_last, names, passed, f
 use Rattle.go_ast.proofs.LeftOutMay.{goes_starts, starts_goes}
 use Rattle.go_ast.proofs.LeftOutLabels.{by_call, call_end}
 use Rattle.go_ast.proofs.LeftOutPlaces.{optional_type_is}
-use Rattle.go_ast.proofs.LeftOutIndexes.{import_off, expr_off, left_off, clause_off, brace_step, define_step, moved, newer_off}
+use Rattle.go_ast.proofs.LeftOutTests.{import_off, expr_off, newer_off, left_off, clause_off, list_off}
+use Rattle.go_ast.proofs.LeftOutIndexes.{brace_step, define_step, moved}
 use Rattle.go_ast.proofs.LeftOutEnds.{token_off, nowhere}
 use Rattle.go_ast.proofs.LeftOutAliases.{is_named}
 use Rattle.go_ast.proofs.LeftOutPassed.{optional_goes, goes_optional, left_step, goes_newer}
-use Rattle.go_ast.proofs.LeftOutImports.{list_off}
 use Rattle.go_ast.proofs.LeftOutLed.{newer_not, newer_label}
 
 abbrev pub is_parameter : Expected → Bool

@@ -6,14 +6,15 @@ use Rattle.go_scan.specs.declared.token.TokenKind.TheVariants as kinds
 use Rattle.go_scan.specs.declared.keyword.Keyword.TheVariants as keywords
 use Rattle.go_scan.specs.declared.punctuation.Punctuation.TheVariants as marks
 use Rattle.go_ast.specs.Kinds.{same}
-use Rattle.go_ast.specs.Expected.{Expected, an_operand, a_value, a_type, a_declared_type, a_parameter_type, a_length, an_index, an_element_end, a_field_end, a_result_end, a_statement, behind_a_jump, an_import, an_import_path, another, is_left_out_at}
-use Rattle.go_ast.specs.Trees.{TypeExpr, Expr, name, call_statement, conditional, no_else}
+use Rattle.go_ast.specs.Expected.{Expected, an_operand, a_value, a_type, a_declared_type, a_parameter_type, a_length, an_index, an_element_end, a_field_end, a_result_end, a_statement, behind_a_jump, another, is_left_out_at}
+use Rattle.go_ast.specs.Trees.{TypeExpr, call_statement, conditional, no_else}
 use Rattle.go_ast.specs.Grammar.{is_call}
-use Rattle.go_ast.specs.Machine.{ListKind, fields, arguments, elements, const_specs, var_specs, type_specs, import_specs, statements, parameters, results, separator, closer, Position, in_list, in_header, in_for, behind_turns, State, ended, token, package_name, import_path, optional, type, optional_type, expr, optional_expr, suffixes, operators, more_names, more_exprs, list_start, list_end, lefts, else_part, clause_start, clause_end, import_end, decl_end, keyword, behind_left, newer, operands}
+use Rattle.go_ast.specs.Machine.{ListKind, fields, arguments, elements, const_specs, var_specs, type_specs, import_specs, statements, parameters, results, separator, closer, State, ended, token, package_name, import_path, optional, type, optional_type, expr, optional_expr, suffixes, operators, more_names, more_exprs, list_start, list_end, lefts, else_part, clause_start, clause_end, import_end, decl_end, keyword, behind_left, newer, operands}
 use Rattle.go_ast.proofs.Base.{false_true}
-use Rattle.go_ast.proofs.LeftOutStates.{Last, other, name_last, names, bracket, equals, nameable, starts, starts_item, pick, start_label, label, ImportOk, TypeOk, OptionalTypeOk, ExprOk, EndOk, ClauseOk, Right, under, bounded}
+use Rattle.go_ast.proofs.LeftOutStates.{Last, other, name_last, names, bracket, equals, starts, starts_item, pick, start_label, label, TypeOk, OptionalTypeOk, ExprOk, EndOk, Right, under, bounded}
 use Rattle.go_ast.proofs.LeftOutLed.{optional_not, newer_starts, newer_label}
 use Rattle.go_ast.proofs.LeftOutLabels.{by_call, call_end, token_silent, token_starts, or_right}
+use Rattle.go_ast.proofs.LeftOutTests.{import_off, left_off, clause_off}
 
 -- `func`, `*` and `&` where `struct` may stand
 
@@ -31,10 +32,8 @@ pub pick_other : (d : Bool) (x y : Expected) → d ≡ false → pick d x y ≡ 
 pick_other true x y d = absurd (false_true (sym d))
 pick_other false x y d = refl
 
-import_silent : (p : Last) (x : Expected) → ImportOk p x → is_left_out_at x a_func ≡ false
-import_silent nameable an_import h = refl
-import_silent name_last an_import_path h = refl
-import_silent _ _ h = absurd h
+abbrev at_func : Expected → Bool
+at_func x = is_left_out_at x a_func
 
 type_pointers : (ed : Edition) → (p : Last) (x : Expected) (next : TypeExpr → State) → TypeOk ed p x next → is_left_out_at x a_func ≡ true
 type_pointers ed other a_type next h = refl
@@ -84,25 +83,13 @@ list_pointers import_specs another p h = refl
 list_pointers parameters another p h = refl
 list_pointers _ _ p h = absurd h
 
-left_pointers : (m : Position) (e : Expr) → is_left_out_at (behind_left m e) a_func ≡ false
-left_pointers in_list (name q text) = refl
-left_pointers in_list _ = refl
-left_pointers in_header e = refl
-left_pointers in_for e = refl
-left_pointers behind_turns e = refl
-
-clause_pointers : (x : Expected) (p : Last) → ClauseOk x p → is_left_out_at x a_func ≡ false
-clause_pointers behind_a_jump p h = refl
-clause_pointers another p h = refl
-clause_pointers _ p h = absurd h
-
 module _ (ed : Edition) (k : TokenKind) (like : (x : Expected) → is_left_out_at x k ≡ is_left_out_at x a_func) where
   pub pointers : (s : State) (p : Last) → Right ed s p → is_left_out_at (label s k) k ≡ starts ed s a_struct
   pointers (ended f) p r = like another
   pointers (token kind need x next) p r =
       like x ∙ token_silent ed a_func x p kind next refl refl refl refl refl r.0 ∙ sym (token_starts ed a_struct x p kind next refl r.0)
   pointers (package_name next) p r = like another
-  pointers (import_path x next) p r = like x ∙ import_silent p x r.0
+  pointers (import_path x next) p r = like x ∙ import_off ed at_func refl refl p x r.0
   pointers (optional kind need some none) p r =
       pointers none (under kind p) r.2 ∙ or_right (same kind a_struct) (starts ed none a_struct) (starts ed none a_struct) (optional_not kind a_struct r.0.1 refl) refl
   pointers (newer kind need x some none) p r =
@@ -127,11 +114,11 @@ module _ (ed : Edition) (k : TokenKind) (like : (x : Expected) → is_left_out_a
   pointers (lefts m h l (e ∷ []) next alone range) p r =
       by_call
       (λ c. is_left_out_at (pick c (label (next (call_statement e)) k) (behind_left m e)) k ≡ (c && starts ed (next (call_statement e)) a_struct)) (is_call e)
-      (λ c. pointers (next (call_statement e)) p (r.1 (call_statement e) p (call_end m e p r.0 c))) (λ c. like (behind_left m e) ∙ left_pointers m e)
+      (λ c. pointers (next (call_statement e)) p (r.1 (call_statement e) p (call_end m e p r.0 c))) (λ c. like (behind_left m e) ∙ left_off ed at_func refl refl m e)
   pointers (lefts m h l (e ∷ f ∷ es) next alone range) p r = like another
   pointers (else_part l q i c b next) p r = pointers (next (conditional q i c b no_else)) other (r.1 (conditional q i c b no_else))
   pointers (clause_start l done q values front next) p r = like a_statement
-  pointers (clause_end l x done q values front next) p r = like x ∙ clause_pointers x p r.0
+  pointers (clause_end l x done q values front next) p r = like x ∙ clause_off ed at_func refl refl x p r.0
   pointers (import_end q iss) p r = like another
   pointers (decl_end q is ds) p r = like another
 

@@ -12,7 +12,8 @@ use Rattle.go_ast.specs.Operators.{assignment_of}
 use Rattle.go_ast.specs.Expected.{Expected, an_operand, a_type, a_result_end, behind_a_jump, a_statement, another}
 use Rattle.go_ast.specs.Trees.{Name, BinaryOperator, Expr, name, no_exprs, Simple, increment, decrement, assignment, operator_assignment, short_var_decl, Stmt, declaration, simple, return, break, continue, fallthrough, block_statement, if_statement, for_statement, range_statement, switch_statement, Block, block, If, Else, else_block, else_if, Clauses, no_clauses, TopLevel, declared, ImportSpec, pack, pack_stmts}
 use Rattle.go_ast.specs.Grammar.{Lexeme, name_of, assign, opening_brace, comma, semicolon, define, is_call, simple_place, concat}
-use Rattle.go_ast.specs.Machine.{ListKind, fields, arguments, elements, const_specs, var_specs, type_specs, import_specs, statements, parameters, results, Item, Position, in_list, in_header, in_for, behind_turns, Clause, State, list_end, decl_end, Move, keyword, names_if, may_define, is_header, is_for, behind_define, on_define, on_assignment, on_lefts, on_left, list_lefts, block_at, if_condition, behind_if, behind_else, for_turns, for_condition, range_body, behind_for, clause_body, behind_case, clauses_at, switch_body, switch_tag, behind_switch, on_stmt, is_string, on_item, decls_at, imports_at, start}
+use Rattle.go_ast.specs.Machine.{ListKind, fields, arguments, elements, const_specs, var_specs, type_specs, import_specs, statements, parameters, results, Item, Position, in_list, in_header, in_for, behind_turns, Clause, State, list_end, decl_end, Move, keyword, names_if, may_define, is_header, behind_define, on_define, on_assignment, on_lefts, on_left, list_lefts, block_at, if_condition, behind_if, behind_else, for_turns, for_condition, range_body, behind_for, clause_body, behind_case, clauses_at, switch_body, switch_tag, behind_switch, on_stmt, is_string, on_item, decls_at, imports_at, start}
+use Rattle.go_ast.proofs.Positions.{is_for}
 use Rattle.go_ast.proofs.Same.{are_same}
 use Rattle.go_ast.proofs.Base.{false_true, both_true}
 use Rattle.go_ast.proofs.Tokens.{string_is}

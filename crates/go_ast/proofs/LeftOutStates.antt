@@ -13,7 +13,8 @@ use Rattle.go_ast.specs.Operators.{unary_of, binary_of, assignment_of}
 use Rattle.go_ast.specs.Expected.{Expected, an_operand, a_value, a_type, a_declared_type, a_parameter_type, a_length, an_index, an_index_end, a_selected_name, an_element_end, a_field_end, a_result_end, a_statement, behind_a_jump, a_function_name, a_function_opening, an_import, an_import_path, another, is_left_out_at}
 use Rattle.go_ast.specs.Trees.{Name, TypeExpr, Expr, name, Simple, call_statement, conditional, no_else, If, Clauses}
 use Rattle.go_ast.specs.Grammar.{Lexeme, assign, opening, closing, opening_bracket, closing_bracket, opening_brace, closing_brace, comma, period, semicolon, colon, define, is_call}
-use Rattle.go_ast.specs.Machine.{ListKind, fields, arguments, elements, const_specs, var_specs, type_specs, import_specs, statements, parameters, results, Item, separator, closer, Position, in_list, State, ended, token, package_name, import_path, optional, newer, type, optional_type, expr, optional_expr, suffixes, operators, more_names, more_exprs, list_start, list_end, operands, lefts, else_part, clause_start, clause_end, import_end, decl_end, Move, Take, Fail, keyword, is_header, is_for, is_some, behind_left, step}
+use Rattle.go_ast.specs.Machine.{ListKind, fields, arguments, elements, const_specs, var_specs, type_specs, import_specs, statements, parameters, results, Item, separator, closer, Position, in_list, State, ended, token, package_name, import_path, optional, newer, type, optional_type, expr, optional_expr, suffixes, operators, more_names, more_exprs, list_start, list_end, operands, lefts, else_part, clause_start, clause_end, import_end, decl_end, Move, Take, Fail, keyword, is_header, is_some, behind_left, step}
+use Rattle.go_ast.proofs.Positions.{is_for}
 use Rattle.go_ast.proofs.Means.{is_level}
 
 -- what the last token was, as far as a label hangs on it; or what comes before a part that may be missing

@@ -11,7 +11,8 @@ use Rattle.go_ast.specs.Expected.{an_operand, a_value, another}
 use Rattle.go_ast.specs.Trees.{Name, BinaryOperator, Expr, Exprs, Simple, call_statement, increment, decrement, assignment, operator_assignment, short_var_decl, File, pack}
 use Rattle.go_ast.specs.Heights.{height, exprs_height, simple_height}
 use Rattle.go_ast.specs.Grammar.{Lexeme, Token, assign, comma, define, opening_brace, IsExpr, AreMoreExprs, AreExprs, is_call, is_short_var_decl}
-use Rattle.go_ast.specs.Machine.{Position, in_list, in_header, in_for, behind_turns, State, lefts, Move, Take, Fail, cond, keyword, is_some, name_if, names_if, may_define, is_header, is_for, short_var_decl_values, behind_define, on_define, on_assignment, on_lefts, on_left, behind_left, step}
+use Rattle.go_ast.specs.Machine.{Position, in_list, in_header, in_for, behind_turns, State, lefts, Move, Take, Fail, cond, keyword, is_some, name_if, names_if, may_define, is_header, short_var_decl_values, behind_define, on_define, on_assignment, on_lefts, on_left, behind_left, step}
+use Rattle.go_ast.proofs.Positions.{is_for}
 use Rattle.go_ast.proofs.Same.{are_same, is_same, not_same}
 use Rattle.go_ast.proofs.Means.{begins, continues, Continues, AllFit, Means, Okay, After}
 use Rattle.go_ast.proofs.Base.{false_true, both_true, after_cond, after_same, after_other, token_here, first_is, both_are, either_false}

@@ -10,7 +10,8 @@ use Rattle.go_ast.specs.Expected.{Expected, an_operand, a_value, another}
 use Rattle.go_ast.specs.Trees.{Name, BinaryOperator, Expr, name, no_exprs, some_exprs, Simple, call_statement, increment, decrement, assignment, operator_assignment, short_var_decl, File, pack}
 use Rattle.go_ast.specs.Heights.{height, simple_height}
 use Rattle.go_ast.specs.Grammar.{Lexeme, Token, assign, comma, define, period, opening, opening_bracket, opening_brace, AreMoreExprs, is_call}
-use Rattle.go_ast.specs.Machine.{Position, in_for, State, expr, lefts, Move, Fail, cond, is_some, names_if, may_define, is_header, is_for, short_var_decl_values, behind_define, on_define, on_assignment, on_lefts, on_left, behind_left, step}
+use Rattle.go_ast.specs.Machine.{Position, in_for, State, expr, lefts, Move, Fail, cond, is_some, names_if, may_define, is_header, short_var_decl_values, behind_define, on_define, on_assignment, on_lefts, on_left, behind_left, step}
+use Rattle.go_ast.proofs.Positions.{is_for}
 use Rattle.go_ast.proofs.Same.{are_same, is_same}
 use Rattle.go_ast.proofs.Means.{begins, continues, is_tail, Closes, Continues, Means, Okay, Good, Ends, EndsSimple, Kept}
 use Rattle.go_ast.proofs.Base.{false_true, either_true, left_true, right_true, both_true, kept_cond, token_here, first_is, both_are}

@@ -16,7 +16,8 @@ use Rattle.go_ast.specs.Expected.{is_left_out_at}
 use Rattle.go_ast.specs.Trees.{Name, BinaryOperator, TypeExpr, Expr, composite_lit, selector, index, cut, call, binary, Simple, call_statement, increment, decrement, assignment, operator_assignment, short_var_decl, Stmt, conditional, Else, no_else, Clauses, TopLevel, ImportSpec, File, place_of, pack, pack_stmts}
 use Rattle.go_ast.specs.Heights.{height, type_height, element_height, simple_height, const_height, var_height, type_spec_height, parameter_height, stmt_height, if_height, clauses_height, top_height}
 use Rattle.go_ast.specs.Grammar.{Lexeme, Token, name_of, assign, opening, closing, opening_bracket, closing_bracket, opening_brace, closing_brace, comma, period, semicolon, colon, define, Behind, AreItems, AreMoreNames, AreNames, IsType, IsExpr, IsBound, AreOperands, AreArguments, AreElements, IsKey, IsElement, AreMoreExprs, AreExprs, is_call, is_short_var_decl, type_place, IsConstSpec, IsVarSpec, IsTypeSpec, IsStmt, IsElse, AreStmts, AreClauses, is_last, IsParameter, IsImportSpec, AreImports, AreTopLevels, concat}
-use Rattle.go_ast.specs.Machine.{ListKind, fields, arguments, elements, const_specs, var_specs, type_specs, import_specs, statements, parameters, results, Item, separator, closer, Position, Clause, pack_clauses, State, ended, token, package_name, import_path, optional, newer, operands, type, optional_type, expr, optional_expr, suffixes, operators, more_names, more_exprs, list_start, list_end, lefts, else_part, clause_start, clause_end, import_end, decl_end, Move, Take, Fail, keyword, begins_type, begins_expr, literal_type, is_some, names_if, may_define, is_header, is_for, with_clause, file_of}
+use Rattle.go_ast.specs.Machine.{ListKind, fields, arguments, elements, const_specs, var_specs, type_specs, import_specs, statements, parameters, results, Item, separator, closer, Position, Clause, pack_clauses, State, ended, token, package_name, import_path, optional, newer, operands, type, optional_type, expr, optional_expr, suffixes, operators, more_names, more_exprs, list_start, list_end, lefts, else_part, clause_start, clause_end, import_end, decl_end, Move, Take, Fail, keyword, begins_type, begins_expr, literal_type, is_some, names_if, may_define, is_header, with_clause, file_of}
+use Rattle.go_ast.proofs.Positions.{is_for}
 
 -- the expression is a itself, and takes no tokens
 abbrev pub Itself : Expr → Expr → List Lexeme → List Lexeme → Type 0

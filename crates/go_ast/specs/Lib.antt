@@ -1,6 +1,7 @@
 pub mod Expected
 pub mod Grammar
 pub mod Heights
+pub mod Keyed
 pub mod Kinds
 pub mod LeftOut
 pub mod Literals

@@ -337,10 +337,6 @@ is_header in_header = true
 is_header in_for = true
 is_header _ = false
 
-abbrev pub is_for : Position → Bool
-is_for in_for = true
-is_for _ = false
-
 abbrev pub short_var_decl_values : Bool → ℕ → List Name → (Simple → State) → State
 short_var_decl_values h l ns next = expr 5 h l an_operand (λ e. more_exprs h l (e ∷ []) (λ es. next (short_var_decl ns (pack es))))
 

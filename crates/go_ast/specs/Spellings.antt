@@ -6,4 +6,4 @@ use Rattle.go_ast.specs.declared.spelling.Kept.TheVariants as kept
 -- the text that is kept, wherever it lies
 abbrev pub kept_bytes : Kept → List ℕ
 kept_bytes (kept.Short text) = text.bytes
-kept_bytes (kept.Long text) = string_bytes text
+kept_bytes (kept.Long text) = string_bytes text.value

@@ -1,5 +1,6 @@
 //! Types and expressions.
 
+use crate::key::Key;
 use crate::name::Name;
 use crate::spelling::Spelling;
 use go_text::place::Place;
@@ -132,7 +133,7 @@ pub enum Bound {
 #[derive(Drop)]
 pub struct Element {
     /// The field or the index that it is for, if it says so.
-    pub key: Option<Name>,
+    pub key: Key,
     /// Its value.
     pub value: ElementValue,
 }

@@ -4,6 +4,7 @@
 pub mod declaration;
 pub mod expression;
 pub mod file;
+pub mod key;
 pub mod law;
 pub mod name;
 pub mod parsed;

@@ -16,7 +16,7 @@ use std::sync::Arc;
 /// A source with the file that its text is in an edition of the language. Copies share source and file.
 #[derive(Drop)]
 pub struct Parsed {
-    source: Source,
+    source: Arc<Source>,
     edition: Edition,
     file: Arc<File>,
 }
@@ -28,17 +28,17 @@ impl Model for Parsed {
 
     ghost Value = { parses.Parsed };
 
-    ghost view = { λ a. record { name = a.source.name; text = a.source.text; edition = a.edition } };
+    ghost view = { λ a. record { name = (arc_value a.source).name; text = (arc_value a.source).text; edition = a.edition } };
 
-    ghost invariant = { λ a. parses.IsParse a.edition a.source.text (parses.Derived (file_of (arc_value a.file))) };
+    ghost invariant = { λ a. parses.IsParse a.edition (arc_value a.source).text (parses.Derived (file_of (arc_value a.file))) };
 }
 
 impl Parsed {
     /// A source with a file, which the caller knows to be the one that the source's text is in that edition.
-    pub fn of(source: Source, edition: Edition, file: Arc<File>) -> Parsed
-        requires { IsParse edition source.text (Derived (file_of (arc_value file))) }
-        ensures name { result.name ≡ source.name }
-        ensures text { result.text ≡ source.text }
+    pub fn of(source: Arc<Source>, edition: Edition, file: Arc<File>) -> Parsed
+        requires { IsParse edition (arc_value source).text (Derived (file_of (arc_value file))) }
+        ensures name { result.name ≡ (arc_value source).name }
+        ensures text { result.text ≡ (arc_value source).text }
         ensures edition { result.edition ≡ edition }
     {
         Parsed {
@@ -60,6 +60,14 @@ impl Parsed {
         ensures { result.now ≡ self.now.text }
     {
         self.source.text()
+    }
+
+    /// The source, which copies share.
+    pub fn source(&self) -> &Arc<Source>
+        ensures name { (arc_value result.now).name ≡ self.now.name }
+        ensures text { (arc_value result.now).text ≡ self.now.text }
+    {
+        &self.source
     }
 
     /// The edition of the language that the file is of.
@@ -88,7 +96,7 @@ impl Parsed {
     pub fn copy(&self) -> Result<Parsed, AllocError>
         ensures { IfOk result (λ copy. copy ≡ self.now) }
     {
-        let source = self.source.copy()?;
+        let source = Arc::try_clone(&self.source)?;
         let file = Arc::try_clone(&self.file)?;
         Ok(Parsed {
             source,

@@ -9,11 +9,11 @@ use std::marker::Model;
 /// How a text is kept. Most are short, and a block for each would take more time and room than the text.
 #[derive(Drop)]
 enum Kept {
-    Short(ArrayString<16>),
-    Long(String),
+    Short(ArrayString<8>),
+    Long(Box<String>),
 }
 
-/// The text of a name or of an integer literal. One of at most 16 bytes has no block of its own.
+/// The text of a name or of an integer literal. One of at most 8 bytes has no block of its own.
 #[derive(Drop)]
 pub struct Spelling {
     kept: Kept,
@@ -35,7 +35,10 @@ impl Spelling {
     {
         let kept = match ArrayString::from(text) {
             Ok(short) => Kept::Short(short),
-            Err(_) => Kept::Long(String::from_str(alloc, text)?),
+            Err(_) => {
+                let long = String::from_str(alloc, text)?;
+                Kept::Long(Box::new(alloc, long)?)
+            }
         };
         Ok(Spelling { kept })
     }

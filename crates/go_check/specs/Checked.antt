@@ -1,5 +1,5 @@
 -- What the files of a package come to, which may import the library fmt and other packages: a typed package, or its first fault.
-use Rattle.std.specs.Prelude.{◌≡◌, ℕ, codes, List, [], ◌∷◌, map, Some}
+use Rattle.std.specs.Prelude.{◌≡◌, ◌⊎◌, ◌↔◌, ℕ, codes, List, [], ◌∷◌, map, Some}
 use Rattle.std.specs.List.{slice_get}
 use Rattle.go_text.specs.Faults.{Fault}
 use Rattle.go_text.specs.declared.edition.Edition.{Edition}
@@ -8,6 +8,9 @@ use Rattle.go_ast.specs.Trees.{File}
 use Rattle.go_ast.specs.Parse.{Parsed, Derived, IsParse}
 use Rattle.go_typed.specs.Trees.{Package}
 use Rattle.go_expr.specs.Known.{library}
+use Rattle.go_export.specs.Summaries.{summary_of}
+use Rattle.go_import.specs.Names.{importable_by, importable_of}
+use Rattle.go_package.specs.Claims.{SomeOne}
 use Rattle.go_package.specs.Imports.{Importable}
 use Rattle.go_package.specs.Packages.{package_in, IsFaultOf}
 use Rattle.go_package.specs.Typed.{IsTypedIn}
@@ -40,3 +43,11 @@ pub record HaveFault (path : List ℕ) (files : List Parsed) (imports : List Imp
   pub number : ℕ
   pub name : slice_get (map (λ f. f.name) files) number ≡ Some fault.file
   pub is : IsFaultOf (edition_of files) path trees (fmt ∷ imports) (Some (number, (fault.place, fault.kind)))
+
+-- they are typed, or have a fault
+abbrev pub AreTypedOrFaulty : List ℕ → List Parsed → List Importable → Type 0
+AreTypedOrFaulty path files imports = SomeOne (AreTyped path files imports) ⊎ SomeOne (HaveFault path files imports)
+
+-- this holds by the summaries of packages where it holds by the packages themselves, and nowhere else
+abbrev pub HoldsBySummaries : List Package → (List Importable → Type 0) → Type 0
+HoldsBySummaries packages Holds = Holds (map importable_by (map summary_of packages)) ↔ Holds (map importable_of packages)

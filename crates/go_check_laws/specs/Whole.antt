@@ -6,7 +6,7 @@ use Rattle.go_text.specs.declared.edition.Edition.{Edition}
 use Rattle.go_ast.specs.Parse.{IsParse, Derived}
 use Rattle.go_ast.specs.Trees.{no_exprs, some_exprs, VarSpec, variables, TopLevel, declared, function, File}
 use Rattle.go_typed.specs.Trees as typed
-use Rattle.go_objects.specs.Objects.{Form, constant, type', typed_variable, valued_variable, result_variable, Object, objects_from}
+use Rattle.go_objects.specs.Objects.{Form, constant, type', typed_variable, valued_variable, result_variable, Object, objects_from, objects_of}
 use Rattle.go_objects.specs.Table.{own_names}
 use Rattle.go_package.specs.Typed.{own_name}
 
@@ -37,6 +37,10 @@ is_named o = not (bytes_eq o.name.text (codes "_"))
 -- all that files declare, in the order of the text, but the blank names
 abbrev pub declared_by : List File → List Object
 declared_by files = filter is_named (objects_from 0 files)
+
+-- the objects of files are all that these declare
+abbrev pub DropNothing : List File → Type 0
+DropNothing files = objects_of files ≡ declared_by files
 
 -- ---- declarations
 

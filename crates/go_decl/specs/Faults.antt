@@ -14,7 +14,7 @@ use Rattle.go_expr.specs.Known.{Names, Verdict, Fine, Scope}
 use Rattle.go_expr.specs.Rules.{fine, checked, least, constant_due, assigned, defaulted}
 use Rattle.go_expr.specs.Verdicts.{asked, both, asked_both, operand, verdict, broken, operands, type_verdict, type_faults, operands_faults}
 use Rattle.go_stmt.specs.Scopes.{Context}
-use Rattle.go_stmt.specs.Rules.{constants_of, variables_source}
+use Rattle.go_stmt.specs.Rules.{Values, constants_of, variables_source}
 use Rattle.go_stmt.specs.Statements.{values_known, values_faults}
 use Rattle.go_stmt.specs.Functions.{function_at}
 use Rattle.go_objects.specs.Objects as objects
@@ -125,6 +125,12 @@ constants_apart t file iota p s spec =
     apart t file p (is_some (both (written_type s spec.type) (operands s spec.values))) (in_written spec.type ++ in_exprs spec.values)
     (objects.constants_of file iota spec)
 
+-- the faults of a specification itself, by what is known of its type and its values
+abbrev pub constants_by : Facts → ℕ → ℕ → Place → ConstSpec → Option (Option Type') → Option (List Typed) → Faults
+constants_by t file iota p spec of values =
+    broken p (asked_both (constants_of spec.names) of values)
+    ++ apart t file p (is_some (both of values)) (in_written spec.type ++ in_exprs spec.values) (objects.constants_of file iota spec)
+
 -- a specification by what it means: its names, then its type and its values, then itself, at its first name
 abbrev pub constants_faults : Facts → ℕ → ℕ → Bool → ConstSpec → Faults
 constants_faults t file iota repeated spec = elim spec.names [
@@ -156,6 +162,12 @@ abbrev pub variables_apart : Facts → ℕ → Place → Scope → VarSpec → F
 variables_apart t file p s spec =
     apart t file p (is_some (both (written_type s spec.type) (values_known s spec.values))) (in_written spec.type ++ in_exprs spec.values)
     (variables_of file spec)
+
+-- the faults of a specification itself, by what is known of its type and its values
+abbrev pub variables_by : Facts → ℕ → Place → VarSpec → Option (Option Type') → Option Values → Faults
+variables_by t file p spec of values =
+    broken p (asked_both (variables_source spec.names) of values)
+    ++ apart t file p (is_some (both of values)) (in_written spec.type ++ in_exprs spec.values) (variables_of file spec)
 
 -- its names, then its type and its values, then itself, at its first name
 abbrev pub var_spec_faults : Facts → ℕ → VarSpec → Faults

@@ -1,18 +1,16 @@
 //! The faults of declarations of constants.
-ghost use Rattle.std.specs.Prelude.{◌≡◌, ◌++◌, [], map, is_some, None, Ok, IfOk};
+ghost use Rattle.std.specs.Prelude.{◌≡◌, [], map, is_some, None, Ok, IfOk};
 ghost use Rattle.std.specs.Option.{option_map};
 ghost use Rattle.go_ast.specs.Trees.{no_exprs};
 ghost use Rattle.go_ast.specs.Views.{const_of};
 ghost use Rattle.go_types.specs.Views.{type_of};
 ghost use Rattle.go_typed.specs.Views.{expr_of};
-ghost use Rattle.go_scope.specs.Names.{in_exprs};
 ghost use Rattle.go_expr.specs.Verdicts.{both, asked_both, broken, operands};
 ghost use Rattle.go_expr.specs.Seen.{scope_of, all_of, Fails};
 ghost use Rattle.go_stmt.specs.Rules.{constants_of};
 ghost use Rattle.go_objects.specs.Objects as objects;
 ghost use Rattle.go_objects.specs.Seen.{spec_of};
-ghost use Rattle.go_objects.specs.Table.{in_written};
-ghost use Rattle.go_decl.specs.Faults.{Faults, written_type, parts_faults, told_at, apart, constants_faults, group_faults};
+ghost use Rattle.go_decl.specs.Faults.{Faults, written_type, parts_faults, told_at, constants_by, constants_faults, group_faults};
 ghost use Rattle.go_decl.specs.Seen.{facts_of, Finds};
 
 use crate::apart::check_apart;
@@ -102,9 +100,8 @@ fn check_whole(
     spec: Spec<'_>,
     parts: Parts,
 ) -> Result<(), ExprError>
-    ensures { Finds result (broken place (asked_both (constants_of (spec_of spec.entry).names) (option_map (option_map type_of) parts.of) (option_map (all_of expr_of) parts.values))
-        ++ apart (facts_of facts.now) file place (is_some (both (option_map (option_map type_of) parts.of) (option_map (all_of expr_of) parts.values)))
-        (in_written (spec_of spec.entry).type ++ in_exprs (spec_of spec.entry).values) (objects.constants_of file iota (spec_of spec.entry))) }
+    ensures { Finds result (constants_by (facts_of facts.now) file iota place (spec_of spec.entry)
+        (option_map (option_map type_of) parts.of) (option_map (all_of expr_of) parts.values)) }
 {
     if parts.are_known() {
         return check_spec(alloc, place, spec.names, parts);

@@ -1,10 +1,9 @@
 //! The faults of declarations of variables.
-ghost use Rattle.std.specs.Prelude.{◌≡◌, ◌++◌, map, is_some, IfOk};
+ghost use Rattle.std.specs.Prelude.{◌≡◌, map, is_some, IfOk};
 ghost use Rattle.std.specs.List.{flat_map};
 ghost use Rattle.std.specs.Option.{option_map};
 ghost use Rattle.go_ast.specs.Views.{var_of, type_of as type_tree};
 ghost use Rattle.go_types.specs.Views.{type_of};
-ghost use Rattle.go_scope.specs.Names.{in_exprs};
 ghost use Rattle.go_expr.specs.Verdicts.{both, asked_both, broken};
 ghost use Rattle.go_expr.specs.Seen.{scope_of};
 ghost use Rattle.go_stmt.specs.Rules.{variables_source};
@@ -12,8 +11,7 @@ ghost use Rattle.go_stmt.specs.Statements.{values_known};
 ghost use Rattle.go_stmt.specs.Seen.{values_seen};
 ghost use Rattle.go_objects.specs.Objects.{variables_of};
 ghost use Rattle.go_objects.specs.Seen.{spec_of};
-ghost use Rattle.go_objects.specs.Table.{in_written};
-ghost use Rattle.go_decl.specs.Faults.{written_type, written_faults, var_parts_faults, apart, var_spec_faults};
+ghost use Rattle.go_decl.specs.Faults.{written_type, written_faults, var_parts_faults, variables_by, var_spec_faults};
 ghost use Rattle.go_decl.specs.Seen.{facts_of, Finds};
 
 use crate::apart::check_apart;
@@ -77,9 +75,8 @@ fn check_whole(
     spec: &VarSpec,
     parts: Parts,
 ) -> Result<(), ExprError>
-    ensures { Finds result (broken place (asked_both (variables_source (var_of spec.now).names) (option_map (option_map type_of) parts.of) (option_map values_seen parts.values))
-        ++ apart (facts_of facts.now) file place (is_some (both (option_map (option_map type_of) parts.of) (option_map values_seen parts.values)))
-        (in_written (var_of spec.now).type ++ in_exprs (var_of spec.now).values) (variables_of file (var_of spec.now))) }
+    ensures { Finds result (variables_by (facts_of facts.now) file place (var_of spec.now)
+        (option_map (option_map type_of) parts.of) (option_map values_seen parts.values)) }
 {
     if parts.are_known() {
         return check_source(alloc, place, &spec.names, parts);

@@ -20,7 +20,7 @@ use crate::node::{constant, elements as slice_elements, literal};
 use crate::selector::{field_named, is_visible, value_at};
 use crate::slice::slice_element;
 use crate::value::assigned;
-use go_ast::name::Name;
+use go_ast::key::Key;
 use go_const::constant::Const;
 use go_scope::name_index::NameIndex;
 use go_text::fault::FaultKind;
@@ -346,10 +346,10 @@ pub(crate) fn literal_of(
 }
 
 /// The text of a key, if there is one.
-pub(crate) fn key_text(key: &Option<Name>) -> Option<&str>
+pub(crate) fn key_text(key: &Key) -> Option<&str>
     ensures { option_map (λ k. k.now) result ≡ key_text key.now }
 {
-    match key {
+    match key.name() {
         Some(name) => Some(name.text()),
         None => None,
     }

@@ -24,7 +24,7 @@ use go_ast::expression::{
     Bound, Element as ElementExpr, ElementValue, Expr, ExprKind, Field as FieldExpr, TypeExpr,
     TypeKind,
 };
-use go_ast::name::Name;
+use go_ast::key::Key;
 use go_text::fault::FaultKind;
 use go_text::place::Place;
 use go_typed::expression::TypedExpr;
@@ -155,7 +155,7 @@ fn check_element(
 /// Adds an element with its key behind others, where all are known.
 fn with_element<'e>(
     all: Option<Vec<Element<'e>>>,
-    key: &'e Option<Name>,
+    key: &'e Key,
     value: Option<TypedExpr>,
 ) -> Result<Option<Vec<Element<'e>>>, AllocError>
     ensures { let own = option_map (λ e. (key_text key.now, e) ∷ []) (option_map expr_of value) in

@@ -1,3 +1,4 @@
+pub mod Claims
 pub mod Imports
 pub mod Packages
 pub mod Seen

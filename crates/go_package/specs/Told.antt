@@ -1,15 +1,25 @@
 -- What the answer about a package says.
-use Rattle.std.specs.Prelude.{ℕ, Option, Some, Result, Ok, Err}
+use Rattle.std.specs.Prelude.{ℕ, List, Option, Some, Result, Ok, Err}
+use Rattle.go_text.specs.declared.edition.Edition.{Edition}
 use Rattle.go_text.specs.declared.place.Place.{Place}
 use Rattle.go_text.specs.declared.fault.FaultKind.{FaultKind}
+use Rattle.go_ast.specs.Trees.{File}
 use Rattle.go_typed.specs.Trees.{Package}
 use Rattle.go_typed.specs.Views.{typed_of}
 use Rattle.go_typed.specs.declared.package.Typed.{Typed}
+use Rattle.go_objects.specs.Table as table
 use Rattle.go_decl.specs.declared.error.DeclError.{DeclError}
 use Rattle.go_decl.specs.declared.error.DeclError.TheVariants as errors
+use Rattle.go_package.specs.Imports.{Importable}
+use Rattle.go_package.specs.Packages.{IsFaultIn}
+use Rattle.go_package.specs.Typed.{IsTypedIn}
 
 -- Ok has the typed package, Faulty tells the first fault
 abbrev pub Types : Result Typed DeclError → (Package → Type 0) → (Option (ℕ × (Place × FaultKind)) → Type 0) → Type 0
 Types (Ok t) IsTyped IsFault = IsTyped (typed_of t)
 Types (Err (errors.Faulty file p kind)) IsTyped IsFault = IsFault (Some (file, (p, kind)))
 Types (Err errors.Memory) IsTyped IsFault = Unit {0}
+
+-- of these files and what they may import: their typed package, or the fault of theirs
+abbrev pub TypesIn : Edition → table.Package → List File → List Importable → List (List ℕ) → Result Typed DeclError → Type 0
+TypesIn edition p files ps names result = Types result (IsTypedIn edition p files ps names) (IsFaultIn p files ps)

@@ -24,7 +24,7 @@ use Rattle.go_objects.specs.Objects.{Object}
 use Rattle.go_objects.specs.Table.{Package, imports_at, is_hidden, scope_at}
 use Rattle.go_decl.specs.Faults.{Facts, written_type, context_at}
 use Rattle.go_package.specs.Imports.{Importable}
-use Rattle.go_package.specs.Packages.{AreFacts, package_faults}
+use Rattle.go_package.specs.Packages.{AreFacts, package_faults, package_in}
 
 -- ---- names of the package, in declaration order
 
@@ -164,3 +164,7 @@ pub record IsTypedIn (edition : Edition) (p : Package) (files : List File) (ps :
   pub are : AreFacts p facts
   pub none : package_faults ps facts files ≡ []
   pub is : t ≡ typed_package edition facts names files
+
+-- the typed package that some files at a path are
+abbrev pub IsTypedFrom : Edition → List ℕ → List File → List Importable → List (List ℕ) → typed.Package → Type 0
+IsTypedFrom edition path files ps = IsTypedIn edition (package_in edition path files ps) files ps

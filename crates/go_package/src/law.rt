@@ -1,5 +1,5 @@
 //! What holds of all packages.
-ghost use Rattle.std.specs.Prelude.{◌≡◌, ◌⊎◌, ◌<◌, ℕ, List, length, Option, Some, None};
+ghost use Rattle.std.specs.Prelude.{◌≡◌, ◌⊎◌, ◌<◌, ℕ, List, length, Some, None};
 ghost use Rattle.go_text.specs.declared.edition.Edition.{Edition};
 ghost use Rattle.go_text.specs.declared.place.Place.{Place};
 ghost use Rattle.go_text.specs.declared.fault.FaultKind.{FaultKind};
@@ -8,13 +8,14 @@ ghost use Rattle.go_typed.specs.Trees as typed;
 ghost use Rattle.go_objects.specs.Table.{Package};
 ghost use Rattle.go_decl.specs.Faults.{Facts};
 ghost use Rattle.go_package.specs.Imports.{Importable};
-ghost use Rattle.go_package.specs.Packages.{package_in, AreFacts, IsFaultOf};
-ghost use Rattle.go_package.specs.Typed.{IsTypedIn};
+ghost use Rattle.go_package.specs.Claims.{AtMostOne, OfAllFiles, SomeOne};
+ghost use Rattle.go_package.specs.Packages.{AreFacts, IsFaultOf};
+ghost use Rattle.go_package.specs.Typed.{IsTypedFrom};
 
 /// A package has one fault, or has none.
 pub fn law_one_fault()
-    ensures { (edition : Edition) (path : List ℕ) (files : List File) (ps : List Importable) (one other : Option (ℕ × (Place × FaultKind)))
-        → IsFaultOf edition path files ps one → IsFaultOf edition path files ps other → one ≡ other }
+    ensures { (edition : Edition) (path : List ℕ) (files : List File) (ps : List Importable)
+        → AtMostOne (IsFaultOf edition path files ps) }
 {}
 
 /// The fault of a package stands in one of its files.
@@ -30,22 +31,19 @@ pub fn law_some_facts()
 
 /// Each package has a first fault, or has none and is a typed package.
 pub fn law_some_fault()
-    ensures { (path : List ℕ) (files : List File) (ps : List Importable) (edition : Edition) (names : List (List ℕ))
-        → (fault : Option (ℕ × (Place × FaultKind))) × IsFaultOf edition path files ps fault
-        × (fault ≡ None → (t : typed.Package) × IsTypedIn edition (package_in edition path files ps) files ps names t) }
+    ensures { OfAllFiles (λ path files ps edition names. (fault : _) × IsFaultOf edition path files ps fault
+        × (fault ≡ None → SomeOne (IsTypedFrom edition path files ps names))) }
 {}
 
 /// A package with a fault isn't a typed package, and one without is.
 pub fn law_fault_or_typed()
-    ensures either { (path : List ℕ) (files : List File) (ps : List Importable) (edition : Edition) (names : List (List ℕ))
-        → ((fault : ℕ × (Place × FaultKind)) × IsFaultOf edition path files ps (Some fault))
-        ⊎ ((t : typed.Package) × IsTypedIn edition (package_in edition path files ps) files ps names t) }
-    ensures faultless { (path : List ℕ) (files : List File) (ps : List Importable) (edition : Edition) (names : List (List ℕ)) (t : typed.Package)
-        → IsTypedIn edition (package_in edition path files ps) files ps names t → IsFaultOf edition path files ps None }
+    ensures either { OfAllFiles (λ path files ps edition names. SomeOne (λ fault. IsFaultOf edition path files ps (Some fault))
+        ⊎ SomeOne (IsTypedFrom edition path files ps names)) }
+    ensures faultless { OfAllFiles (λ path files ps edition names. (t : typed.Package)
+        → IsTypedFrom edition path files ps names t → IsFaultOf edition path files ps None) }
 {}
 
 /// A package is one typed package.
 pub fn law_one_typed()
-    ensures { (path : List ℕ) (files : List File) (ps : List Importable) (edition : Edition) (names : List (List ℕ)) (one other : typed.Package)
-        → IsTypedIn edition (package_in edition path files ps) files ps names one → IsTypedIn edition (package_in edition path files ps) files ps names other → one ≡ other }
+    ensures { OfAllFiles (λ path files ps edition names. AtMostOne (IsTypedFrom edition path files ps names)) }
 {}

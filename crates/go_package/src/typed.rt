@@ -1,6 +1,6 @@
 //! The typed package of files that have no fault.
 //! [Packages](https://go.dev/ref/spec#Packages)
-ghost use Rattle.std.specs.Prelude.{◌≡◌, ℕ, [], map, Some, Err, IfOk};
+ghost use Rattle.std.specs.Prelude.{◌≡◌, ℕ, [], Some, Err, IfOk};
 ghost use Rattle.go_typed.specs.Views.{typed_of};
 ghost use Rattle.go_expr.specs.Seen.{names_of};
 ghost use Rattle.go_objects.specs.Table.{IsTable};
@@ -8,10 +8,10 @@ ghost use Rattle.go_objects.specs.Packages.{package_of};
 ghost use Rattle.go_decl.specs.Faults.{files_faults};
 ghost use Rattle.go_decl.specs.Seen.{facts_of};
 ghost use Rattle.go_decl.specs.declared.error.DeclError.TheVariants as errors;
-ghost use Rattle.go_package.specs.Packages.{package_in, IsFaultIn, IsFaultOf};
+ghost use Rattle.go_package.specs.Packages.{package_in, IsFaultOf};
 ghost use Rattle.go_package.specs.Seen.{files_of, importables_of, texts_of};
 ghost use Rattle.go_package.specs.Typed.{package_name, typed_package, IsTypedIn};
-ghost use Rattle.go_package.specs.Told.{Types};
+ghost use Rattle.go_package.specs.Told.{TypesIn};
 
 use crate::check::{check_facts, package_of};
 use crate::functions::functions_in;
@@ -96,8 +96,7 @@ fn typed_in<'a>(
     names: &[&str],
     files: &[&'a File],
 ) -> Result<Typed, DeclError>
-    ensures { Types result (IsTypedIn edition (package_of «package».now) (files_of files.now) (importables_of packages.now.all.now) (texts_of names.now))
-        (IsFaultIn (package_of «package».now) (files_of files.now) (importables_of packages.now.all.now)) }
+    ensures { TypesIn edition (package_of «package».now) (files_of files.now) (importables_of packages.now.all.now) (texts_of names.now) result }
 {
     let known = table(alloc, package)?;
     typed_by(alloc, packages, package, &known, edition, names, files)
@@ -113,8 +112,7 @@ fn typed_by<'a>(
     files: &[&'a File],
 ) -> Result<Typed, DeclError>
     requires { IsTable (package_of «package».now) (names_of known.now) }
-    ensures { Types result (IsTypedIn edition (package_of «package».now) (files_of files.now) (importables_of packages.now.all.now) (texts_of names.now))
-        (IsFaultIn (package_of «package».now) (files_of files.now) (importables_of packages.now.all.now)) }
+    ensures { TypesIn edition (package_of «package».now) (files_of files.now) (importables_of packages.now.all.now) (texts_of names.now) result }
 {
     let facts = Facts::new(alloc, package, known)?;
     check_facts(alloc, packages, &facts, files)?;

@@ -12,7 +12,7 @@ use Rattle.go_typed.specs.Trees.{Expr, constant, expr_type}
 use Rattle.go_meaning_laws.specs.WellTyped.{Setting, is_bool, Converts, IsExpr}
 use Rattle.go_expr.specs.Known.{Verdict, Fine, Breaks, Passed}
 use Rattle.go_expr.specs.Rules.{constant_in, int_kind, in_kind, lies_in, as_type, assigned, default_type, defaulted}
-use Rattle.go_package_laws.specs.Soundness.{Table, HasSoundWay, IsSoundType, is_of_kind, IsUntypedConstant, IsSoundValue}
+use Rattle.go_package_laws.proofs.Soundness.{Table, HasSoundWay, IsSoundType, is_of_kind, IsUntypedConstant, IsSoundValue}
 use Rattle.go_package_laws.proofs.Types.{identical_same, untyped_bool, not_identical_to, assignable_suits, untyped_fits, fits_truth}
 use Rattle.go_package_laws.proofs.Constants.{IsConstantOf, is_constant_of, same_constant, fit_constant, typed_constant, constant_typed}
 

@@ -24,7 +24,7 @@ use Rattle.go_meaning_laws.specs.WellTyped.{Setting, is_integer, is_string, is_s
 use Rattle.go_expr.specs.Known.{Verdict, Fine, Breaks, Passed}
 use Rattle.go_expr.specs.Rules as rules
 use Rattle.go_expr.specs.Rules.{checked, constant_in, int_kind, lies_in, as_type, takes, common, is_defined, result_type, operation, divides_by_zero, operated, operand_type, combined}
-use Rattle.go_package_laws.specs.Soundness.{Table, IsSoundType, is_of_kind, HasSoundWay, IsSoundValue}
+use Rattle.go_package_laws.proofs.Soundness.{Table, IsSoundType, is_of_kind, HasSoundWay, IsSoundValue}
 use Rattle.go_package_laws.proofs.Types.{untyped_bool, no_untyped, not_assignable, assignable_itself}
 use Rattle.go_package_laws.proofs.Constants.{IsConstantOf, IsEither, two_operands}
 use Rattle.go_package_laws.proofs.Assigned.{Gives, IsOperandType, some_same, none_some, kind_of, value_type, GoodAs, good_as}

@@ -22,7 +22,7 @@ use Rattle.go_scope.specs.Scopes.{is_blank}
 use Rattle.go_stmt.specs.Scopes.{Env, Context, scope_in, enter, own, number_of, declare_new, Checked, still, given, follow, single, node, inside, perhaps}
 use Rattle.go_stmt.specs.Rules.{Values, returned, conditional, looped, ranged, Clause, case_value, clause_of, switched, branch}
 use Rattle.go_stmt.specs.Statements.{value_at, values_at, declaration_at, simple_at, optional_at, condition_at, in_block, in_loop, in_clause, before_others, leads_on, is_last, tag_at, cases_at, clause_at, range_type, range_names, range_number, is_hidden, statement_at, if_at, else_at, block_at, list_at, clauses_at}
-use Rattle.go_package_laws.specs.Soundness.{Table, IsSoundType, AreSoundTypes, IsSoundValue}
+use Rattle.go_package_laws.proofs.Soundness.{Table, IsSoundType, AreSoundTypes, IsSoundValue}
 use Rattle.go_package_laws.proofs.Texts.{HasTexts, HaveTexts}
 use Rattle.go_package_laws.proofs.BodyTexts.{MayHaveTexts, CasesHaveTexts, FirstHasTexts, IsPost, StmtHasTexts, StmtsHaveTexts, BlockHasTexts, IfHasTexts, ElseHasTexts, ClausesHaveTexts}
 use Rattle.go_package_laws.proofs.Expected.{Expected}

@@ -11,7 +11,7 @@ use Rattle.go_meaning_laws.specs.WellTyped.{Setting, is_string, exprs_types, IsC
 use Rattle.go_expr.specs.Known.{value, type', function, println, length', capacity', make', append', panic', Known, declared, package', results, printed, panicked, Verdict, Fine, Breaks, Passed}
 use Rattle.go_expr.specs.Rules as rules
 use Rattle.go_expr.specs.Rules.{fine, checked, valued, wrong, each_unless, lies_in, as_type, assigned, default_type, defaulted, value_due, string, converted, length_of, capacity_of, appended, one, function_call, printable, called}
-use Rattle.go_package_laws.specs.Soundness.{Table, AreSoundTypes, IsSoundValue, IsSoundDeclared}
+use Rattle.go_package_laws.proofs.Soundness.{Table, AreSoundTypes, IsSoundValue, IsSoundDeclared}
 use Rattle.go_package_laws.proofs.SoundNames.{IsSoundKnown}
 use Rattle.go_package_laws.proofs.Assigned.{Gives, GoodAs, assigned_gives, defaulted_gives}
 use Rattle.go_package_laws.proofs.Operators.{converted_gives}

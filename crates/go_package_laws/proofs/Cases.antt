@@ -22,7 +22,7 @@ use Rattle.go_expr.specs.Known.{Scope, Verdict, Fine, Breaks, Passed}
 use Rattle.go_expr.specs.Rules.{fine, checked, wrong, each_unless, as_type, assigned, lies_in, takes, common, is_defined, operand_type}
 use Rattle.go_expr.specs.Verdicts.{operand, operands, verdict, joined}
 use Rattle.go_stmt.specs.Rules.{case_value}
-use Rattle.go_package_laws.specs.Soundness.{Table, IsSoundType, IsSoundValue}
+use Rattle.go_package_laws.proofs.Soundness.{Table, IsSoundType, IsSoundValue}
 use Rattle.go_package_laws.proofs.SoundNames.{IsSoundScope}
 use Rattle.go_package_laws.proofs.Texts.{HaveTexts}
 use Rattle.go_package_laws.proofs.Expected.{Expected}

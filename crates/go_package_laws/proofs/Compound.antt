@@ -12,7 +12,7 @@ use Rattle.go_expr.specs.Rules as rules
 use Rattle.go_expr.specs.Rules.{checked, condition, default_type, defaulted, each_unless}
 use Rattle.go_expr.specs.Verdicts.{asked}
 use Rattle.go_stmt.specs.Rules.{Values, suited, returned, conditional, loop_condition, looped, ranged, Clause, case_value, clause_of, switched, branch}
-use Rattle.go_package_laws.specs.Soundness.{Table, IsSoundType, AreSoundTypes, IsSoundValue}
+use Rattle.go_package_laws.proofs.Soundness.{Table, IsSoundType, AreSoundTypes, IsSoundValue}
 use Rattle.go_package_laws.proofs.Expected.{Expected}
 use Rattle.go_package_laws.proofs.Values.{checked_part, own_types, AreDue, SoundDue, AreSoundValues, AllSoundValues, sound_suited}
 use Rattle.go_package_laws.proofs.Lists.{behind, AreList, behind_more, more_stmts}

@@ -31,7 +31,7 @@ use Rattle.go_meaning.specs.Values.{single, is_of, is_basic}
 use Rattle.go_meaning.specs.Choices.{cell_of}
 use Rattle.go_meaning_laws.specs.WellTyped.{is_typed, is_text, is_sound_cell, IsConstant}
 use Rattle.go_expr.specs.Rules.{int_kind, in_kind, result_type}
-use Rattle.go_package_laws.specs.Soundness.{Table, IsSoundType, is_of_kind}
+use Rattle.go_package_laws.proofs.Soundness.{Table, IsSoundType, is_of_kind}
 use Rattle.go_package_laws.proofs.Types.{sound_underlying}
 
 -- a constant is one of a basic type

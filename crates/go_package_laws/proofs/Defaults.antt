@@ -8,7 +8,7 @@ use Rattle.go_types.specs.Relations.{underlying}
 use Rattle.go_meaning_laws.specs.WellTyped.{is_bool, is_integer, is_string}
 use Rattle.go_expr.specs.Rules as rules
 use Rattle.go_expr.specs.Rules.{default_type, is_untyped}
-use Rattle.go_package_laws.specs.Soundness.{Table, IsSoundType}
+use Rattle.go_package_laws.proofs.Soundness.{Table, IsSoundType}
 use Rattle.go_package_laws.proofs.Types.{sound_underlying}
 
 abbrev integer_below : Type' → Bool

@@ -14,7 +14,7 @@ use Rattle.go_expr.specs.Known.{Declared, type', Names, Known, declared, package
 use Rattle.go_expr.specs.Seen.{iota_of}
 use Rattle.go_objects.specs.Table.{Package, imports_at, scope_at}
 use Rattle.go_meaning_laws.specs.WellTyped.{Setting, is_typed}
-use Rattle.go_package_laws.specs.Soundness.{Table, IsSoundDeclared, AreSoundNames}
+use Rattle.go_package_laws.proofs.Soundness.{Table, IsSoundDeclared, AreSoundNames}
 use Rattle.go_package_laws.proofs.SoundNames.{IsSoundKnown, IsSoundScope}
 
 abbrev Entries : Type 0

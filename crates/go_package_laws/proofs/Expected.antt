@@ -13,7 +13,7 @@ use Rattle.go_expr.specs.Known.{Known, Scope, Fine}
 use Rattle.go_expr.specs.Rules.{assigned, default_type, defaulted, condition, value_due, binary_of}
 use Rattle.go_expr.specs.Verdicts.{operand, verdict, type_verdict}
 use Rattle.go_meaning_laws.specs.WellTyped.{Setting, IsWhole, IsExpr, IsCondition}
-use Rattle.go_package_laws.specs.Soundness.{Table, IsSoundType, HasSoundWay, IsTypedValue, IsSoundValue}
+use Rattle.go_package_laws.proofs.Soundness.{Table, IsSoundType, HasSoundWay, IsTypedValue, IsSoundValue}
 use Rattle.go_package_laws.proofs.SoundNames.{IsSoundKnown, IsSoundScope}
 use Rattle.go_package_laws.proofs.Texts.{HasTexts, TypeHasTexts}
 

@@ -20,7 +20,7 @@ use Rattle.go_objects.specs.Objects as forms
 use Rattle.go_objects.specs.Objects.{Form, Object}
 use Rattle.go_objects.specs.Table.{value_of, named_type, result_type, variable, types_known, parameters_known, parameter_names, form_verdict, declared_in}
 use Rattle.go_meaning_laws.specs.WellTyped.{Setting, IsCall}
-use Rattle.go_package_laws.specs.Soundness.{Table, IsNamed, IsSoundType, AreSoundTypes, IsTypedValue, IsSoundValue, IsSoundDeclared}
+use Rattle.go_package_laws.proofs.Soundness.{Table, IsNamed, IsSoundType, AreSoundTypes, IsTypedValue, IsSoundValue, IsSoundDeclared}
 use Rattle.go_package_laws.proofs.SoundNames.{IsSoundScope}
 use Rattle.go_package_laws.proofs.Texts.{HasTexts, TypeHasTexts}
 use Rattle.go_package_laws.proofs.BodyTexts.{WrittenHasTexts, ParametersHaveTexts, ResultsHaveTexts}

@@ -19,7 +19,7 @@ use Rattle.go_stmt.specs.Scopes.{Env, Context, nothing, scope_in, declare_variab
 use Rattle.go_stmt.specs.Rules.{all_some, ended}
 use Rattle.go_stmt.specs.Statements.{list_at}
 use Rattle.go_stmt.specs.Functions.{declare_parameters, type_at, parameter_at, parameters_at, results_at, body_at, function_of, function_at}
-use Rattle.go_package_laws.specs.Soundness.{Table, IsSoundType, AreSoundTypes}
+use Rattle.go_package_laws.proofs.Soundness.{Table, IsSoundType, AreSoundTypes}
 use Rattle.go_package_laws.proofs.Texts.{TypeHasTexts}
 use Rattle.go_package_laws.proofs.BodyTexts.{ParametersHaveTexts, ResultsHaveTexts, FunctionHasTexts, BlockHasTexts}
 use Rattle.go_package_laws.proofs.Expected.{Expected}

@@ -19,7 +19,7 @@ use Rattle.go_stmt.specs.Scopes.{Env, Context, scope_in, paired, declare, Checke
 use Rattle.go_stmt.specs.Rules.{all_some, is_constant, constants_source, constants_of}
 use Rattle.go_scope.specs.Specifications.{meant, is_repeated}
 use Rattle.go_stmt.specs.Statements.{each_of, operands_faults, names_at, written_at, place_at, declared_as, constant_in, declare_constants, told_at, constants_at, group_at, declaration_at, one_block}
-use Rattle.go_package_laws.specs.Soundness.{Table, IsSoundType, IsUntypedConstant, IsSoundValue}
+use Rattle.go_package_laws.proofs.Soundness.{Table, IsSoundType, IsUntypedConstant, IsSoundValue}
 use Rattle.go_package_laws.proofs.SoundNames.{IsSoundScope}
 use Rattle.go_package_laws.proofs.Texts.{HasTexts, HaveTexts, TypeHasTexts}
 use Rattle.go_package_laws.proofs.BodyTexts.{WrittenHasTexts, ConstantsHaveTexts, DeclHasTexts}

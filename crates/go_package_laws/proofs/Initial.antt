@@ -31,7 +31,7 @@ use Rattle.go_decl.specs.Faults.{Facts, Faults, written_type, is_declared_by, na
 use Rattle.go_package.specs.Typed.{own_name, alone, each_alone, together, initializations_by, spec_initializations, top_initializations, of_files, typed_package}
 use Rattle.go_check_laws.specs.Finds.{IsKnown, AreKnown}
 use Rattle.go_meaning_laws.specs.WellTyped.{Suits, IsSource, AreExprs, exprs_types, source_types, AreGiven, IsStart, variable_at, outside}
-use Rattle.go_package_laws.specs.Soundness.{Table}
+use Rattle.go_package_laws.proofs.Soundness.{Table}
 use Rattle.go_package_laws.proofs.SoundNames.{IsSoundScope}
 use Rattle.go_package_laws.proofs.Texts.{HaveTexts}
 use Rattle.go_package_laws.proofs.BodyTexts.{WrittenHasTexts, VariablesHaveTexts}

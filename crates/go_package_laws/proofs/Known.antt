@@ -9,7 +9,7 @@ use Rattle.go_meaning_laws.specs.WellTyped.{Setting, IsExpr, IsCondition}
 use Rattle.go_expr.specs.Known.{Known, Fine, Scope}
 use Rattle.go_expr.specs.Rules.{assigned, default_type, defaulted, condition, value_due, converted, unary_of, binary_of, called}
 use Rattle.go_expr.specs.Verdicts.{operand, verdict, type_verdict}
-use Rattle.go_package_laws.specs.Soundness.{Table, IsSoundType, HasSoundWay, IsTypedValue, IsSoundValue}
+use Rattle.go_package_laws.proofs.Soundness.{Table, IsSoundType, HasSoundWay, IsTypedValue, IsSoundValue}
 use Rattle.go_package_laws.proofs.SoundNames.{IsSoundKnown, IsSoundScope}
 use Rattle.go_package_laws.proofs.Texts.{HasTexts, TypeHasTexts}
 use Rattle.go_package_laws.proofs.Assigned.{GoodAs, value_type, default_sound, assigned_gives, defaulted_gives}

@@ -11,7 +11,7 @@ use Rattle.go_expr.specs.Rules.{fine}
 use Rattle.go_expr.specs.Verdicts.{type_verdict}
 use Rattle.go_stmt.specs.Scopes.{Env, Context, scope_in}
 use Rattle.go_stmt.specs.Statements.{value_at, values_at, written_at, condition_at}
-use Rattle.go_package_laws.specs.Soundness.{Table, IsSoundType, IsSoundValue}
+use Rattle.go_package_laws.proofs.Soundness.{Table, IsSoundType, IsSoundValue}
 use Rattle.go_package_laws.proofs.SoundNames.{IsSoundScope}
 use Rattle.go_package_laws.proofs.Texts.{HasTexts, HaveTexts}
 use Rattle.go_package_laws.proofs.BodyTexts.{WrittenHasTexts, MayHaveTexts}

@@ -22,7 +22,7 @@ use Rattle.go_expr.specs.Known.{Fine, Breaks}
 use Rattle.go_expr.specs.Rules as rules
 use Rattle.go_expr.specs.Rules.{slice_element, checked}
 use Rattle.go_stmt.specs.Rules.{all_some, Values, suited, is_array, left_to, left_side, assigned_to, updating, stepped}
-use Rattle.go_package_laws.specs.Soundness.{Table, IsSoundType, HasSoundWay, IsTypedValue, is_operation, IsSoundValue}
+use Rattle.go_package_laws.proofs.Soundness.{Table, IsSoundType, HasSoundWay, IsTypedValue, is_operation, IsSoundValue}
 use Rattle.go_package_laws.proofs.Expected.{Expected}
 use Rattle.go_package_laws.proofs.Related.{SoundLocals}
 use Rattle.go_package_laws.proofs.Values.{checked_part, some_part, own_types, AreDue, SoundDue, AreSoundValues, sound_suited, sound_under}

@@ -56,6 +56,7 @@ pub mod Signed
 pub mod Simples
 pub mod Slices
 pub mod Sound
+pub mod Soundness
 pub mod SoundNames
 pub mod Spelled
 pub mod Strings

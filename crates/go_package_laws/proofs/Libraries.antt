@@ -7,7 +7,7 @@ use Rattle.go_expr.specs.Known.{Declared, println, Names, library}
 use Rattle.go_package.specs.Imports.{Importable}
 use Rattle.go_check_laws.specs.Finds.{AreWhole}
 use Rattle.go_meaning_laws.specs.WellTyped.{Setting}
-use Rattle.go_package_laws.specs.Soundness.{Table, IsSoundDeclared, AreSoundNames}
+use Rattle.go_package_laws.proofs.Soundness.{Table, IsSoundDeclared, AreSoundNames}
 use Rattle.go_package_laws.specs.Packages.{AreLibraries}
 
 only_println : (x : List ℕ) (k : Option Declared) → lookup (bytes_eq x) library ≡ Some k → k ≡ Some println

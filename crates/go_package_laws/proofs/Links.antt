@@ -22,7 +22,7 @@ use Rattle.go_check_laws.specs.Finds.{IsKnown, AreKnown}
 use Rattle.go_check_laws.specs.Locals.{IsLocalBlock}
 use Rattle.go_check_laws.proofs.Apart.{AreApart}
 use Rattle.go_meaning_laws.specs.WellTyped.{Signature, Setting, signature_at, variable_at}
-use Rattle.go_package_laws.specs.Soundness.{Table}
+use Rattle.go_package_laws.proofs.Soundness.{Table}
 use Rattle.go_package_laws.proofs.DeclaredTexts.{FilesHaveTexts}
 use Rattle.go_package_laws.proofs.Forms.{Shape, IsNamedFor, IsWellNamed, IsLinked, function_parts, shaped}
 use Rattle.go_package_laws.proofs.Tables.{Told, entry_is, object_of}

@@ -14,7 +14,7 @@ use Rattle.go_meaning.specs.Meaning.{Stored}
 use Rattle.go_meaning.specs.Programs.{symbol_of, package_functions, first_variables}
 use Rattle.go_meaning.specs.Programs as meaning
 use Rattle.go_meaning_laws.specs.WellTyped.{signature_at, variable_at}
-use Rattle.go_package_laws.specs.Soundness.{Table}
+use Rattle.go_package_laws.proofs.Soundness.{Table}
 use Rattle.go_package_laws.specs.Packages.{AreCheckedBehind}
 use Rattle.go_package_laws.proofs.Once.{itself, stored}
 use Rattle.go_package_laws.proofs.Links.{declared_as, HasTypes}

@@ -3,7 +3,7 @@ use Rattle.std.proofs.Common.{◌≡◌, ℕ, List, [], ◌∷◌, ◌++◌, ref
 use Rattle.go_typed.specs.Trees.{Stmt, pack_stmts}
 use Rattle.go_meaning_laws.specs.WellTyped.{Setting, after, after_all, IsStmt, AreStmts}
 use Rattle.go_stmt.specs.Scopes.{Env, Checked, given, follow, single, appended}
-use Rattle.go_package_laws.specs.Soundness.{Table}
+use Rattle.go_package_laws.proofs.Soundness.{Table}
 use Rattle.go_package_laws.proofs.Related.{Related, grows_none, Sure, sure_follow, sure_seen}
 
 pub behind_more : (d : List ℕ) (ss ts : List Stmt) → after_all d (pack_stmts (ss ++ ts)) ≡ after_all (after_all d (pack_stmts ss)) (pack_stmts ts)

@@ -20,7 +20,7 @@ use Rattle.go_meaning.specs.Meaning.{most_cells}
 use Rattle.go_meaning_laws.specs.WellTyped.{Setting, part_type, IsExpr, AreElements, AreParts}
 use Rattle.go_expr.specs.Known.{type', Known, declared, Verdict, Fine, Breaks, Passed}
 use Rattle.go_expr.specs.Rules.{fine, constant_in, lesser, least, when, wrong, each_unless, numbered, checked, type_due, is_small, array_of, slice_of, slice_element, FieldList, declared_field, field_names, packed, differ, listed, struct_of, assigned, ElementList, field_named, any_keyed, field_slot, keyed_slot, element_part, parts_by, array_parts, slice_parts, is_counted, struct_faults, struct_slot, struct_parts, parts_of, literal_of, Due, taken, written, nothing, element_due, due_type, untyped_literal}
-use Rattle.go_package_laws.specs.Soundness.{Table, IsNamedField, IsSoundType, AreSoundFields, IsSoundValue}
+use Rattle.go_package_laws.proofs.Soundness.{Table, IsNamedField, IsSoundType, AreSoundFields, IsSoundValue}
 use Rattle.go_package_laws.proofs.SoundNames.{IsSoundKnown}
 use Rattle.go_package_laws.proofs.Texts.{AreWords}
 use Rattle.go_package_laws.proofs.Types.{whole_type, sound_underlying}

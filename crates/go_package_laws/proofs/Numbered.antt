@@ -14,7 +14,7 @@ use Rattle.go_meaning_laws.specs.WellTyped.{Setting, has, numbers, Suits, AreNew
 use Rattle.go_expr.specs.Known.{Declared, value, Known, declared, Verdict, Fine, named, look_up}
 use Rattle.go_scope.specs.Scopes.{is_blank}
 use Rattle.go_stmt.specs.Scopes.{Env, Context, scope_in, own, number_of, declare_variable, paired, declare_new}
-use Rattle.go_package_laws.specs.Soundness.{Table, IsSoundType}
+use Rattle.go_package_laws.proofs.Soundness.{Table, IsSoundType}
 use Rattle.go_package_laws.proofs.SoundNames.{IsSoundKnown, IsSoundScope}
 use Rattle.go_package_laws.proofs.Related.{SoundLocals, IsSoundName, AllSound, BlocksSound, Related, Lies, Grows, grows_none, grows_on, lies_before, Covers, has_behind, all_sound_covers, blocks_cover}
 

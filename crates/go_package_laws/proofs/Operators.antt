@@ -16,7 +16,7 @@ use Rattle.go_meaning_laws.specs.WellTyped.{Setting, is_bool, is_integer, is_str
 use Rattle.go_expr.specs.Known.{Verdict, Fine, Breaks, Passed}
 use Rattle.go_expr.specs.Rules as rules
 use Rattle.go_expr.specs.Rules.{given, constant_in, int_kind, in_kind, lies_in, default_type, defaulted, condition, converted, operator_of, is_operand, unary_of}
-use Rattle.go_package_laws.specs.Soundness.{Table, IsSoundType, HasSoundWay, is_operation, IsSoundValue}
+use Rattle.go_package_laws.proofs.Soundness.{Table, IsSoundType, HasSoundWay, is_operation, IsSoundValue}
 use Rattle.go_package_laws.proofs.Types.{untyped_bool, convertible_same, both_integers, untyped_converts, fits_truth}
 use Rattle.go_package_laws.proofs.Constants.{IsConstantOf, Given, one_operand, same_constant, integer_constant, fit_constant}
 use Rattle.go_package_laws.proofs.Assigned.{Gives, IsOperandType, some_none, some_same, none_some, value_constant, constant_value, kind_of, value_type, sound_default, GoodAs, defaulted_gives, converts_truth}

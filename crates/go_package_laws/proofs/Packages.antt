@@ -33,7 +33,7 @@ use Rattle.go_package.specs.Packages.{main_faults}
 use Rattle.go_scope.specs.Scopes.{is_blank}
 use Rattle.go_package.specs.Typed.{variable_in, variables_in, constants_in, types_in, declared_at, top_functions, of_files, package_name, typed_package}
 use Rattle.go_meaning_laws.specs.WellTyped.{Signature, Setting, IsFunction, IsStart, signature_at, variable_at, outside}
-use Rattle.go_package_laws.specs.Soundness.{Table, IsSoundType, AreSoundTypes, IsSoundDeclared, AreSoundNames}
+use Rattle.go_package_laws.proofs.Soundness.{Table, IsSoundType, AreSoundTypes, IsSoundDeclared, AreSoundNames}
 use Rattle.go_package_laws.proofs.SoundNames.{IsSoundScope}
 use Rattle.go_package_laws.proofs.BodyTexts.{FunctionHasTexts}
 use Rattle.go_package_laws.proofs.DeclaredTexts.{TopsHaveTexts, FilesHaveTexts}

@@ -24,7 +24,7 @@ use Rattle.go_import.specs.Names.{declared_as, names_by, importable_of}
 use Rattle.go_check_laws.specs.Finds.{AreWhole}
 use Rattle.go_check_laws.proofs.Apart.{parsed_apart}
 use Rattle.go_meaning_laws.specs.WellTyped.{Setting, IsFunction, IsStart, IsWellTyped}
-use Rattle.go_package_laws.specs.Soundness.{Table, IsSoundType}
+use Rattle.go_package_laws.proofs.Soundness.{Table, IsSoundType}
 use Rattle.go_package_laws.specs.Packages.{AreLibraries, IsChecked, AreCheckedBehind, AreChecked, IsNamedMain}
 use Rattle.go_package_laws.proofs.Types.{whole_type}
 use Rattle.go_package_laws.proofs.Forms.{mapped_is}

@@ -13,7 +13,7 @@ use Rattle.go_expr.specs.Rules.{fine}
 use Rattle.go_expr.specs.Verdicts.{asked, both, broken}
 use Rattle.go_scope.specs.Scopes.{is_blank}
 use Rattle.go_stmt.specs.Scopes.{Env, enter, leave, Checked, given, follow, seen, node, inside}
-use Rattle.go_package_laws.specs.Soundness.{Table, IsSoundType, IsUntypedConstant}
+use Rattle.go_package_laws.proofs.Soundness.{Table, IsSoundType, IsUntypedConstant}
 
 abbrev Faults : Type 0
 Faults = List (Place × FaultKind)

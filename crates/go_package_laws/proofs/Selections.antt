@@ -21,7 +21,7 @@ use Rattle.go_meaning_laws.specs.WellTyped.{Setting, int, byte, is_text, is_inte
 use Rattle.go_expr.specs.Known.{Fine, Breaks}
 use Rattle.go_expr.specs.Rules as rules
 use Rattle.go_expr.specs.Rules.{constant_in, int_kind, in_kind, lies_in, default_type, settled, defaulted, numbered, listed, field_named, fields_of, is_visible, field_of, known_length, is_within, index_of, holds_call, length_in, length_of, capacity_of}
-use Rattle.go_package_laws.specs.Soundness.{Table, IsSoundType, AreSoundFields, is_of_kind, IsTypedValue, IsSoundValue}
+use Rattle.go_package_laws.proofs.Soundness.{Table, IsSoundType, AreSoundFields, is_of_kind, IsTypedValue, IsSoundValue}
 use Rattle.go_package_laws.proofs.Types.{sound_underlying, assignable_itself}
 use Rattle.go_package_laws.proofs.Constants.{text_is}
 use Rattle.go_package_laws.proofs.Assigned.{Gives, IsOperandType, some_same, none_some, constant_value, value_type, default_sound, sound_default, GoodAs, good_as, defaulted_gives}

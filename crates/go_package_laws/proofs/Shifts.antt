@@ -24,7 +24,7 @@ use Rattle.go_meaning_laws.specs.WellTyped.{Setting, is_integer, IsExpr}
 use Rattle.go_expr.specs.Known.{Fine, Breaks}
 use Rattle.go_expr.specs.Rules as rules
 use Rattle.go_expr.specs.Rules.{constant_in, int_kind, is_untyped, lies_in, as_type, uint, counted_by, shift_of, shifted, binary_of}
-use Rattle.go_package_laws.specs.Soundness.{Table, IsSoundType, HasSoundWay, IsSoundValue}
+use Rattle.go_package_laws.proofs.Soundness.{Table, IsSoundType, HasSoundWay, IsSoundValue}
 use Rattle.go_package_laws.proofs.Types.{untyped_bool}
 use Rattle.go_package_laws.proofs.Constants.{shift_operands}
 use Rattle.go_package_laws.proofs.Assigned.{Gives, some_none, GoodAs, good_as}

@@ -22,7 +22,7 @@ use Rattle.go_stmt.specs.Rules.{all_some, Values, separate, together, no_values,
 use Rattle.go_stmt.specs.Statements.{values_known, value_types, short_at}
 use Rattle.go_check_laws.proofs.Counts.{values_fit}
 use Rattle.go_check_laws.proofs.Declares.{Dues, fit_due}
-use Rattle.go_package_laws.specs.Soundness.{Table, IsSoundType}
+use Rattle.go_package_laws.proofs.Soundness.{Table, IsSoundType}
 use Rattle.go_package_laws.proofs.Texts.{HaveTexts}
 use Rattle.go_package_laws.proofs.Expected.{Expected}
 use Rattle.go_package_laws.proofs.Related.{SoundLocals, AllSound, IsSoundName, Related, Sure}

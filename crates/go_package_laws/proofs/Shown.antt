@@ -31,7 +31,7 @@ use Rattle.go_export.specs.Exports as exports
 use Rattle.go_export.specs.Writable.{kind_of, value_kind, IsValue, IsShown}
 use Rattle.go_export.proofs.Found.{shown}
 use Rattle.go_package.specs.Typed.{constants_in, types_in, typed_package}
-use Rattle.go_package_laws.specs.Soundness.{Table, IsNamedField, IsSoundType, AreSoundFields, AreSoundTypes, is_of_kind, IsSoundValue}
+use Rattle.go_package_laws.proofs.Soundness.{Table, IsNamedField, IsSoundType, AreSoundFields, AreSoundTypes, is_of_kind, IsSoundValue}
 use Rattle.go_package_laws.specs.Packages.{AreChecked, is_plain, HavePlainPaths}
 use Rattle.go_package_laws.proofs.Constants.{no_slice}
 use Rattle.go_package_laws.proofs.Dots.{dot}

@@ -16,7 +16,7 @@ use Rattle.go_expr.specs.Verdicts.{verdict, faults}
 use Rattle.go_stmt.specs.Scopes.{Env, Context, scope_in, Checked, still, given, follow, seen}
 use Rattle.go_stmt.specs.Rules.{Values, performed, assigned_to, is_left, updating, updated, stepped}
 use Rattle.go_stmt.specs.Statements.{value_at, values_at, blank_left, left_at, lefts_at, begins_at, simple_at, optional_at}
-use Rattle.go_package_laws.specs.Soundness.{Table, IsSoundValue}
+use Rattle.go_package_laws.proofs.Soundness.{Table, IsSoundValue}
 use Rattle.go_package_laws.proofs.SoundNames.{IsSoundKnown}
 use Rattle.go_package_laws.proofs.Texts.{HasTexts, HaveTexts}
 use Rattle.go_package_laws.proofs.BodyTexts.{SimpleHasTexts, FirstHasTexts, IsPost}

@@ -19,7 +19,7 @@ use Rattle.go_meaning_laws.specs.WellTyped.{Setting, is_integer, is_string, is_s
 use Rattle.go_expr.specs.Known.{Fine, Breaks}
 use Rattle.go_expr.specs.Rules as rules
 use Rattle.go_expr.specs.Rules.{checked, constant_in, int, slice_element, default_type, settled, assigned, known_length, each_unless, when, is_bound, as_count, bound_of, are_ordered, cut_to, given_bounds, cut_of, size_of, made_of, sizes_faults, made, appended}
-use Rattle.go_package_laws.specs.Soundness.{Table, IsSoundType, is_of_kind, IsSoundValue}
+use Rattle.go_package_laws.proofs.Soundness.{Table, IsSoundType, is_of_kind, IsSoundValue}
 use Rattle.go_package_laws.proofs.Types.{whole_type, sound_underlying}
 use Rattle.go_package_laws.proofs.Assigned.{Gives, IsOperandType, value_type, default_sound, sound_default, GoodAs, assigned_gives}
 use Rattle.go_package_laws.proofs.Defaults.{sound_integer, sound_typed}

@@ -15,7 +15,7 @@ use Rattle.go_meaning_laws.specs.WellTyped.{Setting}
 use Rattle.go_expr.specs.Known.{Names, type', Known, declared, package', results, printed, panicked, Verdict, Fine, Breaks, Passed, Scope, look_up, named}
 use Rattle.go_expr.specs.Rules.{fine, checked, valued, type_due, array_of, slice_of, is_exported, declared_field, struct_of, value_due, unpackaged, selectable, callable, numeral, number_of, literal, literal_of, Due, element_due, due_type, untyped_literal, field_of, selected, exported_by, index_of, cut_of, made, unmade, binary_of, unary_of, converted, called}
 use Rattle.go_expr.specs.Verdicts.{asked, both, asked_both, joined, qualified_known, operand, inside, subject, callee, key_text, is_make, is_name, verdict, bound_known, made_verdict, operands, elements, element_verdict, type_verdict, fields_known}
-use Rattle.go_package_laws.specs.Soundness.{Table, IsSoundType, IsSoundValue, AreSoundNames}
+use Rattle.go_package_laws.proofs.Soundness.{Table, IsSoundType, IsSoundValue, AreSoundNames}
 use Rattle.go_package_laws.proofs.SoundNames.{IsSoundKnown, IsSoundScope}
 use Rattle.go_package_laws.proofs.Texts.{HasTexts, BoundHasTexts, HaveTexts, ElementsHaveTexts, ElementHasTexts, TypeHasTexts, FieldsHaveTexts}
 use Rattle.go_package_laws.proofs.Constants.{IsConstantOf, Given}

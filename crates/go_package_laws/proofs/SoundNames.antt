@@ -4,7 +4,7 @@ use Rattle.go_types.specs.Relations.{underlying}
 use Rattle.go_typed.specs.Trees.{expr_type}
 use Rattle.go_meaning_laws.specs.WellTyped.{Setting, is_string, IsCall, IsExpr, AreExprs, exprs_types}
 use Rattle.go_expr.specs.Known.{Known, declared, package', results, printed, panicked, Fine, Scope, look_up}
-use Rattle.go_package_laws.specs.Soundness.{Table, AreSoundTypes, IsSoundDeclared, AreSoundNames}
+use Rattle.go_package_laws.proofs.Soundness.{Table, AreSoundTypes, IsSoundDeclared, AreSoundNames}
 
 abbrev pub IsSoundKnown : Table → Setting → List ℕ → Known → Type 0
 IsSoundKnown w g d (declared k) = IsSoundDeclared w g d k

@@ -12,7 +12,7 @@ use Rattle.go_objects.specs.Objects.{Object}
 use Rattle.go_objects.specs.Table.{Package, imports_at, needs, rows, scope_at, iota_in, object_verdict, declared_in, IsTable}
 use Rattle.go_objects.proofs.Lookups.{same_object, need_edge}
 use Rattle.go_meaning_laws.specs.WellTyped.{Setting}
-use Rattle.go_package_laws.specs.Soundness.{Table}
+use Rattle.go_package_laws.proofs.Soundness.{Table}
 use Rattle.go_package_laws.proofs.Expected.{Expected}
 use Rattle.go_package_laws.proofs.Entries.{AllImports, TableSound, scope_sound}
 use Rattle.go_package_laws.proofs.Forms.{FormHasTexts, IsWellNamed, IsLinked, IsSoundOwn, known_is, form_sound, own_declared}

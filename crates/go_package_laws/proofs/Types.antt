@@ -16,7 +16,7 @@ use Rattle.go_types.specs.Relations.{underlying, identical, all_identical, is_li
 use Rattle.go_types.specs.Sizes.{cells}
 use Rattle.go_meaning.specs.Meaning.{most_cells}
 use Rattle.go_meaning_laws.specs.WellTyped.{IsWhole, AreWhole, is_typed, is_bool, is_integer}
-use Rattle.go_package_laws.specs.Soundness.{Table, IsSoundType, AreSoundFields}
+use Rattle.go_package_laws.proofs.Soundness.{Table, IsSoundType, AreSoundFields}
 
 -- the basic type of a name
 abbrev basic_named : List ℕ → Option Basic

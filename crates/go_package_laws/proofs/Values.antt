@@ -18,7 +18,7 @@ use Rattle.go_expr.specs.Rules.{fine, checked, wrong, least, lesser, each_unless
 use Rattle.go_expr.specs.Verdicts.{asked, operand, verdict}
 use Rattle.go_stmt.specs.Rules.{all_some, Values, separate, together, no_values, values_of, suited_one, takes, suited}
 use Rattle.go_stmt.specs.Statements.{each_of, values_known}
-use Rattle.go_package_laws.specs.Soundness.{Table, IsSoundType, AreSoundTypes, IsSoundValue}
+use Rattle.go_package_laws.proofs.Soundness.{Table, IsSoundType, AreSoundTypes, IsSoundValue}
 use Rattle.go_package_laws.proofs.SoundNames.{IsSoundKnown, IsSoundScope}
 use Rattle.go_package_laws.proofs.Texts.{HaveTexts}
 use Rattle.go_package_laws.proofs.Expected.{Expected}

@@ -6,7 +6,7 @@ use Rattle.go_typed.specs.Trees.{Package}
 use Rattle.go_meaning_laws.specs.WellTyped.{IsFunction}
 use Rattle.go_stmt.specs.Scopes.{Context, nothing}
 use Rattle.go_stmt.specs.Functions.{parameters_at, results_at, function_at}
-use Rattle.go_package_laws.specs.Soundness.{Table, AreSoundTypes}
+use Rattle.go_package_laws.proofs.Soundness.{Table, AreSoundTypes}
 use Rattle.go_package_laws.proofs.BodyTexts.{FunctionHasTexts}
 use Rattle.go_package_laws.proofs.Types.{identical_same, not_identical, small_type, whole_type}
 use Rattle.go_package_laws.proofs.Known.{sound_known, sound_operand, sound_type, sound_assigned, sound_defaulted, sound_condition, sound_binary, sound_value_due}

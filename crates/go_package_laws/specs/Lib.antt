@@ -1,2 +1,1 @@
 pub mod Packages
-pub mod Soundness

@@ -2,18 +2,19 @@
 use Rattle.std.specs.Prelude.{◌≡◌, ◌≢◌, ℕ, nat_eq, Bool, true, not, ◌||◌, List, [], ◌∷◌, ◌++◌, map, codes, Some}
 use Rattle.std.specs.List.{All, Contains, list_all}
 use Rattle.go_text.specs.declared.edition.Edition.{Edition}
+use Rattle.go_text.specs.declared.edition.Edition.TheVariants.{One}
 use Rattle.go_ast.specs.Parse.{Derived, IsParse}
 use Rattle.go_ast.specs.Trees.{File}
-use Rattle.go_typed.specs.Trees.{Package}
+use Rattle.go_typed.specs.Trees.{Function, Package, no_exprs, no_stmts, run, some_stmts}
 use Rattle.go_init.specs.Variables.{variable_order}
 use Rattle.go_code.specs.declared.ending.Ending.{Ending}
-use Rattle.go_meaning.specs.Programs.{SourceMeaning, last_package}
+use Rattle.go_meaning.specs.Programs.{SourceMeaning, last_package, symbol_of}
 use Rattle.go_expr.specs.Known.{library}
 use Rattle.go_import.specs.Names.{importable_of}
 use Rattle.go_meaning_laws.specs.WellTyped.{is_text}
 use Rattle.go_package.specs.Imports.{Importable}
 use Rattle.go_package.specs.Packages.{package_in}
-use Rattle.go_package.specs.Typed.{IsTypedIn}
+use Rattle.go_package.specs.Typed.{IsTypedFrom, IsTypedIn}
 
 -- ---- what may be imported
 
@@ -67,6 +68,29 @@ AreChecked packages = AreCheckedBehind [] packages
 -- the last is named main
 abbrev pub IsNamedMain : List Package → Type 0
 IsNamedMain packages = (p : Package) × (last_package packages ≡ Some p) × (p.name ≡ codes "main")
+
+-- it is such a program by itself
+abbrev pub IsSole : Package → Type 0
+IsSole p = AreChecked (p ∷ []) × IsNamedMain (p ∷ [])
+
+-- ---- packages that there are
+
+-- some files at a path that import nothing are without fault a package named main, of which this holds by something
+abbrev pub SomeMain : (A : Type 0) → (Package → A → Type 0) → List ℕ → Type 0
+SomeMain A Has path =
+    (files : List File) × (names : List (List ℕ)) × (p : Package) × (a : A)
+    × IsTypedFrom One path files [] names p × (p.name ≡ codes "main") × Has p a
+
+-- the one function of a package calls a function of another, and does nothing else
+abbrev pub CallsInto : Package → Package → Type 0
+CallsInto q p = (x : List ℕ) × (map (λ (f : Function). f.body) p.functions ≡ some_stmts (run [] (symbol_of q x) no_exprs) no_stmts ∷ [])
+
+-- some files are without fault a package, and others at a path one named main that imports it and calls it; each variable gets its value
+abbrev pub SomeImport : List ℕ → Type 0
+SomeImport path =
+    (others files : List File) × (names : List (List ℕ)) × (q p : Package) × IsTypedFrom One q.path others [] names q
+    × IsTypedFrom One path files (importable_of q ∷ []) names p
+    × ((variable_order q).1 ≡ []) × ((variable_order p).1 ≡ []) × (p.name ≡ codes "main") × CallsInto q p
 
 -- ---- what summaries tell
 

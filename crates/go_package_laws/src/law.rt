@@ -1,26 +1,22 @@
 //! What holds of the typed trees that the checker makes.
-ghost use Rattle.std.specs.Prelude.{◌≡◌, ◌≢◌, ℕ, List, [], ◌∷◌, map, Some, None, codes};
+ghost use Rattle.std.specs.Prelude.{◌≡◌, ◌≢◌, ℕ, List, [], ◌∷◌, map, Some, None};
 ghost use Rattle.std.specs.List.{All, Contains};
 ghost use Rattle.std.specs.Map.{values_of};
-ghost use Rattle.go_text.specs.declared.edition.Edition.TheVariants.{One};
 ghost use Rattle.go_ast.specs.Trees.{File};
 ghost use Rattle.go_code.specs.Images.{Image};
 ghost use Rattle.go_link.specs.declared.link.LinkError.TheVariants.{NoMain};
 ghost use Rattle.go_link.specs.Links.{link_refusal};
-ghost use Rattle.go_typed.specs.Trees.{Initialization, Package, Function, no_exprs, no_stmts, some_stmts, run as run_call};
+ghost use Rattle.go_typed.specs.Trees.{Initialization, Package};
 ghost use Rattle.go_meaning.specs.Meaning.{Stuck};
 ghost use Rattle.go_init.specs.Variables.{variable_order};
 ghost use Rattle.go_meaning.specs.Programs.{IsProgram, calls, package_steps, run, symbol_of};
-ghost use Rattle.go_import.specs.Names.{importable_of};
 ghost use Rattle.go_export.specs.Exports.{exports_of};
 ghost use Rattle.go_export.specs.Writable.{IsShown};
 ghost use Rattle.go_package.specs.Imports.{Importable};
-ghost use Rattle.go_package.specs.Packages.{package_in};
-ghost use Rattle.go_package.specs.Typed.{IsTypedIn};
 ghost use Rattle.go_meaning_laws.specs.WellTyped.{IsWellTyped};
 ghost use Rattle.go_gen.specs.Translation.{object_of};
 ghost use Rattle.go_translation_laws.specs.Programs.{HaveOneEdition, IsLinked, MeansTheSame, MakesSense};
-ghost use Rattle.go_package_laws.specs.Packages.{AreLibraries, AreProgram, AreChecked, IsNamedMain, HavePlainPaths, HasMeaning};
+ghost use Rattle.go_package_laws.specs.Packages.{AreLibraries, AreProgram, AreChecked, IsNamedMain, HavePlainPaths, HasMeaning, IsSole, SomeMain, CallsInto, SomeImport};
 
 /// Packages whose files have no fault, each checked with packages that stand before it, are well
 /// typed, and so is what comes before main; and they are a program where the last is named main.
@@ -60,34 +56,26 @@ pub fn law_checked_packages_are_shown()
 /// main.
 pub fn law_one_checked_package()
     ensures { (path : List ℕ) (files : List File) (ps : List Importable) (names : List (List ℕ)) (p : Package)
-        → AreLibraries ps → AreProgram path files ps names p → AreChecked (p ∷ []) × IsNamedMain (p ∷ []) }
+        → AreLibraries ps → AreProgram path files ps names p → IsSole p }
 {}
 
 /// Files named main without fault can have an initial value, or a function init, which come before
 /// main. A value can depend on itself, too: of such a package the laws above say nothing.
 pub fn law_packages_may_be_initialized()
-    ensures valued { (path : List ℕ) → (files : List File) × (names : List (List ℕ)) × (p : Package) × (i : Initialization)
-        × IsTypedIn One (package_in One path files []) files [] names p × (p.name ≡ codes "main") × (variable_order p ≡ (i ∷ [], [])) }
-    ensures init { (path : List ℕ) → (files : List File) × (names : List (List ℕ)) × (p : Package) × (x : List ℕ)
-        × IsTypedIn One (package_in One path files []) files [] names p × (p.name ≡ codes "main") × (package_steps p ≡ calls (symbol_of p x) ∷ []) }
-    ensures circular { (path : List ℕ) → (files : List File) × (names : List (List ℕ)) × (p : Package) × (i : Initialization)
-        × IsTypedIn One (package_in One path files []) files [] names p × (p.name ≡ codes "main") × (variable_order p ≡ ([], i ∷ [])) }
+    ensures valued { (path : List ℕ) → SomeMain Initialization (λ p i. variable_order p ≡ (i ∷ [], [])) path }
+    ensures init { (path : List ℕ) → SomeMain (List ℕ) (λ p x. package_steps p ≡ calls (symbol_of p x) ∷ []) path }
+    ensures circular { (path : List ℕ) → SomeMain Initialization (λ p i. variable_order p ≡ ([], i ∷ [])) path }
 {}
 
 /// A package named main without fault can call a function of another without fault that it imports.
 /// No list of checked packages has one twice.
 pub fn law_packages_may_import()
-    ensures calls { (path : List ℕ) → (others files : List File) × (names : List (List ℕ)) × (q p : Package)
-        × IsTypedIn One (package_in One q.path others []) others [] names q
-        × IsTypedIn One (package_in One path files (importable_of q ∷ [])) files (importable_of q ∷ []) names p
-        × ((variable_order q).1 ≡ []) × ((variable_order p).1 ≡ []) × (p.name ≡ codes "main")
-        × ((x : List ℕ) × (map (λ (f : Function). f.body) p.functions ≡ some_stmts (run_call [] (symbol_of q x) no_exprs) no_stmts ∷ [])) }
+    ensures calls { (path : List ℕ) → SomeImport path }
     ensures once { (p : Package) → AreChecked (p ∷ p ∷ []) → ⊥ }
 {}
 
 /// There are such programs: two texts are parsed to the files of a package without fault and of a
 /// package main without fault, which imports it and calls its function.
 pub fn law_texts_may_be_checked()
-    ensures { (q p : Package) × AreChecked (q ∷ p ∷ []) × IsNamedMain (q ∷ p ∷ [])
-        × ((x : List ℕ) × (map (λ (f : Function). f.body) p.functions ≡ some_stmts (run_call [] (symbol_of q x) no_exprs) no_stmts ∷ [])) }
+    ensures { (q p : Package) × AreChecked (q ∷ p ∷ []) × IsNamedMain (q ∷ p ∷ []) × CallsInto q p }
 {}

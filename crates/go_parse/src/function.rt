@@ -105,6 +105,7 @@ fn results(parser: &mut Parser<'_>) -> Result<Vec<TypeExpr>, Refusal>
         return Ok(results);
     };
     results.push(type_expr)?;
+    results.shrink_to_fit();
     Ok(results)
 }
 

@@ -154,7 +154,7 @@ pub(crate) fn imports_behind(parser: &mut Parser<'_>) -> Result<Vec<ImportSpec>,
     if let Some(_) = parser.accept(OPENING, 0)? {
         return list(parser, &ImportSpecs);
     }
-    let mut specs = Vec::new(parser.alloc);
+    let mut specs = Vec::with_capacity(parser.alloc, 1)?;
     specs.push(import_spec(parser)?)?;
     Ok(specs)
 }

@@ -116,6 +116,7 @@ pub fn parse_in(alloc: Global, edition: Edition, source: Source) -> Result<Parse
 {
     let file = parse(alloc, edition, &source)?;
     let file = Arc::new(alloc, file)?;
+    let source = Arc::new(alloc, source)?;
     Ok(Parsed::of(source, edition, file))
 }
 

@@ -43,7 +43,7 @@ fn is_by_type(arguments: &[Expr]) -> bool {
 fn keys(elements: &[Element]) -> usize {
     elements
         .iter()
-        .filter(|element| element.key.is_some())
+        .filter(|element| element.key.name().is_some())
         .count()
 }
 

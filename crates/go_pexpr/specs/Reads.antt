@@ -93,6 +93,18 @@ Reading before after old (Err e) new = Failing e before old new
 abbrev pub Refusing : Edition → TokenKind → expected.Expected → State → Type 0
 Refusing e k x s = has_slices e ≡ false → (ts : List Lexeme) → First (λ t. t.kind ≡ k) ts → run e 250 s ts ≡ Refused (fault_of x ts) ts
 
+-- the next token is of this kind
+abbrev pub IsNext : TokenKind → Parser → Type 0
+IsNext k r = First (λ t. t.kind ≡ k) (left r)
+
 -- From one state and the tokens of old it came to another state and the tokens of new, or failed.
 pub record Reads {A : Type 0} (before : State) (after : A → State) (old : Parser) (result : Result A Refusal) (new : Parser) : Type 0 where
   pub by : Reading before after old result new
+
+-- what a function reads, seen so, is what this state is due in front of, whatever is due behind it
+abbrev pub ReadsAs : {A B : Type 0} → (A → B) → ((B → State) → State) → Parser → Result A Refusal → Parser → Type 0
+ReadsAs {A} {B} seen due old result new = (next : B → State) → Reads (due next) (λ a. next (seen a)) old result new
+
+-- the same where there may be nothing to read
+abbrev pub ReadsIf : {A B : Type 0} → (A → B) → ((B → State) → State → State) → Parser → Result (Option A) Refusal → Parser → Type 0
+ReadsIf {A} {B} seen due old result new = (some : B → State) (none : State) → Reads (due some none) (either (λ a. some (seen a)) none) old result new

@@ -1,8 +1,10 @@
 -- What is due at some turns of an expression.
 use Rattle.std.specs.Prelude.{ℕ, ◌+◌, Option, None, List, [], ◌∷◌, ◌++◌, false}
+use Rattle.go_text.specs.declared.place.Place.{Place}
+use Rattle.go_scan.specs.declared.token.TokenKind.{TokenKind}
 use Rattle.go_scan.specs.declared.token.TokenKind.TheVariants as kinds
 use Rattle.go_ast.specs.Trees.{Name, TypeExpr, Expr, Element, parenthesized, selector, index, bound, call, type_operand, composite_lit, expression_element, value_element, place_of, pack, pack_elements}
-use Rattle.go_ast.specs.Expected.{an_operand, an_element_end, a_selected_name, an_index_end, another}
+use Rattle.go_ast.specs.Expected.{Expected, an_operand, an_element_end, a_selected_name, an_index_end, another}
 use Rattle.go_ast.specs.Grammar.{Lexeme, name_of, type_place, comma, colon, opening, closing, closing_bracket, opening_brace}
 use Rattle.go_ast.specs.Machine.{State, token, optional, newer, expr, operands, list_start, list_end, elements, behind_element, name_if}
 use Rattle.go_ast.specs.Machine as machine
@@ -65,3 +67,16 @@ behind_call l e next t = operands (l + 1) (λ es _. next (call (place_of e) e (p
 
 abbrev pub behind_brace : ℕ → TypeExpr → (Expr → State) → Lexeme → State
 behind_brace l a next t = list_start (elements (l + 2)) [] (λ es _. next (composite_lit (type_place a) a t.place (pack_elements es)))
+
+-- the elements of a literal of a type
+abbrev pub literal_at : ℕ → TypeExpr → (Expr → State) → State
+literal_at l a next = token opening_brace (l + 1) another (behind_brace l a next)
+
+-- the same, and what stands behind the literal
+abbrev pub literal_then : ℕ → ℕ → TypeExpr → (Expr → State) → State
+literal_then need l a next = token opening_brace need another (machine.literal_elements l (machine.behind_operand 5 false l next) a)
+
+-- an expression between two marks
+abbrev pub between : TokenKind → TokenKind → Expected → ℕ → ℕ → Expected → (Place → Expr → State) → State
+between first last end need l x next =
+    token first need another (λ t. expr 5 false l x (λ e. token last 0 end (λ _. next t.place e)))

@@ -1,12 +1,13 @@
 //! Reads what is in the brackets behind an operand.
-ghost use Rattle.std.specs.Prelude.{◌≡◌, ◌<◌, ◌≤◌, ◌+◌, IfOk, OnOk};
+ghost use Rattle.std.specs.Prelude.{◌<◌, ◌≤◌, ◌+◌, IfOk, OnOk};
 ghost use Rattle.go_ast.specs.Trees as trees;
 ghost use Rattle.go_ast.specs.Expected.{another};
 ghost use Rattle.go_ast.specs.Grammar.{opening_bracket};
-ghost use Rattle.go_ast.specs.Machine.{State, token, behind_colon};
+ghost use Rattle.go_ast.specs.Machine.{token, behind_colon};
 ghost use Rattle.go_ast.specs.Views.{expr_of, bound_of};
 ghost use Rattle.go_pexpr.specs.Inside.{inside_of, inside_tall};
-ghost use Rattle.go_pexpr.specs.Reads.{Reads, size};
+ghost use Rattle.go_pexpr.specs.Reading.{ReadsExpr};
+ghost use Rattle.go_pexpr.specs.Reads.{size, ReadsAs};
 ghost use Rattle.go_pexpr.specs.Turns.{behind_index, index_ends};
 
 use crate::build::{Tall, TallBound, beside, bound, cut, index, unbounded};
@@ -31,7 +32,7 @@ impl<'a> Parser<'a> {
     #[cycle(tree)]
     pub(crate) fn indexed(&mut self, operand: Tall, level: u32) -> Result<Tall, Refusal>
         requires { level + operand.height ≤ 251 }
-        ensures reads { (next : trees.Expr → State) → Reads (token opening_bracket (level + operand.height) another (behind_index level (expr_of operand.expr) next)) (λ e. next (expr_of e.expr)) self.old result self.new }
+        ensures reads { ReadsExpr (λ next. token opening_bracket (level + operand.height) another (behind_index level (expr_of operand.expr) next)) self.old result self.new }
         ensures fits { IfOk result (λ e. level + e.height ≤ 251) }
         ensures shorter { OnOk result (size self.new < size self.old) }
     {
@@ -49,7 +50,7 @@ impl<'a> Parser<'a> {
     #[cycle(tree)]
     fn in_brackets(&mut self, need: u32, level: u32) -> Result<Inside, Refusal>
         requires { level ≤ need }
-        ensures reads { (e : trees.Expr) (next : trees.Expr → State) → Reads (token opening_bracket need another (behind_index level e next)) (λ i. next (inside_of e i)) self.old result self.new }
+        ensures reads { (e : trees.Expr) → ReadsAs (inside_of e) (λ next. token opening_bracket need another (behind_index level e next)) self.old result self.new }
         ensures need { OnOk result (need ≤ 250) }
         ensures fits { IfOk result (λ i. level + 1 + inside_tall i ≤ 251) }
         ensures shorter { OnOk result (size self.new < size self.old) }
@@ -72,7 +73,7 @@ impl<'a> Parser<'a> {
     fn index_end(&mut self, first: Tall, level: u32) -> Result<Inside, Refusal>
         requires level { level ≤ 250 }
         requires fits { level + 1 + first.height ≤ 251 }
-        ensures reads { (e : trees.Expr) (next : trees.Expr → State) → Reads (index_ends level e next (expr_of first.expr)) (λ i. next (inside_of e i)) self.old result self.new }
+        ensures reads { (e : trees.Expr) → ReadsAs (inside_of e) (λ next. index_ends level e next (expr_of first.expr)) self.old result self.new }
         ensures fits { IfOk result (λ i. level + 1 + inside_tall i ≤ 251) }
         ensures shorter { OnOk result (size self.new < size self.old) }
     {
@@ -94,7 +95,7 @@ impl<'a> Parser<'a> {
     #[cycle(tree)]
     fn high(&mut self, level: u32) -> Result<TallBound, Refusal>
         requires { level ≤ 250 }
-        ensures reads { (e : trees.Expr) (low : trees.Bound) (next : trees.Expr → State) → Reads (behind_colon level e low next) (λ b. next (trees.cut (trees.place_of e) e low (bound_of b.bound))) self.old result self.new }
+        ensures reads { (e : trees.Expr) (low : trees.Bound) → ReadsAs (λ b. trees.cut (trees.place_of e) e low (bound_of b.bound)) (behind_colon level e low) self.old result self.new }
         ensures fits { IfOk result (λ b. level + 1 + b.height ≤ 251) }
         ensures shorter { OnOk result (size self.new < size self.old) }
     {

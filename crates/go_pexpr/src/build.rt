@@ -12,6 +12,7 @@ use go_ast::expression::{
     BinaryOperator, Bound, Element, ElementValue, Expr, ExprKind, Field, TypeExpr, TypeKind,
     UnaryOperator,
 };
+use go_ast::key::Key;
 use go_ast::name::Name;
 use go_ast::spelling::Spelling;
 use go_text::place::Place;
@@ -433,7 +434,7 @@ pub(crate) fn one_argument(alloc: Global, first: Tall) -> Result<Arguments, Refu
     ensures err { IfErr result (λ e. e ≡ Refusal.Memory) }
 {
     let height = first.height;
-    let mut items = Vec::new(alloc);
+    let mut items = Vec::with_capacity(alloc, 1)?;
     items.push(first.expr)?;
     Ok(Arguments { items, height })
 }
@@ -560,18 +561,38 @@ pub(crate) fn key_in(value: TallValue) -> Result<Name, TallValue>
     }
 }
 
-/// An element of a literal, with a key or none.
-pub(crate) fn element(key: Option<Name>, value: TallValue) -> TallElement
-    ensures element { element_of result.element ≡ (key, value_of value.value) }
+/// An element of a literal, without a key.
+pub(crate) fn element(value: TallValue) -> TallElement
+    ensures element { element_of result.element ≡ (None, value_of value.value) }
     ensures height { result.height ≡ value.height }
 {
     TallElement {
+        element: Element {
+            key: Key::none(),
+            value: value.value,
+        },
+        height: value.height,
+    }
+}
+
+/// An element of a literal, with a key.
+pub(crate) fn keyed_element(
+    alloc: Global,
+    key: Name,
+    value: TallValue,
+) -> Result<TallElement, Refusal>
+    ensures element { IfOk result (λ e. element_of e.element ≡ (Some key, value_of value.value)) }
+    ensures height { IfOk result (λ e. e.height ≡ value.height) }
+    ensures err { IfErr result (λ e. e ≡ Refusal.Memory) }
+{
+    let key = Key::new(alloc, key)?;
+    Ok(TallElement {
         element: Element {
             key,
             value: value.value,
         },
         height: value.height,
-    }
+    })
 }
 
 /// The type of a literal that an expression names, if it may.

@@ -1,9 +1,8 @@
 //! Reads types and expressions.
-ghost use Rattle.std.specs.Prelude.{◌≡◌, ◌<◌, ◌≤◌, List, [], ◌∷◌, map, OnOk, IfOk, Some};
-ghost use Rattle.go_ast.specs.Trees as trees;
-ghost use Rattle.go_ast.specs.Machine.{State, type, expr, more_exprs, optional_type, optional_expr};
+ghost use Rattle.std.specs.Prelude.{◌≡◌, ◌<◌, ◌≤◌, [], ◌∷◌, map, OnOk, IfOk, Some};
+ghost use Rattle.go_ast.specs.Machine.{type, expr, more_exprs, optional_type, optional_expr};
 ghost use Rattle.go_ast.specs.Views.{type_of, expr_of};
-ghost use Rattle.go_pexpr.specs.Reads.{Reads, left, size, expected_of, either};
+ghost use Rattle.go_pexpr.specs.Reads.{size, expected_of, ReadsAs, ReadsIf};
 
 use crate::expected::Expected;
 use crate::parser::{Parser, Refusal};
@@ -17,7 +16,7 @@ impl<'a> Parser<'a> {
     /// `Type = TypeName | ArrayType | StructType .`
     pub fn type_from(&mut self, level: u32, expected: Expected) -> Result<TypeExpr, Refusal>
         requires { level ≤ 252 }
-        ensures reads { (next : trees.TypeExpr → State) → Reads (type level (expected_of expected) next) (λ a. next (type_of a)) self.old result self.new }
+        ensures reads { ReadsAs type_of (type level (expected_of expected)) self.old result self.new }
         ensures shorter { OnOk result (size self.new < size self.old) }
     {
         let a = self.type_at(level, expected)?;
@@ -34,7 +33,7 @@ impl<'a> Parser<'a> {
         expected: Expected,
     ) -> Result<Expr, Refusal>
         requires { level ≤ 252 }
-        ensures reads { (next : trees.Expr → State) → Reads (expr 5 header level (expected_of expected) next) (λ e. next (expr_of e)) self.old result self.new }
+        ensures reads { ReadsAs expr_of (expr 5 header level (expected_of expected)) self.old result self.new }
         ensures shorter { OnOk result (size self.new < size self.old) }
     {
         let e = self.binary(5, header, level, expected)?;
@@ -51,7 +50,7 @@ impl<'a> Parser<'a> {
         expected: Expected,
     ) -> Result<Vec<Expr>, Refusal>
         requires { level ≤ 252 }
-        ensures reads { (next : List trees.Expr → State) → Reads (expr 5 header level (expected_of expected) (λ e. more_exprs header level (e ∷ []) next)) (λ es. next (map expr_of es.items)) self.old result self.new }
+        ensures reads { ReadsAs (λ es. map expr_of es.items) (λ next. expr 5 header level (expected_of expected) (λ e. more_exprs header level (e ∷ []) next)) self.old result self.new }
         ensures shorter { OnOk result (size self.new < size self.old) }
     {
         let mut first = Vec::with_capacity(self.alloc, 1)?;
@@ -64,7 +63,7 @@ impl<'a> Parser<'a> {
     /// `[ Type ] .`
     pub fn type_if(&mut self, level: u32, expected: Expected) -> Result<Option<TypeExpr>, Refusal>
         requires { level ≤ 252 }
-        ensures reads { (some : trees.TypeExpr → State) (none : State) → Reads (optional_type level (expected_of expected) some none) (either (λ a. some (type_of a)) none) self.old result self.new }
+        ensures reads { ReadsIf type_of (optional_type level (expected_of expected)) self.old result self.new }
         ensures no_longer { OnOk result (size self.new ≤ size self.old) }
         ensures shorter { IfOk result (λ o. (a : _) → o ≡ Some a → size self.new < size self.old) }
     {
@@ -88,7 +87,7 @@ impl<'a> Parser<'a> {
         expected: Expected,
     ) -> Result<Option<Expr>, Refusal>
         requires { level ≤ 252 }
-        ensures reads { (some : trees.Expr → State) (none : State) → Reads (optional_expr header level (expected_of expected) some none) (either (λ e. some (expr_of e)) none) self.old result self.new }
+        ensures reads { ReadsIf expr_of (optional_expr header level (expected_of expected)) self.old result self.new }
         ensures no_longer { OnOk result (size self.new ≤ size self.old) }
         ensures shorter { IfOk result (λ o. (e : _) → o ≡ Some e → size self.new < size self.old) }
     {
@@ -112,7 +111,7 @@ impl<'a> Parser<'a> {
         front: Vec<Expr>,
     ) -> Result<Vec<Expr>, Refusal>
         requires { level ≤ 252 }
-        ensures reads { (next : List trees.Expr → State) → Reads (more_exprs header level (map expr_of front.items) next) (λ es. next (map expr_of es.items)) self.old result self.new }
+        ensures reads { ReadsAs (λ es. map expr_of es.items) (more_exprs header level (map expr_of front.items)) self.old result self.new }
         ensures no_longer { OnOk result (size self.new ≤ size self.old) }
     {
         let comma = TokenKind::Punctuation(Punctuation::Comma);

@@ -3,11 +3,10 @@ ghost use Rattle.std.specs.Prelude.{◌≡◌, ◌<◌, ◌≤◌, IfOk, OnOk};
 ghost use Rattle.go_ast.specs.Trees as trees;
 ghost use Rattle.go_scan.specs.declared.token.TokenKind.TheVariants as kinds;
 ghost use Rattle.go_ast.specs.Expected.{another};
-ghost use Rattle.go_ast.specs.Grammar.{Lexeme};
 ghost use Rattle.go_ast.specs.Literals.{string_value, rune_value};
-ghost use Rattle.go_ast.specs.Machine.{State, token, behind_name};
-ghost use Rattle.go_ast.specs.Views.{type_of, expr_of};
-ghost use Rattle.go_pexpr.specs.Reads.{Reads, left, size};
+ghost use Rattle.go_ast.specs.Machine.{token, behind_name};
+ghost use Rattle.go_pexpr.specs.Reading.{ReadsExpr, ReadsType};
+ghost use Rattle.go_pexpr.specs.Reads.{size};
 
 use crate::build::{Tall, TallType, beside, integer, name, named, qualified, rune, string};
 use crate::expected::Expected;
@@ -22,7 +21,7 @@ impl<'a> Parser<'a> {
     ///
     /// `TypeName = identifier | PackageName "." identifier .`
     pub(crate) fn named_type(&mut self, level: u32) -> Result<TallType, Refusal>
-        ensures reads { (next : trees.TypeExpr → State) → Reads (token kinds.Name level another (behind_name next)) (λ a. next (type_of a.type_expr)) self.old result self.new }
+        ensures reads { ReadsType (λ next. token kinds.Name level another (behind_name next)) self.old result self.new }
         ensures height { IfOk result (λ a. a.height ≡ 1) }
         ensures fits { OnOk result (level ≤ 250) }
         ensures shorter { OnOk result (size self.new < size self.old) }
@@ -41,7 +40,7 @@ impl<'a> Parser<'a> {
     ///
     /// `OperandName = identifier .`
     pub(crate) fn name_operand(&mut self, level: u32) -> Result<Tall, Refusal>
-        ensures reads { (next : trees.Expr → State) → Reads (token kinds.Name level another (λ t. next (trees.name t.place t.text))) (λ e. next (expr_of e.expr)) self.old result self.new }
+        ensures reads { ReadsExpr (λ next. token kinds.Name level another (λ t. next (trees.name t.place t.text))) self.old result self.new }
         ensures height { IfOk result (λ e. e.height ≡ 1) }
         ensures fits { OnOk result (level ≤ 250) }
         ensures shorter { OnOk result (size self.new < size self.old) }
@@ -55,7 +54,7 @@ impl<'a> Parser<'a> {
     ///
     /// `BasicLit = int_lit .`
     pub(crate) fn integer_operand(&mut self, level: u32) -> Result<Tall, Refusal>
-        ensures reads { (next : trees.Expr → State) → Reads (token kinds.Integer level another (λ t. next (trees.integer t.place t.text))) (λ e. next (expr_of e.expr)) self.old result self.new }
+        ensures reads { ReadsExpr (λ next. token kinds.Integer level another (λ t. next (trees.integer t.place t.text))) self.old result self.new }
         ensures height { IfOk result (λ e. e.height ≡ 1) }
         ensures fits { OnOk result (level ≤ 250) }
         ensures shorter { OnOk result (size self.new < size self.old) }
@@ -69,7 +68,7 @@ impl<'a> Parser<'a> {
     ///
     /// `BasicLit = rune_lit .`
     pub(crate) fn rune_operand(&mut self, level: u32) -> Result<Tall, Refusal>
-        ensures reads { (next : trees.Expr → State) → Reads (token kinds.Rune level another (λ t. next (trees.rune t.place (rune_value t.text)))) (λ e. next (expr_of e.expr)) self.old result self.new }
+        ensures reads { ReadsExpr (λ next. token kinds.Rune level another (λ t. next (trees.rune t.place (rune_value t.text)))) self.old result self.new }
         ensures height { IfOk result (λ e. e.height ≡ 1) }
         ensures fits { OnOk result (level ≤ 250) }
         ensures shorter { OnOk result (size self.new < size self.old) }
@@ -83,7 +82,7 @@ impl<'a> Parser<'a> {
     ///
     /// `BasicLit = string_lit .`
     pub(crate) fn string_operand(&mut self, level: u32) -> Result<Tall, Refusal>
-        ensures reads { (next : trees.Expr → State) → Reads (token kinds.String level another (λ t. next (trees.string t.place (string_value t.text)))) (λ e. next (expr_of e.expr)) self.old result self.new }
+        ensures reads { ReadsExpr (λ next. token kinds.String level another (λ t. next (trees.string t.place (string_value t.text)))) self.old result self.new }
         ensures height { IfOk result (λ e. e.height ≡ 1) }
         ensures fits { OnOk result (level ≤ 250) }
         ensures shorter { OnOk result (size self.new < size self.old) }

@@ -1,16 +1,15 @@
 //! Takes tokens.
-ghost use Rattle.std.specs.Prelude.{◌≡◌, ◌<◌, ◌≤◌, ◌↔◌, ◌⊎◌, List, [], ◌∷◌, length, map, Option, Some, None, OnOk, IfOk, IfErr, IsTrue};
-ghost use Rattle.go_ast.specs.Trees as trees;
+ghost use Rattle.std.specs.Prelude.{◌≡◌, ◌<◌, ◌≤◌, ◌↔◌, ◌⊎◌, [], Option, Some, None, OnOk, IfOk, IfErr, IsTrue};
 ghost use Rattle.go_scan.specs.declared.token.TokenKind.{TokenKind};
 ghost use Rattle.go_scan.specs.declared.token.TokenKind.TheVariants as kinds;
-ghost use Rattle.go_ast.specs.Grammar.{Lexeme, name_of, period};
+ghost use Rattle.go_ast.specs.Grammar.{period};
 ghost use Rattle.go_ast.specs.Expected.{another, a_selected_name, is_never_read, begins_left_out, begins_left_out_type, is_left_out_at};
-ghost use Rattle.go_ast.specs.Machine as machine;
-ghost use Rattle.go_ast.specs.Machine.{State, ListKind, Item, token, optional, newer, names, list_start, list_end};
+ghost use Rattle.go_ast.specs.Machine.{token, optional, names};
 ghost use Rattle.go_ast.specs.Tokens.{LiesIn};
 ghost use Rattle.go_ast.specs.Tokens.{lexeme, bytes_of};
 ghost use Rattle.go_pexpr.specs.Next.{left_out_at};
-ghost use Rattle.go_pexpr.specs.Reads.{Reads, Refusing, Says, First, first_kind, fault_of, left, size, lexeme_of, either, expected_of};
+ghost use Rattle.go_pexpr.specs.Reads.{Says, First, first_kind, fault_of, left, size, lexeme_of, expected_of, ReadsAs, ReadsIf};
+ghost use Rattle.go_pexpr.specs.Taking.{TakesNext, TakesNewer, Separates};
 
 use crate::expected::Expected;
 use crate::kind::is_kind;
@@ -109,7 +108,7 @@ pub fn spelling(text: &[u8], token: Token) -> &[u8]
     requires { LiesIn text.now token }
     ensures { result.now ≡ bytes_of text.now token }
 {
-    &text[token.start..token.end]
+    &text[token.start as usize..token.end as usize]
 }
 
 impl<'a> Parser<'a> {
@@ -162,7 +161,7 @@ impl<'a> Parser<'a> {
         need: u32,
         expected: Expected,
     ) -> Result<Token, Refusal>
-        ensures reads { (next : Lexeme → State) → Reads (token kind need (expected_of expected) next) (λ t. next (lexeme self.old.text.now t)) self.old result self.new }
+        ensures reads { ReadsAs (lexeme self.old.text.now) (token kind need (expected_of expected)) self.old result self.new }
         ensures kind { IfOk result (λ t. t.kind ≡ kind) }
         ensures stands { IfOk result (LiesIn self.old.text.now) }
         ensures text { self.new.text.now ≡ self.old.text.now }
@@ -187,7 +186,7 @@ impl<'a> Parser<'a> {
     ///
     /// In an edition without them what is read instead is refused where it is the next, as what belongs to what is left out.
     pub(crate) fn accept_newer(&mut self, kind: TokenKind) -> Result<Option<Token>, Refusal>
-        ensures reads { (x : _) (some : Lexeme → State) (none : State) → Refusing self.old.edition kind x none → Reads (newer kind 0 x some none) (either (λ t. some (lexeme self.old.text.now t)) none) self.old result self.new }
+        ensures reads { TakesNewer kind self.old result self.new }
         ensures no_longer { OnOk result (size self.new ≤ size self.old) }
         ensures shorter { IfOk result (λ o. (t : _) → o ≡ Some t → size self.new < size self.old) }
     {
@@ -199,7 +198,7 @@ impl<'a> Parser<'a> {
 
     /// Takes a token of a kind, if it is the next.
     pub fn accept(&mut self, kind: TokenKind, need: u32) -> Result<Option<Token>, Refusal>
-        ensures reads { (some : Lexeme → State) (none : State) → Reads (optional kind need some none) (either (λ t. some (lexeme self.old.text.now t)) none) self.old result self.new }
+        ensures reads { ReadsIf (lexeme self.old.text.now) (optional kind need) self.old result self.new }
         ensures text { self.new.text.now ≡ self.old.text.now }
         ensures no_longer { OnOk result (size self.new ≤ size self.old) }
         ensures shorter { IfOk result (λ o. (t : _) → o ≡ Some t → size self.new < size self.old) }
@@ -219,7 +218,7 @@ impl<'a> Parser<'a> {
         closer: TokenKind,
         expected: Expected,
     ) -> Result<(), Refusal>
-        ensures reads { (k : ListKind) (front : List (Item k)) (next : List (Item k) → Lexeme → State) → separator ≡ machine.separator k → closer ≡ machine.closer k → Reads (list_end k (expected_of expected) front next) (λ _. list_start k front next) self.old result self.new }
+        ensures reads { Separates separator closer (expected_of expected) self.old result self.new }
         ensures no_longer { OnOk result (size self.new ≤ size self.old) }
     {
         if self.is_next(closer) {
@@ -231,7 +230,7 @@ impl<'a> Parser<'a> {
 
     /// Takes the next token.
     pub fn bump(&mut self, need: u32) -> Result<Token, Refusal>
-        ensures reads { (k : TokenKind) (x : _) (next : Lexeme → State) → First (λ t. t.kind ≡ k) (left self.old) → Reads (token k need x next) (λ t. next (lexeme self.old.text.now t)) self.old result self.new }
+        ensures reads { TakesNext need self.old result self.new }
         ensures fits { OnOk result (need ≤ 250) }
         ensures shorter { OnOk result (size self.new < size self.old) }
     {
@@ -265,7 +264,7 @@ impl<'a> Parser<'a> {
 
     /// Takes a name.
     pub fn name(&mut self, need: u32, expected: Expected) -> Result<Name, Refusal>
-        ensures reads { (next : Lexeme → State) → Reads (token kinds.Name need (expected_of expected) next) (λ n. next (lexeme_of n)) self.old result self.new }
+        ensures reads { ReadsAs lexeme_of (token kinds.Name need (expected_of expected)) self.old result self.new }
         ensures fits { OnOk result (need ≤ 250) }
         ensures shorter { OnOk result (size self.new < size self.old) }
     {
@@ -277,7 +276,7 @@ impl<'a> Parser<'a> {
     ///
     /// `Selector = "." identifier .`
     pub(crate) fn selected_name(&mut self, need: u32) -> Result<Name, Refusal>
-        ensures reads { (next : Lexeme → State) → Reads (token period need another (λ _. token kinds.Name 0 a_selected_name next)) (λ n. next (lexeme_of n)) self.old result self.new }
+        ensures reads { ReadsAs lexeme_of (λ next. token period need another (λ _. token kinds.Name 0 a_selected_name next)) self.old result self.new }
         ensures fits { OnOk result (need ≤ 250) }
         ensures shorter { OnOk result (size self.new < size self.old) }
     {
@@ -288,7 +287,7 @@ impl<'a> Parser<'a> {
 
     /// Takes a name, if it is the next.
     pub fn accept_name(&mut self, need: u32) -> Result<Option<Name>, Refusal>
-        ensures reads { (some : Lexeme → State) (none : State) → Reads (optional kinds.Name need some none) (either (λ n. some (lexeme_of n)) none) self.old result self.new }
+        ensures reads { ReadsIf lexeme_of (optional kinds.Name need) self.old result self.new }
         ensures no_longer { OnOk result (size self.new ≤ size self.old) }
     {
         if !self.is_next(TokenKind::Name) {
@@ -302,7 +301,7 @@ impl<'a> Parser<'a> {
     ///
     /// `IdentifierList = identifier { "," identifier } .`
     pub fn names(&mut self, need: u32) -> Result<Vec<Name>, Refusal>
-        ensures reads { (next : List trees.Name → State) → Reads (names need next) (λ ns. next ns.items) self.old result self.new }
+        ensures reads { ReadsAs (λ ns. ns.items) (names need) self.old result self.new }
         ensures fits { OnOk result (need ≤ 250) }
         ensures shorter { OnOk result (size self.new < size self.old) }
     {

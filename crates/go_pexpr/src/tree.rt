@@ -1,21 +1,22 @@
 //! Reads types and expressions.
-ghost use Rattle.std.specs.Prelude.{◌≡◌, ◌<◌, ◌≤◌, ◌+◌, Bool, List, [], ◌∷◌, ◌++◌, map, Option, Some, None, IfOk, OnOk, true, false};
+ghost use Rattle.std.specs.Prelude.{◌≡◌, ◌<◌, ◌≤◌, ◌+◌, [], map, Some, None, IfOk, OnOk, true, false};
 ghost use Rattle.go_text.specs.Editions.{has_slices};
 ghost use Rattle.go_ast.specs.Trees as trees;
-ghost use Rattle.go_scan.specs.declared.token.TokenKind.TheVariants as kinds;
 ghost use Rattle.go_scan.specs.declared.keyword.Keyword.TheVariants as keywords;
-ghost use Rattle.go_ast.specs.Expected.{an_operand, a_type, another};
-ghost use Rattle.go_ast.specs.Grammar.{Lexeme, opening, closing, opening_bracket, opening_brace, period, comma, colon};
-ghost use Rattle.go_ast.specs.Machine.{State, token, optional, names, type, expr, operands, suffixes, tails, list_start, list_end, fields, arguments, elements, keyword, behind_bracket, behind_struct, behind_literal_type, literal_elements, behind_operand, behind_operand_type, literal_type};
+ghost use Rattle.go_ast.specs.Expected.{an_operand, another};
+ghost use Rattle.go_ast.specs.Grammar.{opening, closing, opening_bracket, period, comma, colon};
+ghost use Rattle.go_ast.specs.Machine.{State, token, optional, names, type, expr, operands, suffixes, tails, list_start, fields, arguments, elements, keyword, behind_bracket, behind_struct, behind_literal_type, behind_operand, behind_operand_type, literal_type};
 ghost use Rattle.go_ast.specs.Views.{type_of, expr_of, value_of, element_of, field_of};
 ghost use Rattle.go_pexpr.specs.Next.{sign_at, is_slice};
-ghost use Rattle.go_pexpr.specs.Reads.{Reads, First, left, size, expected_of};
-ghost use Rattle.go_pexpr.specs.Turns.{behind_conversion, behind_paren, behind_selector, conversion_or_type, behind_call, behind_brace, behind_last, element_at, value_at};
+ghost use Rattle.go_pexpr.specs.Reading.{ReadsExpr, ReadsType, ReadsExprs, ReadsPlaced, ReadsBehindNext, ReadsOperand, ReadsFirst, ReadsField, ReadsElement, ReadsBraced};
+ghost use Rattle.go_pexpr.specs.Reads.{Reads, left, size, expected_of, ReadsAs};
+ghost use Rattle.go_pexpr.specs.Turns.{behind_conversion, behind_paren, behind_selector, conversion_or_type, behind_call, value_at, literal_at, literal_then, between};
 
 use crate::build::{
     Arguments, Elements, Fields, Tall, TallElement, TallType, TallValue, array, beside, binary,
-    braced_value, call, composite_lit, conversion, element, expression_value, key_in, named_by,
-    no_arguments, one_argument, parenthesized, selector, slice, structure, type_operand, unary,
+    braced_value, call, composite_lit, conversion, element, expression_value, key_in,
+    keyed_element, named_by, no_arguments, one_argument, parenthesized, selector, slice, structure,
+    type_operand, unary,
 };
 use crate::expected::Expected;
 use crate::operators::{Beginning, Suffix, is_slice, tighter};
@@ -42,7 +43,7 @@ impl<'a> Parser<'a> {
     #[cycle(tree)]
     pub(crate) fn type_at(&mut self, level: u32, expected: Expected) -> Result<TallType, Refusal>
         requires { level ≤ 253 }
-        ensures reads { (next : trees.TypeExpr → State) → Reads (type level (expected_of expected) next) (λ a. next (type_of a.type_expr)) self.old result self.new }
+        ensures reads { ReadsType (type level (expected_of expected)) self.old result self.new }
         ensures fits { IfOk result (λ a. level + a.height ≤ 251) }
         ensures shorter { OnOk result (size self.new < size self.old) }
     {
@@ -60,7 +61,7 @@ impl<'a> Parser<'a> {
     #[cycle(tree)]
     fn bracket_type(&mut self, level: u32) -> Result<TallType, Refusal>
         requires { level ≤ 253 }
-        ensures reads { (next : trees.TypeExpr → State) → Reads (token opening_bracket (level + 1) another (behind_bracket level next)) (λ a. next (type_of a.type_expr)) self.old result self.new }
+        ensures reads { ReadsType (λ next. token opening_bracket (level + 1) another (behind_bracket level next)) self.old result self.new }
         ensures fits { IfOk result (λ a. level + a.height ≤ 251) }
         ensures shorter { OnOk result (size self.new < size self.old) }
     {
@@ -85,7 +86,7 @@ impl<'a> Parser<'a> {
     #[cycle(tree)]
     fn struct_type(&mut self, level: u32) -> Result<TallType, Refusal>
         requires { level ≤ 253 }
-        ensures reads { (next : trees.TypeExpr → State) → Reads (token (keyword keywords.Struct) level another (behind_struct level next)) (λ a. next (type_of a.type_expr)) self.old result self.new }
+        ensures reads { ReadsType (λ next. token (keyword keywords.Struct) level another (behind_struct level next)) self.old result self.new }
         ensures fits { IfOk result (λ a. level + a.height ≤ 251) }
         ensures shorter { OnOk result (size self.new < size self.old) }
     {
@@ -106,7 +107,7 @@ impl<'a> Parser<'a> {
     #[cycle(tree)]
     fn fields(&mut self, level: u32) -> Result<Fields, Refusal>
         requires { level ≤ 251 }
-        ensures reads { (next : List (List trees.Name × trees.TypeExpr) → State) → Reads (list_start (fields level) [] (λ fs _. next fs)) (λ fs. next (map field_of fs.items.items)) self.old result self.new }
+        ensures reads { ReadsAs (λ fs. map field_of fs.items.items) (λ next. list_start (fields level) [] (λ fs _. next fs)) self.old result self.new }
         ensures fits { IfOk result (λ fs. level + fs.height ≤ 251) }
         ensures shorter { OnOk result (size self.new < size self.old) }
     {
@@ -122,6 +123,7 @@ impl<'a> Parser<'a> {
             self.separate(semicolon, close, Expected::FieldEnd)?;
         }
         self.expect(close, 0, Expected::Another)?;
+        items.shrink_to_fit();
         Ok(Fields { items, height })
     }
 
@@ -130,7 +132,7 @@ impl<'a> Parser<'a> {
     /// `FieldDecl = IdentifierList Type .`
     #[cycle(tree)]
     fn field(&mut self, level: u32) -> Result<(Vec<Name>, TallType), Refusal>
-        ensures reads { (next : List trees.Name → trees.TypeExpr → State) → Reads (names level (λ ns. type level a_type (next ns))) (λ f. next f.0.items (type_of f.1.type_expr)) self.old result self.new }
+        ensures reads { ReadsField level self.old result self.new }
         ensures fits { IfOk result (λ f. level + f.1.height ≤ 251) }
         ensures shorter { OnOk result (size self.new < size self.old) }
     {
@@ -152,7 +154,7 @@ impl<'a> Parser<'a> {
     ) -> Result<Tall, Refusal>
         requires limit { limit ≤ 5 }
         requires level { level ≤ 252 }
-        ensures reads { (next : trees.Expr → State) → Reads (expr limit header level (expected_of expected) next) (λ e. next (expr_of e.expr)) self.old result self.new }
+        ensures reads { ReadsExpr (expr limit header level (expected_of expected)) self.old result self.new }
         ensures fits { IfOk result (λ e. level + e.height ≤ 251) }
         ensures shorter { OnOk result (size self.new < size self.old) }
     {
@@ -174,7 +176,7 @@ impl<'a> Parser<'a> {
         requires limit { limit ≤ 5 }
         requires level { level ≤ 252 }
         requires fits { level + front.height ≤ 251 }
-        ensures reads { (next : trees.Expr → State) → Reads (tails limit header level next (expr_of front.expr)) (λ e. next (expr_of e.expr)) self.old result self.new }
+        ensures reads { ReadsExpr (λ next. tails limit header level next (expr_of front.expr)) self.old result self.new }
         ensures fits { IfOk result (λ e. level + e.height ≤ 251) }
         ensures no_longer { OnOk result (size self.new ≤ size self.old) }
     {
@@ -196,7 +198,7 @@ impl<'a> Parser<'a> {
     fn right(&mut self, need: u32, limit: u8, header: bool, level: u32) -> Result<Tall, Refusal>
         requires limit { limit ≤ 5 }
         requires level { level ≤ 252 }
-        ensures reads { (k : TokenKind) (x : _) (next : trees.Expr → State) → First (λ t. t.kind ≡ k) (left self.old) → Reads (token k need x (λ _. expr limit header level an_operand next)) (λ e. next (expr_of e.expr)) self.old result self.new }
+        ensures reads { ReadsBehindNext need (expr limit header level an_operand) self.old result self.new }
         ensures need { OnOk result (need ≤ 250) }
         ensures fits { IfOk result (λ e. level + e.height ≤ 251) }
         ensures shorter { OnOk result (size self.new < size self.old) }
@@ -211,7 +213,7 @@ impl<'a> Parser<'a> {
     #[cycle(tree)]
     fn unary(&mut self, header: bool, level: u32, expected: Expected) -> Result<Tall, Refusal>
         requires { level ≤ 252 }
-        ensures reads { (next : trees.Expr → State) → Reads (expr 0 header level (expected_of expected) next) (λ e. next (expr_of e.expr)) self.old result self.new }
+        ensures reads { ReadsExpr (expr 0 header level (expected_of expected)) self.old result self.new }
         ensures fits { IfOk result (λ e. level + e.height ≤ 251) }
         ensures shorter { OnOk result (size self.new < size self.old) }
     {
@@ -231,7 +233,7 @@ impl<'a> Parser<'a> {
     fn operand(&mut self, level: u32, expected: Expected) -> Result<Tall, Refusal>
         requires level { level ≤ 252 }
         requires sign { sign_at (left self.old) ≡ None }
-        ensures reads { (h : Bool) (next : trees.Expr → State) → Reads (expr 0 h level (expected_of expected) next) (λ e. suffixes h level (expr_of e.expr) next) self.old result self.new }
+        ensures reads { ReadsOperand level (expected_of expected) self.old result self.new }
         ensures fits { IfOk result (λ e. level + e.height ≤ 251) }
         ensures shorter { OnOk result (size self.new < size self.old) }
     {
@@ -259,7 +261,7 @@ impl<'a> Parser<'a> {
     #[cycle(tree)]
     fn parenthesized(&mut self, level: u32) -> Result<Tall, Refusal>
         requires { level ≤ 252 }
-        ensures reads { (next : trees.Expr → State) → Reads (token opening (level + 1) another (behind_paren level next)) (λ e. next (expr_of e.expr)) self.old result self.new }
+        ensures reads { ReadsExpr (λ next. token opening (level + 1) another (behind_paren level next)) self.old result self.new }
         ensures fits { IfOk result (λ e. level + e.height ≤ 251) }
         ensures shorter { OnOk result (size self.new < size self.old) }
     {
@@ -284,7 +286,7 @@ impl<'a> Parser<'a> {
         expected: Expected,
     ) -> Result<(Place, Tall), Refusal>
         requires { level ≤ need + 2 }
-        ensures reads { (next : Place → trees.Expr → State) → Reads (token marks.first need another (λ t. expr 5 false level (expected_of expected) (λ e. token marks.last 0 (expected_of marks.end) (λ _. next t.place e)))) (λ r. next r.0 (expr_of r.1.expr)) self.old result self.new }
+        ensures reads { ReadsPlaced (between marks.first marks.last (expected_of marks.end) need level (expected_of expected)) self.old result self.new }
         ensures need { OnOk result (need ≤ 250) }
         ensures fits { IfOk result (λ r. level + r.1.height ≤ 251) }
         ensures shorter { OnOk result (size self.new < size self.old) }
@@ -304,7 +306,7 @@ impl<'a> Parser<'a> {
         expected: Expected,
     ) -> Result<(Place, Tall), Refusal>
         requires { level ≤ need + 2 }
-        ensures reads { (next : Place → trees.Expr → State) → Reads (token mark need another (λ t. expr 5 false level (expected_of expected) (next t.place))) (λ r. next r.0 (expr_of r.1.expr)) self.old result self.new }
+        ensures reads { ReadsPlaced (λ next. token mark need another (λ t. expr 5 false level (expected_of expected) (next t.place))) self.old result self.new }
         ensures need { OnOk result (need ≤ 250) }
         ensures fits { IfOk result (λ r. level + r.1.height ≤ 251) }
         ensures shorter { OnOk result (size self.new < size self.old) }
@@ -321,7 +323,7 @@ impl<'a> Parser<'a> {
     #[cycle(tree)]
     fn typed(&mut self, a: TallType, level: u32) -> Result<Tall, Refusal>
         requires { level + 1 + a.height ≤ 251 }
-        ensures reads { (next : trees.Expr → State) → Reads (behind_literal_type level next (type_of a.type_expr)) (λ e. next (expr_of e.expr)) self.old result self.new }
+        ensures reads { ReadsExpr (λ next. behind_literal_type level next (type_of a.type_expr)) self.old result self.new }
         ensures fits { IfOk result (λ e. level + e.height ≤ 251) }
         ensures shorter { OnOk result (size self.new < size self.old) }
     {
@@ -337,7 +339,7 @@ impl<'a> Parser<'a> {
     #[cycle(tree)]
     fn literal_or_conversion(&mut self, a: TallType, level: u32) -> Result<Tall, Refusal>
         requires { level + 1 + a.height ≤ 251 }
-        ensures reads { (next : trees.Expr → State) → is_slice (type_of a.type_expr) ≡ false → Reads (behind_literal_type level next (type_of a.type_expr)) (λ e. next (expr_of e.expr)) self.old result self.new }
+        ensures reads { is_slice (type_of a.type_expr) ≡ false → ReadsExpr (λ next. behind_literal_type level next (type_of a.type_expr)) self.old result self.new }
         ensures fits { IfOk result (λ e. level + e.height ≤ 251) }
         ensures shorter { OnOk result (size self.new < size self.old) }
     {
@@ -356,7 +358,7 @@ impl<'a> Parser<'a> {
     fn literal(&mut self, a: TallType, level: u32) -> Result<Tall, Refusal>
         requires level { level ≤ 252 }
         requires height { (level ≤ 249) → level + 1 + a.height ≤ 251 }
-        ensures reads { (next : trees.Expr → State) → Reads (token opening_brace (level + 1) another (behind_brace level (type_of a.type_expr) next)) (λ e. next (expr_of e.expr)) self.old result self.new }
+        ensures reads { ReadsExpr (literal_at level (type_of a.type_expr)) self.old result self.new }
         ensures fits { IfOk result (λ e. level + e.height ≤ 251) }
         ensures shorter { OnOk result (size self.new < size self.old) }
     {
@@ -370,7 +372,7 @@ impl<'a> Parser<'a> {
     #[cycle(tree)]
     fn braced(&mut self, need: u32, level: u32) -> Result<(Place, Elements), Refusal>
         requires { level ≤ need + 1 }
-        ensures reads { (next : Place → List (Option trees.Name × trees.Element) → State) → Reads (token opening_brace need another (λ t. list_start (elements level) [] (λ es _. next t.place es))) (λ r. next r.0 (map element_of r.1.items.items)) self.old result self.new }
+        ensures reads { ReadsBraced need level self.old result self.new }
         ensures need { OnOk result (need ≤ 250) }
         ensures fits { IfOk result (λ r. level + r.1.height ≤ 251) }
         ensures shorter { OnOk result (size self.new < size self.old) }
@@ -388,7 +390,7 @@ impl<'a> Parser<'a> {
     fn converted(&mut self, need: u32, level: u32) -> Result<Tall, Refusal>
         requires level { level ≤ 252 }
         requires need { level ≤ need }
-        ensures reads { (next : trees.Expr → State) → Reads (token opening need another (behind_conversion level next)) (λ e. next (expr_of e.expr)) self.old result self.new }
+        ensures reads { ReadsExpr (λ next. token opening need another (behind_conversion level next)) self.old result self.new }
         ensures need { OnOk result (need ≤ 250) }
         ensures fits { IfOk result (λ e. level + 1 + e.height ≤ 251) }
         ensures shorter { OnOk result (size self.new < size self.old) }
@@ -419,7 +421,7 @@ impl<'a> Parser<'a> {
     #[cycle(tree)]
     fn suffixes(&mut self, operand: Tall, header: bool, level: u32) -> Result<Tall, Refusal>
         requires { level + operand.height ≤ 251 }
-        ensures reads { (next : trees.Expr → State) → Reads (suffixes header level (expr_of operand.expr) next) (λ e. next (expr_of e.expr)) self.old result self.new }
+        ensures reads { ReadsExpr (suffixes header level (expr_of operand.expr)) self.old result self.new }
         ensures fits { IfOk result (λ e. level + e.height ≤ 251) }
         ensures no_longer { OnOk result (size self.new ≤ size self.old) }
     {
@@ -440,7 +442,7 @@ impl<'a> Parser<'a> {
     /// `Selector = "." identifier .`
     fn selected(&mut self, operand: Tall, level: u32) -> Result<Tall, Refusal>
         requires { level + operand.height ≤ 251 }
-        ensures reads { (next : trees.Expr → State) → Reads (token period (level + operand.height) another (behind_selector (expr_of operand.expr) next)) (λ e. next (expr_of e.expr)) self.old result self.new }
+        ensures reads { ReadsExpr (λ next. token period (level + operand.height) another (behind_selector (expr_of operand.expr) next)) self.old result self.new }
         ensures fits { IfOk result (λ e. level + e.height ≤ 251) }
         ensures shorter { OnOk result (size self.new < size self.old) }
     {
@@ -455,7 +457,7 @@ impl<'a> Parser<'a> {
     #[cycle(tree)]
     fn called(&mut self, operand: Tall, level: u32) -> Result<Tall, Refusal>
         requires { level + operand.height ≤ 251 }
-        ensures reads { (next : trees.Expr → State) → Reads (token opening (level + operand.height) another (behind_call level (expr_of operand.expr) next)) (λ e. next (expr_of e.expr)) self.old result self.new }
+        ensures reads { ReadsExpr (λ next. token opening (level + operand.height) another (behind_call level (expr_of operand.expr) next)) self.old result self.new }
         ensures fits { IfOk result (λ e. level + e.height ≤ 251) }
         ensures shorter { OnOk result (size self.new < size self.old) }
     {
@@ -470,7 +472,7 @@ impl<'a> Parser<'a> {
     #[cycle(tree)]
     fn passed(&mut self, need: u32, level: u32) -> Result<Arguments, Refusal>
         requires { level ≤ need + 1 }
-        ensures reads { (next : List trees.Expr → State) → Reads (token opening need another (λ _. operands level (λ es _. next es))) (λ es. next (map expr_of es.items.items)) self.old result self.new }
+        ensures reads { ReadsExprs (λ next. token opening need another (λ _. operands level (λ es _. next es))) self.old result self.new }
         ensures need { OnOk result (need ≤ 250) }
         ensures fits { IfOk result (λ es. level + es.height ≤ 251) }
         ensures shorter { OnOk result (size self.new < size self.old) }
@@ -486,7 +488,7 @@ impl<'a> Parser<'a> {
     #[cycle(tree)]
     fn operands(&mut self, level: u32) -> Result<Arguments, Refusal>
         requires { level ≤ 251 }
-        ensures reads { (next : List trees.Expr → State) → Reads (operands level (λ es _. next es)) (λ es. next (map expr_of es.items.items)) self.old result self.new }
+        ensures reads { ReadsExprs (λ next. operands level (λ es _. next es)) self.old result self.new }
         ensures fits { IfOk result (λ es. level + es.height ≤ 251) }
         ensures shorter { OnOk result (size self.new < size self.old) }
     {
@@ -508,7 +510,7 @@ impl<'a> Parser<'a> {
     #[cycle(tree)]
     fn first_operand(&mut self, level: u32) -> Result<Tall, Refusal>
         requires { level ≤ 251 }
-        ensures reads { (next : List trees.Expr → Lexeme → State) → (First (λ t. t.kind ≡ closing) (left self.old) → ⊥) → Reads (operands level next) (λ e. list_end (arguments level) another (expr_of e.expr ∷ []) next) self.old result self.new }
+        ensures reads { ReadsFirst level self.old result self.new }
         ensures fits { IfOk result (λ e. level + e.height ≤ 251) }
         ensures shorter { OnOk result (size self.new < size self.old) }
     {
@@ -524,7 +526,7 @@ impl<'a> Parser<'a> {
     #[cycle(tree)]
     fn type_or_operand(&mut self, level: u32) -> Result<Tall, Refusal>
         requires { level ≤ 251 }
-        ensures reads { (next : List trees.Expr → Lexeme → State) → has_slices self.old.edition ≡ true → (First (λ t. t.kind ≡ closing) (left self.old) → ⊥) → Reads (operands level next) (λ e. list_end (arguments level) another (expr_of e.expr ∷ []) next) self.old result self.new }
+        ensures reads { has_slices self.old.edition ≡ true → ReadsFirst level self.old result self.new }
         ensures fits { IfOk result (λ e. level + e.height ≤ 251) }
         ensures shorter { OnOk result (size self.new < size self.old) }
     {
@@ -549,7 +551,7 @@ impl<'a> Parser<'a> {
     fn operand_of_type(&mut self, a: TallType, level: u32) -> Result<Tall, Refusal>
         requires level { level ≤ 251 }
         requires fits { level + a.height ≤ 251 }
-        ensures reads { (next : trees.Expr → State) → Reads (behind_operand_type level next (type_of a.type_expr)) (λ e. next (expr_of e.expr)) self.old result self.new }
+        ensures reads { ReadsExpr (λ next. behind_operand_type level next (type_of a.type_expr)) self.old result self.new }
         ensures fits { IfOk result (λ e. level + e.height ≤ 251) }
         ensures no_longer { OnOk result (size self.new ≤ size self.old) }
     {
@@ -570,7 +572,7 @@ impl<'a> Parser<'a> {
     fn literal_operand(&mut self, a: TallType, level: u32) -> Result<Tall, Refusal>
         requires level { level ≤ 251 }
         requires fits { level + a.height ≤ 251 }
-        ensures reads { (next : trees.Expr → State) → Reads (token opening_brace (level + a.height) another (literal_elements level (behind_operand 5 false level next) (type_of a.type_expr))) (λ e. next (expr_of e.expr)) self.old result self.new }
+        ensures reads { ReadsExpr (literal_then (level + a.height) level (type_of a.type_expr)) self.old result self.new }
         ensures fits { IfOk result (λ e. level + e.height ≤ 251) }
         ensures no_longer { OnOk result (size self.new ≤ size self.old) }
     {
@@ -588,7 +590,7 @@ impl<'a> Parser<'a> {
     fn converted_operand(&mut self, a: TallType, level: u32) -> Result<Tall, Refusal>
         requires level { level ≤ 251 }
         requires fits { level + a.height ≤ 251 }
-        ensures reads { (next : trees.Expr → State) → Reads (conversion_or_type level next a.height (type_of a.type_expr)) (λ e. next (expr_of e.expr)) self.old result self.new }
+        ensures reads { ReadsExpr (λ next. conversion_or_type level next a.height (type_of a.type_expr)) self.old result self.new }
         ensures fits { IfOk result (λ e. level + e.height ≤ 251) }
         ensures no_longer { OnOk result (size self.new ≤ size self.old) }
     {
@@ -609,7 +611,7 @@ impl<'a> Parser<'a> {
     fn behind(&mut self, front: Tall, level: u32) -> Result<Tall, Refusal>
         requires level { level ≤ 251 }
         requires fits { level + front.height ≤ 251 }
-        ensures reads { (next : trees.Expr → State) → Reads (behind_operand 5 false level next (expr_of front.expr)) (λ e. next (expr_of e.expr)) self.old result self.new }
+        ensures reads { ReadsExpr (λ next. behind_operand 5 false level next (expr_of front.expr)) self.old result self.new }
         ensures fits { IfOk result (λ e. level + e.height ≤ 251) }
         ensures no_longer { OnOk result (size self.new ≤ size self.old) }
     {
@@ -624,7 +626,7 @@ impl<'a> Parser<'a> {
     fn arguments(&mut self, front: Arguments, level: u32) -> Result<Arguments, Refusal>
         requires level { level ≤ 251 }
         requires fits { level + front.height ≤ 251 }
-        ensures reads { (next : List trees.Expr → State) → Reads (list_start (arguments level) (map expr_of front.items.items) (λ es _. next es)) (λ es. next (map expr_of es.items.items)) self.old result self.new }
+        ensures reads { ReadsExprs (λ next. list_start (arguments level) (map expr_of front.items.items) (λ es _. next es)) self.old result self.new }
         ensures fits { IfOk result (λ es. level + es.height ≤ 251) }
         ensures shorter { OnOk result (size self.new < size self.old) }
     {
@@ -641,6 +643,7 @@ impl<'a> Parser<'a> {
             self.separate(comma, close, Expected::Another)?;
         }
         self.expect(close, 0, Expected::Another)?;
+        items.shrink_to_fit();
         Ok(Arguments { items, height })
     }
 
@@ -650,7 +653,7 @@ impl<'a> Parser<'a> {
     #[cycle(tree)]
     fn named_literal(&mut self, operand: Tall, level: u32) -> Result<Tall, Refusal>
         requires { level + operand.height ≤ 251 }
-        ensures reads { (a : trees.TypeExpr) (next : trees.Expr → State) → literal_type (expr_of operand.expr) ≡ Some a → Reads (token opening_brace (level + 1) another (behind_brace level a next)) (λ e. next (expr_of e.expr)) self.old result self.new }
+        ensures reads { (a : trees.TypeExpr) → literal_type (expr_of operand.expr) ≡ Some a → ReadsExpr (literal_at level a) self.old result self.new }
         ensures fits { IfOk result (λ e. level + e.height ≤ 251) }
         ensures shorter { OnOk result (size self.new < size self.old) }
     {
@@ -666,7 +669,7 @@ impl<'a> Parser<'a> {
     #[cycle(tree)]
     fn elements(&mut self, level: u32) -> Result<Elements, Refusal>
         requires { level ≤ 252 }
-        ensures reads { (next : List (Option trees.Name × trees.Element) → State) → Reads (list_start (elements level) [] (λ es _. next es)) (λ es. next (map element_of es.items.items)) self.old result self.new }
+        ensures reads { ReadsAs (λ es. map element_of es.items.items) (λ next. list_start (elements level) [] (λ es _. next es)) self.old result self.new }
         ensures fits { IfOk result (λ es. (level ≤ 251) → level + es.height ≤ 251) }
         ensures shorter { OnOk result (size self.new < size self.old) }
     {
@@ -681,6 +684,7 @@ impl<'a> Parser<'a> {
             self.separate(comma, close, Expected::ElementEnd)?;
         }
         self.expect(close, 0, Expected::Another)?;
+        items.shrink_to_fit();
         Ok(Elements { items, height })
     }
 
@@ -691,21 +695,21 @@ impl<'a> Parser<'a> {
     #[cycle(tree)]
     fn element(&mut self, level: u32) -> Result<TallElement, Refusal>
         requires { level ≤ 252 }
-        ensures reads { (front : List (Option trees.Name × trees.Element)) (next : List (Option trees.Name × trees.Element) → Lexeme → State) → Reads (element_at level front next) (λ e. behind_last level front next e.element.key (value_of e.element.value)) self.old result self.new }
+        ensures reads { ReadsElement level self.old result self.new }
         ensures fits { IfOk result (λ e. level + e.height ≤ 251) }
         ensures shorter { OnOk result (size self.new < size self.old) }
     {
         let colon = TokenKind::Punctuation(Punctuation::Colon);
         let first = self.value(level)?;
         if !self.is_next(colon) {
-            return Ok(element(None, first));
+            return Ok(element(first));
         }
         match key_in(first) {
             Ok(key) => {
                 let (key, value) = beside(key, self.keyed(level))?;
-                Ok(element(Some(key), value))
+                keyed_element(self.alloc, key, value)
             }
-            Err(value) => Ok(element(None, value)),
+            Err(value) => Ok(element(value)),
         }
     }
 
@@ -715,7 +719,7 @@ impl<'a> Parser<'a> {
     #[cycle(tree)]
     fn keyed(&mut self, level: u32) -> Result<TallValue, Refusal>
         requires { level ≤ 252 }
-        ensures reads { (next : trees.Element → State) → Reads (token colon 0 another (λ _. value_at level next)) (λ v. next (value_of v.value)) self.old result self.new }
+        ensures reads { ReadsAs (λ v. value_of v.value) (λ next. token colon 0 another (λ _. value_at level next)) self.old result self.new }
         ensures fits { IfOk result (λ v. level + v.height ≤ 251) }
         ensures shorter { OnOk result (size self.new < size self.old) }
     {
@@ -730,7 +734,7 @@ impl<'a> Parser<'a> {
     #[cycle(tree)]
     fn value(&mut self, level: u32) -> Result<TallValue, Refusal>
         requires { level ≤ 252 }
-        ensures reads { (next : trees.Element → State) → Reads (value_at level next) (λ v. next (value_of v.value)) self.old result self.new }
+        ensures reads { ReadsAs (λ v. value_of v.value) (value_at level) self.old result self.new }
         ensures fits { IfOk result (λ v. level + v.height ≤ 251) }
         ensures shorter { OnOk result (size self.new < size self.old) }
     {

@@ -1,3 +1,4 @@
 pub mod Due
+pub mod Reading
 pub mod Statements
 pub mod Turns

@@ -1,12 +1,10 @@
 //! Reads what begins the clauses of a `switch`.
-ghost use Rattle.std.specs.Prelude.{◌≡◌, ◌<◌, ◌≤◌, ◌+◌, List, [], OnOk};
-ghost use Rattle.go_ast.specs.Trees as trees;
-ghost use Rattle.go_ast.specs.Grammar.{Lexeme, closing_brace};
-ghost use Rattle.go_ast.specs.Machine as machine;
-ghost use Rattle.go_ast.specs.Machine.{State, clause_start};
-ghost use Rattle.go_ast.specs.Views.{clause_of, stmt_of};
-ghost use Rattle.go_pstmt.specs.Due.{behind_of, clauses_behind};
-ghost use Rattle.go_pexpr.specs.Reads.{Reads, First, left, size, expected_of};
+ghost use Rattle.std.specs.Prelude.{◌≡◌, ◌<◌, ◌≤◌, ◌+◌, OnOk};
+ghost use Rattle.go_ast.specs.Grammar.{closing_brace};
+ghost use Rattle.go_ast.specs.Views.{stmt_of};
+ghost use Rattle.go_pstmt.specs.Due.{behind_of};
+ghost use Rattle.go_pexpr.specs.Reads.{First, left, size, expected_of};
+ghost use Rattle.go_pstmt.specs.Reading.{ReadsClause};
 
 use crate::marks::{CASE, COLON, DEFAULT};
 use go_ast::statement::{Clause, Stmt};
@@ -30,7 +28,7 @@ pub(crate) fn expected_behind(stmt: &Stmt) -> Expected
 pub(crate) fn clause_from(parser: &mut Parser<'_>, level: u32) -> Result<Clause, Refusal>
     requires level { level ≤ 251 }
     requires some { First (λ t. t.kind ≡ closing_brace) (left parser.old) → ⊥ }
-    ensures reads { (done : List machine.Clause) (next : trees.Clauses → Lexeme → State) → Reads (clauses_behind level done next) (λ c. clause_start level done c.place (clause_of c).1.0 [] next) parser.old result parser.new }
+    ensures reads { ReadsClause level parser.old result parser.new }
     ensures shorter { OnOk result (size parser.new < size parser.old) }
 {
     if parser.is_next(DEFAULT) {

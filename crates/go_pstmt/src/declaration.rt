@@ -1,12 +1,12 @@
 //! Reads declarations of constants, variables and types.
 ghost use Rattle.std.specs.Prelude.{◌<◌, ◌≤◌, Some, None, OnOk, refl};
 ghost use Rattle.go_ast.specs.Trees as trees;
-ghost use Rattle.go_scan.specs.declared.token.TokenKind.TheVariants as kinds;
 ghost use Rattle.go_ast.specs.Expected.{another};
 ghost use Rattle.go_ast.specs.Grammar.{assign};
-ghost use Rattle.go_ast.specs.Machine.{State, token, optional, names, group, value_list, const_rest, var_rest, type_rest, const_specs, var_specs, type_specs};
+ghost use Rattle.go_ast.specs.Machine.{State, token, optional, names, group, value_list, const_rest, var_rest, const_specs, var_specs, type_specs};
 ghost use Rattle.go_ast.specs.Views.{exprs_in, const_of, var_of, type_spec_of, decl_of};
-ghost use Rattle.go_pexpr.specs.Reads.{Reads, size};
+ghost use Rattle.go_pexpr.specs.Reads.{Reads, size, ReadsAs};
+ghost use Rattle.go_pstmt.specs.Reading.{const_values, type_spec_at, var_values};
 
 use crate::list::{Items, list};
 use crate::marks::{ASSIGN, OPENING, SEMICOLON};
@@ -23,7 +23,7 @@ use go_text::place::Place;
 /// `"=" ExpressionList .`
 fn assigned_values(parser: &mut Parser<'_>, level: u32) -> Result<Vec<Expr>, Refusal>
     requires { level ≤ 252 }
-    ensures reads { (next : trees.Exprs → State) → Reads (token assign 0 another (λ _. value_list level next)) (λ es. next (exprs_in es.items)) parser.old result parser.new }
+    ensures reads { ReadsAs (λ es. exprs_in es.items) (λ next. token assign 0 another (λ _. value_list level next)) parser.old result parser.new }
     ensures shorter { OnOk result (size parser.new < size parser.old) }
 {
     parser.expect(ASSIGN, 0, Expected::Another)?;
@@ -35,7 +35,7 @@ fn assigned_values(parser: &mut Parser<'_>, level: u32) -> Result<Vec<Expr>, Ref
 /// `[ "=" ExpressionList ] .`
 fn values_if(parser: &mut Parser<'_>, need: u32, level: u32) -> Result<Vec<Expr>, Refusal>
     requires { level ≤ 252 }
-    ensures reads { (next : trees.Exprs → State) → Reads (optional assign need (λ _. value_list level next) (next trees.no_exprs)) (λ es. next (exprs_in es.items)) parser.old result parser.new }
+    ensures reads { ReadsAs (λ es. exprs_in es.items) (λ next. optional assign need (λ _. value_list level next) (next trees.no_exprs)) parser.old result parser.new }
     ensures no_longer { OnOk result (size parser.new ≤ size parser.old) }
 {
     if let Some(_) = parser.accept(ASSIGN, need)? {
@@ -53,7 +53,7 @@ fn untyped_const(
     names: Vec<Name>,
 ) -> Result<ConstSpec, Refusal>
     requires { level ≤ 252 }
-    ensures reads { (next : trees.ConstSpec → State) → Reads (optional assign level (λ _. value_list level (λ es. next (record { names = names.items; type = None; values = es }))) (next (record { names = names.items; type = None; values = trees.no_exprs }))) (λ s. next (const_of s)) parser.old result parser.new }
+    ensures reads { ReadsAs const_of (const_values level names.items) parser.old result parser.new }
     ensures no_longer { OnOk result (size parser.new ≤ size parser.old) }
 {
     let values = values_if(parser, level, level)?;
@@ -121,14 +121,14 @@ impl Items for ConstSpecs {
 /// `ConstDecl = "const" ( ConstSpec | "(" { ConstSpec ";" } ")" ) .`
 pub fn constants(parser: &mut Parser<'_>, level: u32, place: Place) -> Result<Decl, Refusal>
     requires { level ≤ 252 }
-    ensures reads { (next : trees.Decl → State) → Reads (group (const_specs level) (λ ss. next (trees.constants place ss)) (λ one. names 0 (const_rest level one))) (λ d. next (decl_of d)) parser.old result parser.new }
+    ensures reads { ReadsAs decl_of (λ next. group (const_specs level) (λ ss. next (trees.constants place ss)) (λ one. names 0 (const_rest level one))) parser.old result parser.new }
     ensures shorter { OnOk result (size parser.new < size parser.old) }
 {
     if let Some(_) = parser.accept(OPENING, 0)? {
         let specs = list(parser, &ConstSpecs { level })?;
         return Ok(Decl::Constants(place, specs));
     }
-    let mut specs = Vec::new(parser.alloc);
+    let mut specs = Vec::with_capacity(parser.alloc, 1)?;
     specs.push(const_spec(parser, level)?)?;
     Ok(Decl::Constants(place, specs))
 }
@@ -138,7 +138,7 @@ pub fn constants(parser: &mut Parser<'_>, level: u32, place: Place) -> Result<De
 /// `"=" ExpressionList .`
 fn untyped_var(parser: &mut Parser<'_>, level: u32, names: Vec<Name>) -> Result<VarSpec, Refusal>
     requires { level ≤ 252 }
-    ensures reads { (next : trees.VarSpec → State) → Reads (token assign 0 another (λ _. value_list level (λ es. next (record { names = names.items; type = None; values = es })))) (λ s. next (var_of s)) parser.old result parser.new }
+    ensures reads { ReadsAs var_of (var_values level names.items) parser.old result parser.new }
     ensures shorter { OnOk result (size parser.new < size parser.old) }
 {
     let values = assigned_values(parser, level)?;
@@ -206,14 +206,14 @@ impl Items for VarSpecs {
 /// `VarDecl = "var" ( VarSpec | "(" { VarSpec ";" } ")" ) .`
 pub fn variables(parser: &mut Parser<'_>, level: u32, place: Place) -> Result<Decl, Refusal>
     requires { level ≤ 252 }
-    ensures reads { (next : trees.Decl → State) → Reads (group (var_specs level) (λ ss. next (trees.variables place ss)) (λ one. names level (var_rest level one))) (λ d. next (decl_of d)) parser.old result parser.new }
+    ensures reads { ReadsAs decl_of (λ next. group (var_specs level) (λ ss. next (trees.variables place ss)) (λ one. names level (var_rest level one))) parser.old result parser.new }
     ensures shorter { OnOk result (size parser.new < size parser.old) }
 {
     if let Some(_) = parser.accept(OPENING, 0)? {
         let specs = list(parser, &VarSpecs { level })?;
         return Ok(Decl::Variables(place, specs));
     }
-    let mut specs = Vec::new(parser.alloc);
+    let mut specs = Vec::with_capacity(parser.alloc, 1)?;
     specs.push(var_spec(parser, level)?)?;
     Ok(Decl::Variables(place, specs))
 }
@@ -223,7 +223,7 @@ pub fn variables(parser: &mut Parser<'_>, level: u32, place: Place) -> Result<De
 /// `TypeDef = identifier Type .`
 fn type_spec(parser: &mut Parser<'_>, level: u32) -> Result<TypeSpec, Refusal>
     requires { level ≤ 252 }
-    ensures reads { (next : trees.TypeSpec → State) → Reads (token kinds.Name level another (type_rest level next)) (λ s. next (type_spec_of s)) parser.old result parser.new }
+    ensures reads { ReadsAs type_spec_of (type_spec_at level) parser.old result parser.new }
     ensures shorter { OnOk result (size parser.new < size parser.old) }
 {
     let name = parser.name(level, Expected::Another)?;
@@ -268,14 +268,14 @@ impl Items for TypeSpecs {
 /// `TypeDecl = "type" ( TypeDef | "(" { TypeDef ";" } ")" ) .`
 pub fn types(parser: &mut Parser<'_>, level: u32, place: Place) -> Result<Decl, Refusal>
     requires { level ≤ 252 }
-    ensures reads { (next : trees.Decl → State) → Reads (group (type_specs level) (λ ss. next (trees.types place ss)) (λ one. token kinds.Name level another (type_rest level one))) (λ d. next (decl_of d)) parser.old result parser.new }
+    ensures reads { ReadsAs decl_of (λ next. group (type_specs level) (λ ss. next (trees.types place ss)) (type_spec_at level)) parser.old result parser.new }
     ensures shorter { OnOk result (size parser.new < size parser.old) }
 {
     if let Some(_) = parser.accept(OPENING, 0)? {
         let specs = list(parser, &TypeSpecs { level })?;
         return Ok(Decl::Types(place, specs));
     }
-    let mut specs = Vec::new(parser.alloc);
+    let mut specs = Vec::with_capacity(parser.alloc, 1)?;
     specs.push(type_spec(parser, level)?)?;
     Ok(Decl::Types(place, specs))
 }

@@ -1,11 +1,11 @@
 //! Reads the head of a `for`.
-ghost use Rattle.std.specs.Prelude.{◌≡◌, ◌+◌, ◌<◌, ◌≤◌, Option, Some, None, OnOk};
+ghost use Rattle.std.specs.Prelude.{◌+◌, ◌<◌, ◌≤◌, Option, Some, None, OnOk};
 ghost use Rattle.go_ast.specs.Trees as trees;
 ghost use Rattle.go_ast.specs.Grammar.{Lexeme};
 ghost use Rattle.go_ast.specs.Machine.{State, behind_for, for_condition, for_turns};
 ghost use Rattle.go_ast.specs.Views.{expr_of, simple_of, if_boxed};
-ghost use Rattle.go_text.specs.declared.place.Place.{Place};
 ghost use Rattle.go_pexpr.specs.Reads.{Reads, size};
+ghost use Rattle.go_pstmt.specs.Reading.{ReadsTurns};
 ghost use Rattle.go_pstmt.specs.Turns.{by_turns};
 
 use crate::header::value_before;
@@ -37,7 +37,7 @@ fn turns_behind(
     condition: Option<Box<Expr>>,
 ) -> Result<Turns, Refusal>
     requires { level ≤ 251 }
-    ensures reads { (p : Place) (next : trees.Stmt → State) → Reads (for_turns level p next (if_boxed simple_of init) (if_boxed expr_of condition)) (by_turns level p next) parser.old result parser.new }
+    ensures reads { ReadsTurns level (λ p next. for_turns level p next (if_boxed simple_of init) (if_boxed expr_of condition)) parser.old result parser.new }
     ensures no_longer { OnOk result (size parser.new ≤ size parser.old) }
 {
     if parser.is_next(OPENING_BRACE) {
@@ -57,7 +57,7 @@ fn condition_behind(
     init: Option<Box<Simple>>,
 ) -> Result<Turns, Refusal>
     requires { level ≤ 251 }
-    ensures reads { (p : Place) (next : trees.Stmt → State) → Reads (for_condition level p next (if_boxed simple_of init)) (by_turns level p next) parser.old result parser.new }
+    ensures reads { ReadsTurns level (λ p next. for_condition level p next (if_boxed simple_of init)) parser.old result parser.new }
     ensures no_longer { OnOk result (size parser.new ≤ size parser.old) }
 {
     let condition = value_before(parser, level + 1, SEMICOLON)?;

@@ -1,10 +1,11 @@
 //! Lists in parentheses, whose items have a separator between them.
-ghost use Rattle.std.specs.Prelude.{◌≡◌, ◌<◌, ◌++◌, ◌∷◌, List, [], map, OnOk};
+ghost use Rattle.std.specs.Prelude.{◌≡◌, ◌<◌, [], map, OnOk};
 ghost use Rattle.go_ast.specs.Expected as expected;
-ghost use Rattle.go_ast.specs.Grammar.{Lexeme, closing};
+ghost use Rattle.go_ast.specs.Grammar.{closing};
 ghost use Rattle.go_ast.specs.Machine as machine;
-ghost use Rattle.go_ast.specs.Machine.{State, ListKind, list_start, list_end};
-ghost use Rattle.go_pexpr.specs.Reads.{Reads, First, left, size, expected_of};
+ghost use Rattle.go_ast.specs.Machine.{ListKind, list_start};
+ghost use Rattle.go_pexpr.specs.Reads.{First, left, size, expected_of, ReadsAs};
+ghost use Rattle.go_pstmt.specs.Reading.{ReadsItem};
 
 use crate::marks::CLOSING;
 use go_pexpr::expected::Expected;
@@ -40,8 +41,7 @@ pub trait Items {
     fn item(&self, parser: &mut Parser<'_>) -> Result<Self::Node, Refusal>
         requires can { can_read self.now }
         requires some { First (λ t. t.kind ≡ closing) (left parser.old) → ⊥ }
-        ensures reads { (front : List (machine.Item (kind self.now))) (next : List (machine.Item (kind self.now)) → Lexeme → State) →
-            Reads (list_start (kind self.now) front next) (λ n. list_end (kind self.now) (due self.now) (front ++ seen self.now n ∷ []) next) parser.old result parser.new }
+        ensures reads { ReadsItem (kind self.now) (due self.now) (seen self.now) parser.old result parser.new }
         ensures shorter { OnOk result (size parser.new < size parser.old) };
 
     /// The list ends at a closing parenthesis.
@@ -53,8 +53,7 @@ pub trait Items {
 /// `{ Item separator } ")" .`
 pub fn list<L: Items>(parser: &mut Parser<'_>, items: &L) -> Result<Vec<L::Node>, Refusal>
     requires { L.can_read items.now }
-    ensures reads { (next : List (machine.Item (L.kind items.now)) → State) →
-        Reads (list_start (L.kind items.now) [] (λ ns _. next ns)) (λ ns. next (map (L.seen items.now) ns.items)) parser.old result parser.new }
+    ensures reads { ReadsAs (λ ns. map (L.seen items.now) ns.items) (λ next. list_start (L.kind items.now) [] (λ ns _. next ns)) parser.old result parser.new }
     ensures shorter { OnOk result (size parser.new < size parser.old) }
 {
     let mut nodes = Vec::new(parser.alloc);
@@ -65,5 +64,6 @@ pub fn list<L: Items>(parser: &mut Parser<'_>, items: &L) -> Result<Vec<L::Node>
         }
     }
     parser.expect(CLOSING, 0, Expected::Another)?;
+    nodes.shrink_to_fit();
     Ok(nodes)
 }

@@ -3,15 +3,13 @@ ghost use Rattle.std.specs.Prelude.{◌≡◌, ◌<◌, ◌≤◌, ◌↔◌, Li
 ghost use Rattle.std.specs.Global.{Global};
 ghost use Rattle.go_ast.specs.declared.expression.Expr.{Expr};
 ghost use Rattle.go_ast.specs.Trees as trees;
-ghost use Rattle.go_scan.specs.declared.token.TokenKind.TheVariants as kinds;
 ghost use Rattle.go_scan.specs.declared.keyword.Keyword.TheVariants as keywords;
-ghost use Rattle.go_ast.specs.Expected.{a_value, an_operand, another};
-ghost use Rattle.go_ast.specs.Grammar.{Lexeme, assign, comma, define, opening_brace, is_call, simple_place};
-ghost use Rattle.go_ast.specs.Machine as machine;
-ghost use Rattle.go_ast.specs.Machine.{State, token, expr, more_exprs, keyword, name_if, names_if, may_define, behind_define, behind_left, is_header, list_lefts};
+ghost use Rattle.go_ast.specs.Grammar.{comma, define, opening_brace, is_call, simple_place};
+ghost use Rattle.go_ast.specs.Machine.{token, keyword, name_if, names_if, may_define, behind_left, is_header};
 ghost use Rattle.go_ast.specs.Views.{if_some, expr_of, exprs_in, simple_of};
-ghost use Rattle.go_pexpr.specs.Reads.{Reads, First, left, size, expected_of, first_kind};
-ghost use Rattle.go_pstmt.specs.Statements.{position_of, is_bare, beginning, by_header, assigned, Does, on_one, on_alone, at_one};
+ghost use Rattle.go_pexpr.specs.Reads.{First, left, size, expected_of, ReadsAs, IsNext};
+ghost use Rattle.go_pstmt.specs.Reading.{lefts_at, left_at, simple_at, assigned_at, defined_at, ReadsHeader, ReadsRange, ReadsLefts, ReadsAlone, ReadsBehindOne, IsStated, Defines};
+ghost use Rattle.go_pstmt.specs.Statements.{position_of, is_bare, beginning, assigned};
 
 use crate::marks::{ASSIGN, COMMA, DECREMENT, DEFINE, INCREMENT, OPENING_BRACE, RANGE};
 use go_ast::expression::{BinaryOperator, Expr, ExprKind};
@@ -173,7 +171,7 @@ fn names_of(alloc: Global, sides: &[Expr]) -> Result<Option<Vec<Name>>, AllocErr
 /// `ExpressionList = Expression { "," Expression } .`
 fn left_sides(parser: &mut Parser<'_>, position: Position, level: u32) -> Result<Vec<Expr>, Refusal>
     requires { level ≤ 252 }
-    ensures reads { (next : trees.Simple → State) (alone : trees.Expr → State) (range : trees.Name → trees.Expr → State) → Reads (expr 5 (is_bare position) level (beginning position) (λ e. machine.lefts (position_of position) (is_bare position) level (e ∷ []) next alone range)) (λ es. machine.lefts (position_of position) (is_bare position) level (map expr_of es.items) next alone range) parser.old result parser.new }
+    ensures reads { ReadsLefts position level parser.old result parser.new }
     ensures some { IfOk result (λ es. 1 ≤ length es.items) }
     ensures last { OnOk result (First (λ t. t.kind ≡ comma) (left parser.new) → ⊥) }
     ensures shorter { OnOk result (size parser.new < size parser.old) }
@@ -201,7 +199,7 @@ fn sole(mut sides: Vec<Expr>) -> Expr
 
 /// A simple statement that was read.
 fn stated(alloc: Global, simple: Simple) -> Result<Header, Refusal>
-    ensures ok { (next : trees.Simple → State) (alone : trees.Expr → State) (range : trees.Name → trees.Expr → State) → IfOk result (λ h. by_header next alone range h ≡ next (simple_of simple)) }
+    ensures ok { IsStated simple result }
     ensures err { IfErr result (λ e. e ≡ Refusal.Memory) }
 {
     let simple = Box::new(alloc, simple)?;
@@ -218,7 +216,7 @@ fn assignment(
     sides: Vec<Expr>,
 ) -> Result<Header, Refusal>
     requires { level ≤ 252 }
-    ensures reads { (next : trees.Simple → State) (alone : trees.Expr → State) (range : trees.Name → trees.Expr → State) → Reads (token assign 0 another (λ _. expr 5 bare level a_value (λ e. more_exprs bare level (e ∷ []) (λ es. next (trees.assignment (exprs_in sides.items) (trees.pack es)))))) (by_header next alone range) parser.old result parser.new }
+    ensures reads { ReadsHeader (λ next alone range. assigned_at bare level (exprs_in sides.items) next) parser.old result parser.new }
     ensures shorter { OnOk result (size parser.new < size parser.old) }
 {
     parser.expect(ASSIGN, 0, Expected::Another)?;
@@ -253,7 +251,7 @@ fn sole_name(mut names: Vec<Name>) -> Name
 fn range(parser: &mut Parser<'_>, level: u32, names: Vec<Name>) -> Result<Header, Refusal>
     requires level { level ≤ 252 }
     requires one { length names.items ≡ 1 }
-    ensures reads { (n : trees.Name) (next : trees.Simple → State) (alone : trees.Expr → State) (range : trees.Name → trees.Expr → State) → names.items ≡ n ∷ [] → Reads (token (keyword keywords.Range) 0 another (λ _. expr 5 true level an_operand (λ e. range n e))) (by_header next alone range) parser.old result parser.new }
+    ensures reads { ReadsRange level names.items parser.old result parser.new }
     ensures shorter { OnOk result (size parser.new < size parser.old) }
 {
     parser.expect(RANGE, 0, Expected::Another)?;
@@ -272,7 +270,7 @@ fn short_var_decl(
     names: Vec<Name>,
 ) -> Result<Header, Refusal>
     requires { level ≤ 252 }
-    ensures reads { (next : trees.Simple → State) (alone : trees.Expr → State) (range : trees.Name → trees.Expr → State) → Reads (token define 0 another (λ _. behind_define (position_of position) (is_bare position) level names.items next range)) (by_header next alone range) parser.old result parser.new }
+    ensures reads { ReadsHeader (λ next alone range. defined_at position level names.items next range) parser.old result parser.new }
     ensures shorter { OnOk result (size parser.new < size parser.old) }
 {
     parser.expect(DEFINE, 0, Expected::Another)?;
@@ -289,8 +287,8 @@ fn defined(
     position: Position,
     sides: &[Expr],
 ) -> Result<Option<Vec<Name>>, Refusal>
-    ensures some { IfOk result (λ o. (ns : Vec trees.Name Global) → o ≡ Some ns → First (λ t. t.kind ≡ define) (left parser.now) × (may_define (position_of position) ≡ true) × (names_if (map expr_of sides.now) ≡ Some ns.items)) }
-    ensures none { IfOk result (λ o. o ≡ None → First (λ t. t.kind ≡ define) (left parser.now) → may_define (position_of position) ≡ true → names_if (map expr_of sides.now) ≡ None) }
+    ensures some { IfOk result (λ o. (ns : Vec trees.Name Global) → o ≡ Some ns → Defines position parser.now (map expr_of sides.now) ns.items) }
+    ensures none { IfOk result (λ o. o ≡ None → IsNext define parser.now → may_define (position_of position) ≡ true → names_if (map expr_of sides.now) ≡ None) }
     ensures err { IfErr result (λ e. e ≡ Refusal.Memory) }
 {
     if !may_define(position) {
@@ -314,7 +312,7 @@ fn behind_one(
 ) -> Result<Header, Refusal>
     requires level { level ≤ 252 }
     requires one { length sides.items ≡ 1 }
-    ensures reads { (side : Expr) (before : State) (next : trees.Simple → State) (alone : trees.Expr → State) (range : trees.Name → trees.Expr → State) → sides.items ≡ side ∷ [] → Does parser.old.edition before (on_one parser.old.edition (position_of position) (is_bare position) level (expr_of side) next alone) (at_one (expr_of side) next) (left parser.old) → Reads before (by_header next alone range) parser.old result parser.new }
+    ensures reads { ReadsBehindOne position level sides.items parser.old result parser.new }
     ensures no_longer { OnOk result (size parser.new ≤ size parser.old) }
 {
     if parser.is_next(INCREMENT) {
@@ -340,7 +338,7 @@ fn behind_one(
 ///
 /// `ExpressionStmt = Expression .`
 fn alone(parser: &mut Parser<'_>, position: Position, side: Expr) -> Result<Header, Refusal>
-    ensures reads { (before : State) (next : trees.Simple → State) (alone : trees.Expr → State) (range : trees.Name → trees.Expr → State) → Does parser.old.edition before (on_alone parser.old.edition (position_of position) (expr_of side) next alone) (at_one (expr_of side) next) (left parser.old) → Reads before (by_header next alone range) parser.old result parser.new }
+    ensures reads { ReadsAlone position side parser.old result parser.new }
     ensures no_longer { OnOk result (size parser.new ≤ size parser.old) }
 {
     if opens_block(parser, position) {
@@ -374,7 +372,7 @@ fn behind_sides(
     requires level { level ≤ 252 }
     requires some { 1 ≤ length sides.items }
     requires last { First (λ t. t.kind ≡ comma) (left parser.old) → ⊥ }
-    ensures reads { (next : trees.Simple → State) (alone : trees.Expr → State) (range : trees.Name → trees.Expr → State) → Reads (machine.lefts (position_of position) (is_bare position) level (map expr_of sides.items) next alone range) (by_header next alone range) parser.old result parser.new }
+    ensures reads { ReadsHeader (lefts_at position level (map expr_of sides.items)) parser.old result parser.new }
     ensures no_longer { OnOk result (size parser.new ≤ size parser.old) }
 {
     if parser.is_next(ASSIGN) {
@@ -398,7 +396,7 @@ pub(crate) fn header_from(
     level: u32,
 ) -> Result<Header, Refusal>
     requires { level ≤ 252 }
-    ensures reads { (next : trees.Simple → State) (alone : trees.Expr → State) (range : trees.Name → trees.Expr → State) → Reads (expr 5 (is_bare position) level (beginning position) (λ e. machine.lefts (position_of position) (is_bare position) level (e ∷ []) next alone range)) (by_header next alone range) parser.old result parser.new }
+    ensures reads { ReadsHeader (left_at position level) parser.old result parser.new }
     ensures shorter { OnOk result (size parser.new < size parser.old) }
 {
     let sides = left_sides(parser, position, level)?;
@@ -414,7 +412,7 @@ pub(crate) fn simple(
     level: u32,
 ) -> Result<Simple, Refusal>
     requires { level ≤ 252 }
-    ensures reads { (next : trees.Simple → State) → Reads (expr 5 (is_bare position) level (beginning position) (list_lefts (position_of position) (is_bare position) level next)) (λ s. next (simple_of s)) parser.old result parser.new }
+    ensures reads { ReadsAs simple_of (simple_at position level) parser.old result parser.new }
     ensures shorter { OnOk result (size parser.new < size parser.old) }
 {
     match header_from(parser, position, level)? {

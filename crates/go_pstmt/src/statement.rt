@@ -1,17 +1,13 @@
 //! Reads statements.
-ghost use Rattle.std.specs.Prelude.{◌≡◌, ◌<◌, ◌≤◌, ◌+◌, ◌++◌, ◌∷◌, [], List, map, Option, None, OnOk};
-ghost use Rattle.go_text.specs.declared.edition.Edition.{Edition};
+ghost use Rattle.std.specs.Prelude.{◌<◌, ◌≤◌, ◌+◌, List, map, OnOk};
 ghost use Rattle.go_ast.specs.Trees as trees;
-ghost use Rattle.go_text.specs.declared.place.Place.{Place};
 ghost use Rattle.go_scan.specs.declared.keyword.Keyword.TheVariants as keywords;
 ghost use Rattle.go_ast.specs.Expected as expected;
-ghost use Rattle.go_ast.specs.Grammar.{Lexeme};
-ghost use Rattle.go_ast.specs.Machine as machine;
-ghost use Rattle.go_ast.specs.Machine.{State, token, keyword, block_at, behind_if, behind_for, behind_switch, else_part, clauses_at, clause_start, pack_clauses};
-ghost use Rattle.go_ast.specs.Views.{stmt_of, block_of, if_of, else_of, clause_of};
-ghost use Rattle.go_pexpr.specs.Reads.{Reads, left, size, expected_of};
-ghost use Rattle.go_pstmt.specs.Due.{clauses_behind};
-ghost use Rattle.go_pstmt.specs.Statements.{Does, Between, on_item, due_stmt};
+ghost use Rattle.go_ast.specs.Machine.{State, token, keyword, block_at, behind_if, behind_for, behind_switch, clauses_at, pack_clauses};
+ghost use Rattle.go_ast.specs.Views.{stmt_of, block_of, if_of, clause_of};
+ghost use Rattle.go_pexpr.specs.Reads.{Reads, size, expected_of, ReadsAs};
+ghost use Rattle.go_pstmt.specs.Reading.{ReadsElse, ReadsClauseBody, ReadsStatement};
+ghost use Rattle.go_pstmt.specs.Statements.{Between, due_stmt};
 
 use crate::clause::{clause_from, expected_behind};
 use crate::for_loop::turns_from;
@@ -66,7 +62,7 @@ pub fn block(parser: &mut Parser<'_>, level: u32) -> Result<Block, Refusal>
 #[cycle(statement)]
 fn item(parser: &mut Parser<'_>, level: u32, statements: &mut Vec<Stmt>) -> Result<(), Refusal>
     requires { level ≤ 251 }
-    ensures reads { (before : State) (next : expected.Expected → List trees.Stmt → State) (front : List trees.Stmt → State) → Does parser.old.edition before (on_item level (λ x s. next x (map stmt_of statements.old.items ++ s ∷ [])) (λ s. front (map stmt_of statements.old.items ++ s ∷ []))) None (left parser.old) → ((ed : Edition) (x : expected.Expected) (ss : List trees.Stmt) → Between ed (next x ss) x (front ss)) → Reads before (λ _. front (map stmt_of statements.new.items)) parser.old result parser.new }
+    ensures reads { ReadsStatement level (map stmt_of statements.old.items) (map stmt_of statements.new.items) parser.old result parser.new }
     ensures shorter { OnOk result (size parser.new < size parser.old) }
 {
     if parser.is_next(SEMICOLON) {
@@ -121,7 +117,7 @@ fn statement(parser: &mut Parser<'_>, level: u32) -> Result<Stmt, Refusal>
 #[cycle(statement)]
 fn conditional(parser: &mut Parser<'_>, level: u32) -> Result<If, Refusal>
     requires { level ≤ 251 }
-    ensures reads { (next : trees.If → State) → Reads (token (keyword keywords.If) (level + 1) expected.another (behind_if level next)) (λ i. next (if_of i)) parser.old result parser.new }
+    ensures reads { ReadsAs if_of (λ next. token (keyword keywords.If) (level + 1) expected.another (behind_if level next)) parser.old result parser.new }
     ensures shorter { OnOk result (size parser.new < size parser.old) }
 {
     let word = parser.expect(IF, level + 1, Expected::Another)?;
@@ -143,7 +139,7 @@ fn conditional(parser: &mut Parser<'_>, level: u32) -> Result<If, Refusal>
 #[cycle(statement)]
 fn otherwise(parser: &mut Parser<'_>, level: u32) -> Result<Else, Refusal>
     requires { level ≤ 250 }
-    ensures reads { (p : Place) (i : Option trees.Simple) (c : trees.Expr) (b : trees.Block) (next : trees.If → State) → Reads (else_part level p i c b next) (λ e. next (trees.conditional p i c b (else_of e))) parser.old result parser.new }
+    ensures reads { ReadsElse level parser.old result parser.new }
     ensures no_longer { OnOk result (size parser.new ≤ size parser.old) }
 {
     if !parser.is_next(ELSE) {
@@ -165,7 +161,7 @@ fn otherwise(parser: &mut Parser<'_>, level: u32) -> Result<Else, Refusal>
 #[cycle(statement)]
 fn for_loop(parser: &mut Parser<'_>, level: u32) -> Result<Stmt, Refusal>
     requires { level ≤ 251 }
-    ensures reads { (next : trees.Stmt → State) → Reads (token (keyword keywords.For) (level + 1) expected.another (behind_for level next)) (λ s. next (stmt_of s)) parser.old result parser.new }
+    ensures reads { ReadsAs stmt_of (λ next. token (keyword keywords.For) (level + 1) expected.another (behind_for level next)) parser.old result parser.new }
     ensures shorter { OnOk result (size parser.new < size parser.old) }
 {
     let word = parser.expect(FOR, level + 1, Expected::Another)?;
@@ -180,7 +176,7 @@ fn for_loop(parser: &mut Parser<'_>, level: u32) -> Result<Stmt, Refusal>
 #[cycle(statement)]
 fn switch(parser: &mut Parser<'_>, level: u32) -> Result<Stmt, Refusal>
     requires { level ≤ 251 }
-    ensures reads { (next : trees.Stmt → State) → Reads (token (keyword keywords.Switch) level expected.another (behind_switch level next)) (λ s. next (stmt_of s)) parser.old result parser.new }
+    ensures reads { ReadsAs stmt_of (λ next. token (keyword keywords.Switch) level expected.another (behind_switch level next)) parser.old result parser.new }
     ensures shorter { OnOk result (size parser.new < size parser.old) }
 {
     let word = parser.expect(SWITCH, level, Expected::Another)?;
@@ -214,7 +210,7 @@ fn clauses(parser: &mut Parser<'_>, level: u32) -> Result<Vec<Clause>, Refusal>
 #[cycle(statement)]
 fn clause_statements(parser: &mut Parser<'_>, level: u32) -> Result<Vec<Stmt>, Refusal>
     requires { level ≤ 250 }
-    ensures reads { (done : List machine.Clause) (p : Place) (values : Option trees.Exprs) (next : trees.Clauses → Lexeme → State) → Reads (clause_start level done p values [] next) (λ ss. clauses_behind level (done ++ (p, (values, map stmt_of ss.items)) ∷ []) next) parser.old result parser.new }
+    ensures reads { ReadsClauseBody level parser.old result parser.new }
     ensures no_longer { OnOk result (size parser.new ≤ size parser.old) }
 {
     let mut statements = Vec::new(parser.alloc);

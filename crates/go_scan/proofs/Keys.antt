@@ -10,7 +10,7 @@ use Rattle.go_scan.specs.declared.keyword.Keyword.{Keyword}
 use Rattle.go_scan.specs.declared.keyword.Keyword.TheVariants as keywords
 use Rattle.go_scan.specs.Punctuations.{punctuation_spelling, IsNoPunctuation}
 use Rattle.go_scan.specs.Keywords.{spelling, IsNoKeyword}
-use Rattle.go_scan.specs.Fronts.{all_keywords, keyword_in, all_punctuation, punctuation_in}
+use Rattle.go_scan.specs.Fronts.{all_keywords, keyword_in, keywords_with, all_punctuation, punctuation_in, punctuation_with}
 
 pub is_found : (k : Keyword) → keyword_in (spelling k) ≡ Some k
 is_found keywords.Break = refl
@@ -72,6 +72,52 @@ no_keyword_in bytes never = by_found (keyword_in bytes) refl
 
 pub keyword_some : (bytes : List ℕ) (k : Keyword) → bytes ≡ spelling k → keyword_in bytes ≡ Some k
 keyword_some bytes k e = ap keyword_in e ∙ is_found k
+
+-- a keyword is found among those that begin with its first byte
+keyword_by_first : (k : Keyword) → find (λ j. bytes_eq (spelling j) (spelling k)) (keywords_with (get_or (spelling k) 0 0)) ≡ Some k
+keyword_by_first keywords.Break = refl
+keyword_by_first keywords.Case = refl
+keyword_by_first keywords.Chan = refl
+keyword_by_first keywords.Const = refl
+keyword_by_first keywords.Continue = refl
+keyword_by_first keywords.Default = refl
+keyword_by_first keywords.Defer = refl
+keyword_by_first keywords.Else = refl
+keyword_by_first keywords.Fallthrough = refl
+keyword_by_first keywords.For = refl
+keyword_by_first keywords.Func = refl
+keyword_by_first keywords.Go = refl
+keyword_by_first keywords.Goto = refl
+keyword_by_first keywords.If = refl
+keyword_by_first keywords.Import = refl
+keyword_by_first keywords.Interface = refl
+keyword_by_first keywords.Map = refl
+keyword_by_first keywords.Package = refl
+keyword_by_first keywords.Range = refl
+keyword_by_first keywords.Return = refl
+keyword_by_first keywords.Select = refl
+keyword_by_first keywords.Struct = refl
+keyword_by_first keywords.Switch = refl
+keyword_by_first keywords.Type = refl
+keyword_by_first keywords.Var = refl
+
+-- it is enough to look among those that begin with a word's first byte
+pub keyword_among : (word : List ℕ) → find (λ j. bytes_eq (spelling j) word) (keywords_with (get_or word 0 0)) ≡ keyword_in word
+keyword_among word = by_all (keyword_in word) refl
+  where
+    among : Option Keyword
+    among = find (λ j. bytes_eq (spelling j) word) (keywords_with (get_or word 0 0))
+
+    passes : (k : Keyword) → among ≡ Some k → keyword_in word ≡ Some k
+    passes k e = keyword_some word k (sym ((bytes_eq-Decides (spelling k) word).0 (found_passes (λ j. bytes_eq (spelling j) word) (keywords_with (get_or word 0 0)) k e)))
+
+    by_among : (o : Option Keyword) → among ≡ o → keyword_in word ≡ None → among ≡ None
+    by_among None e none = e
+    by_among (Some k) e none = let both : None ≡ Some k = sym none ∙ passes k e in cc (both)
+
+    by_all : (o : Option Keyword) → keyword_in word ≡ o → among ≡ o
+    by_all None e = by_among among refl e
+    by_all (Some k) e = ap (λ ys. find (λ j. bytes_eq (spelling j) ys) (keywords_with (get_or ys 0 0))) (keyword_found word k e) ∙ keyword_by_first k
 
 pub is_found_mark : (p : Punctuation) → punctuation_in (punctuation_spelling p) ≡ Some p
 is_found_mark marks.Plus = refl
@@ -142,6 +188,75 @@ no_punctuation_in bytes never = by_found (punctuation_in bytes) refl
 
 pub punctuation_some : (bytes : List ℕ) (p : Punctuation) → bytes ≡ punctuation_spelling p → punctuation_in bytes ≡ Some p
 punctuation_some bytes p e = ap punctuation_in e ∙ is_found_mark p
+
+-- an operator or a punctuation is found among those that begin with its first byte
+mark_by_first : (k : Punctuation) → find (λ j. bytes_eq (punctuation_spelling j) (punctuation_spelling k)) (punctuation_with (get_or (punctuation_spelling k) 0 0)) ≡ Some k
+mark_by_first marks.Plus = refl
+mark_by_first marks.Minus = refl
+mark_by_first marks.Star = refl
+mark_by_first marks.Slash = refl
+mark_by_first marks.Percent = refl
+mark_by_first marks.Ampersand = refl
+mark_by_first marks.Pipe = refl
+mark_by_first marks.Caret = refl
+mark_by_first marks.ShiftLeft = refl
+mark_by_first marks.ShiftRight = refl
+mark_by_first marks.AndNot = refl
+mark_by_first marks.PlusAssign = refl
+mark_by_first marks.MinusAssign = refl
+mark_by_first marks.StarAssign = refl
+mark_by_first marks.SlashAssign = refl
+mark_by_first marks.PercentAssign = refl
+mark_by_first marks.AmpersandAssign = refl
+mark_by_first marks.PipeAssign = refl
+mark_by_first marks.CaretAssign = refl
+mark_by_first marks.ShiftLeftAssign = refl
+mark_by_first marks.ShiftRightAssign = refl
+mark_by_first marks.AndNotAssign = refl
+mark_by_first marks.LogicalAnd = refl
+mark_by_first marks.LogicalOr = refl
+mark_by_first marks.Arrow = refl
+mark_by_first marks.Increment = refl
+mark_by_first marks.Decrement = refl
+mark_by_first marks.Equal = refl
+mark_by_first marks.Less = refl
+mark_by_first marks.Greater = refl
+mark_by_first marks.Assign = refl
+mark_by_first marks.Not = refl
+mark_by_first marks.Tilde = refl
+mark_by_first marks.NotEqual = refl
+mark_by_first marks.LessOrEqual = refl
+mark_by_first marks.GreaterOrEqual = refl
+mark_by_first marks.Define = refl
+mark_by_first marks.Ellipsis = refl
+mark_by_first marks.OpenParenthesis = refl
+mark_by_first marks.OpenBracket = refl
+mark_by_first marks.OpenBrace = refl
+mark_by_first marks.Comma = refl
+mark_by_first marks.Period = refl
+mark_by_first marks.CloseParenthesis = refl
+mark_by_first marks.CloseBracket = refl
+mark_by_first marks.CloseBrace = refl
+mark_by_first marks.Semicolon = refl
+mark_by_first marks.Colon = refl
+
+-- it is enough to look among those that begin with a word's first byte
+pub mark_among : (word : List ℕ) → find (λ j. bytes_eq (punctuation_spelling j) word) (punctuation_with (get_or word 0 0)) ≡ punctuation_in word
+mark_among word = by_all (punctuation_in word) refl
+  where
+    among : Option Punctuation
+    among = find (λ j. bytes_eq (punctuation_spelling j) word) (punctuation_with (get_or word 0 0))
+
+    passes : (k : Punctuation) → among ≡ Some k → punctuation_in word ≡ Some k
+    passes k e = punctuation_some word k (sym ((bytes_eq-Decides (punctuation_spelling k) word).0 (found_passes (λ j. bytes_eq (punctuation_spelling j) word) (punctuation_with (get_or word 0 0)) k e)))
+
+    by_among : (o : Option Punctuation) → among ≡ o → punctuation_in word ≡ None → among ≡ None
+    by_among None e none = e
+    by_among (Some k) e none = let both : None ≡ Some k = sym none ∙ passes k e in cc (both)
+
+    by_all : (o : Option Punctuation) → punctuation_in word ≡ o → among ≡ o
+    by_all None e = by_among among refl e
+    by_all (Some k) e = ap (λ ys. find (λ j. bytes_eq (punctuation_spelling j) ys) (punctuation_with (get_or ys 0 0))) (punctuation_found word k e) ∙ mark_by_first k
 
 -- punctuation has one to three bytes
 pub mark_size : (p : Punctuation) → (1 ≤ length (punctuation_spelling p)) × (length (punctuation_spelling p) ≤ 3)

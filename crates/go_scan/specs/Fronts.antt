@@ -44,6 +44,23 @@ all_keywords =
 abbrev pub keyword_in : List ℕ → Option Keyword
 keyword_in bytes = find (λ k. bytes_eq (spelling k) bytes) all_keywords
 
+-- the keywords that begin with a byte
+abbrev pub keywords_with : ℕ → List Keyword
+keywords_with b =
+    if nat_eq b 98 then keywords.Break ∷ []
+    else (if nat_eq b 99 then keywords.Case ∷ keywords.Chan ∷ keywords.Const ∷ keywords.Continue ∷ []
+    else (if nat_eq b 100 then keywords.Default ∷ keywords.Defer ∷ []
+    else (if nat_eq b 101 then keywords.Else ∷ []
+    else (if nat_eq b 102 then keywords.Fallthrough ∷ keywords.For ∷ keywords.Func ∷ []
+    else (if nat_eq b 103 then keywords.Go ∷ keywords.Goto ∷ []
+    else (if nat_eq b 105 then keywords.If ∷ keywords.Import ∷ keywords.Interface ∷ []
+    else (if nat_eq b 109 then keywords.Map ∷ []
+    else (if nat_eq b 112 then keywords.Package ∷ []
+    else (if nat_eq b 114 then keywords.Range ∷ keywords.Return ∷ []
+    else (if nat_eq b 115 then keywords.Select ∷ keywords.Struct ∷ keywords.Switch ∷ []
+    else (if nat_eq b 116 then keywords.Type ∷ []
+    else (if nat_eq b 118 then keywords.Var ∷ [] else []))))))))))))
+
 abbrev pub word_kind : Option Keyword → TokenKind
 word_kind None = kinds.Name
 word_kind (Some k) = kinds.Keyword k
@@ -159,6 +176,33 @@ all_punctuation =
 -- operators and punctuation from their spelling
 abbrev pub punctuation_in : List ℕ → Option Punctuation
 punctuation_in bytes = find (λ p. bytes_eq (punctuation_spelling p) bytes) all_punctuation
+
+-- those that begin with a byte
+abbrev pub punctuation_with : ℕ → List Punctuation
+punctuation_with b =
+    if nat_eq b 43 then marks.Plus ∷ marks.PlusAssign ∷ marks.Increment ∷ []
+    else (if nat_eq b 45 then marks.Minus ∷ marks.MinusAssign ∷ marks.Decrement ∷ []
+    else (if nat_eq b 42 then marks.Star ∷ marks.StarAssign ∷ []
+    else (if nat_eq b 47 then marks.Slash ∷ marks.SlashAssign ∷ []
+    else (if nat_eq b 37 then marks.Percent ∷ marks.PercentAssign ∷ []
+    else (if nat_eq b 38 then marks.Ampersand ∷ marks.AmpersandAssign ∷ marks.AndNot ∷ marks.AndNotAssign ∷ marks.LogicalAnd ∷ []
+    else (if nat_eq b 124 then marks.Pipe ∷ marks.PipeAssign ∷ marks.LogicalOr ∷ []
+    else (if nat_eq b 94 then marks.Caret ∷ marks.CaretAssign ∷ []
+    else (if nat_eq b 60 then marks.Less ∷ marks.LessOrEqual ∷ marks.ShiftLeft ∷ marks.ShiftLeftAssign ∷ marks.Arrow ∷ []
+    else (if nat_eq b 62 then marks.Greater ∷ marks.GreaterOrEqual ∷ marks.ShiftRight ∷ marks.ShiftRightAssign ∷ []
+    else (if nat_eq b 61 then marks.Assign ∷ marks.Equal ∷ []
+    else (if nat_eq b 33 then marks.Not ∷ marks.NotEqual ∷ []
+    else (if nat_eq b 126 then marks.Tilde ∷ []
+    else (if nat_eq b 58 then marks.Colon ∷ marks.Define ∷ []
+    else (if nat_eq b 46 then marks.Period ∷ marks.Ellipsis ∷ []
+    else (if nat_eq b 40 then marks.OpenParenthesis ∷ []
+    else (if nat_eq b 91 then marks.OpenBracket ∷ []
+    else (if nat_eq b 123 then marks.OpenBrace ∷ []
+    else (if nat_eq b 44 then marks.Comma ∷ []
+    else (if nat_eq b 41 then marks.CloseParenthesis ∷ []
+    else (if nat_eq b 93 then marks.CloseBracket ∷ []
+    else (if nat_eq b 125 then marks.CloseBrace ∷ []
+    else (if nat_eq b 59 then marks.Semicolon ∷ [] else []))))))))))))))))))))))
 
 -- the first of two, where there is one
 abbrev pub or_else : Option (Shape × ℕ) → Option (Shape × ℕ) → Option (Shape × ℕ)

@@ -1,5 +1,6 @@
 //! The keywords of Go.
 ghost use Rattle.std.specs.Prelude.{◌≡◌, ◌≢◌, IfSome, OnSome, None};
+ghost use Rattle.go_scan.specs.Fronts.{keywords_with};
 ghost use Rattle.go_scan.specs.Keywords.{spelling, IsNoKeyword, keyword_ends_statement};
 
 /// A keyword of Go.
@@ -32,34 +33,32 @@ pub enum Keyword {
     Var,
 }
 
-/// All keywords.
-static KEYWORDS: [Keyword; 25] = [
-    Keyword::Break,
-    Keyword::Case,
-    Keyword::Chan,
-    Keyword::Const,
-    Keyword::Continue,
-    Keyword::Default,
-    Keyword::Defer,
-    Keyword::Else,
-    Keyword::Fallthrough,
-    Keyword::For,
-    Keyword::Func,
-    Keyword::Go,
-    Keyword::Goto,
-    Keyword::If,
-    Keyword::Import,
-    Keyword::Interface,
-    Keyword::Map,
-    Keyword::Package,
-    Keyword::Range,
-    Keyword::Return,
-    Keyword::Select,
-    Keyword::Struct,
-    Keyword::Switch,
-    Keyword::Type,
-    Keyword::Var,
-];
+/// The keywords that begin with a byte.
+fn beginning_with(first: u8) -> &'static [Keyword]
+    ensures { result.now ≡ keywords_with first }
+{
+    match first {
+        b'b' => &[Keyword::Break],
+        b'c' => &[
+            Keyword::Case,
+            Keyword::Chan,
+            Keyword::Const,
+            Keyword::Continue,
+        ],
+        b'd' => &[Keyword::Default, Keyword::Defer],
+        b'e' => &[Keyword::Else],
+        b'f' => &[Keyword::Fallthrough, Keyword::For, Keyword::Func],
+        b'g' => &[Keyword::Go, Keyword::Goto],
+        b'i' => &[Keyword::If, Keyword::Import, Keyword::Interface],
+        b'm' => &[Keyword::Map],
+        b'p' => &[Keyword::Package],
+        b'r' => &[Keyword::Range, Keyword::Return],
+        b's' => &[Keyword::Select, Keyword::Struct, Keyword::Switch],
+        b't' => &[Keyword::Type],
+        b'v' => &[Keyword::Var],
+        _ => &[],
+    }
+}
 
 impl Keyword {
     /// How the keyword is spelled.
@@ -111,7 +110,10 @@ pub fn keyword_of(word: &[u8]) -> Option<Keyword>
     ensures some { IfSome result (λ k. word.now ≡ spelling k) }
     ensures none { result ≡ None → IsNoKeyword word.now }
 {
-    for keyword in &KEYWORDS {
+    let [first, ..] = word else {
+        return None;
+    };
+    for keyword in beginning_with(*first) {
         if keyword.spelling().as_bytes() == word {
             return Some(*keyword);
         }

@@ -97,10 +97,12 @@ pub fn scan(alloc: Global, source: &Source) -> Result<Vec<Token>, ScanError>
         }
         let behind = place.after(&rest[..len]);
         if let Shape::Word(kind) = shape {
+            let start = at as u32;
+            let end = (at + len) as u32;
             let token = Token {
                 kind,
-                start: at,
-                end: at + len,
+                start,
+                end,
                 place,
             };
             push(&mut tokens, due, token)?;

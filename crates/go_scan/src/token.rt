@@ -28,9 +28,9 @@ pub struct Token {
     /// What kind of token it is.
     pub kind: TokenKind,
     /// The offset of its first byte.
-    pub start: usize,
+    pub start: u32,
     /// The offset behind its last byte.
-    pub end: usize,
+    pub end: u32,
     /// The place of its first byte.
     pub place: Place,
 }

@@ -166,7 +166,10 @@ fn spelled(alloc: Global, text: &str, tokens: &[Token]) -> Result<String, AllocE
             told.push(' ')?;
         }
         told.push_str(letter(token.kind))?;
-        told.push_str(text.get(token.start..token.end).unwrap_or("?"))?;
+        told.push_str(
+            text.get(token.start as usize..token.end as usize)
+                .unwrap_or("?"),
+        )?;
     }
     Ok(told)
 }

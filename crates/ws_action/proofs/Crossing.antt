@@ -22,7 +22,7 @@ pub action_sync : IsSync action.the_row
 action_sync = search (files_send, files_sync, summary_send, summary_sync, crosses, maps.crosses, sendable) depth 20
 
 pub origin_send : IsSend origin.the_row
-origin_send = search (sources.the_send, summary_send, summary_sync, crosses, maps.crosses, sendable) depth 20
+origin_send = search (sources.the_send, sources.the_sync, summary_send, summary_sync, crosses, maps.crosses, sendable) depth 20
 
 pub origin_sync : IsSync origin.the_row
-origin_sync = search (sources.the_sync, summary_send, summary_sync, crosses, maps.crosses, sendable) depth 20
+origin_sync = search (sources.the_send, sources.the_sync, summary_send, summary_sync, crosses, maps.crosses, sendable) depth 20

@@ -4,6 +4,7 @@ pub mod Members
 pub mod OneAction
 pub mod Order
 mod Ascending
+mod Hashed
 mod Imported
 mod ImportPaths
 mod Mapped

@@ -1,11 +1,12 @@
 //! Actions: what a package is compiled from, and the text and the id by which caches know it.
 #![tactic(auto)]
 
-ghost use Rattle.std.specs.Prelude.{◌≡◌, ℕ, List, map, OnOk, IfOk, IfErr, string_bytes};
+ghost use Rattle.std.specs.Prelude.{◌≡◌, ℕ, List, map, OnOk, IfOk, IfSome, IfErr, string_bytes};
 ghost use Rattle.std.specs.Arc.{arc_value};
 ghost use Rattle.std.specs.Bool.{OnTrue, OnFalse};
 ghost use Rattle.std.specs.List.{All, Contains};
 ghost use Rattle.go_ast.specs.Parse.{IsNamed, IsOther};
+ghost use Rattle.sha2.specs.Sha256.{sha256};
 ghost use Rattle.go_export.specs.Writable.{IsWritten};
 ghost use Rattle.ws_action.specs.Clash.{NoClash, Includes, hashed_actions, AllSized};
 ghost use Rattle.ws_action.specs.Actions.{Action as AnAction, source_of, import_of, action_of, are_ordered, HaveOneName, HaveOtherName, MakeAction, AreRefused, action_text, action_id, IsSized, action_cmp};
@@ -52,7 +53,8 @@ pub enum ActionError {
 
 /// What a package is compiled from: the edition, the package's directory, its parsed files, of
 /// which there is one at least, in strictly ascending order of names and with one package name, and
-/// the summaries of exactly the packages that they import, in strictly ascending order of paths.
+/// the summaries of exactly the packages that they import, in strictly ascending order of paths. An
+/// action that was identified has its id, and so have its copies.
 #[derive(Drop)]
 pub struct Action {
     alloc: Global,
@@ -60,10 +62,11 @@ pub struct Action {
     path: String,
     files: Arc<Files>,
     imports: Vec<Arc<Summary>>,
+    id: Option<[u8; 32]>,
 }
 
 impl Model for Action {
-    ghost use Rattle.std.specs.Prelude.{string_bytes, map};
+    ghost use Rattle.std.specs.Prelude.{◌≡◌, IfSome, string_bytes, map};
     ghost use Rattle.std.specs.Arc.{arc_value};
     ghost use Rattle.ws_action.specs.Actions as actions;
 
@@ -76,7 +79,9 @@ impl Model for Action {
     ghost use Rattle.std.specs.List.{All};
     ghost use Rattle.go_export.specs.Writable.{IsWritten};
 
-    ghost invariant = { λ a. actions.MakeAction a.edition (arc_value a.files) (map arc_value a.imports.items) × All IsWritten (map arc_value a.imports.items) };
+    ghost invariant = { λ a. actions.MakeAction a.edition (arc_value a.files) (map arc_value a.imports.items)
+        × All IsWritten (map arc_value a.imports.items)
+        × IfSome a.id (λ id. id ≡ actions.action_id (actions.action_of a.edition (string_bytes a.path) (arc_value a.files) (map arc_value a.imports.items))) };
 }
 
 impl Action {
@@ -106,6 +111,7 @@ impl Action {
             path,
             files,
             imports,
+            id: None,
         })
     }
 
@@ -156,6 +162,7 @@ impl Action {
             path: self.path.clone()?,
             files: Arc::try_clone(&self.files)?,
             imports: copy_imports(self.alloc, &self.imports)?,
+            id: self.id,
         })
     }
 
@@ -173,12 +180,62 @@ impl Action {
         Ok(text)
     }
 
-    /// The SHA-256 digest of the action's text. An `Err` only where memory ran out.
+    /// The SHA-256 digest of the action's text, which one that was identified has. An `Err` only
+    /// where memory ran out.
     pub fn id(&self) -> Result<[u8; 32], AllocError>
         ensures { IfOk result (λ id. id ≡ action_id self.now) }
     {
+        if let Some(id) = self.id {
+            return Ok(id);
+        }
         let text = self.text()?;
         Ok(digest(&text))
+    }
+
+    /// The same action, which has its id from here on: nothing is hashed where another that has its
+    /// id has the same text. An `Err` only where memory ran out.
+    pub fn identified(self, last: Option<&Action>) -> Result<Action, AllocError>
+        ensures { IfOk result (λ action. action ≡ self) }
+    {
+        let id = self.id_after(last)?;
+        let Action {
+            alloc,
+            edition,
+            path,
+            files,
+            imports,
+            id: _,
+        } = self;
+        Ok(Action {
+            alloc,
+            edition,
+            path,
+            files,
+            imports,
+            id: Some(id),
+        })
+    }
+
+    fn id_after(&self, last: Option<&Action>) -> Result<[u8; 32], AllocError>
+        ensures { IfOk result (λ id. id ≡ action_id self.now) }
+    {
+        let text = self.text()?;
+        match known_id(last, &text)? {
+            Some(id) => Ok(id),
+            None => Ok(digest(&text)),
+        }
+    }
+
+    /// The action's id, if it has that text, and its id.
+    fn id_of(&self, text: &[u8]) -> Result<Option<[u8; 32]>, AllocError>
+        ensures { IfOk result (λ found. IfSome found (λ id. id ≡ sha256 text.now)) }
+    {
+        let own = self.text()?;
+        if own.as_slice() == text {
+            Ok(self.id)
+        } else {
+            Ok(None)
+        }
     }
 
     /// By edition, then directory, then the files by name and text, then the imports by path and
@@ -199,6 +256,16 @@ impl Action {
             unequal => unequal,
         }
     }
+}
+
+fn known_id(last: Option<&Action>, text: &[u8]) -> Result<Option<[u8; 32]>, AllocError>
+    ensures { IfOk result (λ found. IfSome found (λ id. id ≡ sha256 text.now)) }
+{
+    let Some(last) = last else {
+        return Ok(None);
+    };
+    let id = last.id_of(text)?;
+    Ok(id)
 }
 
 /// What keeps files and summaries from making an action: the first that holds.

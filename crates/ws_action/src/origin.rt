@@ -14,13 +14,13 @@ use std::cmp::Ordering;
 use std::marker::Model;
 use std::sync::Arc;
 
-/// An action without its trees: the edition, the package's directory, the names and texts of its
-/// files, and the summaries of its imports. It shares the texts and the summaries.
+/// An action without its trees: the edition, the package's directory, its sources, and the
+/// summaries of its imports. It shares the sources and the summaries.
 #[derive(Drop)]
 pub struct Origin {
     edition: Edition,
     path: String,
-    files: Vec<Source>,
+    files: Vec<Arc<Source>>,
     imports: Vec<Arc<Summary>>,
 }
 
@@ -33,7 +33,7 @@ impl Model for Origin {
 
     ghost coded = { actions.action_code };
 
-    ghost view = { λ a. record { edition = a.edition; path = string_bytes a.path; files = map actions.named_source a.files.items; imports = map actions.import_of (map arc_value a.imports.items) } };
+    ghost view = { λ a. record { edition = a.edition; path = string_bytes a.path; files = map (λ s. actions.named_source (arc_value s)) a.files.items; imports = map actions.import_of (map arc_value a.imports.items) } };
 }
 
 impl Origin {
@@ -68,8 +68,8 @@ impl Origin {
     }
 
     /// The names and texts of the package's files.
-    pub fn files(&self) -> &[Source]
-        ensures { map named_source result.now ≡ self.now.files }
+    pub fn files(&self) -> &[Arc<Source>]
+        ensures { map (λ s. named_source (arc_value s)) result.now ≡ self.now.files }
     {
         self.files.as_slice()
     }
@@ -98,14 +98,21 @@ impl Origin {
     }
 }
 
-/// The names and texts of files.
-fn sources(alloc: Global, files: &[Parsed]) -> Result<Vec<Source>, AllocError>
-    ensures { IfOk result (λ sources. map named_source sources.items ≡ map source_of files.now) }
+fn source_of(file: &Parsed) -> Result<Arc<Source>, AllocError>
+    ensures { IfOk result (λ source. named_source (arc_value source) ≡ source_of file.now) }
+{
+    let source = Arc::try_clone(file.source())?;
+    Ok(source)
+}
+
+/// The names and texts of files, which are shared.
+fn sources(alloc: Global, files: &[Parsed]) -> Result<Vec<Arc<Source>>, AllocError>
+    ensures { IfOk result (λ sources. map (λ s. named_source (arc_value s)) sources.items ≡ map source_of files.now) }
 {
     let mut sources = Vec::with_capacity(alloc, files.len())?;
     for file in files {
-        let name = String::from_str(alloc, file.name())?;
-        sources.push(Source::of(name, file.text().copy()?))?;
+        let source = source_of(file)?;
+        sources.push(source)?;
     }
     Ok(sources)
 }

@@ -50,10 +50,11 @@ impl Part for Parsed {
     }
 }
 
-impl Part for Source {
+impl Part for Arc<Source> {
+    ghost use Rattle.std.specs.Arc.{arc_value};
     ghost use Rattle.ws_action.specs.Actions.{named_source};
 
-    ghost named = { named_source };
+    ghost named = { λ s. named_source (arc_value s) };
 
     fn part_name(&self) -> &str {
         self.name()

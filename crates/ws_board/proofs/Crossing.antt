@@ -26,7 +26,7 @@ identified_send : IsSend identified.the_row
 identified_send = search (action_send, action_sync, crosses, maps.crosses, sendable) depth 20
 
 work_send : IsSend work.the_row
-work_send = search (files_send, files_sync, crosses, maps.crosses, sendable) depth 20
+work_send = search (files_send, files_sync, action_send, action_sync, crosses, maps.crosses, sendable) depth 20
 
 job_send : IsSend job.the_row
 job_send = search (work_send, crosses, sendable) depth 20

@@ -1,5 +1,6 @@
 -- What a job's imports make of it, by the rows that are read.
-use Rattle.std.proofs.Common.{◌≡◌, ℕ, suc, ◌-◌, ◌<◌, ◌≤◌, true, false, ◌||◌, List, [], ◌∷◌, length, get_or, Option, Some, None, refl, sym, ap, ◌∙◌, subst, arith, inl, inr}
+use Rattle.std.proofs.Common.{◌≡◌, ℕ, suc, ◌+◌, ◌-◌, ◌<◌, ◌≤◌, true, false, ◌||◌, List, [], ◌∷◌, length, get_or, Option, Some, None, refl, sym, ap, ◌∙◌, subst, arith, inl, inr}
+use Rattle.std.specs.Prelude.{if◌then◌else◌}
 use Rattle.std.specs.List.{slice_get, slice_index_or}
 use Rattle.std.proofs.lemmas.Bool.{cases_lt}
 use Rattle.std.proofs.lemmas.Option.{get_or_from_slice_get}
@@ -11,7 +12,7 @@ use Rattle.ws_board.specs.declared.table.Row.{Row}
 use Rattle.ws_board.specs.Work.{Work, Job, Standings}
 use Rattle.ws_board.specs.Machine.{Held, Stands, Stop, Act, IsVerdict, IsFormed, MayForm, IsPlaced, is_open, is_waiting, any_open, HasSummary}
 use Rattle.ws_board.specs.Ends.{imports_in, imports_at, work_in, work_at}
-use Rattle.ws_board.specs.Rows.{IsOpenPast, Becomes}
+use Rattle.ws_board.specs.Rows.{IsOpenPast, Becomes, due_of, telling}
 use Rattle.ws_board.specs.Table.{row_at, standings_of}
 use Rattle.ws_board.proofs.Standing.{status_row, row_past}
 use Rattle.ws_board.proofs.Onward.{waits_stands, import_open}
@@ -43,6 +44,14 @@ stands_waits h J R job left work is some within on = waits_stands h (standings_o
 pub placed_cases : (o : Option Action) (s : Status) → IsPlaced o s → (is_waiting s ≡ true → ⊥)
 placed_cases None s p w = let c : true ≡ false = sym w ∙ ap is_waiting p in cc
 placed_cases (Some e) s p w = let c : true ≡ false = sym w ∙ ap is_waiting p.2 in cc
+
+-- and costs no more than one that is ready
+pub placed_costs : (o : Option Action) (s : Status) (left imports importers : ℕ) → IsPlaced o s
+    → due_of s left imports importers + (if is_open s then 0 else telling importers) ≤ 2 + telling importers
+placed_costs None s left imports importers p =
+    subst (λ (x : Status). due_of x left imports importers + (if is_open x then 0 else telling importers) ≤ 2 + telling importers) (sym p) (omega arith)
+placed_costs (Some e) s left imports importers p =
+    subst (λ (x : Status). due_of x left imports importers + (if is_open x then 0 else telling importers) ≤ 2 + telling importers) (sym p.2) (omega arith)
 
 -- ---- how many of the imports may be open
 

@@ -197,7 +197,7 @@ fn formed(
         return Ok(None);
     };
     match work.acted(alloc, summaries)? {
-        Some(action) => Ok(Some(Identified::new(alloc, action)?)),
+        Some(action) => Ok(Some(Identified::new(alloc, action, work.last())?)),
         None => Ok(None),
     }
 }

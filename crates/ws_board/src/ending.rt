@@ -1,5 +1,6 @@
 //! What a board came to.
 ghost use Rattle.std.specs.Prelude.{◌≡◌, IfOk, IfSome, IfNone, None, Some, true, option_copied};
+ghost use Rattle.std.specs.Arc.{arc_value};
 ghost use Rattle.std.specs.List.{count_by, list_any};
 ghost use Rattle.std.specs.Option.{option_map};
 ghost use Rattle.ws_map.specs.Kept.{joined};
@@ -17,6 +18,8 @@ use crate::table::Row;
 use crate::work::{Event, Identified, Job, Status};
 use std::alloc::AllocError;
 use std::marker::Model;
+use std::sync::Arc;
+use ws_action::Action;
 use ws_cache::{Cache, Outcome};
 use ws_version::Join;
 
@@ -158,6 +161,18 @@ impl Built {
         ensures none { IfNone result (result_at self.now job ≡ None) }
     {
         result_in(&self.parts, job)
+    }
+
+    /// The action of the job with that number, if it is formed, which has its id. An `Err` only
+    /// where memory ran out.
+    pub fn action(&self, job: usize) -> Result<Option<Arc<Action>>, AllocError>
+        ensures { IfOk result (λ action. option_map arc_value action ≡ action_at self.now.state.standings.actions job) }
+    {
+        let Some(action) = action_in(&self.parts.rows, job) else {
+            return Ok(None);
+        };
+        let action = action.action()?;
+        Ok(Some(action))
     }
 
     /// How many jobs were finished.

@@ -144,9 +144,15 @@ impl Model for Identified {
 }
 
 impl Identified {
-    pub(super) fn new(alloc: Global, action: Action) -> Result<Identified, AllocError>
+    /// Nothing is hashed where the last one has the same text.
+    pub(super) fn new(
+        alloc: Global,
+        action: Action,
+        last: Option<&Action>,
+    ) -> Result<Identified, AllocError>
         ensures { IfOk result (λ identified. identified ≡ action) }
     {
+        let action = action.identified(last)?;
         let id = action.id()?;
         let action = Arc::new(alloc, action)?;
         Ok(Identified { action, id })
@@ -167,15 +173,25 @@ impl Identified {
     {
         self.id
     }
+
+    /// The action, which has its id.
+    pub(super) fn action(&self) -> Result<Arc<Action>, AllocError>
+        ensures { IfOk result (λ action. arc_value action ≡ self.now) }
+    {
+        let action = Arc::try_clone(&self.action)?;
+        Ok(action)
+    }
 }
 
 /// What is to be compiled once its imports are good: a package's directory and its files, by some
-/// edition.
+/// edition; and the action that the directory had last, by which the new one has its id, if it has
+/// the same text.
 #[derive(Drop)]
 pub struct Work {
     edition: Edition,
     path: String,
     files: Arc<Files>,
+    last: Option<Arc<Action>>,
 }
 
 impl Model for Work {
@@ -199,7 +215,32 @@ impl Work {
             edition,
             path,
             files,
+            last: None,
         }
+    }
+
+    /// As `new`, of a directory that had an action, of whatever files and imports: where the work
+    /// comes to the same one, it isn't hashed again.
+    pub fn after(
+        edition: Edition,
+        path: String,
+        files: Arc<Files>,
+        last: Option<Arc<Action>>,
+    ) -> Work
+        ensures { result ≡ record { edition = edition; path = string_bytes path; files = arc_value files } }
+    {
+        Work {
+            edition,
+            path,
+            files,
+            last,
+        }
+    }
+
+    /// The action that the directory had last.
+    pub(super) fn last(&self) -> Option<&Action> {
+        let last: &Action = self.last.as_ref()?;
+        Some(last)
     }
 
     /// The action of the work, where its imports have these summaries. None: they make none. An

@@ -1,3 +1,4 @@
+pub mod Claims
 pub mod Compiles
 pub mod Count
 pub mod Held

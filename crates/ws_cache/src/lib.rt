@@ -1,24 +1,23 @@
 //! Compiled packages by the id of what they were compiled from.
 #![tactic(auto)]
 
-ghost use Rattle.std.specs.Prelude.{◌≡◌, ℕ, ◌++◌, ◌∷◌, [], List, OnOk, OnErr, IfOk, IfErr, Some, is_some, if◌then◌else◌, option_copied, ◌⊎◌, map as map_list};
+ghost use Rattle.std.specs.Prelude.{◌≡◌, ℕ, ◌++◌, ◌∷◌, [], List, OnOk, OnErr, IfOk, IfErr, Some, is_some, if◌then◌else◌, option_copied, map as map_list};
 ghost use Rattle.std.specs.Arc.{arc_value};
 ghost use Rattle.std.specs.FinMap as map;
 ghost use Rattle.std.specs.List.{All, Contains};
 ghost use Rattle.go_text.specs.declared.edition.Edition.{Edition};
-ghost use Rattle.go_text.specs.Faults.{Fault as AFault};
 ghost use Rattle.go_ast.specs.Trees.{File};
 ghost use Rattle.go_ast.specs.Parse.{Parsed};
-ghost use Rattle.go_typed.specs.Trees.{Package};
 ghost use Rattle.go_export.specs.Summaries.{Summary as ASummary};
 ghost use Rattle.go_export.specs.Writable.{IsWritten};
+ghost use Rattle.go_package.specs.Claims.{AtMostOne};
 ghost use Rattle.go_package.specs.Imports.{Importable};
 ghost use Rattle.go_import.specs.Names.{importable_by};
 ghost use Rattle.go_check.specs.Checked.{AreTrees};
 ghost use Rattle.ws_map.specs.Kept.{SameMembers, taken, joined as joined_by};
 ghost use Rattle.ws_action.specs.Actions.{Action as AnAction, action_of, action_id, HaveEdition};
-ghost use Rattle.ws_action.specs.Clash.{NoClash, Includes, hashed_actions, AllSized};
-ghost use Rattle.ws_cache.specs.Compiles.{AreGood, AreFaulty, Compiled, IsResult, Compiles, compiled_of};
+ghost use Rattle.ws_cache.specs.Claims.{AreGoodOrFaulty, InEachCache, WithoutClash};
+ghost use Rattle.ws_cache.specs.Compiles.{Compiled, IsResult, Compiles, compiled_of};
 ghost use Rattle.ws_cache.specs.Count.{compiled_count, new_actions_count};
 ghost use Rattle.ws_cache.specs.Held.{IsHeld, CacheStandsFor, id_cmp};
 ghost use Rattle.ws_cache.specs.Joined.{lesser};
@@ -266,8 +265,8 @@ pub fn law_one_outcome()
 /// Files at a path, which may import some packages, come to one thing; where they parse they come to
 /// something.
 pub fn law_one_result()
-    ensures one { (path : List ℕ) (files : List Parsed) (imports : List Importable) (a b : Compiled) → IsResult path files imports a → IsResult path files imports b → a ≡ b }
-    ensures some { (path : List ℕ) (files : List Parsed) (imports : List Importable) (trees : List File) → AreTrees files trees → ((fault : AFault) × AreFaulty path files imports fault) ⊎ ((typed : Package) × AreGood path files imports typed) }
+    ensures one { (path : List ℕ) (files : List Parsed) (imports : List Importable) → AtMostOne (IsResult path files imports) }
+    ensures some { (path : List ℕ) (files : List Parsed) (imports : List Importable) (trees : List File) → AreTrees files trees → AreGoodOrFaulty path files imports }
 {}
 
 /// What is held for an action is what its files come to by the summaries that it was formed of,
@@ -289,21 +288,22 @@ pub fn law_put_again()
 
 /// Where the hashed texts do not clash, the id of each action that was put gives that action.
 pub fn law_found_itself()
-    ensures { (texts : List (List ℕ)) (E : List AnAction) → NoClash texts → Includes texts (hashed_actions E) → AllSized E → (m : map.FinMap id_cmp AnAction) → CacheStandsFor m E → (a : AnAction) → Contains E a → map.get m (action_id a) ≡ Some a }
+    ensures { (texts : List (List ℕ)) (E : List AnAction) → WithoutClash texts E (InEachCache E (λ m. (a : AnAction) → Contains E a → map.get m (action_id a) ≡ Some a)) }
 {}
 
 /// Where the hashed texts do not clash, what is found by an action's id is the action, also where
 /// the action was not put.
 pub fn law_found_no_other()
-    ensures { (texts : List (List ℕ)) (E : List AnAction) (a b : AnAction) → NoClash texts → Includes texts (hashed_actions (E ++ a ∷ [])) → AllSized (E ++ a ∷ []) → (m : map.FinMap id_cmp AnAction) → CacheStandsFor m E → map.get m (action_id a) ≡ Some b → b ≡ a }
+    ensures { (texts : List (List ℕ)) (E : List AnAction) (a b : AnAction) → WithoutClash texts (E ++ a ∷ []) (InEachCache E (λ m. map.get m (action_id a) ≡ Some b → b ≡ a)) }
 {}
 
 /// Of one action none is to be compiled where its id is found, and else one.
 pub fn law_count_of_one()
-    ensures { (m : map.FinMap id_cmp AnAction) (E : List AnAction) (a : AnAction) → CacheStandsFor m E → compiled_count E (a ∷ []) ≡ (if is_some (map.get m (action_id a)) then 0 else 1) }
+    ensures { (m : map.FinMap id_cmp AnAction) (E : List AnAction) (a : AnAction) → CacheStandsFor m E
+        → compiled_count E (a ∷ []) ≡ (if is_some (map.get m (action_id a)) then 0 else 1) }
 {}
 
 /// Where the hashed texts do not clash, as many ids are new as actions.
 pub fn law_counts_agree()
-    ensures { (texts : List (List ℕ)) (E actions : List AnAction) → NoClash texts → Includes texts (hashed_actions (E ++ actions)) → AllSized (E ++ actions) → compiled_count E actions ≡ new_actions_count E actions }
+    ensures { (texts : List (List ℕ)) (E actions : List AnAction) → WithoutClash texts (E ++ actions) (compiled_count E actions ≡ new_actions_count E actions) }
 {}

@@ -3,7 +3,7 @@ use Rattle.std.proofs.Common.{◌≡◌, ℕ, ◌+◌, ◌<◌, ◌≤◌, List,
 use Rattle.std.specs.List.{slice_get, Contains}
 use Rattle.std.proofs.lemmas.Bool.{cases_eq}
 use Rattle.std.proofs.lemmas.Option.{slice_get-get_or, get_or_from_slice_get, slice_get_within}
-use Rattle.ws_reach.specs.Reach.{Walked, Walks, Reaches}
+use Rattle.ws_reach.specs.Reach.{Walks, Reaches}
 use Rattle.ws_reach.specs.Worklist.{Grows}
 use Rattle.ws_reach.proofs.Marks.{grows_contains, grows_get, grows_length}
 
@@ -52,6 +52,13 @@ pub get_contains : {A : Type 0} (xs : List A) (k : ℕ) (x : A) → slice_get xs
 get_contains xs k x e = (k, slice_get_within xs k x e, get_or_from_slice_get xs k x x e)
 
 -- ---- a walk under way
+
+-- A walk under way: all that was found is reached from the start; and that to which the first ones have edges was found.
+pub record Walked (E : ℕ → ℕ → Type 0) (start next : ℕ) (found : List ℕ) : Type 0 where
+  pub first : Contains found start
+  pub within : (x : ℕ) → Contains found x → Reaches E start x
+  pub closed : (i y x : ℕ) → i < next → slice_get found i ≡ Some y → E y x → Contains found x
+  pub inside : next ≤ length found
 
 pub walked_start : (E : ℕ → ℕ → Type 0) (start : ℕ) (found : List ℕ) → Contains found start → ((x : ℕ) → Contains found x → x ≡ start) → Walked E start 0 found
 walked_start E start found first only = record {

@@ -22,10 +22,3 @@ rows_of = map (λ v. v.items)
 -- each edge leads to a node that has a row
 abbrev pub EdgesStayWithin : List (List ℕ) → Type 0
 EdgesStayWithin rows = (p q : ℕ) → Edge rows p q → q < length rows
-
--- A walk under way: all that was found is reached from the start; and that to which the first ones have edges was found.
-pub record Walked (E : ℕ → ℕ → Type 0) (start next : ℕ) (found : List ℕ) : Type 0 where
-  pub first : Contains found start
-  pub within : (x : ℕ) → Contains found x → Reaches E start x
-  pub closed : (i y x : ℕ) → i < next → slice_get found i ≡ Some y → E y x → Contains found x
-  pub inside : next ≤ length found

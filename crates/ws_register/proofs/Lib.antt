@@ -6,3 +6,4 @@ mod Files
 pub mod Greatest
 pub mod Laws
 mod Listed
+mod TakenAt

@@ -12,6 +12,7 @@ ghost use Rattle.ws_pages.specs.Pages.{Ascends};
 ghost use Rattle.ws_register.specs.Between.{is_from, is_past, is_between};
 ghost use Rattle.ws_register.specs.Sources.{texts_of, is_in, file_in, files_in, pair_of, IsShown, IsSources, HasFiles};
 ghost use Rattle.ws_register.specs.declared.EditError.TheVariants.{Memory};
+ghost use Rattle.ws_register.specs.News.{TakesAt, HoldBothAt};
 ghost use Rattle.ws_register.specs.Edits.{top, greatest_at, greatest_counter, fits, is_missing, edit_refusal, removal_refusal, IsRefusal, edited, removed};
 
 use go_text::source::Source;
@@ -163,6 +164,30 @@ impl Registers {
             held,
             greatest: self.greatest,
         })
+    }
+
+    // Takes what another holds at a path.
+    fn take_at(&mut self, other: &Registers, path: &FilePath) -> Result<(), AllocError>
+        ensures { OnOk result (TakesAt path.now other.now self.old self.new) }
+    {
+        let Some(held) = other.get(path.as_str()) else {
+            return Ok(());
+        };
+        let held = held.copy()?;
+        let path = path.copy()?;
+        self.apply(Write::new(path, held))
+    }
+
+    /// What it and another hold together, where the other has no news but at some paths: these
+    /// alone are looked up. An `Err` is for want of memory.
+    pub fn merged_at(&self, other: &Registers, paths: &[FilePath]) -> Result<Registers, AllocError>
+        ensures { IfOk result (λ both. HoldBothAt paths.now self.now other.now both) }
+    {
+        let mut both = self.snapshot()?;
+        for path in paths {
+            both.take_at(other, path)?;
+        }
+        Ok(both)
     }
 
     /// The replica with that number writes a text, with one more than the greatest counter.

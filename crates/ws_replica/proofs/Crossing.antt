@@ -3,7 +3,7 @@ use denote.Param.Send.{IsSend, IsSync, recorded_send, recorded_sync, sendable}
 use Rattle.std.proofs.Crossing.{crosses}
 use Rattle.std.proofs.MapsCrossing as maps
 use Rattle.go_text.proofs.fault.Fault.TheSendSync as faults
-use Rattle.ws_action.proofs.Crossing.{files_send, files_sync}
+use Rattle.ws_action.proofs.Crossing.{action_send, action_sync, files_send, files_sync}
 use Rattle.ws_register.proofs.Registers.TheSendSync as registers
 use Rattle.ws_cache.proofs.Crossing.{cache_send, cache_sync}
 use Rattle.ws_replica.specs.contracts.reached.SharedNode as node
@@ -45,10 +45,10 @@ past_files_sync : IsSync past_files.the_row
 past_files_sync = search (files_send, files_sync, crosses, maps.crosses, sendable) depth 20
 
 past_send : IsSend past.the_row
-past_send = search (past_files_send, past_files_sync, crosses, maps.crosses, sendable) depth 20
+past_send = search (past_files_send, past_files_sync, action_send, action_sync, crosses, maps.crosses, sendable) depth 20
 
 past_sync : IsSync past.the_row
-past_sync = search (past_files_send, past_files_sync, crosses, maps.crosses, sendable) depth 20
+past_sync = search (past_files_send, past_files_sync, action_send, action_sync, crosses, maps.crosses, sendable) depth 20
 
 pub replica_send : IsSend replica.the_row
 replica_send = search (registers.the_send, cache_send, plan_send, past_send, crosses, maps.crosses, sendable) depth 20

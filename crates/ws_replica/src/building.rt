@@ -5,6 +5,7 @@ ghost use Rattle.ws_replica.specs.Jobs.{place_of, reached_of, all_reached_of, al
 ghost use Rattle.ws_replica.specs.Parts.{part_of, AllPartsWithin, IsRunOf};
 ghost use Rattle.ws_replica.specs.Builds.{target_of, AreBuilt, LacksPackage, AllTookSized};
 
+use crate::acted::{all_acted, remember_all};
 use crate::openings::{all_planned, give_results, opening_of};
 use crate::parts::{Part, all_parts};
 use crate::reached::{Place, Reached};
@@ -12,8 +13,9 @@ use crate::telling::{number_after, part_reports, reports};
 use crate::{BuildError, Replica};
 use go_text::edition::Edition;
 use std::alloc::{AllocError, Global};
-use std::sync::Wait;
+use std::sync::{Arc, Wait};
 use std::thread::Threads;
+use ws_action::Action;
 use ws_board::Job;
 use ws_cache::Cache;
 use ws_pool::{Gate, build_jobs};
@@ -80,7 +82,7 @@ fn parted(alloc: Global, all: Vec<Vec<Reached>>) -> Result<(Vec<Vec<Place>>, Vec
 }
 
 /// Compiles what the opening lacks of all that was reached: the reports of the parts, and the new
-/// entries.
+/// entries; and the actions of each plan.
 pub(crate) fn run<R: Threads + Wait + Sync, G: Gate>(
     rt: &R,
     alloc: Global,
@@ -89,6 +91,7 @@ pub(crate) fn run<R: Threads + Wait + Sync, G: Gate>(
     opening: Cache,
     workers: u64,
     gate: &G,
+    acted: &mut Vec<Arc<Vec<Arc<Action>>>>,
 ) -> Result<(Vec<Report>, Cache), AllocError>
     requires some { 0 < workers }
     requires within { AllPartsWithin (length all.items) parts.now }
@@ -96,6 +99,7 @@ pub(crate) fn run<R: Threads + Wait + Sync, G: Gate>(
 {
     let (places, jobs) = parted(alloc, all)?;
     let built = build_jobs(rt, alloc, jobs, opening, workers, gate)?;
+    *acted = all_acted(alloc, &built, places.as_slice())?;
     let told = reports(alloc, &built, places)?;
     let reports = part_reports(alloc, told.as_slice(), parts)?;
     Ok((reports, built.into_added()))
@@ -130,7 +134,18 @@ pub fn build<R: Threads + Wait + Sync, G: Gate>(
     let all = all_planned(rt, alloc, replicas, targets, edition)?;
     let parts = all_parts(alloc, all.as_slice(), targets)?;
     let opening = opening_of(alloc, replicas, targets)?;
-    let (reports, added) = run(rt, alloc, all, parts.as_slice(), opening, workers, gate)?;
+    let mut acted = Vec::new(alloc);
+    let (reports, added) = run(
+        rt,
+        alloc,
+        all,
+        parts.as_slice(),
+        opening,
+        workers,
+        gate,
+        &mut acted,
+    )?;
+    remember_all(replicas, acted.as_slice())?;
     give_results(alloc, replicas, targets, &added)?;
     Ok(reports)
 }

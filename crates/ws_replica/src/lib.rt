@@ -33,6 +33,7 @@ ghost use Rattle.ws_replica.specs.Jobs.{reached_of};
 ghost use Rattle.ws_replica.specs.Plans.{IsKeptPlan};
 ghost use Rattle.ws_replica.specs.Targets.{IsReachedBy};
 ghost use Rattle.ws_version_vector.specs.Told.{Brings};
+ghost use Rattle.ws_register.specs.News.{HasNewsAt};
 
 pub use building::{Target, build};
 use go_text::edition::Edition;
@@ -46,15 +47,19 @@ pub use snapshot::{Snapshot, build_from};
 pub use standings::ids;
 use std::alloc::{AllocError, Global};
 use std::marker::Model;
+use std::sync::Arc;
 use std::thread::Threads;
 use thiserror::Error;
+use ws_action::Action;
 use ws_cache::Cache;
 use ws_graph::PlanError;
+use ws_path::FilePath;
 pub use ws_pool::{Gate, Plain, Point, Step};
 use ws_register::{EditError, Registers};
 use ws_version::{Held, Join, Write};
 use ws_version_vector::News;
 
+mod acted;
 mod building;
 pub mod join;
 mod linking;
@@ -100,7 +105,7 @@ impl From<AllocError> for BuildError {
 }
 
 /// What is held at each path, and what is compiled; the plan of the last build, while the writes
-/// stay; and the files of that plan, for the next one. A copy has no plan.
+/// stay; and the files and the actions of that plan, for the next one. A copy has no plan.
 #[derive(Drop)]
 pub struct Replica {
     registers: Registers,
@@ -187,9 +192,22 @@ impl Replica {
             targets,
             edition,
         )?;
-        let reached = all_reached(alloc, edition, plan.directories.as_slice())?;
+        let reached = all_reached(
+            alloc,
+            edition,
+            self.past.as_ref(),
+            plan.directories.as_slice(),
+        )?;
         self.plan = Some(plan);
         Ok(reached)
+    }
+
+    /// Keeps the actions of a build of its plan, for the next one.
+    pub(crate) fn remember(&mut self, actions: Arc<Vec<Arc<Action>>>)
+        ensures { self.new ≡ self.old }
+    {
+        let past = self.past.take();
+        self.past = past::with_actions(past, actions);
     }
 
     pub(crate) fn put_cache(&mut self, cache: Cache)
@@ -310,6 +328,27 @@ impl Replica {
     {
         // Registers go into a copy, so that an `Err` of the caches changes nothing.
         let registers = sharing::registers_of(&self.registers, &other.registers, writes)?;
+        sharing::merge_cache(&mut self.cache, &other.cache, results)?;
+        self.plan = None;
+        self.registers = registers;
+        Ok(())
+    }
+
+    /// Takes what another replica holds, whose writes have no news but at some paths: these alone
+    /// are looked up; of its results it takes what is news. An `Err`, for want of memory, changes
+    /// nothing.
+    pub fn merge_at(
+        &mut self,
+        other: &Replica,
+        paths: &[FilePath],
+        results: News,
+    ) -> Result<(), AllocError>
+        ensures err { OnErr result (self.new ≡ self.old) }
+        ensures stands { OnOk result ((V W : List AWrite) (E F : List AnAction) → HasNewsAt paths.now V W → Brings results E F
+            → ReplicaStandsFor self.old V E → ReplicaStandsFor other.now W F → ReplicaStandsFor self.new (V ++ W) (E ++ F)) }
+    {
+        // Registers go into a copy, so that an `Err` of the caches changes nothing.
+        let registers = self.registers.merged_at(&other.registers, paths)?;
         sharing::merge_cache(&mut self.cache, &other.cache, results)?;
         self.plan = None;
         self.registers = registers;

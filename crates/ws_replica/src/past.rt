@@ -1,4 +1,5 @@
-//! What a new plan takes of the last one: files that are the same are neither parsed nor hashed again.
+//! What a new plan takes of the last one: files that are the same are neither parsed nor hashed again, nor
+//! are actions whose texts are the same.
 ghost use Rattle.std.specs.Prelude.{◌≡◌, IfOk, IfSome};
 ghost use Rattle.std.specs.Arc.{arc_value};
 ghost use Rattle.std.specs.Bool.{OnTrue};
@@ -7,7 +8,7 @@ use crate::reached::{Shared, SharedNode};
 use go_ast::parsed::Parsed;
 use std::alloc::{AllocError, Global};
 use std::sync::Arc;
-use ws_action::Files;
+use ws_action::{Action, Files};
 use ws_graph::Known;
 
 /// The files of a directory, which had no fault.
@@ -17,15 +18,30 @@ pub(crate) struct PastFiles {
     pub(crate) files: Arc<Files>,
 }
 
-/// The files of the last plan that a replica made, by the paths of their directories, which ascend.
-/// Nothing is asked of them: what isn't found is parsed. Copies share them.
+/// The files of the last plan that a replica made, and the actions that directories had in its last
+/// build, both by the paths of their directories, which ascend. Nothing is asked of them: what isn't
+/// found is parsed and hashed. Copies share them.
 #[derive(Drop)]
 pub(crate) struct Past {
     pub(crate) directories: Arc<Vec<PastFiles>>,
+    pub(crate) actions: Arc<Vec<Arc<Action>>>,
 }
 
-/// The files of a plan's directories, which it shares.
-pub(crate) fn past_of(alloc: Global, plan: &[Shared]) -> Result<Past, AllocError> {
+fn actions_of(alloc: Global, past: Option<&Past>) -> Result<Arc<Vec<Arc<Action>>>, AllocError> {
+    let Some(past) = past else {
+        let none = Arc::new(alloc, Vec::new(alloc))?;
+        return Ok(none);
+    };
+    let actions = Arc::try_clone(&past.actions)?;
+    Ok(actions)
+}
+
+/// The files of a plan's directories, which it shares, and the actions of the past before it.
+pub(crate) fn past_of(
+    alloc: Global,
+    plan: &[Shared],
+    before: Option<&Past>,
+) -> Result<Past, AllocError> {
     let mut directories = Vec::new(alloc);
     for directory in plan {
         if let SharedNode::Sound(files) = &directory.node {
@@ -36,7 +52,24 @@ pub(crate) fn past_of(alloc: Global, plan: &[Shared]) -> Result<Past, AllocError
         }
     }
     let directories = Arc::new(alloc, directories)?;
-    Ok(Past { directories })
+    let actions = actions_of(alloc, before)?;
+    Ok(Past {
+        directories,
+        actions,
+    })
+}
+
+/// A past with the actions of a new build.
+pub(crate) fn with_actions(past: Option<Past>, actions: Arc<Vec<Arc<Action>>>) -> Option<Past> {
+    let past = past?;
+    let Past {
+        directories,
+        actions: _,
+    } = past;
+    Some(Past {
+        directories,
+        actions,
+    })
 }
 
 /// Another owner of the same.
@@ -45,7 +78,31 @@ pub(crate) fn copied(past: Option<&Past>) -> Result<Option<Past>, AllocError> {
         return Ok(None);
     };
     let directories = Arc::try_clone(&past.directories)?;
-    Ok(Some(Past { directories }))
+    let actions = Arc::try_clone(&past.actions)?;
+    Ok(Some(Past {
+        directories,
+        actions,
+    }))
+}
+
+/// The action that a directory had in the last build, if it had one.
+pub(crate) fn action_at(
+    past: Option<&Past>,
+    path: &str,
+) -> Result<Option<Arc<Action>>, AllocError> {
+    let Some(past) = past else {
+        return Ok(None);
+    };
+    let actions = past.actions.as_slice();
+    let found = actions.binary_search_by(|one| one.path().cmp(path));
+    let Ok(number) = found else {
+        return Ok(None);
+    };
+    let Some(action) = actions.get(number) else {
+        return Ok(None);
+    };
+    let action = Arc::try_clone(action)?;
+    Ok(Some(action))
 }
 
 /// What a plan may take of the past.
@@ -134,7 +191,13 @@ fn same_files<'a>(past: Option<&'a Past>, path: &str, files: &[Parsed]) -> Optio
     }
 }
 
-/// The files of a directory as actions take them: those of the past, if they are the same.
+fn files_before<'a>(past: Option<&'a Past>, path: &str) -> Option<&'a Files> {
+    let files: &Files = files_at(past?, path)?;
+    Some(files)
+}
+
+/// The files of a directory as actions take them: those of the past, if they are the same; else no
+/// text is hashed again that the past has.
 pub(crate) fn shared_files(
     alloc: Global,
     past: Option<&Past>,
@@ -147,7 +210,7 @@ pub(crate) fn shared_files(
         let shared = Arc::try_clone(kept)?;
         return Ok(shared);
     }
-    let files = Files::new(alloc, files)?;
+    let files = Files::after(alloc, files, files_before(past, path))?;
     let shared = Arc::new(alloc, files)?;
     Ok(shared)
 }

@@ -100,7 +100,7 @@ pub(crate) fn reach_one(
 {
     let only = only(alloc, directory)?;
     if let Some(plan) = replica.plan_of(edition, only.as_slice()) {
-        let reached = all_reached(alloc, edition, plan.directories.as_slice())?;
+        let reached = all_reached(alloc, edition, replica.past(), plan.directories.as_slice())?;
         return Ok(reached);
     }
     let plan = planned(
@@ -111,7 +111,7 @@ pub(crate) fn reach_one(
         only,
         edition,
     )?;
-    let reached = all_reached(alloc, edition, plan.directories.as_slice())?;
+    let reached = all_reached(alloc, edition, replica.past(), plan.directories.as_slice())?;
     Ok(reached)
 }
 
@@ -143,7 +143,7 @@ fn planned_anew(
     ensures none { result ≡ Err BuildError.NoPackage → (W : List AWrite) → StandsFor held_cmp registers.now W → SomeHasNoFiles edition W (texts targets.items) }
 {
     let plan = planned(rt, alloc, registers, past.as_ref(), targets, edition)?;
-    let files = past_of(alloc, plan.directories.as_slice())?;
+    let files = past_of(alloc, plan.directories.as_slice(), past.as_ref())?;
     *past = Some(files);
     Ok(plan)
 }

@@ -4,7 +4,7 @@ ghost use Rattle.ws_graph.specs.Node.{directory_of};
 ghost use Rattle.ws_reach.specs.Reach.{rows_of};
 ghost use Rattle.ws_replica.specs.Jobs.{shared_of, reached_by, reached_of};
 
-use crate::past::{Past, shared_files};
+use crate::past::{Past, action_at, shared_files};
 use go_text::edition::Edition;
 use go_text::fault::Fault;
 use std::alloc::{AllocError, Global};
@@ -85,7 +85,12 @@ pub(crate) fn all_shared(
 }
 
 /// A directory with its work.
-fn reached_as(alloc: Global, edition: Edition, directory: &Shared) -> Result<Reached, AllocError>
+fn reached_as(
+    alloc: Global,
+    edition: Edition,
+    past: Option<&Past>,
+    directory: &Shared,
+) -> Result<Reached, AllocError>
     ensures { IfOk result (λ reached. reached_of reached ≡ reached_by edition (shared_of directory.now)) }
 {
     let path = directory.path.clone()?;
@@ -100,7 +105,8 @@ fn reached_as(alloc: Global, edition: Edition, directory: &Shared) -> Result<Rea
             })
         }
         SharedNode::Sound(files) => {
-            let work = Work::new(edition, path.clone()?, Arc::try_clone(files)?);
+            let last = action_at(past, directory.path.as_str())?;
+            let work = Work::after(edition, path.clone()?, Arc::try_clone(files)?, last);
             Ok(Reached {
                 place: Place { path, fault: None },
                 work: Some(work),
@@ -110,17 +116,18 @@ fn reached_as(alloc: Global, edition: Edition, directory: &Shared) -> Result<Rea
     }
 }
 
-/// The directories of a plan with their work.
+/// The directories of a plan with their work, and with the actions that the past has of them.
 pub(crate) fn all_reached(
     alloc: Global,
     edition: Edition,
+    past: Option<&Past>,
     directories: &[Shared],
 ) -> Result<Vec<Reached>, AllocError>
     ensures { IfOk result (λ reached. map reached_of reached.items ≡ map (reached_by edition) (map shared_of directories.now)) }
 {
     let mut reached = Vec::new(alloc);
     for directory in directories {
-        let one = reached_as(alloc, edition, directory)?;
+        let one = reached_as(alloc, edition, past, directory)?;
         reached.push(one)?;
     }
     Ok(reached)

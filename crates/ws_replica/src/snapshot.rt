@@ -88,7 +88,17 @@ pub fn build_from<R: Threads + Wait + Sync, G: Gate>(
     let mut cache = opening.copy()?;
     let all = all_planned(rt, alloc, replicas.as_mut_slice(), targets, edition)?;
     let parts = all_parts(alloc, all.as_slice(), targets)?;
-    let (reports, added) = run(rt, alloc, all, parts.as_slice(), opening, workers, gate)?;
+    let mut acted = Vec::new(alloc);
+    let (reports, added) = run(
+        rt,
+        alloc,
+        all,
+        parts.as_slice(),
+        opening,
+        workers,
+        gate,
+        &mut acted,
+    )?;
     cache.merge(&added)?;
     Ok((reports, cache))
 }

@@ -1,31 +1,44 @@
 -- The counts tell what each replica took, after each command too.
-use Rattle.std.proofs.Common.{◌≡◌, ◌+◌, ℕ, List, [], ◌∷◌, ◌++◌, map, length, Option, None, Some, true, false, Bool, refl, sym, ap, ◌∙◌, subst, inl, inr, arith, append-nil}
-use Rattle.std.specs.Prelude.{◌≢◌, unwrap_or, is_some}
+use Rattle.std.proofs.Common.{◌≡◌, ◌+◌, ℕ, List, [], ◌∷◌, ◌++◌, map, length, Option, None, Some, true, false, Bool, refl, sym, ap, ◌∙◌, subst, inl, inr, arith, append-nil, Vec}
+use Rattle.std.specs.Prelude.{◌≢◌, unwrap_or, is_some, IfSome}
+use Rattle.std.specs.Global.{Global}
 use Rattle.std.specs.List.{Contains, flat_map}
 use Rattle.std.proofs.lemmas.Bool.{cases_eq, cases_lt}
 use Rattle.go_text.specs.declared.edition.Edition.{Edition}
 use Rattle.ws_version.specs.Writes.{Write as AWrite}
 use Rattle.ws_action.specs.Actions.{Action}
 use Rattle.ws_version_vector.specs.Counts.{AreShared, AreFirst, is_among}
+use Rattle.ws_version_vector.specs.Counts.{counts_at, count_at, IsNews}
+use Rattle.ws_version_vector.specs.Keyed.{AreLogged, AreKeysBetween}
 use Rattle.ws_version_vector.specs.Told.{AreKept, took_at}
+use Rattle.ws_version_vector.specs.declared.vector.News.{News}
 use Rattle.ws_version_vector.proofs.Told.{grown as with_batch}
-use Rattle.ws_version_vector.proofs.Kept.{same_kept, raised_kept, merged_kept, shared_kept, none_kept, AnyTook}
+use Rattle.ws_version_vector.proofs.Kept.{same_kept, raised_kept, merged_kept, shared_kept, none_kept, news_brought, AnyTook}
+use Rattle.ws_version_vector.proofs.Logged.{none_logged, pushed_logged, news_between}
 use Rattle.ws_command.specs.declared.refusal.Refusal.{Refusal}
 use Rattle.ws_command.specs.Commands.{Nothing, Bad, Create, Write, Remove, Apply, Merge, Settle, Run, Ids, Show, Use}
 use Rattle.ws_session.specs.declared.replicas.Named.{Named}
+use Rattle.ws_session.specs.declared.written.Written.{Written}
 use Rattle.ws_session.specs.World.{World, Replica, opening, taking, edit_of, removal_of, content_in, settled, writes_of, actions_held, AfterBy, After, refusals}
 use Rattle.ws_command.specs.Refusals.{first_of}
-use Rattle.ws_session.specs.Standing.{index_of, AllStand, AreCounted, writes_in, actions_in, IsWriteCounted, IsMergeCounted}
+use Rattle.ws_session.specs.Standing.{index_of, AllStand, AreWritten, AreCompiled, AreCounted, none_written, writes_in, actions_in, IsBrought, IsWriteCounted, IsMergeCounted}
 use Rattle.ws_session.proofs.Standings.{same_length}
 use Rattle.ws_session.proofs.Taken.{TakenBy, taken_at, ReadsBy, reads_at, from_all, into_all, beyond, all_alike, beyond_alike, pushed}
 
-pub opening_counted : (edition : Edition) → AreCounted [] [] (opening edition)
-opening_counted edition = record { writes = (λ _. [], none_kept); actions = (λ _. [], none_kept) }
+abbrev path_in : AWrite → List ℕ
+path_in = λ w. w.0
+
+pub opening_counted : (edition : Edition) → AreCounted none_written [] (opening edition)
+opening_counted edition = record { writes = (λ _. [], none_kept, none_logged path_in); actions = (λ _. [], none_kept) }
+
+-- counts and logs that are the same tell the same
+same_wrote : (wrote new : Written) (rs : List Replica) → new.counts ≡ wrote.counts → new.logs ≡ wrote.logs → AreWritten wrote rs → AreWritten new rs
+same_wrote wrote new rs e f h = (h.0, subst (λ z. AreKept h.0 z (writes_in rs)) (sym e) h.1, subst (λ z. AreLogged path_in h.0 z) (sym f) h.2)
 
 -- nothing was taken
-pub same_counted : (wrote compiled : List (List ℕ)) (world next : World) → next.replicas ≡ world.replicas → AreCounted wrote compiled world → AreCounted wrote compiled next
+pub same_counted : (wrote : Written) (compiled : List (List ℕ)) (world next : World) → next.replicas ≡ world.replicas → AreCounted wrote compiled world → AreCounted wrote compiled next
 same_counted wrote compiled world next e h = record {
-  writes = subst (λ rs. (lists : ℕ → List (List AWrite)) × AreKept lists wrote (writes_in rs)) (sym e) h.writes;
+  writes = subst (λ rs. AreWritten wrote rs) (sym e) h.writes;
   actions = subst (λ rs. (lists : ℕ → List (List Action)) × AreKept lists compiled (actions_in rs)) (sym e) h.actions;
 }
 
@@ -41,15 +54,20 @@ nothing_more k old new here others j = elim (cases_eq j k) [
   | inr ne ↦ others j ne
 ]
 
-pub write_counted : (refusal : Option Refusal) (o : Option ℕ) (w : AWrite) (world next : World) (wrote new compiled : List (List ℕ)) → WriteTaken refusal o w world next → IsWriteCounted refusal o wrote new
-    → AreCounted wrote compiled world → AreCounted new compiled next
-write_counted (Some refusal) o w world next wrote new compiled t e h = subst (λ z. AreCounted z compiled next) (sym e) (same_counted wrote compiled world next t h)
-write_counted None None w world next wrote new compiled t e h = subst (λ z. AreCounted z compiled next) (sym e) (same_counted wrote compiled world next t h)
-write_counted None (Some k) w world next wrote new compiled t e h =
+pub write_counted : (refusal : Option Refusal) (o : Option ℕ) (w : AWrite) (path : List ℕ) (world next : World) (wrote new : Written) (compiled : List (List ℕ)) → path ≡ w.0 → WriteTaken refusal o w world next
+    → IsWriteCounted refusal o path wrote new → AreCounted wrote compiled world → AreCounted new compiled next
+write_counted (Some refusal) o w path world next wrote new compiled is t e h = subst (λ z. AreCounted z compiled next) (sym e) (same_counted wrote compiled world next t h)
+write_counted None None w path world next wrote new compiled is t e h = subst (λ z. AreCounted z compiled next) (sym e) (same_counted wrote compiled world next t h)
+write_counted None (Some k) w path world next wrote new compiled is t e h =
     let writes = h.writes in
     let actions = h.actions in
+    let its = writes.1 k in
     record {
-      writes = (with_batch writes.0 k (w ∷ []), raised_kept writes.0 k (w ∷ []) wrote new e.0 (writes_in world.replicas) (writes_in next.replicas) writes.1 e.1 e.2 t.writes t.other_writes);
+      writes = (
+        with_batch writes.0 k (w ∷ []),
+        raised_kept writes.0 k (w ∷ []) wrote.counts new.counts e.counts (writes_in world.replicas) (writes_in next.replicas) writes.1 e.raised e.changed t.writes t.other_writes,
+        pushed_logged path_in writes.0 k w (count_at k (counts_at k wrote.counts)) path wrote.logs new.logs writes.2 its.own is e.logged,
+      );
       actions = (actions.0, same_kept actions.0 compiled (actions_in world.replicas) (actions_in next.replicas) (nothing_more k (actions_in world.replicas) (actions_in next.replicas) t.actions t.other_actions) actions.1);
     }
 
@@ -73,9 +91,16 @@ module _ (text : Option (List ℕ)) (world next : World) (ns : List Named) (h : 
 
 -- ---- a merge
 
-merged_both : (o : Option ℕ) (k : ℕ) (W : List AWrite) (E : List Action) (other : List ℕ) (world next : World) (wrote new compiled built : List (List ℕ)) → TakenBy (Some k) (writes_of other world) (actions_held other world) world.replicas next.replicas
-    → ReadsBy other world o → IsMergeCounted None (Some k) o wrote new → IsMergeCounted None (Some k) o compiled built → AreCounted wrote compiled world → AreCounted new built next
-merged_both None k W E other world next wrote new compiled built t reads e f h =
+-- nothing was taken, and nothing counted
+all_same : (world next : World) (wrote new : Written) (compiled built : List (List ℕ)) → new.counts ≡ wrote.counts → new.logs ≡ wrote.logs → built ≡ compiled → AreCounted wrote compiled next → AreCounted new built next
+all_same world next wrote new compiled built e same f h = record {
+  writes = same_wrote wrote new next.replicas e same h.writes;
+  actions = subst (λ z. AreCompiled z next) (sym f) h.actions;
+}
+
+merged_both : (o : Option ℕ) (k : ℕ) (W : List AWrite) (E : List Action) (other : List ℕ) (world next : World) (wrote new : Written) (compiled built : List (List ℕ)) → TakenBy (Some k) (writes_of other world) (actions_held other world) world.replicas next.replicas
+    → ReadsBy other world o → IsMergeCounted None (Some k) o wrote.counts new.counts → IsMergeCounted None (Some k) o compiled built → new.logs ≡ wrote.logs → AreCounted wrote compiled world → AreCounted new built next
+merged_both None k W E other world next wrote new compiled built t reads e f same h =
     let writes = h.writes in
     let actions = h.actions in
     let nothing_written : took_at k (writes_in next.replicas) ≡ took_at k (writes_in world.replicas) ++ [] = t.writes ∙ ap (λ V. took_at k (writes_in world.replicas) ++ V) reads.0 in
@@ -84,7 +109,8 @@ merged_both None k W E other world next wrote new compiled built t reads e f h =
       writes = (
         writes.0,
         subst (λ z. AreKept writes.0 z (writes_in next.replicas)) (sym e)
-            (same_kept writes.0 wrote (writes_in world.replicas) (writes_in next.replicas) (nothing_more k (writes_in world.replicas) (writes_in next.replicas) nothing_written t.other_writes) writes.1),
+            (same_kept writes.0 wrote.counts (writes_in world.replicas) (writes_in next.replicas) (nothing_more k (writes_in world.replicas) (writes_in next.replicas) nothing_written t.other_writes) writes.1),
+        subst (λ z. AreLogged path_in writes.0 z) (sym same) writes.2,
       );
       actions = (
         actions.0,
@@ -92,29 +118,32 @@ merged_both None k W E other world next wrote new compiled built t reads e f h =
             (same_kept actions.0 compiled (actions_in world.replicas) (actions_in next.replicas) (nothing_more k (actions_in world.replicas) (actions_in next.replicas) nothing_built t.other_actions) actions.1),
       );
     }
-merged_both (Some j) k W E other world next wrote new compiled built t reads e f h =
+merged_both (Some j) k W E other world next wrote new compiled built t reads e f same h =
     let writes = h.writes in
     let actions = h.actions in
     record {
-      writes = (writes.0, merged_kept writes.0 k j wrote new e.0 (writes_in world.replicas) (writes_in next.replicas) writes.1 e.1 e.2 (t.writes ∙ ap (λ V. took_at k (writes_in world.replicas) ++ V) reads.0) t.other_writes);
+      writes = (
+        writes.0,
+        merged_kept writes.0 k j wrote.counts new.counts e.0 (writes_in world.replicas) (writes_in next.replicas) writes.1 e.1 e.2 (t.writes ∙ ap (λ V. took_at k (writes_in world.replicas) ++ V) reads.0) t.other_writes,
+        subst (λ z. AreLogged path_in writes.0 z) (sym same) writes.2,
+      );
       actions = (actions.0, merged_kept actions.0 k j compiled built f.0 (actions_in world.replicas) (actions_in next.replicas) actions.1 f.1 f.2 (t.actions ∙ ap (λ V. took_at k (actions_in world.replicas) ++ V) reads.1) t.other_actions);
     }
 
-merge_taken : (o p : Option ℕ) (other : List ℕ) (world next : World) (wrote new compiled built : List (List ℕ)) → TakenBy o (writes_of other world) (actions_held other world) world.replicas next.replicas
-    → ReadsBy other world p → IsMergeCounted None o p wrote new → IsMergeCounted None o p compiled built → AreCounted wrote compiled world → AreCounted new built next
-merge_taken None p other world next wrote new compiled built t reads e f h =
-    subst (λ z. AreCounted z built next) (sym e) (subst (λ z. AreCounted wrote z next) (sym f) (same_counted wrote compiled world next t h))
-merge_taken (Some k) p other world next wrote new compiled built t reads e f h = merged_both p k [] [] other world next wrote new compiled built t reads e f h
+merge_taken : (o p : Option ℕ) (other : List ℕ) (world next : World) (wrote new : Written) (compiled built : List (List ℕ)) → TakenBy o (writes_of other world) (actions_held other world) world.replicas next.replicas
+    → ReadsBy other world p → IsMergeCounted None o p wrote.counts new.counts → IsMergeCounted None o p compiled built → new.logs ≡ wrote.logs → AreCounted wrote compiled world → AreCounted new built next
+merge_taken None p other world next wrote new compiled built t reads e f same h = all_same world next wrote new compiled built e same f (same_counted wrote compiled world next t h)
+merge_taken (Some k) p other world next wrote new compiled built t reads e f same h = merged_both p k [] [] other world next wrote new compiled built t reads e f same h
 
-pub merge_counted : (refusal : Option Refusal) (name other : List ℕ) (text : Option (List ℕ)) (world next : World) (ns : List Named) (wrote new compiled built : List (List ℕ)) → AllStand ns world.replicas
-    → AfterBy refusal (Merge name other) text world next → IsMergeCounted refusal (index_of name ns) (index_of other ns) wrote new → IsMergeCounted refusal (index_of name ns) (index_of other ns) compiled built
-    → AreCounted wrote compiled world → AreCounted new built next
-merge_counted (Some refusal) name other text world next ns wrote new compiled built s a e f h =
-    subst (λ z. AreCounted z built next) (sym e) (subst (λ z. AreCounted wrote z next) (sym f) (same_counted wrote compiled world next (ap (λ z. z.replicas) a) h))
-merge_counted None name other text world next ns wrote new compiled built s a e f h =
+pub merge_counted : (refusal : Option Refusal) (name other : List ℕ) (text : Option (List ℕ)) (world next : World) (ns : List Named) (wrote new : Written) (compiled built : List (List ℕ)) → AllStand ns world.replicas
+    → AfterBy refusal (Merge name other) text world next → IsMergeCounted refusal (index_of name ns) (index_of other ns) wrote.counts new.counts → IsMergeCounted refusal (index_of name ns) (index_of other ns) compiled built
+    → new.logs ≡ wrote.logs → AreCounted wrote compiled world → AreCounted new built next
+merge_counted (Some refusal) name other text world next ns wrote new compiled built s a e f same h =
+    all_same world next wrote new compiled built e same f (same_counted wrote compiled world next (ap (λ z. z.replicas) a) h)
+merge_counted None name other text world next ns wrote new compiled built s a e f same h =
     let taken : TakenBy (index_of name ns) (writes_of other world) (actions_held other world) world.replicas next.replicas =
     subst (λ z. TakenBy (index_of name ns) (writes_of other world) (actions_held other world) world.replicas z) (sym (ap (λ z. z.replicas) a)) (taken_at name (writes_of other world) (actions_held other world) ns world.replicas s) in
-    merge_taken (index_of name ns) (index_of other ns) other world next wrote new compiled built taken (reads_at other world ns s) e f h
+    merge_taken (index_of name ns) (index_of other ns) other world next wrote new compiled built taken (reads_at other world ns s) e f same h
 
 -- ---- a settle
 
@@ -150,21 +179,26 @@ settled_kept : {A : Type 0} (f : Replica → List A) (g : Replica → Replica) (
     → (all new : List (List ℕ)) → (ks : List ℕ) × AreFirst n ks × AreShared ks all new → (lists : ℕ → List (List A)) × AreKept lists all (map f rs) → (lists : ℕ → List (List A)) × AreKept lists new (map f (map g rs))
 settled_kept f g rs n many alike all new s h = (h.0, all_share_kept f rs n many s.0 s.1 g alike h.0 all new h.1 s.2)
 
-pub settle_counted : (text : Option (List ℕ)) (world next : World) (ns : List Named) (n : ℕ) (wrote new compiled built : List (List ℕ)) → AllStand ns world.replicas → n ≡ length ns → AfterBy None Settle text world next
-    → (ks : List ℕ) × AreFirst n ks × AreShared ks wrote new → (ks : List ℕ) × AreFirst n ks × AreShared ks compiled built → AreCounted wrote compiled world → AreCounted new built next
-settle_counted text world next ns n wrote new compiled built s many a e f h =
+pub settle_counted : (text : Option (List ℕ)) (world next : World) (ns : List Named) (n : ℕ) (wrote new : Written) (compiled built : List (List ℕ)) → AllStand ns world.replicas → n ≡ length ns → AfterBy None Settle text world next
+    → (ks : List ℕ) × AreFirst n ks × AreShared ks wrote.counts new.counts → (ks : List ℕ) × AreFirst n ks × AreShared ks compiled built → new.logs ≡ wrote.logs → AreCounted wrote compiled world → AreCounted new built next
+settle_counted text world next ns n wrote new compiled built s many a e f same h =
     let rs = world.replicas in
     let all : Replica → Replica = λ r. record { name = r.name; number = r.number; writes = flat_map (λ s. s.writes) rs; actions = flat_map (λ s. s.actions) rs } in
     let length_is : n ≡ length rs = many ∙ same_length ns rs s in
+    let writes = h.writes in
     same_counted new built (record world { replicas = settled rs }) next (ap (λ z. z.replicas) a)
     (record {
-      writes = settled_kept (λ r. r.writes) all rs n length_is (λ r. refl) wrote new e h.writes;
+      writes = (
+        writes.0,
+        all_share_kept (λ r. r.writes) rs n length_is e.0 e.1 all (λ r. refl) writes.0 wrote.counts new.counts writes.1 e.2,
+        subst (λ z. AreLogged path_in writes.0 z) (sym same) writes.2,
+      );
       actions = settled_kept (λ r. r.actions) all rs n length_is (λ r. refl) compiled built f h.actions;
     })
 
 -- ---- a new replica, and what changes nothing
 
-pub create_counted : (refusal : Option Refusal) (name : List ℕ) (text : Option (List ℕ)) (world next : World) (wrote compiled : List (List ℕ)) → AfterBy refusal (Create name) text world next → AreCounted wrote compiled world → AreCounted wrote compiled next
+pub create_counted : (refusal : Option Refusal) (name : List ℕ) (text : Option (List ℕ)) (world next : World) (wrote : Written) (compiled : List (List ℕ)) → AfterBy refusal (Create name) text world next → AreCounted wrote compiled world → AreCounted wrote compiled next
 create_counted (Some refusal) name text world next wrote compiled a h = same_counted wrote compiled world next (ap (λ z. z.replicas) a) h
 create_counted None name text world next wrote compiled a h =
     let rs = world.replicas in
@@ -173,7 +207,7 @@ create_counted None name text world next wrote compiled a h =
     let actions = h.actions in
     same_counted wrote compiled (record world { replicas = rs ++ r ∷ [] }) next (ap (λ z. z.replicas) a)
     (record {
-      writes = (writes.0, same_kept writes.0 wrote (writes_in rs) (writes_in (rs ++ r ∷ [])) (pushed (λ q. q.writes) rs r refl) writes.1);
+      writes = (writes.0, same_kept writes.0 wrote.counts (writes_in rs) (writes_in (rs ++ r ∷ [])) (pushed (λ q. q.writes) rs r refl) writes.1, writes.2);
       actions = (actions.0, same_kept actions.0 compiled (actions_in rs) (actions_in (rs ++ r ∷ [])) (pushed (λ q. q.actions) rs r refl) actions.1);
     })
 
@@ -227,18 +261,18 @@ after_ids name directory text world next a = ids_by (first_of (refusals (Ids nam
 
 -- ---- what is counted, by cases
 
-pub write_refused : (refusal : Option Refusal) (o : Option ℕ) (old : List (List ℕ)) → is_some refusal ≡ true → IsWriteCounted refusal o old old
-write_refused (Some refusal) o old e = refl
-write_refused None o old e = cc
+pub write_refused : (refusal : Option Refusal) (o : Option ℕ) (path : List ℕ) (old : Written) → is_some refusal ≡ true → IsWriteCounted refusal o path old old
+write_refused (Some refusal) o path old e = refl
+write_refused None o path old e = cc
 
-pub write_nowhere : (refusal : Option Refusal) (o : Option ℕ) (old : List (List ℕ)) → o ≡ None → IsWriteCounted refusal o old old
-write_nowhere (Some refusal) o old e = refl
-write_nowhere None None old e = refl
-write_nowhere None (Some k) old e = cc
+pub write_nowhere : (refusal : Option Refusal) (o : Option ℕ) (path : List ℕ) (old : Written) → o ≡ None → IsWriteCounted refusal o path old old
+write_nowhere (Some refusal) o path old e = refl
+write_nowhere None None path old e = refl
+write_nowhere None (Some k) path old e = cc
 
-pub write_there : (refusal : Option Refusal) (o : Option ℕ) (k : ℕ) (old new : List (List ℕ)) → is_some refusal ≡ false → o ≡ Some k → IsWriteCounted None (Some k) old new → IsWriteCounted refusal o old new
-write_there (Some refusal) o k old new e is h = cc
-write_there None o k old new e is h = subst (λ p. IsWriteCounted None p old new) (sym is) h
+pub write_there : (refusal : Option Refusal) (o : Option ℕ) (k : ℕ) (path : List ℕ) (old new : Written) → is_some refusal ≡ false → o ≡ Some k → IsWriteCounted None (Some k) path old new → IsWriteCounted refusal o path old new
+write_there (Some refusal) o k path old new e is h = cc
+write_there None o k path old new e is h = subst (λ p. IsWriteCounted None p path old new) (sym is) h
 
 pub merge_refused : (refusal : Option Refusal) (o p : Option ℕ) (old : List (List ℕ)) → is_some refusal ≡ true → IsMergeCounted refusal o p old old
 merge_refused (Some refusal) o p old e = refl
@@ -258,3 +292,11 @@ merge_of_none None (Some k) (Some j) old e = cc
 pub merge_there : (refusal : Option Refusal) (o p : Option ℕ) (k j : ℕ) (old new : List (List ℕ)) → is_some refusal ≡ false → o ≡ Some k → p ≡ Some j → IsMergeCounted None (Some k) (Some j) old new → IsMergeCounted refusal o p old new
 merge_there (Some refusal) o p k j old new e is at h = cc
 merge_there None o p k j old new e is at h = subst (λ q. IsMergeCounted None q p old new) (sym is) (subst (λ q. IsMergeCounted None (Some k) q old new) (sym at) h)
+
+-- ---- what a merge brings, by paths where these are known
+pub brought : (lists : ℕ → List (List AWrite)) (wrote : Written) (sets : List (List AWrite)) (mine theirs : ℕ) (news : News) (paths : Option (Vec (List ℕ) Global)) → AreKept lists wrote.counts sets → AreLogged (λ (w : AWrite). w.0) lists wrote.logs
+    → IsNews (counts_at mine wrote.counts) (counts_at theirs wrote.counts) news → IfSome paths (λ ps. AreKeysBetween wrote.logs (counts_at mine wrote.counts) (counts_at theirs wrote.counts) ps.items)
+    → IsBrought news paths (took_at mine sets) (took_at theirs sets)
+brought lists wrote sets mine theirs news None kept logged is between = news_brought lists wrote.counts sets mine theirs news kept is
+brought lists wrote sets mine theirs news (Some paths) kept logged is between =
+    news_between (λ (w : AWrite). w.0) lists wrote.logs mine theirs (counts_at mine wrote.counts) (counts_at theirs wrote.counts) (took_at mine sets) (took_at theirs sets) paths.items logged (kept mine) (kept theirs) between

@@ -19,11 +19,12 @@ use Rattle.ws_replica.specs.Holdings.{Took}
 use Rattle.ws_replica.specs.Reports.{TargetBuild, all_actions}
 use Rattle.ws_replica.specs.declared.building.Target.{Target}
 use Rattle.ws_session.specs.declared.replicas.Named.{Named}
+use Rattle.ws_session.specs.declared.written.Written.{Written}
 use Rattle.ws_session.specs.World.{World, Replica, grown, held_by, sharing, after_builds, refusals, AfterBy, After}
 use Rattle.ws_command.specs.declared.refusal.Refusal.{Refusal}
 use Rattle.ws_command.specs.Commands.{Build}
 use Rattle.ws_command.specs.Refusals.{first_of}
-use Rattle.ws_session.specs.Standing.{AllStand, AreApart, names_in, IsTarget, AreCompiled, writes_in, actions_in}
+use Rattle.ws_session.specs.Standing.{AllStand, AreApart, names_in, IsTarget, AreWritten, AreCompiled, writes_in, actions_in}
 use Rattle.ws_session.proofs.Building.{took_read, same_held, same_tests, targets_within}
 use Rattle.ws_session.proofs.Settled.{took_of}
 use Rattle.ws_session.proofs.Standings.{same_length}
@@ -214,8 +215,8 @@ written_by : (refusal : Option Refusal) (asked : List (List ℕ × List ℕ)) (t
 written_by (Some refusal) asked text world next a k = ap (λ (w : World). took_at k (writes_in w.replicas)) a
 written_by None asked text world next a k = ap (λ (w : World). took_at k (writes_in w.replicas)) a.2 ∙ same_written asked world a.0 k
 
-pub written_after : (asked : List (List ℕ × List ℕ)) (text : Option (List ℕ)) (world next : World) (wrote : List (List ℕ)) → After (Build asked) text world next
-    → (lists : ℕ → List (List AWrite)) × AreKept lists wrote (writes_in world.replicas) → (lists : ℕ → List (List AWrite)) × AreKept lists wrote (writes_in next.replicas)
+pub written_after : (asked : List (List ℕ × List ℕ)) (text : Option (List ℕ)) (world next : World) (wrote : Written) → After (Build asked) text world next
+    → AreWritten wrote world.replicas → AreWritten wrote next.replicas
 unfolding After
 written_after asked text world next wrote a h =
-    (h.0, same_kept h.0 wrote (writes_in world.replicas) (writes_in next.replicas) (written_by (first_of (refusals (Build asked) text world)) asked text world next a) h.1)
+    (h.0, same_kept h.0 wrote.counts (writes_in world.replicas) (writes_in next.replicas) (written_by (first_of (refusals (Build asked) text world)) asked text world next a) h.1, h.2)

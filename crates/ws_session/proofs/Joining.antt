@@ -17,6 +17,7 @@ use Rattle.ws_replica.specs.Builds as numbered
 use Rattle.ws_replica.proofs.Membership.{same_members}
 use Rattle.ws_command.specs.Commands.{Settle}
 use Rattle.ws_session.specs.declared.replicas.Named.{Named}
+use Rattle.ws_session.specs.declared.written.Written.{Written}
 use Rattle.ws_session.specs.World.{World, Replica}
 use Rattle.ws_session.specs.Standing.{AllStand, AreCounted, Settles, writes_in, actions_in, replicas_of, labels_of}
 use Rattle.ws_session.proofs.Settled.{took_of, all_stand_for, all_writes, all_actions, settles}
@@ -74,9 +75,9 @@ written_all rs tops = λ a c. subst (λ z. Contains z a) (sym (all_writes rs)) (
 pub compiled_all : (rs : List Replica) (tops : List ℕ) → IsWithin (compiled_by (took_of rs) tops) (all_taken (took_of rs)).actions
 compiled_all rs tops = λ a c. subst (λ z. Contains z a) (sym (all_actions rs)) (some_of_all (λ r. r.actions) rs tops a (subst (λ z. Contains z a) (compiled_are rs tops) c))
 
-module _ (world : World) (n : ℕ) (many : n ≡ length world.replicas) (wrote compiled : List (List ℕ)) (writers builders : List ℕ) (counted : AreCounted wrote compiled world) where
-  pub all_written : AreTops wrote n writers → IsWithin (all_taken (took_of world.replicas)).writes (written_by (took_of world.replicas) writers)
-  all_written are = λ a c. subst (λ z. Contains z a) (sym (written_are world.replicas writers)) (by_tops (λ r. r.writes) world.replicas n many wrote writers are counted.writes a (subst (λ z. Contains z a) (all_writes world.replicas) c))
+module _ (world : World) (n : ℕ) (many : n ≡ length world.replicas) (wrote : Written) (compiled : List (List ℕ)) (writers builders : List ℕ) (counted : AreCounted wrote compiled world) where
+  pub all_written : AreTops wrote.counts n writers → IsWithin (all_taken (took_of world.replicas)).writes (written_by (took_of world.replicas) writers)
+  all_written are = λ a c. subst (λ z. Contains z a) (sym (written_are world.replicas writers)) (let writes = counted.writes in by_tops (λ r. r.writes) world.replicas n many wrote.counts writers are (writes.0, writes.1) a (subst (λ z. Contains z a) (all_writes world.replicas) c))
 
   pub all_compiled : AreTops compiled n builders → IsWithin (all_taken (took_of world.replicas)).actions (compiled_by (took_of world.replicas) builders)
   all_compiled are = λ a c. subst (λ z. Contains z a) (sym (compiled_are world.replicas builders)) (by_tops (λ r. r.actions) world.replicas n many compiled builders are counted.actions a (subst (λ z. Contains z a) (all_actions world.replicas) c))
@@ -88,7 +89,7 @@ all_both : {A : Type 0} (V W U : List A) → IsWithin V U → IsWithin W U → I
 all_both V W U v w u a = (λ c. elim (Contains-append_cases V W a c) [ inl l ↦ v a l | inr r ↦ w a r ], λ c. Contains-append_right V W a (u a c))
 
 -- what the writers wrote and the builders compiled is all
-pub joined_all : (world : World) (n : ℕ) → n ≡ length world.replicas → (wrote compiled : List (List ℕ)) (writers builders : List ℕ) → AreCounted wrote compiled world → AreTops wrote n writers → AreTops compiled n builders → (joined : holdings.Replica)
+pub joined_all : (world : World) (n : ℕ) → n ≡ length world.replicas → (wrote : Written) (compiled : List (List ℕ)) (writers builders : List ℕ) → AreCounted wrote compiled world → AreTops wrote.counts n writers → AreTops compiled n builders → (joined : holdings.Replica)
     → ReplicaStandsFor joined (written_by (took_of world.replicas) writers ++ written_by (took_of world.replicas) builders) (compiled_by (took_of world.replicas) writers ++ compiled_by (took_of world.replicas) builders)
     → ReplicaStandsFor joined (all_taken (took_of world.replicas)).writes (all_taken (took_of world.replicas)).actions
 joined_all world n many wrote compiled writers builders counted w b joined h =
@@ -160,8 +161,8 @@ within_all n m xs e h = All-from_get_or (λ t. t < m) xs 0 (λ i lt. subst (λ z
 -- ---- what all hold together, and what each then holds
 
 -- the writes of those that have all writes, with the results of those that have all results
-pub together_stands : (world : World) (ns : List Named) (n m : ℕ) (wrote compiled : List (List ℕ)) (writers builders ws bs : List ℕ) (first second joined : holdings.Replica) → AllStand ns world.replicas → n ≡ m → m ≡ length ns
-    → AreCounted wrote compiled world → AreTops wrote n writers → AreTops compiled n builders → ws ≡ writers → bs ≡ builders
+pub together_stands : (world : World) (ns : List Named) (n m : ℕ) (wrote : Written) (compiled : List (List ℕ)) (writers builders ws bs : List ℕ) (first second joined : holdings.Replica) → AllStand ns world.replicas → n ≡ m → m ≡ length ns
+    → AreCounted wrote compiled world → AreTops wrote.counts n writers → AreTops compiled n builders → ws ≡ writers → bs ≡ builders
     → ((took : List Took) → AllStandFor (replicas_of ns) took → ReplicaStandsFor first (written_by took ws) (compiled_by took ws))
     → ((took : List Took) → AllStandFor (replicas_of ns) took → ReplicaStandsFor second (written_by took bs) (compiled_by took bs))
     → ((V W : List AWrite) (E F : List Action) → IsWithin W V → IsWithin E F → ReplicaStandsFor first V E → ReplicaStandsFor second W F → ReplicaStandsFor joined (V ++ W) (E ++ F))

@@ -12,6 +12,7 @@ pub mod Lines
 pub mod Merging
 pub mod Names
 pub mod OneText
+pub mod Paths
 pub mod Programs
 pub mod RunTelling
 pub mod Runs

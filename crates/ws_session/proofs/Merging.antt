@@ -1,6 +1,7 @@
 -- What a merge makes of the replicas of a session, and what of those of the world.
 use Rattle.std.proofs.Common.{◌≡◌, ℕ, List, ◌++◌, Option, None, Some, true, refl, sym, ap, ◌∙◌, subst, inl, inr}
-use Rattle.std.specs.Prelude.{◌&&◌}
+use Rattle.std.specs.Prelude.{◌&&◌, Vec}
+use Rattle.std.specs.Global.{Global}
 use Rattle.std.proofs.Math.ListN.{set}
 use Rattle.std.proofs.lemmas.List.Elements.{Contains-append_left, Contains-append_cases}
 use Rattle.ws_map.specs.Kept.{SameMembers}
@@ -12,7 +13,7 @@ use Rattle.ws_replica.proofs.Membership.{same_members}
 use Rattle.ws_command.specs.Commands.{Merge}
 use Rattle.ws_session.specs.declared.replicas.Named.{Named}
 use Rattle.ws_session.specs.World.{World, or_new, knows, writes_of, actions_held, taking, grown, with_replicas}
-use Rattle.ws_session.specs.Standing.{index_of, Stands, AllStand, Settles, ChangedAt, MergedFrom, writes_in, actions_in}
+use Rattle.ws_session.specs.Standing.{index_of, Stands, AllStand, Settles, ChangedAt, IsBrought, MergedFrom, writes_in, actions_in}
 use Rattle.ws_session.proofs.Standings.{found, set_same}
 use Rattle.ws_session.proofs.Settling.{knows_some, sized_both, merge_row}
 use Rattle.ws_session.proofs.Building.{same_read}
@@ -56,15 +57,15 @@ module _ (name other : List ℕ) (text : Option (List ℕ)) (world : World) (ns 
         stand = subst (λ z. AllStand z (taking name (writes_of other world) (actions_held other world) world.replicas)) (sym is) (f.grows n (writes_of other world) (actions_held other world) stand);
       }
 
-  pub merged : (writes results : News) (ms : List Named) → Brings writes (took_at k (writes_in world.replicas)) (took_at j (writes_in world.replicas)) → Brings results (took_at k (actions_in world.replicas)) (took_at j (actions_in world.replicas))
-      → ChangedAt (MergedFrom writes results ns j) ns k ms → Settles (Merge name other) text world None ms
-  merged writes results ms written compiled change =
+  pub merged : (writes : News) (paths : Option (Vec (List ℕ) Global)) (results : News) (ms : List Named) → IsBrought writes paths (took_at k (writes_in world.replicas)) (took_at j (writes_in world.replicas)) → Brings results (took_at k (actions_in world.replicas)) (took_at j (actions_in world.replicas))
+      → ChangedAt (MergedFrom writes paths results ns j) ns k ms → Settles (Merge name other) text world None ms
+  merged writes paths results ms written compiled change =
       let f = found name k ns world.replicas h e in
       let g = found other j ns world.replicas h d in
       let took = change.so f.one f.is in
       let s = f.stands f.one f.is in
       let t = g.stands g.one g.is in
-      let brings_writes = subst (λ W. Brings writes f.replica.writes W) (found_writes other world ns h j d) (subst (λ V. Brings writes V (took_at j (writes_in world.replicas))) (found_writes name world ns h k e) written) in
+      let brings_writes = subst (λ W. IsBrought writes paths f.replica.writes W) (found_writes other world ns h j d) (subst (λ V. IsBrought writes paths V (took_at j (writes_in world.replicas))) (found_writes name world ns h k e) written) in
       let brings_results = subst (λ F. Brings results f.replica.actions F) (found_actions other world ns h j d) (subst (λ E. Brings results E (took_at j (actions_in world.replicas))) (found_actions name world ns h k e) compiled) in
       took_other change.changed ms change.is (took.name ∙ s.name) (took.number ∙ s.number)
       (took.holds g.one g.is f.replica.writes g.replica.writes f.replica.actions g.replica.actions brings_writes brings_results s.holds t.holds)

@@ -10,14 +10,17 @@ use Rattle.go_text.specs.Named.{Source}
 use Rattle.ws_path.specs.Paths.{file_name}
 use Rattle.ws_session.specs.declared.replicas.Named.{Named}
 use Rattle.ws_session.specs.declared.replicas.Replicas.{Replicas}
+use Rattle.ws_session.specs.declared.written.Written.{Written}
 use Rattle.ws_version.specs.Writes.{Write}
 use Rattle.ws_version.specs.declared.Version.{Version}
 use Rattle.ws_version_vector.specs.declared.vector.News.{News}
-use Rattle.ws_version_vector.specs.Counts.{counts_at, IsRaised, IsMost, AreFirst, AreShared}
+use Rattle.ws_version_vector.specs.Counts.{count_at, counts_at, IsRaised, IsMost, AreFirst, AreShared}
 use Rattle.ws_version_vector.specs.Counts as counted
+use Rattle.ws_version_vector.specs.Keyed.{IsPushed, AreLogged}
 use Rattle.ws_version_vector.specs.Told.{AreKept, Brings}
 use Rattle.ws_register.specs.Sources.{top}
 use Rattle.ws_register.specs.Edits.{greatest_at, is_missing, removed}
+use Rattle.ws_register.specs.News.{HasNewsAt}
 use Rattle.ws_action.specs.Actions.{Action}
 use Rattle.ws_action.specs.Clash.{AllSized, NoClash, hashed_actions}
 use Rattle.ws_replica.specs.Reports.{TargetBuild, IsTargetBuild, actions_of}
@@ -78,8 +81,16 @@ actions_in rs = map (λ r. r.actions) rs
 abbrev pub AreCompiled : List (List ℕ) → World → Type 0
 AreCompiled compiled world = (lists : ℕ → List (List Action)) × AreKept lists compiled (actions_in world.replicas)
 
-pub record AreCounted (wrote compiled : List (List ℕ)) (world : World) : Type 0 where
-  pub writes : (lists : ℕ → List (List Write)) × AreKept lists wrote (writes_in world.replicas)
+-- nothing was written
+abbrev pub none_written : Written
+none_written = record { counts = []; logs = [] }
+
+-- The same of writes, of which the last are logged by their paths.
+abbrev pub AreWritten : Written → List Replica → Type 0
+AreWritten wrote rs = (lists : ℕ → List (List Write)) × AreKept lists wrote.counts (writes_in rs) × AreLogged (λ (w : Write). w.0) lists wrote.logs
+
+pub record AreCounted (wrote : Written) (compiled : List (List ℕ)) (world : World) : Type 0 where
+  pub writes : AreWritten wrote world.replicas
   pub actions : AreCompiled compiled world
 
 pub record StandFor (s : Replicas) (world : World) : Type 0 where
@@ -113,7 +124,7 @@ abbrev pub SettlesIn : Edition → Command → Option (List ℕ) → Vec Named G
 SettlesIn edition command text old refusal new = (world : World) → edition ≡ world.edition → AllStand old.items world.replicas → Settles command text world refusal new.items
 
 -- where what each took was counted so
-abbrev pub SettlesCounted : Command → List (List ℕ) → List (List ℕ) → Vec Named Global → Option Refusal → Vec Named Global → Type 0
+abbrev pub SettlesCounted : Command → Written → List (List ℕ) → Vec Named Global → Option Refusal → Vec Named Global → Type 0
 SettlesCounted command wrote compiled old refusal new =
     (text : Option (List ℕ)) (world : World) → AllStand old.items world.replicas → AreCounted wrote compiled world → Settles command text world refusal new.items
 
@@ -149,11 +160,18 @@ TellsFrom edition asked old was_compiled told new compiled =
     (text : Option (List ℕ)) (world : World) → edition ≡ world.edition → AllStand old.items world.replicas → AreApart (names_in world)
     → AreCompiled was_compiled world → TellsCounted (Build asked) text world told new.items compiled
 
+-- a write to a path was counted and logged at a replica
+pub record IsWrittenAt (k : ℕ) (path : List ℕ) (old new : Written) : Type 0 where
+  pub counts : List ℕ
+  pub raised : IsRaised k (counts_at k old.counts) counts
+  pub changed : counted.ChangedAt k old.counts new.counts counts
+  pub logged : IsPushed k (count_at k (counts_at k old.counts)) path old.logs new.logs
+
 -- a write of the replica at an index was counted there, if there was one
-abbrev pub IsWriteCounted : Option Refusal → Option ℕ → List (List ℕ) → List (List ℕ) → Type 0
-IsWriteCounted (Some refusal) at old new = new ≡ old
-IsWriteCounted None None old new = new ≡ old
-IsWriteCounted None (Some k) old new = (counts : List ℕ) × IsRaised k (counts_at k old) counts × counted.ChangedAt k old new counts
+abbrev pub IsWriteCounted : Option Refusal → Option ℕ → List ℕ → Written → Written → Type 0
+IsWriteCounted (Some refusal) at path old new = new ≡ old
+IsWriteCounted None None path old new = new ≡ old
+IsWriteCounted None (Some k) path old new = IsWrittenAt k path old new
 
 -- that the replica at an index took what that at another has was counted, if it did
 abbrev pub IsMergeCounted : Option Refusal → Option ℕ → Option ℕ → List (List ℕ) → List (List ℕ) → Type 0
@@ -235,12 +253,21 @@ HoldsAllOf named indices joined =
     (took : List Took) → AllStandFor (replicas_of named.items) took
     → ReplicaStandsFor joined (flat_map (λ k. (took_at took k).writes) indices) (flat_map (λ k. (took_at took k).actions) indices)
 
+-- what is news of the second's writes, by paths where these are known
+abbrev pub IsBrought : News → Option (Vec (List ℕ) Global) → List Write → List Write → Type 0
+IsBrought writes None V W = Brings writes V W
+IsBrought writes (Some paths) V W = HasNewsAt paths.items V W
+
+-- a replica took what another holds, of which this is news
+abbrev pub TakesNews : News → Option (Vec (List ℕ) Global) → News → holdings.Replica → holdings.Replica → holdings.Replica → Type 0
+TakesNews writes paths results old other new = (V W : List Write) (E F : List Action) → IsBrought writes paths V W → Brings results E F
+    → ReplicaStandsFor old V E → ReplicaStandsFor other W F → ReplicaStandsFor new (V ++ W) (E ++ F)
+
 -- it took what the replica at that index holds, of which this is news
-pub record MergedFrom (writes results : News) (named : List Named) (theirs : ℕ) (old new : Named) : Type 0 where
+pub record MergedFrom (writes : News) (paths : Option (Vec (List ℕ) Global)) (results : News) (named : List Named) (theirs : ℕ) (old new : Named) : Type 0 where
   pub name : new.name.items ≡ old.name.items
   pub number : new.number ≡ old.number
-  pub holds : (other : Named) → other ≡ slice_index_or named theirs other → (V W : List Write) (E F : List Action) → Brings writes V W → Brings results E F
-      → ReplicaStandsFor old.replica V E → ReplicaStandsFor other.replica W F → ReplicaStandsFor new.replica (V ++ W) (E ++ F)
+  pub holds : (other : Named) → other ≡ slice_index_or named theirs other → TakesNews writes paths results old.replica other.replica new.replica
 
 -- the words of what is asked to be built
 abbrev pub asked_of : Bor (List ℕ) × Bor (List ℕ) → List ℕ × List ℕ

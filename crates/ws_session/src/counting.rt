@@ -1,12 +1,13 @@
 //! How much the replicas of a session took of one another: what each command counts.
 
-ghost use Rattle.std.specs.Prelude.{ℕ, List, map, vec_len, Option, None, IfOk, OnOk};
+ghost use Rattle.std.specs.Prelude.{◌≡◌, ℕ, List, map, vec_len, Option, None, IfOk, OnOk};
 ghost use Rattle.ws_version_vector.specs.Counts.{AreRaisedAndShared};
 ghost use Rattle.ws_command.specs.Commands.{Write, Remove, Merge, Settle};
 ghost use Rattle.ws_session.specs.Standing.{index_of, text_in, applied_by, SettlesFrom, SettlesIn, SettlesCounted, IsWriteCounted, IsMergeCounted, MergesCounted, SharesCounted};
 
 use crate::replicas::{Named, apply, index_of, remove, write};
 use crate::taking::{merge, settle_all};
+use crate::written::Written;
 use go_text::edition::Edition;
 use std::alloc::{AllocError, Global};
 use std::thread::Threads;
@@ -20,17 +21,17 @@ pub(crate) fn write_counted(
     alloc: Global,
     edition: Edition,
     named: &mut Vec<Named>,
-    wrote: &mut Vectors,
+    wrote: &mut Written,
     name: &[u8],
     word: &[u8],
     text: Option<Vec<u8>>,
 ) -> Result<Option<Refusal>, AllocError>
     ensures settles { IfOk result (λ refusal. (lines : ℕ) → SettlesIn edition (Write name.now word.now lines) (text_in text) named.old refusal named.new) }
-    ensures counted { IfOk result (λ refusal. IsWriteCounted refusal (index_of name.now named.old.items) wrote.old wrote.new) }
+    ensures counted { IfOk result (λ refusal. IsWriteCounted refusal (index_of name.now named.old.items) word.now wrote.old wrote.new) }
 {
     let at = index_of(named.as_slice(), name);
     let refusal = write(alloc, edition, named, name, word, text)?;
-    count_write(wrote, at, &refusal)?;
+    count_write(wrote, at, word, &refusal)?;
     Ok(refusal)
 }
 
@@ -38,16 +39,16 @@ pub(crate) fn write_counted(
 pub(crate) fn remove_counted(
     alloc: Global,
     named: &mut Vec<Named>,
-    wrote: &mut Vectors,
+    wrote: &mut Written,
     name: &[u8],
     word: &[u8],
 ) -> Result<Option<Refusal>, AllocError>
     ensures settles { IfOk result (λ refusal. (text : Option (List ℕ)) → SettlesFrom (Remove name.now word.now) text named.old refusal named.new) }
-    ensures counted { IfOk result (λ refusal. IsWriteCounted refusal (index_of name.now named.old.items) wrote.old wrote.new) }
+    ensures counted { IfOk result (λ refusal. IsWriteCounted refusal (index_of name.now named.old.items) word.now wrote.old wrote.new) }
 {
     let at = index_of(named.as_slice(), name);
     let refusal = remove(alloc, named, name, word)?;
-    count_write(wrote, at, &refusal)?;
+    count_write(wrote, at, word, &refusal)?;
     Ok(refusal)
 }
 
@@ -56,7 +57,7 @@ pub(crate) fn apply_counted(
     alloc: Global,
     edition: Edition,
     named: &mut Vec<Named>,
-    wrote: &mut Vectors,
+    wrote: &mut Written,
     name: &[u8],
     word: &[u8],
     version: Version,
@@ -64,11 +65,11 @@ pub(crate) fn apply_counted(
     text: Option<Vec<u8>>,
 ) -> Result<Option<Refusal>, AllocError>
     ensures settles { IfOk result (λ refusal. SettlesIn edition (applied_by name.now word.now version lines) (text_in text) named.old refusal named.new) }
-    ensures counted { IfOk result (λ refusal. IsWriteCounted refusal (index_of name.now named.old.items) wrote.old wrote.new) }
+    ensures counted { IfOk result (λ refusal. IsWriteCounted refusal (index_of name.now named.old.items) word.now wrote.old wrote.new) }
 {
     let at = index_of(named.as_slice(), name);
     let refusal = apply(alloc, edition, named, name, word, version, lines, text)?;
-    count_write(wrote, at, &refusal)?;
+    count_write(wrote, at, word, &refusal)?;
     Ok(refusal)
 }
 
@@ -76,19 +77,20 @@ pub(crate) fn apply_counted(
 pub(crate) fn merge_counted(
     alloc: Global,
     named: &mut Vec<Named>,
-    wrote: &mut Vectors,
+    wrote: &mut Written,
     compiled: &mut Vectors,
     name: &[u8],
     other: &[u8],
 ) -> Result<Option<Refusal>, AllocError>
     ensures settles { IfOk result (λ refusal. SettlesCounted (Merge name.now other.now) wrote.old compiled.old named.old refusal named.new) }
-    ensures wrote { IfOk result (λ refusal. MergesCounted named.old name.now other.now refusal wrote.old wrote.new) }
+    ensures wrote { IfOk result (λ refusal. MergesCounted named.old name.now other.now refusal wrote.old.counts wrote.new.counts) }
+    ensures logs { OnOk result (wrote.new.logs ≡ wrote.old.logs) }
     ensures compiled { IfOk result (λ refusal. MergesCounted named.old name.now other.now refusal compiled.old compiled.new) }
 {
     let mine = index_of(named.as_slice(), name);
     let theirs = index_of(named.as_slice(), other);
     let refusal = merge(alloc, named, wrote, compiled, name, other)?;
-    count_merge(wrote, mine, theirs, &refusal)?;
+    count_merge(&mut wrote.counts, mine, theirs, &refusal)?;
     count_merge(compiled, mine, theirs, &refusal)?;
     Ok(refusal)
 }
@@ -98,34 +100,36 @@ pub(crate) fn settle_counted<R: Threads + Sync>(
     rt: &R,
     alloc: Global,
     named: &mut Vec<Named>,
-    wrote: &mut Vectors,
+    wrote: &mut Written,
     compiled: &mut Vectors,
 ) -> Result<(), AllocError>
     ensures settles { OnOk result (SettlesCounted Settle wrote.old compiled.old named.old None named.new) }
-    ensures wrote { OnOk result (SharesCounted (vec_len named.old) wrote.old wrote.new) }
+    ensures wrote { OnOk result (SharesCounted (vec_len named.old) wrote.old.counts wrote.new.counts) }
+    ensures logs { OnOk result (wrote.new.logs ≡ wrote.old.logs) }
     ensures compiled { OnOk result (SharesCounted (vec_len named.old) compiled.old compiled.new) }
 {
     let count = named.len();
     settle_all(rt, alloc, named, wrote, compiled)?;
-    wrote.settle(count)?;
+    wrote.counts.settle(count)?;
     compiled.settle(count)?;
     Ok(())
 }
 
-/// Counts a write of the replica at an index, if it took one.
+/// Counts a write to a path of the replica at an index, if it took one.
 fn count_write(
-    wrote: &mut Vectors,
+    wrote: &mut Written,
     at: Option<usize>,
+    path: &[u8],
     refusal: &Option<Refusal>,
 ) -> Result<(), AllocError>
-    ensures { OnOk result (IsWriteCounted refusal.now at wrote.old wrote.new) }
+    ensures { OnOk result (IsWriteCounted refusal.now at path.now wrote.old wrote.new) }
 {
     if refusal.is_some() {
         return Ok(());
     }
     match at {
         None => Ok(()),
-        Some(at) => wrote.raise(at),
+        Some(at) => wrote.raise(at, path),
     }
 }
 

@@ -5,5 +5,6 @@ mod counting;
 pub mod law;
 pub mod replicas;
 mod taking;
+pub mod written;
 
 pub use ws_replica::{Gate, Plain};

@@ -16,6 +16,7 @@ use crate::counting::{
     apply_counted, count_build, merge_counted, remove_counted, settle_counted, write_counted,
 };
 use crate::taking::{parted, rejoined};
+use crate::written::Written;
 use go_text::edition::Edition;
 use go_text::source::Source;
 use go_text::text::{Text, TextError};
@@ -52,7 +53,7 @@ pub struct Replicas {
     alloc: Global,
     edition: Edition,
     named: Vec<Named>,
-    wrote: Vectors,
+    wrote: Written,
     compiled: Vectors,
 }
 
@@ -80,7 +81,7 @@ fn path_of(word: &[u8]) -> Option<&str>
 }
 
 /// A word as the path of a file, if it is one.
-fn file_path_of(alloc: Global, word: &[u8]) -> Result<Option<FilePath>, AllocError>
+pub(crate) fn file_path_of(alloc: Global, word: &[u8]) -> Result<Option<FilePath>, AllocError>
     ensures { IfOk result (λ path. MatchOption path (is_path_word word.now ≡ false) (λ p. (is_path_word word.now ≡ true) × (p ≡ word.now))) }
 {
     match str::from_utf8(word) {
@@ -527,7 +528,7 @@ impl Replicas {
             alloc,
             edition,
             named: Vec::new(alloc),
-            wrote: Vectors::new(alloc),
+            wrote: Written::new(alloc),
             compiled: Vectors::new(alloc),
         }
     }

@@ -3,18 +3,37 @@ ghost use Rattle.std.specs.Prelude.{◌≡◌, ◌≢◌, ◌<◌, vec_len, repl
 ghost use Rattle.std.specs.List.{All, flat_map};
 ghost use Rattle.ws_replica.specs.Holdings.{ReplicaStandsFor};
 ghost use Rattle.ws_command.specs.Commands.{Merge, Settle};
-ghost use Rattle.ws_session.specs.Standing.{AllStand, AreCounted, SettlesCounted, ChangedAt, MergedFrom, HoldsAllOf, replicas_of, labels_of};
+ghost use Rattle.ws_session.specs.Standing.{AllStand, AreCounted, SettlesCounted, ChangedAt, MergedFrom, TakesNews, HoldsAllOf, replicas_of, labels_of};
 ghost use Rattle.ws_session.specs.World.{World};
 
 use crate::replicas::{Named, index_of};
+use crate::written::Written;
 use std::alloc::{AllocError, Global};
 use std::mem;
 use std::thread::Threads;
 use ws_command::refusal::Refusal;
+use ws_path::FilePath;
 use ws_replica::Replica;
 use ws_replica::join::settle;
 use ws_version::Join;
 use ws_version_vector::{News, Vectors};
+
+/// A replica takes what is news of what another holds, of its writes those at some paths where
+/// these are known.
+fn take_news(
+    one: &mut Replica,
+    other: &Replica,
+    writes: News,
+    paths: Option<Vec<FilePath>>,
+    results: News,
+) -> Result<(), AllocError>
+    ensures { OnOk result (TakesNews writes paths results one.old other.now one.new) }
+{
+    match paths {
+        None => one.merge_news(other, writes, results),
+        Some(paths) => one.merge_at(other, paths.as_slice(), results),
+    }
+}
 
 /// The replica at an index takes what is news of what the replica at another holds.
 fn merge_at(
@@ -23,15 +42,16 @@ fn merge_at(
     mine: usize,
     theirs: usize,
     writes: News,
+    paths: Option<Vec<FilePath>>,
     results: News,
 ) -> Result<(), AllocError>
     requires mine { mine < vec_len named.old }
     requires theirs { theirs < vec_len named.old }
     requires others { mine ≢ theirs }
-    ensures { OnOk result (ChangedAt (MergedFrom writes results named.old.items theirs) named.old.items mine named.new.items) }
+    ensures { OnOk result (ChangedAt (MergedFrom writes paths results named.old.items theirs) named.old.items mine named.new.items) }
 {
     let mut one = mem::replace(&mut named[mine].replica, Replica::new(alloc));
-    let merged = one.merge_news(&named[theirs].replica, writes, results);
+    let merged = take_news(&mut one, &named[theirs].replica, writes, paths, results);
     named[mine].replica = one;
     merged
 }
@@ -40,7 +60,7 @@ fn merge_at(
 pub(crate) fn merge(
     alloc: Global,
     named: &mut Vec<Named>,
-    wrote: &Vectors,
+    wrote: &Written,
     compiled: &Vectors,
     name: &[u8],
     other: &[u8],
@@ -56,9 +76,10 @@ pub(crate) fn merge(
     if mine == theirs {
         return Ok(None);
     }
-    let writes = wrote.news_of(mine, theirs);
+    let writes = wrote.counts.news_of(mine, theirs);
     let results = compiled.news_of(mine, theirs);
-    merge_at(alloc, named, mine, theirs, writes, results)?;
+    let paths = wrote.paths_of(alloc, mine, theirs, writes)?;
+    merge_at(alloc, named, mine, theirs, writes, paths, results)?;
     Ok(None)
 }
 
@@ -148,14 +169,14 @@ fn together<R: Threads + Sync>(
     rt: &R,
     alloc: Global,
     named: &Vec<Named>,
-    wrote: &Vectors,
+    wrote: &Written,
     compiled: &Vectors,
 ) -> Result<Replica, AllocError>
     ensures { IfOk result (λ joined. (world : World) → AllStand named.now.items world.replicas → AreCounted wrote.now compiled.now world
         → ReplicaStandsFor joined (flat_map (λ r. r.writes) world.replicas) (flat_map (λ r. r.actions) world.replicas)) }
 {
     let count = named.len();
-    let writers = wrote.tops(count)?;
+    let writers = wrote.counts.tops(count)?;
     let builders = compiled.tops(count)?;
     let mut joined = joined_of(rt, alloc, named, &writers)?;
     let results = joined_of(rt, alloc, named, &builders)?;
@@ -168,7 +189,7 @@ pub(crate) fn settle_all<R: Threads + Sync>(
     rt: &R,
     alloc: Global,
     named: &mut Vec<Named>,
-    wrote: &Vectors,
+    wrote: &Written,
     compiled: &Vectors,
 ) -> Result<(), AllocError>
     ensures { OnOk result (SettlesCounted Settle wrote.now compiled.now named.old None named.new) }

@@ -5,6 +5,7 @@ use std::alloc::Global;
 use std::cmp::Ordering;
 use std::collections::BTreeMap;
 use test_rows::answers::RowError;
+use ws_path::FilePath;
 use ws_register::{EditError, Registers};
 use ws_version::{Held, Join, Version};
 
@@ -92,8 +93,8 @@ fn remove(alloc: Global, pair: &mut Pair, number: u64) -> Result<bool, RowError>
     made(done)
 }
 
-fn merge(pair: &mut Pair, other: &Pair) -> Result<(), RowError> {
-    pair.registers.merge(&other.registers)?;
+/// A map takes what another holds.
+fn take(pair: &mut Pair, other: &Pair) -> Result<(), RowError> {
     for (path, held) in &other.plain {
         let is_news = match pair.plain.get(path) {
             None => true,
@@ -104,6 +105,24 @@ fn merge(pair: &mut Pair, other: &Pair) -> Result<(), RowError> {
         }
     }
     Ok(())
+}
+
+fn merge(pair: &mut Pair, other: &Pair) -> Result<(), RowError> {
+    pair.registers.merge(&other.registers)?;
+    take(pair, other)
+}
+
+/// A merge by a look-up of each path that the other holds.
+fn merge_at(alloc: Global, pair: &mut Pair, other: &Pair) -> Result<(), RowError> {
+    let mut paths = Vec::new(alloc);
+    for path in other.plain.keys() {
+        let path = FilePath::new(path.clone()?).ok_or(RowError::NoRow)?;
+        paths.push(path)?;
+    }
+    pair.registers = pair
+        .registers
+        .merged_at(&other.registers, paths.as_slice())?;
+    take(pair, other)
 }
 
 /// Whether the registers of a replica hold what its map holds.
@@ -135,6 +154,10 @@ fn act(
         0 => remove(alloc, pair, number)?,
         1 => {
             merge(pair, other)?;
+            true
+        }
+        2 => {
+            merge_at(alloc, pair, other)?;
             true
         }
         _ => edit(alloc, pair, number, seed)?,

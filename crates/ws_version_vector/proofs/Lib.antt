@@ -1,4 +1,5 @@
 pub mod Kept
+pub mod Logged
 pub mod Reading
 pub mod Told
 pub mod Tops

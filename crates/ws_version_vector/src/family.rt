@@ -4,7 +4,7 @@ ghost use Rattle.std.specs.Prelude.{◌≡◌, ◌<◌, ◌⊎◌, ◌∷◌, �
 ghost use Rattle.std.specs.List.{Contains};
 ghost use Rattle.ws_version_vector.specs.Counts.{count_at, counts_at, IsBelow, IsMost, IsRaised, IsNews, ChangedAt, AreShared, AreRaisedAndShared, AreFirst, AreBelow, AreTops, greatest_count, is_among};
 
-use crate::vector::{News, VersionVector, is_below, news_of};
+use crate::vector::{News, VersionVector, count, is_below, news_of};
 use std::alloc::{AllocError, Global};
 use std::marker::Model;
 
@@ -37,14 +37,21 @@ impl Vectors {
         }
     }
 
-    // The counts of a replica.
-    fn at(&self, at: usize) -> &[u64]
+    /// The counts of a replica.
+    pub fn at(&self, at: usize) -> &[u64]
         ensures { result.now ≡ counts_at at self.now }
     {
         match self.all.get(at) {
             None => &[],
             Some(vector) => vector.counts(),
         }
+    }
+
+    /// How many batches were first taken at a replica.
+    pub fn own(&self, at: usize) -> u64
+        ensures { result ≡ count_at at (counts_at at self.now) }
+    {
+        count(self.at(at), at)
     }
 
     /// What one replica has that another lacks.

@@ -6,7 +6,9 @@
 #![tactic(auto)]
 
 pub use family::Vectors;
+pub use logs::{Key, Logs};
 pub use vector::{News, VersionVector};
 
 mod family;
+mod logs;
 mod vector;

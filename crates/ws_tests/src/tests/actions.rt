@@ -82,6 +82,24 @@ fn id_tells_imports(rt: HostRuntime) -> Result<(), Fail> {
 }
 
 #[test]
+fn identified_action_has_the_id_of_its_own_text(rt: HostRuntime) -> Result<(), Fail> {
+    let file = [("x.go", "package p\n")];
+    let first = action(rt.alloc(), &file)?.identified(None)?;
+    assert!(rt; first.id()? == ID && first.copy()?.id()? == ID);
+    let again = action(rt.alloc(), &file)?.identified(Some(&first))?;
+    assert!(rt; again.id()? == ID);
+    let importing = [("x.go", "package p\n\nimport _ \"lib/q\"\n")];
+    let other = made(rt.alloc(), &importing, &[("lib/q", "r")])??;
+    let other = other.identified(Some(&again))?;
+    assert!(rt; other.id()? == ID_WITH_IMPORT);
+    // One without an id is of no help.
+    let unnamed = action(rt.alloc(), &file)?;
+    let last = action(rt.alloc(), &file)?.identified(Some(&unnamed))?;
+    assert!(rt; last.id()? == ID);
+    Ok(())
+}
+
+#[test]
 fn id_tells_what_an_import_exports(rt: HostRuntime) -> Result<(), Fail> {
     let alloc = rt.alloc();
     let mut constants = Vec::new(alloc);

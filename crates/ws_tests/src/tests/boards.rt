@@ -164,6 +164,47 @@ fn one_job(rt: HostRuntime) -> Result<(), Fail> {
     Ok(())
 }
 
+/// What a board of one job came to, whose directory had an action.
+fn built_after(
+    rt: &impl Abort,
+    alloc: Global,
+    name: &str,
+    last: Option<Arc<Action>>,
+) -> Result<Built, Fail> {
+    let text = text_of(alloc, &[], name, &[])?;
+    let files = files(alloc, &[("x.go", text.as_str())])?;
+    let path = String::from_str(alloc, "d")?;
+    let work = Work::after(Edition::One, path, files, last);
+    let mut jobs = Vec::new(alloc);
+    jobs.push(Job::new(Some(work), Vec::new(alloc)))?;
+    let board = Board::open(alloc, jobs, Cache::new(alloc))?;
+    let built = drives(rt, board)?;
+    Ok(built)
+}
+
+fn has_id(action: Option<&Arc<Action>>, id: [u8; 32]) -> bool {
+    match action {
+        Some(action) => action.id() == Ok(id),
+        None => false,
+    }
+}
+
+#[test]
+fn action_of_a_build_names_the_next_one(rt: HostRuntime) -> Result<(), Fail> {
+    let first = built_after(&rt, rt.alloc(), "p", None)?;
+    let action = first.action(0)?;
+    assert!(rt; action.is_some() && first.action(1)?.is_none());
+    let Some(last) = action else {
+        return Ok(());
+    };
+    let id = last.id()?;
+    let again = built_after(&rt, rt.alloc(), "p", Some(Arc::try_clone(&last)?))?;
+    assert!(rt; told(&again, 0) == "good" && has_id(again.action(0)?.as_ref(), id));
+    let other = built_after(&rt, rt.alloc(), "q", Some(last))?;
+    assert!(rt; told(&other, 0) == "good" && !has_id(other.action(0)?.as_ref(), id));
+    Ok(())
+}
+
 /// The jobs, which of them are taken, in order, and what each comes to.
 type Row<'a> = (Rows<'a>, &'a [usize], &'a [&'a str]);
 

@@ -45,6 +45,40 @@ fn entries_are_found(rt: HostRuntime) -> Result<(), Fail> {
     finds(&rt, rt.alloc(), &first, &second)
 }
 
+/// Entries of so many actions.
+fn several(alloc: Global, count: u32) -> Result<Vec<Entry>, Fail> {
+    let mut entries = Vec::new(alloc);
+    for number in 1..=count {
+        let text = format!(in alloc; "package p // {number}")?;
+        entries.push(entry(alloc, &[("x.go", text.as_str())])?)?;
+    }
+    Ok(entries)
+}
+
+/// Puts an entry into a cache, of which a copy keeps what it had.
+fn put_beside_copy(rt: &impl Abort, cache: &mut Cache, entry: &Entry) -> Result<(), Fail> {
+    let copy = cache.copy()?;
+    if cache.put(entry.copy()?).is_err() {
+        return Err(Fail::from("out of memory"));
+    }
+    assert!(rt; cache.get(&entry.id()).is_some() && copy.get(&entry.id()).is_none());
+    Ok(())
+}
+
+// So many that the news go into the base several times.
+#[test]
+fn copies_keep_what_they_had(rt: HostRuntime) -> Result<(), Fail> {
+    let entries = several(rt.alloc(), 200)?;
+    let mut cache = Cache::new(rt.alloc());
+    for entry in &entries {
+        put_beside_copy(&rt, &mut cache, entry)?;
+    }
+    for entry in &entries {
+        assert!(rt; cache.get(&entry.id()).is_some());
+    }
+    Ok(())
+}
+
 #[test]
 fn entries_hold_what_they_are_made_of(rt: HostRuntime) -> Result<(), Fail> {
     let entry = entry(rt.alloc(), &[("x.go", "package p\n")])?;

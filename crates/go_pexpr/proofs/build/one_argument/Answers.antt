@@ -9,8 +9,8 @@ invariant_of-result c = record {
       omega (
         arith,
         ap (λ es. exprs_tall es) c.in_ok-push.ensures.items,
-        exprs_push c.new-items.result.items c.args.first.expr,
-        ap (λ es. exprs_tall es) c.new-items.ensures.items,
+        exprs_push c.in_ok-items.items.items c.args.first.expr,
+        ap (λ es. exprs_tall es) c.in_ok-items.ensures.items,
         c.args.first.counted,
       );
 }

@@ -77,4 +77,7 @@ returns-clause-reads g c = λ next.
     let k = g.L.Items.kind items in
     let front = map (g.L.Items.seen items) c.nodes.nodes.items in
     let is : First (Kind closing) (left c.nodes.parser) = c.is_next.ensures.0 c.nodes-test.false in
-    record { by = c.nodes.invariant.reads (last next) ∙ closing_due _ k (g.met.L.Items.closes items) front (last next) _ is ∙ went (c.in_ok-expect-2.ensures.reads _) }
+    record {
+      by = c.nodes.invariant.reads (last next) ∙ closing_due _ k (g.met.L.Items.closes items) front (last next) _ is ∙ went (c.in_ok-expect-2.ensures.reads (last next front))
+          ∙ ap (λ ns. run c.expect-2.new.self.edition 250 (next (map (g.L.Items.seen items) ns)) (left c.expect-2.new.self)) (sym c.shrink_to_fit.ensures.items);
+    }

@@ -1,8 +1,9 @@
 use Rattle.std.proofs.Common.{◌≡◌, true, false, sym, ap, ◌∙◌}
+use Rattle.std.specs.List.{find}
 use Rattle.std.specs.Str.{bytes_eq}
 use Rattle.std.proofs.lemmas.Slice.Eq.{bytes_eq-Decides}
 use Rattle.go_scan.specs.Punctuations.{punctuation_spelling}
-use Rattle.go_scan.proofs.Keys.{find_step}
+use Rattle.go_scan.proofs.Keys.{find_step, mark_among}
 use Rattle.go_scan.proofs.punctuation.punctuation_of.Goals as goal
 
 pub returns-then-eq-clause-some : goal.returns-then-eq-clause-some
@@ -10,6 +11,11 @@ returns-then-eq-clause-some c =
     let word = c.args.word.now in
     let same : bytes_eq c.as_bytes.result.now word ≡ true = sym c.eq.ensures ∙ c.if-eq.true in
     sym ((bytes_eq-Decides c.as_bytes.result.now word).0 same) ∙ c.as_bytes.ensures.value ∙ c.spelling.ensures
+
+pub loop-punctuation-init : goal.loop-punctuation-init
+loop-punctuation-init c =
+    let word = c.args.word.now in
+    ap (λ ps. find (λ p. bytes_eq (punctuation_spelling p) word) ps) c.beginning_with-punctuation-items.ensures ∙ mark_among word
 
 pub loop-punctuation-preserved : goal.loop-punctuation-preserved
 loop-punctuation-preserved c =

@@ -1,4 +1,4 @@
-use Rattle.std.proofs.Common.{◌≡◌, ℕ, ◌+◌, ◌-◌, ◌≤◌, ◌<◌, List, [], ◌∷◌, ◌++◌, take, drop, length, Option, Some, None, refl, sym, ap, ◌∙◌, subst, arith, length-take, length-drop, Vec, Global}
+use Rattle.std.proofs.Common.{◌≡◌, ℕ, ◌+◌, ◌-◌, ◌≤◌, ◌<◌, List, [], ◌∷◌, ◌++◌, take, drop, length, Option, Some, None, refl, sym, ap, ◌∙◌, subst, arith, length-take, length-drop, Vec, Global, rules}
 use Rattle.std.proofs.lemmas.List.{take_rest, drop_all}
 use Rattle.go_text.specs.declared.place.Place.{Place}
 use Rattle.go_text.specs.Places.{place_after, place_at, mark_size}
@@ -61,6 +61,22 @@ after-behind-requires-clause-column c =
     let text = c.as_bytes-text.result.now in
     (fits text c.pieces.place c.pieces.at (length text - c.pieces.at) c.in-Some.len
     (subst (λ (t : List ℕ). length t ≤ 4194304) (sym (c.as_bytes-text.ensures.value ∙ c.as_str.ensures.value)) (valid_is_short Two c.text.result.now c.as_str.ensures.valid)) c.pieces.invariant.place).1
+
+pub overflow_cast-start : goal.overflow_cast-start
+overflow_cast-start c =
+    let text = c.as_bytes-text.result.now in
+    let short = subst (λ (t : List ℕ). length t ≤ 4194304) (sym (c.as_bytes-text.ensures.value ∙ c.as_str.ensures.value)) (valid_is_short Two c.text.result.now c.as_str.ensures.valid) in
+    let less : c.pieces.at < 4294967296 = omega (arith, short, c.pieces.invariant.within) in
+    search (rules, less)
+
+pub overflow_cast-end : goal.overflow_cast-end
+overflow_cast-end c =
+    let text = c.as_bytes-text.result.now in
+    let at = c.pieces.at in
+    let short = subst (λ (t : List ℕ). length t ≤ 4194304) (sym (c.as_bytes-text.ensures.value ∙ c.as_str.ensures.value)) (valid_is_short Two c.text.result.now c.as_str.ensures.valid) in
+    let le = c.in-Some.ensures.within.1 in
+    let less : at + c.in-Some.len < 4294967296 = omega (arith, short, le, c.pieces.invariant.within, length-take (length text - at) (drop at text), length-drop at text) in
+    search (rules, less)
 
 pub pieces-preserved : goal.pieces-preserved
 pieces-preserved c =

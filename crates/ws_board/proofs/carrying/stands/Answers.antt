@@ -1,4 +1,4 @@
-use Rattle.std.proofs.Common.{◌≡◌, ◌<◌, ◌≤◌, true, false, length, Option, Some, None, IfSome, IfNone, refl, sym, ap, ◌∙◌, subst, arith, rules}
+use Rattle.std.proofs.Common.{◌≡◌, ◌+◌, ◌*◌, ◌<◌, ◌≤◌, true, false, length, Option, Some, None, IfSome, IfNone, refl, sym, ap, ◌∙◌, subst, arith, rules}
 use Rattle.std.specs.Prelude.{option_copied}
 use Rattle.std.specs.List.{slice_get}
 use Rattle.ws_action.specs.Actions.{Action, action_id}
@@ -8,9 +8,10 @@ use Rattle.ws_board.specs.declared.table.Row.{Row}
 use Rattle.ws_board.specs.Machine.{is_waiting, MayForm, IsFormed, IsPlaced}
 use Rattle.ws_board.specs.Carrying.{held_by}
 use Rattle.ws_board.specs.Ends.{imports_at, work_at}
-use Rattle.ws_board.specs.Rows.{IsOpenPast}
+use Rattle.ws_board.specs.Rows.{IsOpenPast, due, due_of, telling, charged_for}
 use Rattle.ws_board.specs.Table.{row_at, standings_of}
-use Rattle.ws_board.proofs.Standby.{becomes_of, stands_waits, stands_stopped, stands_acts, all_past, placed_cases}
+use Rattle.ws_board.proofs.Carry.{waiting_is}
+use Rattle.ws_board.proofs.Standby.{becomes_of, stands_waits, stands_stopped, stands_acts, all_past, placed_cases, placed_costs}
 use Rattle.ws_board.proofs.carrying.stands.Goals as goal
 
 pub returns-then-left-gt0-clause-becomes : goal.returns-then-left-gt0-clause-becomes
@@ -73,3 +74,19 @@ returns-in-None-clause-becomes c =
     becomes_of h J R job was c.row_of-in-None.result same waits c.in-Some.ensures.row.1 Blocked None 0 c.row_of-in-None.ensures
     (stands_stopped h (standings_of R) (slice_get J job) c.in-Some-work.work.now work (all_past J R job 0 refl past) unformed)
     (omega arith) past (λ w. (let x : false ≡ true = w in absurd (cc)))
+
+pub returns-in-Some-2-clause-paid : goal.returns-in-Some-2-clause-paid
+returns-in-Some-2-clause-paid c =
+    let h = held_by c.args.holds in
+    let R = c.args.rows.now.rows in
+    let job = c.args.job in
+    let was : Row = c.in-Some.found.row.now in
+    let status : Status = c.placed-status.result in
+    let waits : is_waiting was.status ≡ true = search rules in
+    let is : due (row_at R job) ≡ 2 + 2 * was.left + 2 * was.imports + telling was.importers =
+    ap due (sym c.in-Some.ensures.row.0) ∙ ap (λ (s : Status). due_of s was.left was.imports was.importers) (waiting_is was.status waits) in
+    let none : c.left_of-left.result ≡ 0 = omega (arith, c.if-left-gt0.false) in
+    let placed : IsPlaced (h (action_id c.in-Some-2.action)) status = subst (λ i. IsPlaced (h i) status) c.id.ensures c.placed-status.ensures in
+    let costs = placed_costs (h (action_id c.in-Some-2.action)) status 0 was.imports was.importers placed in
+    subst (λ (r : Row). charged_for c.formed.new.looks r ≤ c.args.looks.now + due (row_at R job) + 3) (sym c.row_of-in-Some-2.ensures)
+    (omega (arith, costs, is, c.left_of-left.ensures.all none, c.in_ok-action.ensures.paid, c.in-Some.ensures.one))

@@ -1,5 +1,6 @@
 use Rattle.std.proofs.Common.{◌≡◌, ◌-◌, length}
-use Rattle.ws_reach.specs.Reach.{Edge, Walked, rows_of}
+use Rattle.ws_reach.specs.Reach.{Edge, rows_of}
+use Rattle.ws_reach.proofs.Reached.{Walked}
 use Rattle.ws_reach.proofs.walks.walk.Given as goal
 
 abbrev pub invariant-loop-next : goal.invariant-loop-next

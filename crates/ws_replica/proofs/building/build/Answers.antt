@@ -28,10 +28,10 @@ pub opening_of-requires : goal.opening_of-requires
 opening_of-requires g c = subst (λ (rs : List Replica). All (λ t. t.replica < length rs) c.args.targets.now) (sym c.in_ok-all.ensures.same) c.requires.within
 
 pub give_results-requires : goal.give_results-requires
-give_results-requires g c = subst (λ (rs : List Replica). All (λ t. t.replica < length rs) c.args.targets.now) (sym c.in_ok-all.ensures.same) c.requires.within
+give_results-requires g c = subst (λ (rs : List Replica). All (λ t. t.replica < length rs) c.args.targets.now) (sym (c.in_ok-remember_all.ensures ∙ c.in_ok-all.ensures.same)) c.requires.within
 
 pub returns-clause-registers : goal.returns-clause-registers
-returns-clause-registers g c = c.in_ok-give_results.ensures.ok.have.registers ∙ ap (map (λ (r : Replica). r.registers)) c.in_ok-all.ensures.same
+returns-clause-registers g c = c.in_ok-give_results.ensures.ok.have.registers ∙ ap (map (λ (r : Replica). r.registers)) (c.in_ok-remember_all.ensures ∙ c.in_ok-all.ensures.same)
 
 pub run-requires-clause-within : goal.run-requires-clause-within
 run-requires-clause-within g c κs within =
@@ -49,6 +49,6 @@ returns-clause-ok g c took stand sized =
     let same : c.all_planned.new.replicas ≡ c.args.replicas.now = c.in_ok-all.ensures.same in
     let opens : IsOpening c.args.replicas.now targets c.in_ok-opening.opening = subst (λ (rs : List Replica). IsOpening rs targets c.in_ok-opening.opening) same c.in_ok-opening.ensures in
     let take : TakeResults targets c.in_ok-reports.added c.args.replicas.now c.give_results.new.replicas =
-    subst (λ (rs : List Replica). TakeResults targets c.in_ok-reports.added rs c.give_results.new.replicas) same c.in_ok-give_results.ensures.ok in
+    subst (λ (rs : List Replica). TakeResults targets c.in_ok-reports.added rs c.give_results.new.replicas) (c.in_ok-remember_all.ensures ∙ same) c.in_ok-give_results.ensures.ok in
     are_built c.args.edition c.args.replicas.now c.give_results.new.replicas took targets stand sized
     all c.in_ok-all.ensures.ok parts parts_are c.in_ok-opening.opening opens c.in_ok-reports.reports.items c.in_ok-reports.added run take

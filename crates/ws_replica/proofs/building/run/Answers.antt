@@ -11,7 +11,7 @@ use Rattle.ws_replica.proofs.building.run.Goals as goal
 pub part_reports-requires : goal.part_reports-requires
 part_reports-requires g c =
     let told = subst (λ (ps : List (List Place)). AllTold (result_at c.in_ok-built.built) 0 ps (map rows_of c.in_ok-told.told.items)) c.in_ok-places.ensures.places c.in_ok-told.ensures.told in
-    let same : length c.args.all.items ≡ length c.as_slice.result.now = run_length (result_at c.in_ok-built.built) c.args.all.items c.in_ok-told.told.items told ∙ ap (λ (rs : List Report). length rs) (sym c.as_slice.ensures.value) in
+    let same : length c.args.all.items ≡ length c.as_slice-2.result.now = run_length (result_at c.in_ok-built.built) c.args.all.items c.in_ok-told.told.items told ∙ ap (λ (rs : List Report). length rs) (sym c.as_slice-2.ensures.value) in
     subst (λ n. AllPartsWithin n c.args.parts.now) same c.requires.within
 
 pub returns : goal.returns
@@ -25,5 +25,5 @@ returns g c = record {
     counts = c.in_ok-told.ensures.counts;
     added_are = c.into_added.ensures;
   };
-  reports_are = subst (λ (rs : List Report). AllZip (IsToldPart rs) (map part_of c.args.parts.now) c.in_ok-reports.reports.items) c.as_slice.ensures.value c.in_ok-reports.ensures;
+  reports_are = subst (λ (rs : List Report). AllZip (IsToldPart rs) (map part_of c.args.parts.now) c.in_ok-reports.reports.items) c.as_slice-2.ensures.value c.in_ok-reports.ensures;
 }

@@ -5,8 +5,8 @@ use Rattle.ws_session.proofs.counting.merge_counted.Goals as goal
 pub returns-clause-wrote : goal.returns-clause-wrote
 returns-clause-wrote c =
     let refusal = c.in_ok-refusal.refusal in
-    subst (λ o. IsMergeCounted refusal o (index_of c.args.other.now c.args.named.now.items) c.args.wrote.now c.count_merge.new.vectors) (c.index_of-mine.ensures.value ∙ ap (index_of c.args.name.now) c.as_slice.ensures.value)
-    (subst (λ o. IsMergeCounted refusal c.index_of-mine.result o c.args.wrote.now c.count_merge.new.vectors) (c.index_of-theirs.ensures.value ∙ ap (index_of c.args.other.now) c.as_slice-2.ensures.value) c.in_ok-count_merge.ensures)
+    subst (λ o. IsMergeCounted refusal o (index_of c.args.other.now c.args.named.now.items) c.args.wrote.now.counts c.count_merge.new.vectors) (c.index_of-mine.ensures.value ∙ ap (index_of c.args.name.now) c.as_slice.ensures.value)
+    (subst (λ o. IsMergeCounted refusal c.index_of-mine.result o c.args.wrote.now.counts c.count_merge.new.vectors) (c.index_of-theirs.ensures.value ∙ ap (index_of c.args.other.now) c.as_slice-2.ensures.value) c.in_ok-count_merge.ensures)
 
 pub returns-clause-compiled : goal.returns-clause-compiled
 returns-clause-compiled c =

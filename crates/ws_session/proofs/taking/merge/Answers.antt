@@ -2,6 +2,7 @@ use Rattle.std.proofs.Common.{sym, ap, ◌∙◌}
 use Rattle.ws_version_vector.proofs.Kept.{news_brought}
 use Rattle.ws_session.specs.Standing.{index_of, writes_in, actions_in}
 use Rattle.ws_session.proofs.Settling.{merge_unknown, merge_other_unknown}
+use Rattle.ws_session.proofs.Counted.{brought}
 use Rattle.ws_session.proofs.Merging.{merged, merged_itself}
 use Rattle.ws_session.proofs.taking.merge.Goals as goal
 
@@ -30,7 +31,7 @@ returns c = λ text world h counted.
     merged c.args.name.now c.args.other.now text world c.args.named.now.items h mine theirs
     (ap (index_of c.args.name.now) (sym c.as_slice.ensures.value) ∙ sym c.in-Some.ensures.value)
     (ap (index_of c.args.other.now) (sym c.as_slice-2.ensures.value) ∙ sym c.in-Some-index_of.ensures.value)
-    c.news_of-writes.result c.news_of-results.result c.merge_at.new.named.items
-    (news_brought writes.0 c.args.wrote.now (writes_in world.replicas) mine theirs c.news_of-writes.result writes.1 c.news_of-writes.ensures)
+    c.news_of-writes.result c.in_ok-paths.paths c.news_of-results.result c.merge_at.new.named.items
+    (brought writes.0 c.args.wrote.now (writes_in world.replicas) mine theirs c.news_of-writes.result c.in_ok-paths.paths writes.1 writes.2 c.news_of-writes.ensures c.in_ok-paths.ensures)
     (news_brought actions.0 c.args.compiled.now (actions_in world.replicas) mine theirs c.news_of-results.result actions.1 c.news_of-results.ensures)
     c.in_ok-merge_at.ensures

@@ -14,7 +14,7 @@ returns c =
     let hollow : Named = record { name = first.name; number = first.number; replica = c.replace-one.new.dest } in
     let mid : List Named = set ns c.args.mine hollow in
     let second : Named = c.index_mut-2.result.now in
-    let new : Named = record { name = second.name; number = second.number; replica = c.merge_news-merged.new.self } in
+    let new : Named = record { name = second.name; number = second.number; replica = c.take_news-merged.new.one } in
     let mine : c.args.mine < length ns = omega (arith, c.requires.mine, c.args.named.now.ok.0) in
     let theirs : c.args.theirs < length ns = omega (arith, c.requires.theirs, c.args.named.now.ok.0) in
     let mine_mid : c.args.mine < length mid = omega (arith, mine, length-set ns c.args.mine hollow) in
@@ -22,7 +22,7 @@ returns c =
     let others : c.args.theirs ≢ c.args.mine = λ e. c.requires.others (sym e) in
     let read : c.index.result.now ≡ get_or ns c.args.theirs c.index.result.now = c.index.ensures ∙ get_or-set_other ns c.args.mine c.args.theirs hollow c.index.result.now others in
     let taken : c.replace-one.result ≡ first.replica = c.replace-one.ensures.value in
-    on_ok_map c.merge_news-merged.result (λ stands. record {
+    on_ok_map c.take_news-merged.result (λ stands. record {
       changed = new;
       is = set-set ns c.args.mine hollow new;
       so = λ n e.
@@ -36,4 +36,4 @@ returns c =
                 (subst (λ (r : Replica). ReplicaStandsFor r V E) (ap (λ (m : Named). m.replica) same ∙ sym taken) h)
                 (subst (λ (r : Replica). ReplicaStandsFor r W F) (ap (λ (m : Named). m.replica) is) k);
           };
-    }) c.merge_news-merged.ensures.stands
+    }) c.take_news-merged.ensures

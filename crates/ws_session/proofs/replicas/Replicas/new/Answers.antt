@@ -1,6 +1,6 @@
 use Rattle.std.proofs.Common.{List, [], refl, sym, subst}
 use Rattle.ws_session.specs.declared.replicas.Named.{Named}
-use Rattle.ws_session.specs.Standing.{AllStand, AreCounted}
+use Rattle.ws_session.specs.Standing.{AllStand, AreCounted, none_written}
 use Rattle.ws_session.specs.World.{opening}
 use Rattle.ws_session.proofs.Counted.{opening_counted}
 use Rattle.ws_session.proofs.replicas.Replicas.new.Goals as goal
@@ -14,6 +14,6 @@ returns c =
         replicas = subst (λ (ns : List Named). AllStand ns []) (sym c.new.ensures.items) tt;
         apart = tt;
         kept = subst (λ wrote. AreCounted wrote c.new-3.result world) (sym c.new-2.ensures)
-            (subst (λ compiled. AreCounted [] compiled world) (sym c.new-3.ensures) (opening_counted c.args.edition));
+            (subst (λ compiled. AreCounted none_written compiled world) (sym c.new-3.ensures) (opening_counted c.args.edition));
       };
     }

@@ -1,10 +1,11 @@
-use Rattle.std.proofs.Common.{ap, map, subst, List, [], ℕ, None, Some, Option, Vec, Global, arith}
+use Rattle.std.proofs.Common.{ap, map, refl, subst, List, [], ℕ, None, Some, Option, Vec, Global, arith}
 use Rattle.std.specs.Prelude.{unwrap_or, vec_len}
 use Rattle.std.specs.Borrow.{Bor}
 use Rattle.std.specs.Option.{option_map}
 use Rattle.ws_command.specs.declared.refusal.Refusal.TheVariants.{BadCommand}
 use Rattle.ws_session.specs.declared.replicas.Replicas.{Replicas}
 use Rattle.ws_session.specs.declared.replicas.Named.{Named}
+use Rattle.ws_session.specs.declared.written.Written.{Written}
 use Rattle.ws_command.specs.Commands.{Nothing, Bad, Create, Write, Remove, Apply, Merge, Settle, Build, Run, Ids, Show, Use}
 use Rattle.ws_command.specs.Seen.{seen}
 use Rattle.ws_session.specs.Standing.{asked_of, index_of, TellsCounted}
@@ -18,7 +19,7 @@ use Rattle.ws_session.proofs.replicas.Replicas.step.Goals as goal
 abbrev given : Option (Vec ℕ Global) → Option (List ℕ)
 given text = option_map (λ v. v.items) text
 
-abbrev with_all : Replicas → Vec Named Global → List (List ℕ) → List (List ℕ) → Replicas
+abbrev with_all : Replicas → Vec Named Global → Written → List (List ℕ) → Replicas
 with_all s named wrote compiled = record { alloc = s.alloc; edition = s.edition; named = named; wrote = wrote; compiled = compiled }
 
 pub returns-in-Nothing : goal.returns-in-Nothing
@@ -100,7 +101,7 @@ returns-in_ok-refusal-in-Write g c = λ world h. if_ok_map c.told-in-Write.resul
     let t = settled_tells (Write name path lines) (given c.args.text) world refusal told.items c.write_counted.new.named.items (prints_write name path lines world refusal) e settles in
     let after = after_by (Write name path lines) (given c.args.text) world t.next refusal settles.refuses t.after in
     stepped (with_all s c.write_counted.new.named c.write_counted.new.wrote s.compiled) (seen c.args.asked.now) (Write name path lines) (given c.args.text) world told.items (ap seen c.in-Write.is) h.edition h.apart t
-    (write_counted refusal (index_of name s.named.items) (edit_of name path (unwrap_or (given c.args.text) []) world) world t.next s.wrote c.write_counted.new.wrote s.compiled
+    (write_counted refusal (index_of name s.named.items) (edit_of name path (unwrap_or (given c.args.text) []) world) path world t.next s.wrote c.write_counted.new.wrote s.compiled refl
     (after_write (given c.args.text) world t.next s.named.items h.replicas name path lines refusal after) c.in_ok-refusal-in-Write.ensures.counted h.kept)) c.told-in-Write.ensures
 
 pub returns-in_ok-refusal-in-Remove : goal.returns-in_ok-refusal-in-Remove
@@ -113,7 +114,7 @@ returns-in_ok-refusal-in-Remove g c = λ world h. if_ok_map c.told-in-Remove.res
     let t = settled_tells (Remove name path) (given c.args.text) world refusal told.items c.remove_counted.new.named.items (prints_remove name path world refusal) e settles in
     let after = after_by (Remove name path) (given c.args.text) world t.next refusal settles.refuses t.after in
     stepped (with_all s c.remove_counted.new.named c.remove_counted.new.wrote s.compiled) (seen c.args.asked.now) (Remove name path) (given c.args.text) world told.items (ap seen c.in-Remove.is) h.edition h.apart t
-    (write_counted refusal (index_of name s.named.items) (removal_of name path world) world t.next s.wrote c.remove_counted.new.wrote s.compiled
+    (write_counted refusal (index_of name s.named.items) (removal_of name path world) path world t.next s.wrote c.remove_counted.new.wrote s.compiled refl
     (after_remove (given c.args.text) world t.next s.named.items h.replicas name path refusal after) c.in_ok-refusal-in-Remove.ensures.counted h.kept)) c.told-in-Remove.ensures
 
 pub returns-in_ok-refusal-in-Apply : goal.returns-in_ok-refusal-in-Apply
@@ -129,7 +130,7 @@ returns-in_ok-refusal-in-Apply g c = λ world h. if_ok_map c.told-in-Apply.resul
     let t = settled_tells (Apply name path counter number lines) (given c.args.text) world refusal told.items c.apply_counted.new.named.items (prints_apply name path counter number lines world refusal) e settles in
     let after = after_by (Apply name path counter number lines) (given c.args.text) world t.next refusal settles.refuses t.after in
     stepped (with_all s c.apply_counted.new.named c.apply_counted.new.wrote s.compiled) (seen c.args.asked.now) (Apply name path counter number lines) (given c.args.text) world told.items (ap seen c.in-Apply.is) h.edition h.apart t
-    (write_counted refusal (index_of name s.named.items) (path, record { counter = counter; number = number; text = content_in lines (given c.args.text) }) world t.next s.wrote c.apply_counted.new.wrote s.compiled
+    (write_counted refusal (index_of name s.named.items) (path, record { counter = counter; number = number; text = content_in lines (given c.args.text) }) path world t.next s.wrote c.apply_counted.new.wrote s.compiled refl
     (after_apply (given c.args.text) world t.next s.named.items h.replicas name path counter number lines refusal after) c.in_ok-refusal-in-Apply.ensures.counted h.kept)) c.told-in-Apply.ensures
 
 pub returns-in_ok-refusal-in-Merge : goal.returns-in_ok-refusal-in-Merge
@@ -143,7 +144,7 @@ returns-in_ok-refusal-in-Merge g c = λ world h. if_ok_map c.told-in-Merge.resul
     let after = after_by (Merge name other) (given c.args.text) world t.next refusal settles.refuses t.after in
     stepped (with_all s c.merge_counted.new.named c.merge_counted.new.wrote c.merge_counted.new.compiled) (seen c.args.asked.now) (Merge name other) (given c.args.text) world told.items (ap seen c.in-Merge.is) h.edition h.apart t
     (merge_counted refusal name other (given c.args.text) world t.next s.named.items s.wrote c.merge_counted.new.wrote s.compiled c.merge_counted.new.compiled h.replicas after
-    c.in_ok-refusal-in-Merge.ensures.wrote c.in_ok-refusal-in-Merge.ensures.compiled h.kept)) c.told-in-Merge.ensures
+    c.in_ok-refusal-in-Merge.ensures.wrote c.in_ok-refusal-in-Merge.ensures.compiled c.in_ok-refusal-in-Merge.ensures.logs h.kept)) c.told-in-Merge.ensures
 
 pub returns-in_ok-settle_counted-in-Settle : goal.returns-in_ok-settle_counted-in-Settle
 returns-in_ok-settle_counted-in-Settle g c = λ world h. if_ok_map c.told-in-Settle.result (λ told e.
@@ -153,4 +154,4 @@ returns-in_ok-settle_counted-in-Settle g c = λ world h. if_ok_map c.told-in-Set
     let after = after_by Settle (given c.args.text) world t.next None settles.refuses t.after in
     stepped (with_all s c.settle_counted.new.named c.settle_counted.new.wrote c.settle_counted.new.compiled) (seen c.args.asked.now) Settle (given c.args.text) world told.items (ap seen c.in-Settle.is) h.edition h.apart t
     (settle_counted (given c.args.text) world t.next s.named.items (vec_len s.named) s.wrote c.settle_counted.new.wrote s.compiled c.settle_counted.new.compiled h.replicas (omega (arith, s.named.ok.0)) after
-    c.in_ok-settle_counted-in-Settle.ensures.wrote c.in_ok-settle_counted-in-Settle.ensures.compiled h.kept)) c.told-in-Settle.ensures
+    c.in_ok-settle_counted-in-Settle.ensures.wrote c.in_ok-settle_counted-in-Settle.ensures.compiled c.in_ok-settle_counted-in-Settle.ensures.logs h.kept)) c.told-in-Settle.ensures
