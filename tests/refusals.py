@@ -1,6 +1,8 @@
-"""A program whose growths are refused, one a run: the lines before the C library that do it, and which refusals may pass.
+"""A program whose growths are refused, one a run, or whose reads and writes fail: the lines before the C library that do it,
+and which refusals may pass.
 
 A refusal leaves a file, the mark, which says what asked and how much had been read by then. Growths are counted over all threads.
+Reads of standard input and writes to standard output may be cut to some bytes, and one of them fail, or take nothing.
 """
 import bisect
 import concurrent.futures
@@ -17,19 +19,30 @@ typedef struct { const char *file; void *base; const char *name; void *at; } Pla
 extern void *dlsym(void *, const char *); extern int dladdr(const void *, Place *); extern char *getenv(const char *);
 extern int open(const char *, int, ...); extern int close(int); extern int dprintf(int, const char *, ...);
 extern unsigned long strtoul(const char *, char **, int); extern size_t malloc_usable_size(void *);
+extern int *__errno_location(void);
 #define NEXT(name) dlsym((void *)-1l, name)
-static unsigned long calls, reads;
+static unsigned long calls, reads, writes;
 static unsigned long number(const char *name) { const char *text = getenv(name); return text ? strtoul(text, 0, 10) : 0; }
+static ssize_t fail(void) { *__errno_location() = 5; return -1; }
+static size_t least(size_t size, unsigned long step) { return step && step < size ? step : size; }
 ssize_t read(int end, void *to, size_t size) {
     static ssize_t (*real)(int, void *, size_t);
     if (!real) real = (ssize_t(*)(int, void *, size_t))NEXT("read");
-    if (end == 0) __atomic_add_fetch(&reads, 1, __ATOMIC_SEQ_CST);
-    return real(end, to, size);
+    if (end != 0) return real(end, to, size);
+    if (__atomic_add_fetch(&reads, 1, __ATOMIC_SEQ_CST) == number("READ_FAILS")) return fail();
+    return real(end, to, least(size, number("READ_STEP")));
+}
+ssize_t write(int end, const void *from, size_t size) {
+    static ssize_t (*real)(int, const void *, size_t);
+    if (!real) real = (ssize_t(*)(int, const void *, size_t))NEXT("write");
+    if (end != 1) return real(end, from, size);
+    if (__atomic_add_fetch(&writes, 1, __ATOMIC_SEQ_CST) == number("WRITE_FAILS")) return number("WRITE_TAKES_NONE") ? 0 : fail();
+    return real(end, from, least(size, number("WRITE_STEP")));
 }
 static int refused(void *caller, const char *why) {
     unsigned long wanted = number("REFUSE"), seen = __atomic_load_n(&reads, __ATOMIC_SEQ_CST);
     Place place;
-    if (!wanted || seen < number("REFUSE_FROM") || seen >= number("REFUSE_TO")) return 0;
+    if (!wanted || seen < number("REFUSE_FROM")) return 0;
     if (__atomic_add_fetch(&calls, 1, __ATOMIC_SEQ_CST) != wanted) return 0;
     int mark = open(getenv("REFUSED"), 0101, 0600);
     if (dladdr(caller, &place)) dprintf(mark, "%lx %s %lu", (unsigned long)((char *)caller - (char *)place.base), why, seen);
@@ -62,6 +75,7 @@ FLAGS = "-O1 -shared -fPIC -fuse-ld=lld -nostdinc".split()
 # The functions by which a program's own allocator asks.
 ALLOCATOR = ("rattle_alloc", "rattle_realloc")
 SYMBOLS, FUNCTION = 2, 2
+SIDE_BY_SIDE = len(os.sched_getaffinity(0))
 
 
 def build_shim(folder):
@@ -101,39 +115,40 @@ def may_pass(mark, named):
     return name not in ALLOCATOR or why == "smaller" or seen == "0"
 
 
-class Refused:
-    """A program's run in which one growth was refused: its number, its status, what it printed, and the mark, if it came so far."""
+class Ran:
+    """A program's run below the shim: its status, what it printed and complained, and the mark of what was refused, if it came so far."""
 
-    def __init__(self, number, done, mark):
-        self.number, self.status, self.printed, self.errors, self.mark = number, done.returncode, done.stdout, done.stderr, mark
+    def __init__(self, done, mark):
+        self.status, self.printed, self.errors, self.mark = done.returncode, done.stdout, done.stderr, mark
 
 
-class Refuser:
-    """Runs a program on words and an input, and refuses each growth in turn between two reads of the input, the first counted too."""
+class Shim:
+    """Runs a program below the shim, with settings by their names."""
 
-    def __init__(self, library, folder, program, first=0, last=10**9):
-        self.library, self.folder, self.program, self.first, self.last = library, folder, program, first, last
-        self.marks = itertools.count()
+    def __init__(self, library, folder, program):
+        self.library, self.folder, self.program, self.marks = library, folder, program, itertools.count()
 
-    def run(self, number, words, given):
-        """A run in which the growth of that number is refused; none is where it is 0."""
+    def run(self, words, given, **settings):
         mark = os.path.join(self.folder, f"mark{next(self.marks)}")
-        counts = {"REFUSE": number, "REFUSE_FROM": self.first, "REFUSE_TO": self.last}
-        environment = dict(os.environ, LD_PRELOAD=self.library, REFUSED=mark, **{name: str(it) for name, it in counts.items()})
+        environment = dict(os.environ, LD_PRELOAD=self.library, REFUSED=mark, **{name: str(it) for name, it in settings.items()})
         done = subprocess.run([self.program, *words], input=given, capture_output=True, env=environment, check=False, timeout=120)
         told = None
         if os.path.exists(mark):
             with open(mark, encoding="ascii") as file:
                 told = file.read()
             os.remove(mark)
-        return Refused(number, done, told)
+        return Ran(done, told)
 
-    def all(self, words, given):
-        """The runs in which growths 1, 2, .. are refused, until one has no such growth; several runs go side by side."""
-        beside = 2 * len(os.sched_getaffinity(0))
-        with concurrent.futures.ThreadPoolExecutor(beside // 2) as pool:
-            for start in itertools.count(1, beside):
-                for it in pool.map(lambda number: self.run(number, words, given), range(start, start + beside)):
-                    if it.mark is None:
-                        return
-                    yield it
+    def all(self, words, given, settings):
+        """The settings, and a run with each; several runs go side by side."""
+        with concurrent.futures.ThreadPoolExecutor(SIDE_BY_SIDE) as pool:
+            yield from zip(settings, pool.map(lambda it: self.run(words, given, **it), settings))
+
+    def refused(self, words, given, first=0):
+        """The runs in which growths 1, 2, .. are refused once so many reads were made, until one has no such growth, by their numbers."""
+        for start in itertools.count(1, 2 * SIDE_BY_SIDE):
+            settings = [{"REFUSE": number, "REFUSE_FROM": first} for number in range(start, start + 2 * SIDE_BY_SIDE)]
+            for its, ran in self.all(words, given, settings):
+                if ran.mark is None:
+                    return
+                yield its["REFUSE"], ran

@@ -4,6 +4,7 @@ Other files of tools/ import it; nothing here knows what a program prints.
 """
 import contextlib
 import fcntl
+import functools
 import glob
 import hashlib
 import os
@@ -16,6 +17,7 @@ import sys
 import time
 
 TOP = os.path.dirname(os.path.dirname(os.path.abspath(__file__)))
+PROVED = os.path.join(TOP, "proved.txt")
 PARTS = ("src", "specs", "proofs")
 # All crates together, 8,400 kilobytes, took about 100 processor minutes.
 MINUTES_OF_A_KILOBYTE = 0.012
@@ -34,6 +36,17 @@ def has_kit():
     return True
 
 
+@functools.lru_cache(maxsize=None)
+def folder():
+    """The kit's folder: `rt doc` prints the path of a page that stands in it."""
+    page = subprocess.run(["rt", "doc"], capture_output=True, text=True, check=True).stdout.strip()
+    return os.path.dirname(os.path.realpath(page))
+
+
+def processors():
+    return len(os.sched_getaffinity(0))
+
+
 def told_minutes(minutes):
     """A number of minutes in words."""
     return "less than a minute" if minutes < 1 else f"about {minutes:.0f} minute{'s' * (round(minutes) != 1)}"
@@ -42,11 +55,16 @@ def told_minutes(minutes):
 # crates
 
 
-def libraries():
-    """Each crate of crates.txt, in its order, with the crates of this repository that it stands on."""
+def listed():
+    """Each crate of crates.txt, in its order, with the libraries that it stands on, those of the kit, too."""
     with open(os.path.join(TOP, "crates.txt"), encoding="utf-8") as file:
         lines = [line.partition("#")[0].partition(":") for line in file]
-    given = {name.split()[0]: rest.split() for name, _, rest in lines if name.strip()}
+    return {name.split()[0]: rest.split() for name, _, rest in lines if name.strip()}
+
+
+def libraries():
+    """Each crate of crates.txt, in its order, with the crates of this repository that it stands on."""
+    given = listed()
     return {name: [it for it in rest if it in given] for name, rest in given.items()}
 
 
@@ -92,6 +110,33 @@ def sources_sum(crates, parts=PARTS, said=b""):
     return total.hexdigest()
 
 
+def crate_sum(crate):
+    """The SHA-256 of a crate's files, and of what it stands on."""
+    return sources_sum([crate], said=" ".join(sorted(listed()[crate])).encode())
+
+
+def proofs_noted():
+    """What proved.txt says: the date of the gate that proved crates last, its kit, and the sum of each crate; nothing where it isn't there."""
+    try:
+        with open(PROVED, encoding="utf-8") as file:
+            rows = dict(line.split(maxsplit=1) for line in file.read().splitlines() if line and not line.startswith("#"))
+    except FileNotFoundError:
+        return None
+    return rows.pop("date"), rows.pop("kit"), rows
+
+
+def said_of_proofs(program):
+    """What the gate proved of the sources of a program that isn't proved here, in a line."""
+    noted = proofs_noted()
+    if not noted:
+        return "UNPROVED: no proof of these sources is noted, and this build checks nothing"
+    date, kit, sums = noted
+    changed = [it for it in needed(program) if sums.get(it) != crate_sum(it)]
+    if not changed:
+        return f"these sources were proved on {date} by {kit}; this build doesn't prove them again"
+    return f"UNPROVED: this build checks nothing, and {len(changed)} of its crates changed since the gate of {date}, as {changed[0]}"
+
+
 def timed():
     """The processor minutes that the proof of each crate took in a measured build, by tools/minutes."""
     with open(os.path.join(TOP, "tools", "minutes"), encoding="utf-8") as file:
@@ -112,37 +157,40 @@ def size(crate):
 
 
 class Watch:
-    """Which crates are being proved, and what the processors did for each, as /proc shows it: the kit tells of a crate when
-    it is done."""
+    """What is being checked, and what the processors did for it, as /proc shows it: the kit tells of a crate when it is done."""
 
     def __init__(self, top=TOP):
         self.top, self.seconds = top, {}
 
     def look(self):
-        """Looks, and returns the crates whose proofs ended since the last look, each with its processor seconds."""
+        """Looks, and returns the checks that ended since the last look: what each was, with its processor seconds."""
         now = {}
         for process in filter(str.isdigit, os.listdir("/proc")):
-            name, seconds = self.seen(process)
-            if name:
-                now.setdefault(name, {})[process] = seconds
-        ended = {name: sum(self.seconds.pop(name).values()) for name in [*self.seconds] if name not in now}
-        for name, seconds in now.items():
-            self.seconds.setdefault(name, {}).update(seconds)
+            check, seconds = self.seen(process)
+            if check:
+                now.setdefault(check, {})[process] = seconds
+        ended = [(check[0], sum(self.seconds.pop(check).values())) for check in [*self.seconds] if check not in now]
+        for check, seconds in now.items():
+            self.seconds.setdefault(check, {}).update(seconds)
         return ended
 
     def seen(self, process):
-        """The crate of the checkout that a process proves, and its processor seconds, or nothing twice."""
+        """What a process checks, in words and by its folder, and its processor seconds, or nothing twice."""
         try:
             with open(f"/proc/{process}/cmdline", "rb") as file:
                 words = os.fsdecode(file.read()).split("\0")
-            if "--crate-name" not in words or "--only" in words or "--test" in words:
+            if "--crate-name" not in words or "--only" in words:
                 return None, None
-            name = words[words.index("--crate-name") + 1]
-            if os.readlink(f"/proc/{process}/cwd") != os.path.join(self.top, "crates", name):
-                return None, None
+            name, folder = words[words.index("--crate-name") + 1], os.readlink(f"/proc/{process}/cwd")
             with open(f"/proc/{process}/stat", encoding="ascii", errors="replace") as file:
-                ticks = file.read().rpartition(")")[2].split()[11:13]
-            return name, sum(map(int, ticks)) / os.sysconf("SC_CLK_TCK")
+                told = file.read().rpartition(")")[2].split()
+            if folder == os.path.join(self.top, "crates", name):
+                check = f"{name}: its tests" if "--test" in words else name
+            elif os.path.basename(folder).startswith("rt-edit-") and int(told[3]) == os.getsid(0):
+                check = f"{name}: an edit"
+            else:
+                return None, None
+            return (check, folder), sum(map(int, told[11:13])) / os.sysconf("SC_CLK_TCK")
         except (OSError, IndexError):
             return None, None
 
@@ -185,6 +233,31 @@ def started(command, **how):
                 child.wait()
         if child.stdout:
             child.stdout.close()
+
+
+def run_all(commands, look, **how):
+    """Runs commands, as many at once as there are processors; all the while calls `look` with what the processors did for them. Returns the
+    status of each."""
+    left, running, statuses, before = [*enumerate(commands)], {}, {}, processor_seconds()
+    with contextlib.ExitStack() as ending:
+        while left or running:
+            while left and len(running) < processors():
+                at, command = left.pop(0)
+                running[at] = ending.enter_context(started(command, stdin=subprocess.DEVNULL, **how))
+            time.sleep(0.05)
+            for at in [it for it in running if running[it].poll() is not None]:
+                statuses[at] = running.pop(at).returncode
+            look(processor_seconds() - before + sum(seconds_of(it.pid) for it in running.values()))
+    return [statuses[it] for it in sorted(statuses)]
+
+
+def seconds_of(process):
+    """What the processors did so far for a process, and for what it started and that ended; nothing where it is gone."""
+    try:
+        with open(f"/proc/{process}/stat", encoding="ascii", errors="replace") as file:
+            return sum(map(int, file.read().rpartition(")")[2].split()[11:15])) / os.sysconf("SC_CLK_TCK")
+    except OSError:
+        return 0.0
 
 
 def processor_seconds():

@@ -27,6 +27,7 @@ COUNTS = {
     **{b"replica": 1, b"write": 3, b"remove": 2, b"apply": 5, b"merge": 2, b"settle": 0},
     **{b"show": 1, b"run": 3, b"ids": 2, b"edition": 1},
 }
+COMMANDS = {b"build", *COUNTS}
 
 
 class Refused(Exception):
@@ -135,6 +136,49 @@ class Lines:
         taken, lacks = self.lines[self.at : end], end < self.at + count
         self.at = end
         return None if lacks else b"".join(line + b"\n" for line in taken)
+
+
+def no_script(file):
+    """Why a file is taken for no script, or nothing."""
+    try:
+        with open(file, "rb") as opened:
+            lines = Lines(opened.read(LONGEST_SCRIPT + 1))
+    except OSError as error:
+        return f"{file}: {unread(error)}"
+    while lines:
+        words, at = lines.words()
+        if words and words[0] not in COMMANDS:
+            shown = b" ".join(words).decode("utf-8", "replace")[:60]
+            return f"{file}: is it a script? its line {at}, `{shown}`, is no command of docs/SCRIPT.md; a Go file's name ends in .go"
+        if words:
+            return None
+    return None
+
+
+def hints(file):
+    """What may be meant otherwise in a script: it is none, or a text takes in the next command."""
+    why = no_script(file)
+    if why:
+        yield why
+    with open(file, "rb") as opened:
+        lines, replicas = Lines(opened.read()), set()
+    while lines:
+        words, at = lines.words()
+        if words[:1] == [b"replica"]:
+            replicas.update(words[1:])
+        if words[:1] in ([b"write"], [b"apply"]) and is_counted(words[0], words[1:]) and words[-1].isdigit():
+            taken = lines.lines[at : at + int(words[-1])]
+            lines.at += len(taken)
+            inside = [it for it, line in enumerate(taken, at + 1) if is_command(line.split(), replicas)]
+            if inside:
+                said = [lines.lines[it - 1].decode("utf-8", "replace") for it in (at, inside[0])]
+                yield f"{file}:{at}: `{said[0]}` takes line {inside[0]}, `{said[1]}`, as text: are its LINES too many?"
+
+
+def is_command(words, replicas):
+    """Whether the words of a line of text are those of a command, whose replica was made."""
+    is_known = words[:1] in ([b"replica"], [b"settle"], [b"edition"]) or words[1:2] and words[1] in replicas
+    return bool(words) and is_known and is_counted(words[0], words[1:])
 
 
 class Replica:

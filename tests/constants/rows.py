@@ -1,17 +1,24 @@
 #!/usr/bin/env python3
-"""Prints the rows of the crate go_const_tests: what each operator gives of constants.
+"""Writes the rows of constants into the table that the crate lang_rows answers: what each operator gives.
 
     python3 tests/constants/rows.py
 
-A row is `WANTED | KIND X OPERATOR Y` or `WANTED | KIND OPERATOR X`, where `as` represents a number in a kind. A text is
-`t` and its runs: `t2a.1b` is `aab`.
+An expression here is `KIND X OPERATOR Y` or `KIND OPERATOR X`, where `as` represents a number in a kind. A text is `t` and
+its runs: `t2a.1b` is `aab`. The row is the declaration of such a constant.
 
 Python's integers have no bounds, so what an operator gives is python's own, but for what the Go specification says
 otherwise: `/` truncates, `%` has the dividend's sign, `^x` of an unsigned type is its greatest value less x. Then the
 rules of a value follow: 13 where the operator isn't defined on such operands; 16 where the divisor is zero; 14 where a
 shift count is no uint, or a value lies outside its type; 15 where a value without a type lies outside -2^127 ..
-2^127-1, where what isn't zero is shifted left by 128 bits or more, or where a text has more than 2^24 bytes.
+2^127-1, where what isn't zero is shifted left by 128 bits or more, or where a text has more than 2^24 bytes. A fault stands
+at the first operand, or at the operator before it; that of a number that its declared type doesn't hold, at the name.
 """
+import os
+import sys
+
+sys.path.insert(0, os.path.dirname(os.path.dirname(os.path.abspath(__file__))))
+from rows_of_language import renew
+
 SIGNED = {"int": 64, "int8": 8, "int16": 16, "int32": 32, "int64": 64}
 UNSIGNED = {"uint": 64, "uint8": 8, "uint16": 16, "uint32": 32, "uint64": 64}
 LONGEST = 1 << 24
@@ -78,6 +85,8 @@ def binary(kind, x, operator, y):
         return shift(kind, x, operator, y)
     if type(x) is not type(y):
         raise Fault(13)
+    if type(x) is int:
+        checked(kind, y)
     if type(x) is int and operator in ARITHMETIC:
         if operator in "/%" and y == 0:
             raise Fault(16)
@@ -102,19 +111,21 @@ def unary(kind, operator, x):
     raise Fault(13)
 
 
-def spelled(value):
-    """Numbers in decimal, texts as the count of each run of one byte and that byte, truth values as Go has them."""
-    if type(value) is bool:
-        return str(value).lower()
+def told(kind, value):
+    """A constant's type and its value: truths and texts have no type."""
     if type(value) is int:
-        return str(value)
-    runs = []
-    for byte in value:
-        if runs and runs[-1][1] == byte:
-            runs[-1][0] += 1
-        else:
-            runs.append([1, byte])
-    return "t" + ".".join(f"{count}{chr(byte)}" for count, byte in runs)
+        return f"{'untyped int' if kind == 'untyped' else kind} {value}"
+    return f"untyped bool {str(value).lower()}" if type(value) is bool else f'untyped string "{value.decode()}"'
+
+
+def written(kind, value):
+    """A constant of a kind as Go writes it, without the kind where it lies outside; the least integer has no literal."""
+    if type(value) is not int:
+        return str(value).lower() if type(value) is bool else f'"{value.decode()}"'
+    if value == -MOST:
+        return f"(-{MOST - 1} - 1)"
+    low, high = bounds(kind)
+    return f"{kind}({value})" if kind != "untyped" and low <= value <= high else str(value)
 
 
 def value_of(word):
@@ -125,16 +136,28 @@ def value_of(word):
     return b"".join(bytes([ord(run[-1])]) * int(run[:-1]) for run in word[1:].split(".") if run)
 
 
+def declared(kind, *words):
+    """A constant's declaration, and where the fault of its value stands."""
+    if words[0] == "as":
+        number = value_of(words[1])
+        return (f"const v = {written(kind, number)}", 11) if kind == "untyped" else (f"const v {kind} = {number}", 7)
+    if len(words) == 2:
+        return f"const v = {words[0]}{written(kind, value_of(words[1]))}", 11
+    left, right = written(kind, value_of(words[0])), written("untyped" if words[1] in ("<<", ">>") else kind, value_of(words[2]))
+    return f"const v = {left} {words[1]} {right}", 11
+
+
 def row(expression):
     words = expression.split()
+    text, column = declared(*words)
     try:
         if len(words) == 3:
-            told = spelled(unary(words[0], words[1], value_of(words[2])))
+            wanted = told(words[0], unary(words[0], words[1], value_of(words[2])))
         else:
-            told = spelled(binary(words[0], value_of(words[1]), words[2], value_of(words[3])))
+            wanted = told(words[0], binary(words[0], value_of(words[1]), words[2], value_of(words[3])))
     except Fault as fault:
-        told = f"fault {fault}"
-    return f"{told} | {expression}"
+        wanted = f"a.go:2:{column} {fault}"
+    return f"{text} => {wanted}"
 
 
 def typed():
@@ -192,6 +215,14 @@ def expressions():
         yield part.strip()
 
 
+def longest():
+    """A text of 2^24 bytes, each constant twice the one before it, and one byte more."""
+    texts = 't0 = "a"; ' + "; ".join(f"t{k} = t{k - 1} + t{k - 1}" for k in range(1, 25))
+    more = f"const ( {texts}; t25 = t24 + t0 )"
+    yield f"const ( {texts} )\u240aconst v = len(t24) => int {LONGEST}"
+    yield f"{more} => a.go:2:{more.index('t24 + t0') + 1} 15"
+
+
 if __name__ == "__main__":
-    for expression in dict.fromkeys(expressions()):
-        print(row(expression))
+    rows = [*dict.fromkeys(row(expression) for expression in expressions()), *longest()]
+    renew("tests/constants/rows.py", ": what python3, whose integers have no bounds, has.", "= ground: Declarations of one package.\np: … => taken\n\n= any value: Operators on constants at the borders of their types.\n" + "\n".join(rows))

@@ -1,13 +1,15 @@
 #!/usr/bin/env python3
-"""Writes the rows into the table that the crate go_parse_tests answers, behind those that stand there in their own right."""
+"""Writes the rows into the table that the crate lang_rows answers."""
 import os
+import sys
 import unicodedata
 
 from check import deeps, groups
 
-TOP = os.path.dirname(os.path.dirname(os.path.dirname(os.path.abspath(__file__))))
-TABLE = os.path.join(TOP, "crates", "go_parse_tests", "stdin")
-MARK = "# Made of tests/grammar/rows.py by tests/grammar/emit.py: whether texts are files, and else where and by which fault they are none.\n"
+sys.path.insert(0, os.path.dirname(os.path.dirname(os.path.abspath(__file__))))
+from rows_of_language import renew
+
+ABOUT = " of tests/grammar/rows.py: whether texts are files, and else where and by which fault they are none."
 # The kinds of groups, and what stands before each of their texts.
 KINDS = [
     ("file", "", ["package_clauses", "build_lines"]),
@@ -40,7 +42,7 @@ def is_seen(c):
 
 def signed(text):
     """A text with signs for what isn't seen in it."""
-    assert not set(text) & set("␍␠⟦⟧"), text
+    assert not set(text) & set("␍␊␠⟦⟧"), text
     text = text.replace("\r", "␍")
     text = "".join(c if is_seen(c) else f"⟦U+{ord(c):04X}⟧" for c in text)
     text = text[:-1] + "␠" if text.endswith(" ") else text
@@ -73,13 +75,5 @@ def tables():
         yield f"= declarations: {DEEP[group]}\n" + "".join(row(deep_text(*parts[:6], wanted), wanted) for parts, _, wanted, _ in rows)
 
 
-def main():
-    with open(TABLE, encoding="utf-8") as file:
-        own = file.read().partition(MARK)[0]
-    text = own + MARK + "\n" + "\n".join(tables())
-    with open(TABLE, "w", encoding="utf-8") as file:
-        file.write(text)
-    print(len(text.splitlines()), "lines")
-
-
-main()
+if __name__ == "__main__":
+    renew("tests/grammar/emit.py", ABOUT, "\n".join(tables()))

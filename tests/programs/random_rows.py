@@ -3,7 +3,7 @@
 
     python3 tests/programs/random_rows.py PROGRAM COUNT SEED
 
-PROGRAM is the executable of go_program_tests. Each program has functions, named types, arrays, structs, all integer
+PROGRAM is goset. Each program has functions, named types, arrays, structs, all integer
 types, loops and switches. It does nothing whose order the Go specification leaves open: functions print, but change no
 variable of others, and no index is out of range where another operand is a call.
 """
@@ -13,6 +13,7 @@ import sys
 import tempfile
 
 import make
+import table
 
 INTEGERS = ["int", "int8", "int16", "int32", "int64", "uint", "uint8", "uint16", "uint32", "uint64", "Small", "Wide"]
 TYPES = INTEGERS + ["bool", "string", "Pair", "Row", "Grid"]
@@ -338,25 +339,23 @@ class Writer:
         return HEAD + "\n" + "\n".join(self.lines) + "\n"
 
 
+def differs(row, told, wanted):
+    """Whether goset tells another thing of a row than Go; where Go refuses it, it is to have a fault."""
+    return not told.startswith("fault ") if wanted.startswith(make.REFUSED) else told != wanted
+
+
 def main(words):
     program, count, seed = words[0], int(words[1]), int(words[2])
-    rows = [make.Row(f"random_{seed + at}", 100000, Writer(seed + at).program()) for at in range(count)]
-    ran = subprocess.run([program], input="".join(row.stdin() for row in rows).encode(), capture_output=True, check=True)
-    told = ran.stdout.decode()
-    refused = 0
+    rows = [table.Row(f"random_{seed + at}", 100000, Writer(seed + at).program()) for at in range(count)]
+    ran = subprocess.run([program], input=table.script(rows), capture_output=True, check=True)
+    told, refused = table.told(ran.stdout), 0
     with tempfile.TemporaryDirectory() as folder:
         for row in rows:
             wanted = make.go_told(row, folder)
-            at = told.find(f"{row.name}\n")
-            if wanted.startswith(make.REFUSED):
-                refused += 1
-                if told[at:].split("\n")[1].startswith("fault "):
-                    continue
-                wanted = "fault"
-            head = f"{row.name}\n{wanted}"
-            if told[at:at + len(head)] != head:
+            refused += wanted.startswith(make.REFUSED)
+            if differs(row, told.get(row.name, ""), wanted):
                 print(row.text)
-                print(f"{row.name} is\n{told[at:at + len(head)]}\nbut by Go\n{head}")
+                print(f"{row.name} is\n{told.get(row.name)}\nbut by Go\n{wanted}")
                 return 1
     print(f"{count} programs agree; {refused} of them both refuse")
     return 0

@@ -1,5 +1,0 @@
-//! Tests of constants.
-#![tactic(auto)]
-
-#[cfg(test)]
-mod tests;

@@ -1,0 +1,62 @@
+-- What is said of a place by the names and the tokens that stand there.
+use Rattle.std.specs.Prelude.{ℕ, nat_le, List, [], ◌∷◌, length, codes, bytes_eq, Option, Some, None, if◌then◌else◌}
+use Rattle.std.specs.List.{slice_range}
+use Rattle.go_text.specs.declared.edition.Edition.{Edition}
+use Rattle.go_text.specs.declared.fault.FaultKind.{FaultKind}
+use Rattle.go_text.specs.declared.fault.FaultKind.TheVariants as faults
+use Rattle.go_scan.specs.Kinds.{kind_eq}
+use Rattle.go_scan.specs.declared.token.Token.{Token}
+use Rattle.go_scan.specs.declared.token.TokenKind.TheVariants as kinds
+use Rattle.go_diagnostics.specs.declared.message.Message.{Message}
+use Rattle.go_diagnostics.specs.declared.message.Message.TheVariants as messages
+use Rattle.go_diagnostics.specs.Forms.{rows_of, rows_of_edition, first_of}
+
+-- the bytes of a token in a text
+abbrev pub token_bytes : List ℕ → Token → List ℕ
+token_bytes text t =
+    if nat_le t.start t.end then (if nat_le t.end (length text) then slice_range text t.start t.end else []) else []
+
+-- the name that tokens begin with, if they do
+abbrev pub name_here : List ℕ → List Token → Option (List ℕ)
+name_here text [] = None
+name_here text (t ∷ ts) = if kind_eq t.kind kinds.Name then Some (token_bytes text t) else None
+
+-- names with what is said of them
+abbrev pub Names : Type 0
+Names = List (List ℕ × Message)
+
+-- those of which something is said where a fault of a kind stands: names that Go declares and the subset or its first edition leaves out,
+-- functions that take operands of some types alone, and fmt
+abbrev pub names_of : FaultKind → Names
+names_of faults.LeftOut =
+    (codes "_", messages.UnnamedFields) ∷ (codes "any", messages.Interfaces) ∷ (codes "append", messages.SliceFunctions) ∷
+    (codes "cap", messages.SliceFunctions) ∷ (codes "clear", messages.Clear) ∷ (codes "close", messages.Channels) ∷
+    (codes "comparable", messages.Interfaces) ∷ (codes "complex", messages.Floats) ∷ (codes "complex128", messages.Floats) ∷
+    (codes "complex64", messages.Floats) ∷ (codes "copy", messages.Copy) ∷ (codes "delete", messages.Clear) ∷ (codes "error", messages.Errors) ∷
+    (codes "float32", messages.Floats) ∷ (codes "float64", messages.Floats) ∷ (codes "imag", messages.Floats) ∷
+    (codes "make", messages.SliceFunctions) ∷ (codes "max", messages.MinMax) ∷ (codes "min", messages.MinMax) ∷ (codes "new", messages.Pointers) ∷
+    (codes "nil", messages.Nil) ∷ (codes "print", messages.Print) ∷ (codes "println", messages.Print) ∷ (codes "real", messages.Floats) ∷
+    (codes "recover", messages.Recover) ∷ (codes "uintptr", messages.Uintptr) ∷ []
+names_of faults.Mismatch =
+    (codes "append", messages.AppendOperand) ∷ (codes "cap", messages.CapOperand) ∷ (codes "fmt", messages.PrintlnOperand) ∷
+    (codes "len", messages.LenOperand) ∷ (codes "make", messages.MakeOperand) ∷ []
+names_of faults.Undeclared = (codes "fmt", messages.FmtNames) ∷ []
+names_of _ = []
+
+-- what is said of a name
+abbrev pub message_named : Names → List ℕ → Option Message
+message_named [] name = None
+message_named (n ∷ names) name = if bytes_eq n.0 name then Some n.1 else message_named names name
+
+abbrev pub message_here : Names → List ℕ → List Token → Option Message
+message_here names text from = elim (name_here text from) [ None ↦ None | Some name ↦ message_named names name ]
+
+-- the first, if there is one, else the second
+abbrev pub either : Option Message → Option Message → Option Message
+either None second = second
+either (Some m) second = Some m
+
+-- what is said of a place at which a fault of a kind stands
+abbrev pub message_at : Edition → FaultKind → List ℕ → List Token → List Token → Option Message
+message_at edition kind text before from =
+    either (message_here (names_of kind) text from) (either (first_of (rows_of_edition edition kind) before from) (first_of (rows_of kind) before from))

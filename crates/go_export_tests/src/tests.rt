@@ -1,3 +1,0 @@
-mod packages;
-mod rows;
-mod types;

@@ -1,5 +1,0 @@
-//! Tests of the checker of expressions and types.
-#![tactic(auto)]
-
-#[cfg(test)]
-mod tests;

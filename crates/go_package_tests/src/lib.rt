@@ -1,5 +1,0 @@
-//! Tests of the checker of packages.
-#![tactic(auto)]
-
-#[cfg(test)]
-mod tests;

@@ -1,4 +1,0 @@
-//! What names stand for, and which names a form uses.
-mod name_index;
-mod names;
-mod scopes;

@@ -1,3 +1,0 @@
-mod deep;
-mod notation;
-mod rows;

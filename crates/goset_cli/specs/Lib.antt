@@ -1,0 +1,12 @@
+pub mod Told
+pub mod Reading
+pub mod Requests
+pub mod Ends
+pub mod Failures
+pub mod Answers
+pub mod CommandLine
+pub mod Statuses
+pub mod Refusals
+pub mod Places
+pub mod Modules
+pub mod Runs

@@ -1,0 +1,64 @@
+-- What the program answers: its status, and what standard error has.
+use Rattle.std.specs.Prelude.{◌≡◌, ◌⊎◌, ◌+◌, ◌<◌, ℕ, Bool, true, false, not, List, length, take, Option, Result, Ok, Err, codes}
+use Rattle.std.specs.List.{list_any}
+use Rattle.clap.specs.Kinds.{Kinds}
+use Rattle.clap.specs.declared.error.kind.ErrorKind.{ErrorKind}
+use Rattle.clap.specs.declared.error.kind.ErrorKind.TheVariants.{DisplayHelp, DisplayVersion}
+use Rattle.goset_cli.specs.Told.{Grows}
+use Rattle.goset_cli.specs.declared.running.SessionError.{SessionError}
+use Rattle.goset_cli.specs.declared.running.SessionError.TheVariants.{Memory, Read, Write, TooLong}
+use Rattle.goset_cli.specs.declared.status.Status.{Status}
+use Rattle.goset_cli.specs.declared.status.Status.TheVariants.{Done, Failed, Misused}
+
+abbrev pub code_of : Status → ℕ
+code_of status = elim status [ Done ↦ 0 | Failed ↦ 1 | Misused ↦ 2 ]
+
+-- the line of standard error for each failure
+abbrev pub complaint : SessionError → List ℕ
+complaint Memory = codes "goset: memory\n"
+complaint Read = codes "goset: read\n"
+complaint Write = codes "goset: write\n"
+complaint TooLong = codes "goset: script over 16777216 bytes\n"
+
+-- the line of standard error where a word isn't text
+abbrev pub not_utf8 : List ℕ
+not_utf8 = codes "error: a word isn't UTF-8\n"
+
+-- and the line where it is to be a file's name
+abbrev pub not_utf8_file : List ℕ
+not_utf8_file = codes "goset: a file's name isn't UTF-8\n"
+
+-- a session that was run to its end, and one that stopped
+abbrev pub whole : Result (Unit {0}) SessionError
+whole = Ok tt
+
+abbrev pub stopped : SessionError → Result (Unit {0}) SessionError
+stopped failure = Err failure
+
+-- words that clap answers with this kind ask for a text, help or the version
+abbrev pub is_asked : ErrorKind → Bool
+is_asked kind = elim kind [ DisplayHelp ↦ true | DisplayVersion ↦ true | _ ↦ false ]
+
+abbrev pub asks_text : Kinds → Bool
+asks_text = list_any is_asked
+
+-- the words are wrong
+abbrev pub is_wrong : Kinds → Bool
+is_wrong = list_any (λ kind. not (is_asked kind))
+
+-- how words of these kinds that ask for no session may fail: memory ran out, or the text that they ask for wasn't taken
+abbrev pub FailsUnasked : SessionError → Kinds → Type 0
+FailsUnasked failure kinds = (failure ≡ Memory) ⊎ ((failure ≡ Write) × (asks_text kinds ≡ true))
+
+-- an end took a text, or a write of it failed and the end took a beginning; it counts its failed writes
+abbrev pub Tells : List ℕ → ℕ → ℕ → Option (List ℕ) → Option (List ℕ) → Type 0
+Tells text failed failed' written written' =
+    ((failed' ≡ failed) × Grows written written' text) ⊎ ((failed' ≡ failed + 1) × ((n : ℕ) × Grows written written' (take n text)))
+
+-- a writer took some text whole
+abbrev pub Shows : Option (List ℕ) → Option (List ℕ) → Type 0
+Shows written written' = (text : List ℕ) × (0 < length text) × Grows written written' text
+
+-- an end was told some text
+abbrev pub Complains : ℕ → ℕ → Option (List ℕ) → Option (List ℕ) → Type 0
+Complains failed failed' written written' = (text : List ℕ) × (0 < length text) × Tells text failed failed' written written'

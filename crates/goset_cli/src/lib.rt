@@ -1,0 +1,20 @@
+//! The program's command line: sessions that scripts ask for, and Go programs that are run at once.
+#![tactic(auto)]
+
+pub mod bytes;
+pub mod ends;
+pub mod failure;
+pub mod files;
+pub mod module;
+pub mod places;
+pub mod program;
+pub mod reading;
+pub mod run;
+pub mod running;
+pub mod script;
+pub mod status;
+pub mod told;
+pub mod words;
+pub mod writing;
+
+pub use ws_session::{Gate, Plain};

@@ -1,0 +1,206 @@
+//! Running a script, each command's answer written before the next is read.
+ghost use Rattle.std.specs.Prelude.{◌≡◌, ℕ, ◌+◌, ◌<◌, ◌≤◌, ◌^◌, length, drop, IfOk, OnOk, OnErr, Option};
+ghost use Rattle.std.specs.Option.{option_map};
+ghost use Rattle.go_text.specs.declared.edition.Edition.{Edition as AnEdition};
+ghost use Rattle.ws_command.specs.Lines.{lines_of};
+ghost use Rattle.ws_command.specs.Commands.{text_of};
+ghost use Rattle.ws_command.specs.Seen.{seen};
+ghost use Rattle.goset_cli.specs.Requests.{IsFirst};
+ghost use Rattle.ws_session.specs.World.{opening};
+ghost use Rattle.ws_session.specs.Standing.{StandFor};
+ghost use Rattle.goset_cli.specs.Ends.{Wrote, WroteSome, Session};
+ghost use Rattle.goset_cli.specs.Failures.{failed_writes, failed_reads, unwritten};
+ghost use Rattle.goset_cli.specs.Answers.{unread, unanswered};
+ghost use Rattle.goset_cli.specs.declared.running.AnswerError.TheVariants.{Memory, Write};
+
+use crate::reading::{EndFault, ReadError, ScriptIn, read_whole};
+use crate::writing::{ScriptOut, write_whole};
+use std::alloc::{AllocError, Global};
+use std::sync::Wait;
+use std::thread::Threads;
+use thiserror::Error;
+use ws_command::commands::{Asked, ask};
+use ws_command::lines::{closed, cut_line, next_line};
+use ws_session::Gate;
+use ws_session::replicas::Replicas;
+
+/// Why a session ended early: no memory, a failed read, a failed write, or a script that is too
+/// long. The texts are those that the program prints.
+#[derive(Clone, Copy, Debug, PartialEq, Eq, Drop, Error)]
+pub enum SessionError {
+    #[error("memory")]
+    Memory,
+    #[error("read")]
+    Read,
+    #[error("write")]
+    Write,
+    #[error("script over 16777216 bytes")]
+    TooLong,
+}
+
+impl From<ReadError> for SessionError {
+    ghost from_gives = { λ refusal e. e ≡ unread refusal };
+
+    fn from(refusal: ReadError) -> SessionError {
+        match refusal {
+            ReadError::Memory => SessionError::Memory,
+            ReadError::Read => SessionError::Read,
+            ReadError::TooLong => SessionError::TooLong,
+        }
+    }
+}
+
+impl From<AnswerError> for SessionError {
+    ghost from_gives = { λ refusal e. e ≡ unanswered refusal };
+
+    fn from(refusal: AnswerError) -> SessionError {
+        match refusal {
+            AnswerError::Memory => SessionError::Memory,
+            AnswerError::Write => SessionError::Write,
+        }
+    }
+}
+
+/// Why answers weren't written: no memory for a command, or a failed write.
+#[derive(Clone, Copy, Debug, PartialEq, Eq, Drop, Error)]
+pub enum AnswerError {
+    #[error("out of memory")]
+    Memory,
+    #[error("a write failed")]
+    Write,
+}
+
+impl From<AllocError> for AnswerError {
+    ghost from_gives = { λ _ e. e ≡ Memory };
+
+    fn from(_e: AllocError) -> AnswerError {
+        AnswerError::Memory
+    }
+}
+
+impl From<EndFault> for AnswerError {
+    ghost from_gives = { λ _ e. e ≡ Write };
+
+    fn from(_e: EndFault) -> AnswerError {
+        AnswerError::Write
+    }
+}
+
+/// A command with its text, and what is left of the script behind it.
+#[derive(Drop)]
+pub struct Request<'a> {
+    pub asked: Asked<'a>,
+    pub text: Option<Vec<u8>>,
+    pub behind: &'a [u8],
+}
+
+/// The text of so many lines, where there are so many, and what is left behind it: nothing, where
+/// there aren't. An `Err` is want of memory.
+pub fn take_text(
+    alloc: Global,
+    script: &[u8],
+    lines: u64,
+) -> Result<(Option<Vec<u8>>, &[u8]), AllocError>
+    ensures text { IfOk result (λ taken.
+        option_map (λ v. v.items) taken.0 ≡ text_of lines (lines_of script.now)) }
+    ensures behind { IfOk result (λ taken.
+        lines_of taken.1.now ≡ drop lines (lines_of script.now)) }
+    ensures shorter { IfOk result (λ taken. length taken.1.now ≤ length script.now) }
+{
+    let mut rest = script;
+    let mut left = lines;
+    'lines: while left > 0 && !rest.is_empty() {
+        rest = cut_line(rest).1;
+        left -= 1;
+    }
+    if left > 0 {
+        return Ok((None, rest));
+    }
+    let (text, rest) = script.split_at(script.len() - rest.len());
+    Ok((Some(closed(alloc, text)?), rest))
+}
+
+/// The first command of a script. An `Err` is want of memory.
+pub fn first_request(alloc: Global, script: &[u8]) -> Result<Request<'_>, AllocError>
+    requires { 0 < length script.now }
+    ensures first { IfOk result (λ request.
+        IsFirst script.now (seen request.asked)
+        (option_map (λ v. v.items) request.text) request.behind.now) }
+    ensures shorter { IfOk result (λ request. length request.behind.now < length script.now) }
+{
+    let (line, behind) = next_line(script);
+    let asked = ask(alloc, line)?;
+    let (text, behind) = take_text(alloc, behind, asked.text_lines())?;
+    Ok(Request {
+        asked,
+        text,
+        behind,
+    })
+}
+
+/// Writes what a session writes for a script, where the replicas stand for an edition's first
+/// world: whatever the number of workers, and the gate that they pass.
+///
+/// On an `Err` a beginning of it is written: on `Memory` all that the commands before print, on
+/// `Write` all that the writer took.
+pub fn answer<R: Threads + Wait + Sync, O: ScriptOut, G: Gate>(
+    rt: &R,
+    alloc: Global,
+    replicas: &mut Replicas,
+    script: &[u8],
+    writer: &mut O,
+    workers: u64,
+    gate: &G,
+) -> Result<(), AnswerError>
+    requires some { 0 < workers }
+    requires writable { O.failed writer.old + 1 < 2 ^ 64 }
+    ensures ok { (edition : AnEdition) → StandFor replicas.old (opening edition) →
+        OnOk result (Wrote edition script.now (O.written writer.old) (O.written writer.new)) }
+    ensures err { (edition : AnEdition) → StandFor replicas.old (opening edition) →
+        OnErr result (WroteSome edition script.now (O.written writer.old) (O.written writer.new)) }
+    ensures failed { O.failed writer.new ≡ O.failed writer.old + unwritten result }
+{
+    let mut rest = script;
+    'commands: while !rest.is_empty() {
+        let Request {
+            asked,
+            text,
+            behind,
+        } = first_request(alloc, rest)?;
+        let told = replicas.step(rt, workers, gate, &asked, text)?;
+        write_whole(writer, told.as_slice())?;
+        rest = behind;
+    }
+    Ok(())
+}
+
+/// Reads a script to its end, and writes what a session writes for it, where the replicas stand for
+/// an edition's first world: whatever the number of workers, and the gate that they pass.
+///
+/// - `Memory`: there was none for the script, or for a command. A beginning of the text is written.
+/// - `Read`: a read failed. Nothing is written.
+/// - `TooLong`: the script has more than 16,777,216 bytes. Nothing is written.
+/// - `Write`: a write failed, or took nothing. A beginning of the text is written.
+pub fn play<R: Threads + Wait + Sync, I: ScriptIn, O: ScriptOut, G: Gate>(
+    rt: &R,
+    alloc: Global,
+    replicas: &mut Replicas,
+    reader: &mut I,
+    writer: &mut O,
+    workers: u64,
+    gate: &G,
+) -> Result<(), SessionError>
+    requires some { 0 < workers }
+    requires readable { I.failed reader.old + 1 < 2 ^ 64 }
+    requires writable { O.failed writer.old + 1 < 2 ^ 64 }
+    ensures session { (edition : AnEdition) → StandFor replicas.old (opening edition) →
+        Session edition result (I.told reader.old) (I.told reader.new)
+        (O.written writer.old) (O.written writer.new) }
+    ensures reads { I.failed reader.new ≡ I.failed reader.old + failed_reads result }
+    ensures writes { O.failed writer.new ≡ O.failed writer.old + failed_writes result }
+{
+    let bytes = read_whole(alloc, reader)?;
+    let script = bytes.as_slice();
+    answer(rt, alloc, replicas, script, writer, workers, gate)?;
+    Ok(())
+}

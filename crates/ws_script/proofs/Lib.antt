@@ -1,4 +1,0 @@
-mod Growth
-mod Reaches
-mod Refused
-mod Texts

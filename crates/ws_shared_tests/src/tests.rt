@@ -1,9 +1,0 @@
-//! Hands in one thread, and workers in many.
-
-mod fixture;
-mod gates;
-mod hands;
-mod refusals;
-mod reports;
-mod schedules;
-mod workers;

@@ -1,5 +1,0 @@
-//! Tests of actions, entries, boards and replicas: that calls succeed, and what no clause says.
-#![tactic(auto)]
-
-#[cfg(test)]
-mod tests;

@@ -1,0 +1,266 @@
+"""The rules of the house that a script can see, by text alone. tools/crates asks here what breaks them.
+
+tools/house.txt keeps how often each rule is broken. No rule may be broken more often than it says, and where one is
+broken less often `tools/crates renew` writes the smaller number, so that the numbers only shrink.
+"""
+import glob
+import os
+import re
+from collections import Counter, defaultdict
+from dataclasses import dataclass
+from functools import cached_property
+
+from kit import PARTS, TOP
+
+KEPT = os.path.join(TOP, "tools", "house.txt")
+PAGES = ("PROOFS", "TRUST", "THEOREM")
+SCRIPTS = ("tools/*", "bench/*", "tests/*", "tests/*/*.py", "tests/*/try")
+WIDE, LONG_BODY, LONG_FILE, LARGE = 160, 40, 800, 120
+QUOTED = r'"(?:\\.|[^"\\])*"'
+# Comments, and what stands in quotes.
+UNREAD = {
+    "antt": re.compile(rf"--[^\n]*|{QUOTED}", re.S),
+    "rt": re.compile(rf"//[^\n]*|{QUOTED}|'(?:\\.[^']*|[^'\\])'", re.S),
+}
+USE = {
+    "antt": re.compile(r"^(pub )?use\s+Rattle\.(\S+?)(?:\.\{([^}]*)\})?(?:[ ]+as[ ]+(\S+))?[ ]*$", re.M),
+    "rt": re.compile(r"^[ ]*(pub[^\n]*?)?ghost use\s+Rattle\.([^\s;{]+?)(?:\.\{([^}]*)\})?(?:[ ]+as[ ]+(\w+))?[ ]*;[ ]*$", re.M),
+}
+NAME = re.compile(r"[A-Za-z0-9_'?\-]+")
+CLAUSE = re.compile(r"\b(?:requires|ensures|invariant|decreases)\b\*?\s*(?:[A-Za-z_][\w-]*)?\s*\{")
+FUNCTION = re.compile(r"( *)(?:pub(?:\([a-z: ]+\))? )?(?:const )?fn (\w+)")
+DEFINITION = re.compile(r"(\s*)((?:(?:abbrev|unfoldable|pub|record|data|ruleset)\s+)*)([^\s:(){}]+)(?=[\s({:])")
+BLOCK = re.compile(r"\s*(abbrev mutual|mutual|module\b)")
+TOKEN = re.compile(r"[A-Za-z_0-9?'◌∷«»\-]+(?:\.[A-Za-z_0-9?'\-]+)*|[^\sA-Za-z_0-9(){},.]+")
+
+
+@dataclass
+class Use:
+    """An import: its module, and the names that it brings in as (its own, the one that is used), or that of the module alone."""
+
+    at: int
+    is_public: bool
+    module: str
+    names: list
+    alone: str
+
+
+class Source:
+    """A file of a crate."""
+
+    def __init__(self, path):
+        self.path, self.ext = os.path.relpath(path, TOP), path.rsplit(".", 1)[1]
+        _, self.crate, self.part, *self.place = self.path.split("/")
+        with open(path, encoding="utf-8") as file:
+            self.text = file.read()
+        # (as long as the text, line by line)
+        self.read = UNREAD[self.ext].sub(lambda it: re.sub(r"[^\n]", " ", it[0]), self.text)
+        self.module = ".".join([self.crate, self.part, *self.place]).rsplit(".", 1)[0]
+
+    def line(self, at):
+        return f"{self.path}:{self.text.count(chr(10), 0, at) + 1}"
+
+    @cached_property
+    def uses(self):
+        found = []
+        for m in USE[self.ext].finditer(self.read):
+            names = [it.split() for it in (m[3] or "").split(",") if it.strip()]
+            alone = None if m[3] is not None else m[4] or m[2].split(".")[-1]
+            found.append(Use(m.start(), bool(m[1]), m[2], [(it[0], it[-1]) for it in names], alone))
+        return found
+
+    @cached_property
+    def defined(self):
+        """The definitions with their texts, and of each constructor or field its type."""
+        found, parts, current, depth = defaultdict(str), {}, None, 0
+        for line in filter(str.strip, self.read.split("\n")):
+            indent = len(line) - len(line.lstrip())
+            if indent < depth:
+                depth = indent - indent % 2
+            if re.match(r"(pub )?use ", line):
+                continue
+            if BLOCK.match(line):
+                depth, current = indent + 2, None
+                continue
+            m = DEFINITION.match(line)
+            if m and indent == depth and (m[2].strip() or re.match(r"\s*\S+\s*:", line)):
+                current = m[3], bool(re.search(r"\b(record|data)\b", m[2])), indent
+            elif current and current[1] and indent == current[2] + 2 and (part := re.match(r"\s*(?:pub )?([^\s:]+)", line)):
+                parts[part[1]] = current[0]
+            if current:
+                found[current[0]] += f"{line}\n"
+        return found, parts
+
+
+def says(name, names, text):
+    """Whether a text, which has these names, says one."""
+    if "◌" in name:
+        return all(it in text for it in name.split("◌"))
+    if NAME.fullmatch(name):
+        return name in names
+    return re.search(rf"(?<![A-Za-z0-9_'\-]){re.escape(name)}(?![A-Za-z0-9_'\-?])", text) is not None
+
+
+def unused(sources):
+    for it in sources:
+        text = USE[it.ext].sub("", it.read)
+        names = set(NAME.findall(text))
+        for use in it.uses:
+            shown = use.names or [(use.alone, use.alone)]
+            lost = [] if use.is_public else [name for _, name in shown if not says(name, names, text)]
+            yield from (f"{it.line(use.at)}: {name}" for name in lost)
+
+
+class Citations:
+    """Which definitions of specs/ each one stands on."""
+
+    def __init__(self, sources):
+        self.sources = sources
+        self.of = {it.module: it for it in sources if it.part == "specs" and it.place != ["Lib.antt"]}
+        self.known = {(module, name) for module, it in self.of.items() for name in it.defined[0]}
+        self.brought = {module: {name: (use.module, own) for use in it.uses for own, name in use.names} for module, it in self.of.items()}
+
+    def definition(self, module, name):
+        """The definition that a name of a module stands for, where a name of a part stands for its type's."""
+        whole = self.of[module].defined[1].get(name, name) if module in self.of else name
+        return (module, name) if (module, name) in self.known else (module, whole) if (module, whole) in self.known else None
+
+    def stands_on(self, module, name):
+        text = self.of[module].defined[0][name]
+        tokens = set(TOKEN.findall(text))
+        names = tokens | {it.partition(".")[0] for it in tokens} | set(NAME.findall(text))
+        brought = self.brought[module]
+        yield from (self.definition(module, it) for it in names)
+        yield from (self.definition(*brought[it]) for it in brought if it in names or not NAME.fullmatch(it) and says(it, names, text))
+        for use in self.of[module].uses:
+            if use.alone:
+                yield from (self.definition(use.module, it.split(".")[1]) for it in tokens if it.startswith(f"{use.alone}."))
+
+    def of_clauses(self):
+        """The definitions that the functions' own files name."""
+        for it in self.sources:
+            for use in it.uses if it.ext == "rt" else []:
+                names = [own for own, _ in use.names] or re.findall(rf"{re.escape(use.alone or '')}\.([A-Za-z_][\w'?-]*)", it.text)
+                yield from (self.definition(use.module, name) for name in names)
+
+
+def uncited(sources):
+    by, seen = Citations(sources), set()
+    todo = list(by.of_clauses())
+    while todo:
+        key = todo.pop()
+        if key and key not in seen:
+            seen.add(key)
+            todo += by.stands_on(*key)
+    yield from (f"{by.of[module].path}: {name}" for module, name in sorted(by.known - seen))
+
+
+def end_of_clause(text, at):
+    depth = 1
+    for brace in re.finditer(r"[{}]", text[at:]):
+        depth += 1 if brace[0] == "{" else -1
+        if not depth:
+            return at + brace.start()
+    return len(text)
+
+
+def wide(sources):
+    for it in sources:
+        for clause in CLAUSE.finditer(it.read) if it.ext == "rt" else []:
+            said = " ".join(it.text[clause.end() : end_of_clause(it.read, clause.end())].split())
+            if len(said) > WIDE:
+                yield f"{it.line(clause.start())}: {len(said)} characters"
+
+
+def functions(source):
+    """Each function as rt fmt lays it out: its name, its line, and the lines of its body."""
+    head = body = None
+    for number, line in enumerate(source.text.split("\n"), 1):
+        if m := FUNCTION.match(line):
+            head, body = (m[1], m[2], number), None
+        if not head:
+            continue
+        indent, name, first = head
+        if body is None and (line == f"{indent}{{" or number == first and line.endswith("{")):
+            body = number
+        if line.startswith(f"{indent}}}") or number == first and line.endswith(("}", ";")):
+            yield name, first, number - (body or number) - 1
+            head = None
+
+
+def long_bodies(sources):
+    for it in sources:
+        for name, line, lines in functions(it) if it.ext == "rt" else []:
+            if lines > LONG_BODY:
+                yield f"{it.path}:{line}: {name}, {lines} lines"
+
+
+def ambiguous(sources):
+    """Names in the pages on what is proved, beside their quotations, that two pages of specs/ define."""
+    pages = defaultdict(list)
+    for it in sources:
+        for name in it.defined[0] if it.part == "specs" else ():
+            pages[name].append(it.path)
+    text = "".join(re.sub(r"(?s)```.*?```", "", read(os.path.join(TOP, "docs", f"{page}.md"))) for page in PAGES)
+    named = {name for code in re.findall(r"`([^`]+)`", text) for name in NAME.findall(code)}
+    yield from (f"{name}: {' '.join(pages[name])}" for name in sorted(named) if len(pages[name]) > 1)
+
+
+def long_files(sources):
+    for path in [it.path for it in sources] + [it for pattern in SCRIPTS for it in glob.glob(pattern, root_dir=TOP)]:
+        lines = read(os.path.join(TOP, path)).count("\n") if os.path.isfile(os.path.join(TOP, path)) else 0
+        if lines > LONG_FILE:
+            yield f"{path}: {lines} lines"
+
+
+def large(sources):
+    counts = Counter(it.crate for it in sources if it.ext == "rt" for _ in re.finditer(rf"(?m)^{FUNCTION.pattern}", it.text))
+    yield from (f"{crate}: {count} functions" for crate, count in counts.items() if count > LARGE)
+
+
+LOOKS = {
+    "imported names that nothing uses": unused,
+    "definitions of specs/ that no clause comes to": uncited,
+    f"clauses of over {WIDE} characters": wide,
+    f"function bodies of over {LONG_BODY} lines": long_bodies,
+    "documented names that two pages of specs/ define": ambiguous,
+    f"files of over {LONG_FILE} lines": long_files,
+    f"crates of over {LARGE} functions": large,
+}
+
+
+def read(path):
+    try:
+        with open(path, encoding="utf-8") as file:
+            return file.read()
+    except (FileNotFoundError, UnicodeDecodeError):
+        return ""
+
+
+def found():
+    """What breaks each rule."""
+    names = (f"{TOP}/crates/*/{part}/**/*.{ext}" for part in PARTS for ext in USE)
+    sources = [Source(path) for path in sorted(it for name in names for it in glob.glob(name, recursive=True))]
+    return {rule: list(look(sources)) for rule, look in LOOKS.items()}
+
+
+def kept():
+    rows = (line.split(" ", 1) for line in read(KEPT).splitlines() if not line.startswith("#"))
+    return {rule: int(count) for count, rule in rows}
+
+
+def wrong():
+    """Where tools/house.txt isn't what the crates are."""
+    had = kept()
+    for rule, broken in found().items():
+        if len(broken) > had.get(rule, 0):
+            yield f"{len(broken)} {rule}, where tools/house.txt has {had.get(rule, 0)}: `tools/crates house` names them"
+        if len(broken) < had.get(rule, 0):
+            yield f"{len(broken)} {rule}, where tools/house.txt still has {had[rule]}: tools/crates renew"
+
+
+def page():
+    """The text of tools/house.txt: no more than it has, where it has a row."""
+    had = kept()
+    rows = [f"{min(len(broken), had.get(rule, len(broken)))} {rule}" for rule, broken in found().items()]
+    return "\n".join(["# How often the house's rules are broken, which only shrinks: tools/crates renew.", *rows, ""])
