@@ -1,10 +1,11 @@
 -- Functions and zero values of an object, piece by piece.
-use Rattle.std.proofs.Common.{◌≡◌, ℕ, zero, suc, ◌+◌, List, [], ◌∷◌, ◌++◌, replicate, sym, ap, ◌∙◌, append-nil, append_assoc, arith}
+use Rattle.std.proofs.Common.{◌≡◌, refl, ℕ, zero, suc, ◌+◌, ◌*◌, List, [], ◌∷◌, ◌++◌, length, length-append, replicate, sym, ap, ◌∙◌, append-nil, append_assoc, arith}
+use Rattle.std.proofs.Math.Nat.{suc-mul, zero-mul}
 use Rattle.std.specs.Prelude.{slice_index, map}
 use Rattle.go_types.specs.declared.types.GoType.{GoType}
-use Rattle.go_types.specs.Types.{Type'}
+use Rattle.go_types.specs.Types.{Type', basic, array, slice, struct, named, Fields, no_fields, field}
 use Rattle.go_types.specs.Views.{type_of}
-use Rattle.go_types.specs.Sizes.{cells}
+use Rattle.go_types.specs.Sizes.{cells, cells_of}
 use Rattle.go_code.specs.declared.instr.Instr.{Instr}
 use Rattle.go_code.specs.Functions.{Function}
 use Rattle.go_symbol.specs.Symbols as symbols
@@ -13,7 +14,7 @@ use Rattle.go_typed.specs.declared.package.TypedFunction.{TypedFunction}
 use Rattle.go_typed.specs.declared.statement.TypedStmt.{TypedStmt}
 use Rattle.go_typed.specs.Views.{stmts_in, function_of}
 use Rattle.go_code.specs.declared.cell.Cell.{Cell}
-use Rattle.go_meaning.specs.Values.{Value, pack, flat, flat_all, zero_of}
+use Rattle.go_meaning.specs.Values.{Value, pack, flat, flat_all, zero_of, zeros_of}
 use Rattle.go_gen.specs.Translation.{total, slots, stmts_temps, body_code, symbol_code, translated}
 
 total_append : (xs ys : List Type') → total (xs ++ ys) ≡ total xs + total ys
@@ -61,9 +62,44 @@ element_more zero v = sym (append-nil (flat v))
 element_more (suc n) v = append_assoc (flat v) (flat_all (pack (replicate n v))) (flat v) ∙ ap (λ l. flat v ++ l) (element_more n v)
 
 -- behind others
-pub element_kept : (before found new : List Cell) (n : ℕ) (u t : Type') → u ≡ t → found ≡ before ++ flat_all (pack (replicate n (zero_of t))) → new ≡ found ++ flat (zero_of u) → new ≡ before ++ flat_all (pack (replicate (n + 1) (zero_of t)))
-element_kept before found new n u t same is h =
-    let v : Value = zero_of t in
+pub element_kept : (before found new one : List Cell) (n : ℕ) (v : Value) → one ≡ flat v → found ≡ before ++ flat_all (pack (replicate n v)) → new ≡ found ++ one → new ≡ before ++ flat_all (pack (replicate (n + 1) v))
+element_kept before found new one n v same is h =
     let next : suc n ≡ n + 1 = omega arith in
-    h ∙ ap (λ (y : Type'). found ++ flat (zero_of y)) same ∙ ap (λ l. l ++ flat v) is ∙ append_assoc before (flat_all (pack (replicate n v))) (flat v)
+    h ∙ ap (λ l. found ++ l) same ∙ ap (λ l. l ++ flat v) is ∙ append_assoc before (flat_all (pack (replicate n v))) (flat v)
     ∙ ap (λ l. before ++ l) (element_more n v) ∙ ap (λ m. before ++ flat_all (pack (replicate m v))) next
+
+-- how many cells a zero value has
+copies_long : (n size : ℕ) (v : Value) → length (flat v) ≡ size → length (flat_all (pack (replicate n v))) ≡ n * size
+copies_long zero size v long = sym (zero-mul size)
+copies_long (suc n) size v long =
+    let rest = copies_long n size v long in
+    omega (arith, length-append (flat v) (flat_all (pack (replicate n v))), rest, long, suc-mul n size)
+
+mutual
+  zero_long : (t : Type') → length (flat (zero_of t)) ≡ cells t
+  zero_long (basic b) = refl
+  zero_long (array n t) = copies_long n (cells t) (zero_of t) (zero_long t)
+  zero_long (slice t) = refl
+  zero_long (struct fs) = zeros_long fs
+  zero_long (named path name t) = zero_long t
+
+  zeros_long : (fs : Fields) → length (flat_all (zeros_of fs)) ≡ cells_of fs
+  zeros_long no_fields = refl
+  zeros_long (field p x t fs) =
+      let one = zero_long t in
+      let rest = zeros_long fs in
+      omega (arith, length-append (flat (zero_of t)) (flat_all (zeros_of fs)), one, rest)
+
+no_items : (cs : List Cell) → length cs ≡ 0 → cs ≡ []
+no_items [] none = refl
+no_items (c ∷ cs) none = absurd (omega (arith, none))
+
+-- elements without cells have none together
+none_together : (n : ℕ) (v : Value) → flat v ≡ [] → flat_all (pack (replicate n v)) ≡ []
+none_together zero v none = refl
+none_together (suc n) v none = ap (λ l. l ++ flat_all (pack (replicate n v))) none ∙ none_together n v none
+
+-- behind others
+pub none_kept : (before : List Cell) (n : ℕ) (t : Type') → cells t ≡ 0 → before ≡ before ++ flat_all (pack (replicate n (zero_of t)))
+none_kept before n t none =
+    sym (ap (λ l. before ++ l) (none_together n (zero_of t) (no_items (flat (zero_of t)) (zero_long t ∙ none))) ∙ append-nil before)

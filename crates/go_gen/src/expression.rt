@@ -2,10 +2,11 @@
 ghost use Rattle.std.specs.Prelude.{◌≡◌, ◌+◌, ◌++◌, ◌∷◌, OnOk, length};
 ghost use Rattle.go_meaning.specs.Choices as choices;
 ghost use Rattle.go_meaning.specs.Choices.{length_operators, cut_operators};
-ghost use Rattle.go_code.specs.declared.cell.Cell.TheVariants.{Bool as Truth};
+ghost use Rattle.go_code.specs.declared.cell.Cell.TheVariants.{Bool as Truth, Slice};
 ghost use Rattle.go_code.specs.declared.instr.Instr.TheVariants.{Frame as In_frame, Part as On_part, Row as On_rows, Jump as Go_to};
-ghost use Rattle.go_code.specs.declared.instr.FrameInstr.TheVariants.{Push};
+ghost use Rattle.go_code.specs.declared.instr.FrameInstr.TheVariants.{Push, Repeat};
 ghost use Rattle.go_types.specs.Sizes.{cells};
+ghost use Rattle.go_types.specs.Types.{basic as simple};
 ghost use Rattle.go_code.specs.declared.instr.PartInstr.TheVariants.{Part};
 ghost use Rattle.go_code.specs.declared.instr.RowInstr.TheVariants.{Make, Append};
 ghost use Rattle.go_code.specs.declared.instr.JumpInstr.TheVariants.{Jump};
@@ -29,8 +30,34 @@ use go_code::operator::{Operator as CellOperator, SliceOperator, TextOperator};
 use go_symbol::Symbol;
 use go_typed::expression::{TypedExpr, TypedExprKind, TypedPart};
 use go_types::relations::underlying;
-use go_types::types::{Field, GoType};
+use go_types::types::{Basic, Field, GoType};
 use std::alloc::{AllocError, Global};
+
+/// What pushes the zero value of a basic type. What is about one node alone stands in calls of its
+/// own, so that each level of a type takes little of the stack.
+#[inline(never)]
+fn put_zero(alloc: Global, code: &mut Code, of: Basic) -> Result<(), AllocError>
+    ensures { OnOk result (code.new ≡ zero_code (simple of) ++ code.old) }
+{
+    code.put(Instr::Frame(FrameInstr::Push(zero_cell(alloc, of)?)))
+}
+
+/// What pushes the slice without elements.
+#[inline(never)]
+fn put_no_slice(code: &mut Code) -> Result<(), AllocError>
+    ensures { OnOk result (code.new ≡ In_frame (Push (Slice 0 0 0 0)) ∷ code.old) }
+{
+    code.put(Instr::Frame(FrameInstr::Push(no_slice())))
+}
+
+/// What repeats an element of a type.
+#[inline(never)]
+fn put_repeat(code: &mut Code, of: &GoType, length: u32) -> Result<(), AllocError>
+    ensures { OnOk result (code.new ≡ In_frame (Repeat (cells (type_of of.now)) length) ∷ code.old) }
+{
+    let (count, times) = (cells(of)?, length as usize);
+    code.put(Instr::Frame(FrameInstr::Repeat { count, times }))
+}
 
 /// What pushes the zero value of a type.
 /// [The zero value](https://go.dev/ref/spec#The_zero_value)
@@ -39,13 +66,12 @@ pub(crate) fn emit_zero(alloc: Global, code: &mut Code, of: &GoType) -> Result<(
     ensures { OnOk result (code.new ≡ zero_code (type_of of.now) ++ code.old) }
 {
     match of {
-        GoType::Basic(basic) => code.put(Instr::Frame(FrameInstr::Push(zero_cell(alloc, *basic)?))),
+        GoType::Basic(basic) => put_zero(alloc, code, *basic),
         GoType::Array(length, element) => {
-            let (count, times) = (cells(&element.of)?, *length as usize);
-            code.put(Instr::Frame(FrameInstr::Repeat { count, times }))?;
+            put_repeat(code, &element.of, *length)?;
             emit_zero(alloc, code, &element.of)
         }
-        GoType::Slice(_) => code.put(Instr::Frame(FrameInstr::Push(no_slice()))),
+        GoType::Slice(_) => put_no_slice(code),
         GoType::Struct(fields) => emit_zeros(alloc, code, &fields.list),
         GoType::Named(named) => emit_zero(alloc, code, &named.underlying),
     }

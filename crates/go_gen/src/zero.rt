@@ -1,14 +1,26 @@
 //! The cells of zero values. [The zero value](https://go.dev/ref/spec#The_zero_value)
-ghost use Rattle.std.specs.Prelude.{◌≡◌, ◌++◌, OnOk};
+ghost use Rattle.std.specs.Prelude.{◌≡◌, ◌++◌, OnOk, replicate};
 ghost use Rattle.go_types.specs.Views.{type_of, fields_in};
-ghost use Rattle.go_meaning.specs.Values.{flat, flat_all, zero_of, zeros_of};
+ghost use Rattle.go_meaning.specs.Values.{Value, flat, flat_all, pack, zero_of, zeros_of};
 
 use crate::instr::{no_slice, zero_cell};
-use go_code::cell::Cell;
-use go_types::types::{Field, GoType};
+use crate::size::cells;
+use go_code::cell::{Cell, push_copies};
+use go_types::types::{Element, Field, GoType};
 use std::alloc::{AllocError, Global};
 
-/// The cells of a type's zero value, behind others.
+/// The cells of a value so many times, behind others.
+fn push_repeated(found: &mut Vec<Cell>, one: &[Cell], times: u32) -> Result<(), AllocError>
+    ensures { OnOk result ((value : Value) → one.now ≡ flat value → found.new.items ≡ found.old.items ++ flat_all (pack (replicate times value))) }
+{
+    for _ in 0..times {
+        push_copies(found, one)?;
+    }
+    Ok(())
+}
+
+/// The cells of a type's zero value, behind others. Those of an array's element are made once, so
+/// that the walk takes as long as the type has nodes and cells.
 #[cycle(cells)]
 pub(crate) fn push_zero(alloc: Global, found: &mut Vec<Cell>, of: &GoType) -> Result<(), AllocError>
     ensures { OnOk result (found.new.items ≡ found.old.items ++ flat (zero_of (type_of of.now))) }
@@ -19,10 +31,13 @@ pub(crate) fn push_zero(alloc: Global, found: &mut Vec<Cell>, of: &GoType) -> Re
             Ok(())
         }
         GoType::Array(length, element) => {
-            for _ in 0..*length {
-                push_zero(alloc, found, &element.of)?;
+            if *length == 0 {
+                return Ok(());
             }
-            Ok(())
+            if *length == 1 {
+                return push_zero(alloc, found, &element.of);
+            }
+            push_elements(alloc, found, *length, element)
         }
         GoType::Slice(_) => {
             found.push(no_slice())?;
@@ -31,6 +46,26 @@ pub(crate) fn push_zero(alloc: Global, found: &mut Vec<Cell>, of: &GoType) -> Re
         GoType::Struct(fields) => push_zeros(alloc, found, &fields.list),
         GoType::Named(named) => push_zero(alloc, found, &named.underlying),
     }
+}
+
+/// The cells of the zero values of some elements, behind others. It calls itself at most 16 deep,
+/// since what has no cells isn't walked, and others are at least doubled.
+#[cycle(cells)]
+#[inline(never)]
+fn push_elements(
+    alloc: Global,
+    found: &mut Vec<Cell>,
+    length: u32,
+    element: &Element,
+) -> Result<(), AllocError>
+    ensures { OnOk result (found.new.items ≡ found.old.items ++ flat_all (pack (replicate length (zero_of element.now)))) }
+{
+    if cells(&element.of)? == 0 {
+        return Ok(());
+    }
+    let mut one = Vec::new(alloc);
+    push_zero(alloc, &mut one, &element.of)?;
+    push_repeated(found, &one, length)
 }
 
 /// The cells of the zero values of fields, behind others.

@@ -1,3 +1,4 @@
 pub mod OneText
 pub mod Spelled
 pub mod Crossing
+pub mod Dropped

@@ -1,5 +1,5 @@
 //! Types as trees, with names resolved.
-ghost use Rattle.std.specs.Prelude.{◌≡◌, IfOk, string_bytes};
+ghost use Rattle.std.specs.Prelude.{◌≡◌, ◌<◌, IfOk, length, string_bytes};
 
 use crate::sizes::{named_size, size_of, struct_size};
 pub use go_const::kind::IntKind;
@@ -41,9 +41,10 @@ pub(crate) struct Size {
 }
 
 /// A type. [Types](https://go.dev/ref/spec#Types) A tree is as deep as it has nodes at most: what
-/// bounds the stack of the calls that go down one, and of letting go of one, is `nodes`.
+/// bounds the stack of the calls that go down one is `nodes`. Letting go of one takes little: a
+/// loop goes on with the largest part, and calls itself for the others, which have at most half of
+/// the nodes.
 #[cycle(types)]
-#[derive(Drop)]
 pub enum GoType {
     /// A type that has no parts.
     Basic(Basic),
@@ -165,6 +166,57 @@ impl Model for Named {
     ghost use Rattle.go_types.specs.Depths.{parts_fall};
 
     ghost size_decreases = { λ a h. parts_fall a.underlying };
+}
+
+/// The field whose type has the most nodes.
+fn widest(fields: &[Field]) -> usize
+    requires { 0 < length fields.now }
+    ensures { result < length fields.now }
+{
+    let mut found = 0;
+    let mut most = 0;
+    for i in 0..fields.len() {
+        let nodes = size_of(&fields[i].of).nodes;
+        if nodes > most {
+            found = i;
+            most = nodes;
+        }
+    }
+    found
+}
+
+impl Drop for GoType {
+    #[cycle(dropping)]
+    fn drop(mut self) {
+        loop {
+            match self {
+                GoType::Basic(_) => return,
+                GoType::Array(_, element) | GoType::Slice(element) => {
+                    let Some(Element { of, size: _ }) = Arc::into_inner(element) else {
+                        return;
+                    };
+                    self = of;
+                }
+                GoType::Named(named) => {
+                    let Some(Named { underlying, .. }) = Arc::into_inner(named) else {
+                        return;
+                    };
+                    self = underlying;
+                }
+                GoType::Struct(fields) => {
+                    let Some(Fields { mut list, size: _ }) = Arc::into_inner(fields) else {
+                        return;
+                    };
+                    if list.is_empty() {
+                        return;
+                    }
+                    let at = widest(&list);
+                    let Field { of, .. } = list.swap_remove(at);
+                    self = of;
+                }
+            }
+        }
+    }
 }
 
 impl GoType {

@@ -47,6 +47,12 @@ none_counted (m ∷ ms) h =
 pub contains_none : (found : List ℕ) → found ≡ [] → (q : ℕ) → Contains found q → ⊥
 contains_none found e q c = let lt = c.1 in let l : length found ≡ 0 = ap length e in absurd (omega (arith, lt, l))
 
+pub contains_one : (x y : ℕ) → Contains (y ∷ []) x → x ≡ y
+contains_one x y (k, lt, is) =
+    let zero_k : k ≡ 0 = omega (arith, lt) in
+    let at : get_or (y ∷ []) 0 x ≡ x = sym (ap (λ i. get_or (y ∷ []) i x) zero_k) ∙ is in
+    sym at
+
 pub marks_none : (marks : List Bool) (found : List ℕ) → found ≡ [] → ((q : ℕ) → is_marked marks q ≡ false) → AreMarks marks found
 marks_none marks found e h = record {
   here = λ q c. absurd (contains_none found e q c);

@@ -1,2 +1,3 @@
+pub mod Components
 pub mod Reach
 pub mod Worklist

@@ -8,5 +8,6 @@ pub use walks::{begun, has_edge, node_at, walk};
 pub use worklists::Worklist;
 
 mod cycles;
+mod search;
 mod walks;
 mod worklists;

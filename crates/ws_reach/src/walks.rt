@@ -41,7 +41,8 @@ pub fn node_at(nodes: &[usize], place: usize) -> usize
     nodes[place]
 }
 
-fn row_at(rows: &[Vec<usize>], node: usize) -> &[usize]
+/// The row at a node.
+pub(crate) fn row_at(rows: &[Vec<usize>], node: usize) -> &[usize]
     requires { node < length rows.now }
     ensures { slice_get (rows_of rows.now) node ≡ Some result.now }
 {

@@ -1,5 +1,5 @@
 //! Numbers that wait to be looked at, each once.
-ghost use Rattle.std.specs.Prelude.{◌≡◌, ℕ, ◌<◌, ◌≤◌, ◌⊎◌, List, [], ◌∷◌, true, false, length, slice_set, vec_len, IfOk, OnOk};
+ghost use Rattle.std.specs.Prelude.{◌≡◌, ℕ, ◌<◌, ◌≤◌, ◌⊎◌, List, [], ◌∷◌, true, false, length, slice_set, vec_len, IfOk, OnOk, IsTrue};
 ghost use Rattle.std.specs.List.{Contains};
 ghost use Rattle.ws_reach.specs.Worklist.{AreMarks, AreAdded, AllBelow, Grows, is_marked};
 
@@ -54,6 +54,13 @@ impl Worklist {
         self.found
     }
 
+    /// Whether all numbers below the size were added.
+    pub(crate) fn is_full(&self) -> bool
+        ensures { IsTrue result → (q : ℕ) → q < self.now.size → Contains self.now.found q }
+    {
+        are_all(self.marks.as_slice())
+    }
+
     /// Adds those of some numbers that it lacks.
     pub fn add_all(&mut self, nodes: &[usize]) -> Result<(), AllocError>
         requires { AllBelow self.old.size nodes.now }
@@ -62,6 +69,17 @@ impl Worklist {
         note_all(&mut self.marks, &mut self.found, nodes)?;
         Ok(())
     }
+}
+
+fn are_all(marks: &[bool]) -> bool
+    ensures { IsTrue result → (q : ℕ) → q < length marks.now → is_marked marks.now q ≡ true }
+{
+    for i in 0..marks.len() {
+        if !marks[i] {
+            return false;
+        }
+    }
+    true
 }
 
 fn note_all(

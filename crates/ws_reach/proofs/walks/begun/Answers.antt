@@ -1,14 +1,7 @@
-use Rattle.std.proofs.Common.{◌≡◌, ℕ, [], ◌∷◌, sym, ap, ◌∙◌, arith, inl, inr, get_or}
-use Rattle.std.specs.List.{Contains}
+use Rattle.std.proofs.Common.{sym, ap, arith, inl, inr}
 use Rattle.ws_reach.specs.Worklist.{Noted}
-use Rattle.ws_reach.proofs.Marks.{contains_none}
+use Rattle.ws_reach.proofs.Marks.{contains_none, contains_one}
 use Rattle.ws_reach.proofs.walks.begun.Goals as goal
-
-contains_one : (x y : ℕ) → Contains (y ∷ []) x → x ≡ y
-contains_one x y (k, lt, is) =
-    let zero_k : k ≡ 0 = omega (arith, lt) in
-    let at : get_or (y ∷ []) 0 x ≡ x = sym (ap (λ i. get_or (y ∷ []) i x) zero_k) ∙ is in
-    sym at
 
 pub returns-clause-only : goal.returns-clause-only
 returns-clause-only c = λ q. (

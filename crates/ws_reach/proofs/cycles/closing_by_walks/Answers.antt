@@ -1,13 +1,7 @@
 use Rattle.std.proofs.Common.{ap, ◌∙◌, arith}
 use Rattle.ws_reach.specs.Reach.{Edge, Reaches, rows_of}
-use Rattle.ws_reach.proofs.Rows.{no_rows, rows-push, rows_next, rows_edges, length-rows}
-use Rattle.ws_reach.proofs.cycles.closing_edges.Goals as goal
-
-pub returns-then-branch : goal.returns-then-branch
-returns-then-branch c = λ q p. (
-  λ e. absurd (no_rows c.new.result.items c.new.ensures.items q p e),
-  λ h. absurd (c.in_ok-has_levels.ensures c.if-branch.true p q h.0 h.1),
-)
+use Rattle.ws_reach.proofs.Rows.{rows-push, rows_next, rows_edges, length-rows}
+use Rattle.ws_reach.proofs.cycles.closing_by_walks.Goals as goal
 
 pub loop-q-preserved : goal.loop-q-preserved
 loop-q-preserved c =
