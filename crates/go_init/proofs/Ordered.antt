@@ -1,26 +1,19 @@
--- Variable order by numbers: an order of the initializations' numbers by what each leads to.
-use Rattle.std.proofs.Common.{◌≡◌, ℕ, ◌<◌, Bool, true, false, List, [], ◌∷◌, length, Some, refl, sym, ap, ◌∙◌, subst, inl, inr, arith}
-use Rattle.std.specs.Prelude.{◌↔◌}
+-- Variable order by numbers: the initializations' numbers in turn.
+use Rattle.std.proofs.Common.{◌≡◌, ℕ, ◌<◌, List, [], ◌∷◌, length, Some, refl, sym, ap, ◌∙◌, subst, inl, inr, arith}
 use Rattle.std.specs.List.{Contains, filter_map, range_with_len, slice_get}
 use Rattle.std.proofs.lemmas.List.FromFn.{length-range_with_len}
-use Rattle.ws_reach.specs.Reach.{Edge}
 use Rattle.ws_reach.proofs.Closure.{IsOneOf}
 use Rattle.go_typed.specs.Trees.{Initialization, Package}
-use Rattle.go_init.specs.Packages.{imports, package_order}
-use Rattle.go_init.specs.Turns.{turns}
-use Rattle.go_init.specs.Variables.{depends, variable_order, IsDue}
+use Rattle.go_init.specs.Turns.{in_turn, turns}
+use Rattle.go_init.specs.Variables.{depends, is_due, variable_order}
 use Rattle.go_init.proofs.Ascends.{IsRest, rest_is}
 use Rattle.go_init.proofs.First.{Ascending}
 use Rattle.go_init.proofs.Members.{contained, one_of}
-use Rattle.go_init.proofs.Orders.{edge_is, edge_of, in_range, range_has}
+use Rattle.go_init.proofs.Orders.{in_range, range_has}
 use Rattle.go_init.proofs.Related.{AreRelated, StandsAt, counted, numbered, turned}
+use Rattle.go_init.proofs.Results.{is_due_at}
 use Rattle.go_init.proofs.Steps.{range_ascends}
 use Rattle.go_init.proofs.Turns.{turns_are}
-
-same_truth : (a b : Bool) → (a ≡ true → b ≡ true) → (b ≡ true → a ≡ true) → a ≡ b
-same_truth true b there back = sym (there refl)
-same_truth false true there back = back refl
-same_truth false false there back = refl
 
 none_there : {B : Type 0} (all : List B) (ks : List ℕ) (ys : List B) → AreRelated (StandsAt all) ks ys → ((k : ℕ) → IsOneOf k ks → ⊥) → ys ≡ []
 none_there all [] [] r none = refl
@@ -34,7 +27,7 @@ least_there all k (l ∷ ls) [] r a h none = absurd r
 least_there all k (l ∷ ls) (y ∷ ys) r a (inl same) none = (y, ys, refl, ap (slice_get all) same ∙ r.0)
 least_there all k (l ∷ ls) (y ∷ ys) r a (inr h) none = absurd (none l (a.0 k h) (inl refl))
 
-module _ (p : Package) (due : List (List ℕ)) (size : length due ≡ length p.initializations) (lead : (k q : ℕ) → Edge due k q ↔ IsDue p k q) where
+module _ (p : Package) where
   abbrev all : List Initialization
   all = p.initializations
 
@@ -44,48 +37,34 @@ module _ (p : Package) (due : List (List ℕ)) (size : length due ≡ length p.i
   abbrev numbers : List ℕ
   numbers = range_with_len 0 (length p.initializations)
 
-  alike : (a b : ℕ) (i j : Initialization) → slice_get p.initializations a ≡ Some i → slice_get p.initializations b ≡ Some j → imports due a b ≡ depends p i j
-  alike a b i j at_a at_b =
-      same_truth (imports due a b) (depends p i j)
-      (λ h. (
-      let l = (lead a b).0 (edge_of due a b h) in
-      let one : Some l.0 ≡ Some i = sym l.2 ∙ at_a in
-      let other : Some l.1 ≡ Some j = sym l.3 ∙ at_b in
-      let same : l.0 ≡ i = cc in
-      let as_well : l.1 ≡ j = cc in
-      subst (λ y. depends p i y ≡ true) as_well (subst (λ x. depends p x l.1 ≡ true) same l.4)))
-      (λ h. edge_is due a b ((lead a b).1 (i, j, at_a, at_b, h)))
+  both : AreRelated (StandsAt p.initializations) (turns (is_due p) count numbers).0 (variable_order p).0 × AreRelated (StandsAt p.initializations) (turns (is_due p) count numbers).1 (variable_order p).1
+  both = turned (StandsAt p.initializations) (is_due p) (depends p) (λ x x1 y y1 r r1. is_due_at p x x1 y y1 r r1) count numbers p.initializations (counted p.initializations)
 
-  both : AreRelated (StandsAt p.initializations) (turns (imports due) count numbers).0 (variable_order p).0 × AreRelated (StandsAt p.initializations) (turns (imports due) count numbers).1 (variable_order p).1
-  both = turned (StandsAt p.initializations) (imports due) (depends p) (λ x x1 y y1 r r1. alike x x1 y y1 r r1) count numbers p.initializations (counted p.initializations)
+  order_is : (in_turn (is_due p) numbers).0 ≡ (turns (is_due p) count numbers).0
+  order_is = ap (λ n. (turns (is_due p) n numbers).0) (length-range_with_len 0 count)
 
-  order_is : package_order due ≡ (turns (imports due) count numbers).0
-  order_is =
-      ap (λ n. (turns (imports due) n (range_with_len 0 (length due))).0) (length-range_with_len 0 (length due))
-      ∙ ap (λ n. (turns (imports due) n (range_with_len 0 n)).0) size
+  pub ordered : (order : List ℕ) → order ≡ (in_turn (is_due p) (range_with_len 0 (length p.initializations))).0 → filter_map (slice_get p.initializations) order ≡ (variable_order p).0
+  ordered order is = ap (filter_map (slice_get p.initializations)) (is ∙ order_is) ∙ numbered p.initializations (turns (is_due p) count numbers).0 (variable_order p).0 both.0
 
-  pub ordered : (order : List ℕ) → order ≡ package_order due → filter_map (slice_get p.initializations) order ≡ (variable_order p).0
-  ordered order is = ap (filter_map (slice_get p.initializations)) (is ∙ order_is) ∙ numbered p.initializations (turns (imports due) count numbers).0 (variable_order p).0 both.0
+  rest : IsRest (is_due p) (turns (is_due p) count numbers).0 (turns (is_due p) count numbers).1
+  rest = rest_is (is_due p) count numbers (range_ascends 0 count)
 
-  rest : IsRest (imports due) (turns (imports due) count numbers).0 (turns (imports due) count numbers).1
-  rest = rest_is (imports due) count numbers (range_ascends 0 count)
-
-  listed : (order : List ℕ) → order ≡ package_order due → (k : ℕ) → Contains order k → IsOneOf k (turns (imports due) count numbers).0
+  listed : (order : List ℕ) → order ≡ (in_turn (is_due p) (range_with_len 0 (length p.initializations))).0 → (k : ℕ) → Contains order k → IsOneOf k (turns (is_due p) count numbers).0
   listed order is k h = subst (λ l. IsOneOf k l) (is ∙ order_is) (one_of order k h)
 
-  pub nothing_left : (order : List ℕ) → order ≡ package_order due → ((k : ℕ) → k < length p.initializations → Contains order k) → (variable_order p).1 ≡ []
+  pub nothing_left : (order : List ℕ) → order ≡ (in_turn (is_due p) (range_with_len 0 (length p.initializations))).0 → ((k : ℕ) → k < length p.initializations → Contains order k) → (variable_order p).1 ≡ []
   nothing_left order is has =
-      none_there p.initializations (turns (imports due) count numbers).1 (variable_order p).1 both.1
+      none_there p.initializations (turns (is_due p) count numbers).1 (variable_order p).1 both.1
       (λ k h. (
-      let r = in_range 0 count k ((turns_are (imports due) count numbers).over k h) in
+      let r = in_range 0 count k ((turns_are (is_due p) count numbers).over k h) in
       let high = r.1 in
       rest.apart k (listed order is k (has k (omega (arith, high)))) h))
 
-  pub first_left : (order : List ℕ) → order ≡ package_order due → (k : ℕ) → k < length p.initializations → (Contains order k → ⊥) → ((j : ℕ) → j < k → Contains order j)
+  pub first_left : (order : List ℕ) → order ≡ (in_turn (is_due p) (range_with_len 0 (length p.initializations))).0 → (k : ℕ) → k < length p.initializations → (Contains order k → ⊥) → ((j : ℕ) → j < k → Contains order j)
       → (i : Initialization) × (more : List Initialization) × ((variable_order p).1 ≡ i ∷ more) × (slice_get p.initializations k ≡ Some i)
   first_left order is k lt lacks has =
-      let there : IsOneOf k (turns (imports due) count numbers).1 = elim ((turns_are (imports due) count numbers).parted k (range_has 0 count k (omega arith) (omega (arith, lt)))) [
+      let there : IsOneOf k (turns (is_due p) count numbers).1 = elim ((turns_are (is_due p) count numbers).parted k (range_has 0 count k (omega arith) (omega (arith, lt)))) [
         | inl h ↦ absurd (lacks (contained order k (subst (λ l. IsOneOf k l) (sym (is ∙ order_is)) h)))
         | inr h ↦ h
       ] in
-      least_there p.initializations k (turns (imports due) count numbers).1 (variable_order p).1 both.1 rest.ascend there (λ j less h. rest.apart j (listed order is j (has j less)) h)
+      least_there p.initializations k (turns (is_due p) count numbers).1 (variable_order p).1 both.1 rest.ascend there (λ j less h. rest.apart j (listed order is j (has j less)) h)

@@ -1,3 +1,4 @@
+pub mod Condensation
 pub mod Nodes
 pub mod Packages
 pub mod Queues

@@ -1,5 +1,5 @@
 -- In which order the variables of a package get their values: https://go.dev/ref/spec#Package_initialization
-use Rattle.std.specs.Prelude.{◌≡◌, ℕ, zero, suc, ◌+◌, Bool, true, false, ◌||◌, bytes_eq, List, ◌∷◌, ◌++◌, length, Some, None}
+use Rattle.std.specs.Prelude.{◌≡◌, ℕ, zero, suc, ◌+◌, Bool, false, ◌||◌, bytes_eq, List, ◌∷◌, ◌++◌, length, Some, None}
 use Rattle.std.specs.List.{list_any, flat_map, filter, filter_map, slice_get}
 use Rattle.go_text.specs.declared.place.Place.{Place}
 use Rattle.go_typed.specs.Trees.{Initialization, Package}
@@ -23,10 +23,12 @@ lead_to p i (suc n) names = list_any (λ x. sets i x || lead_to p i n (referred 
 abbrev pub depends : Package → Initialization → Initialization → Bool
 depends p i j = lead_to p j (suc (length p.initializations + length p.uses)) i.references
 
--- the one at k depends on the one at q
-abbrev pub IsDue : Package → ℕ → ℕ → Type 0
-IsDue p k q =
-    (i j : Initialization) × (slice_get p.initializations k ≡ Some i) × (slice_get p.initializations q ≡ Some j) × (depends p i j ≡ true)
+-- whether the one at k depends on the one at q
+abbrev pub is_due : Package → ℕ → ℕ → Bool
+is_due p k q = elim (slice_get p.initializations k) [
+  | None ↦ false
+  | Some i ↦ elim (slice_get p.initializations q) [ None ↦ false | Some j ↦ depends p i j ]
+]
 
 -- each time the first that depends on none of those that are left; and what is left over, which depends on itself or on such
 abbrev pub variable_order : Package → List Initialization × List Initialization

@@ -4,11 +4,13 @@
 //! numbers of those that it imports.
 #![tactic(auto)]
 
-mod due;
+mod components;
+mod condensation;
 mod edges;
 pub mod error;
 pub mod law;
 mod nodes;
+mod order;
 pub mod packages;
 mod queue;
 pub mod variables;

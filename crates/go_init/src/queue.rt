@@ -120,7 +120,8 @@ fn is_left(listed: &[bool], number: usize) -> bool
     }
 }
 
-fn row_at(rows: &[Vec<usize>], number: usize) -> &[usize]
+/// The row at a number.
+pub(crate) fn row_at(rows: &[Vec<usize>], number: usize) -> &[usize]
     requires { number < length rows.now }
     ensures { slice_get (rows_of rows.now) number ≡ Some result.now }
 {
