@@ -19,7 +19,7 @@ use Rattle.ws_cache.specs.Held.{id_cmp, IsHeld, CacheStandsFor}
 use Rattle.ws_cache.specs.Joined.{lesser}
 use Rattle.ws_cache.proofs.Joined.{one_cache}
 use Rattle.ws_report.specs.declared.Report.{Report}
-use Rattle.ws_replica.specs.Builds.{took_at, held_by, builds, StandsAfter, AreBuilds, AreBuilt, AreBuiltFrom, AllTookSized}
+use Rattle.ws_replica.specs.Builds.{took_at, held_at, held_by, builds, StandsAfter, AreBuilds, AreBuilt, AreBuiltFrom, AllTookSized, HoldAll}
 use Rattle.ws_replica.specs.Holdings.{Replica, ReplicaStandsFor, Took, AllStandFor}
 use Rattle.ws_replica.specs.Jobs.{Reached, rows_of, IsRun}
 use Rattle.ws_replica.specs.Parts.{Part, IsPartOf, IsRunOf}
@@ -123,8 +123,8 @@ actions_same E A B same a = (one_way A B (λ x. (same x).0) a, one_way B A (λ x
     ]
 
 pub are_built_from : (edition : Edition) (old : List Replica) (took : List Took) (targets : List (ℕ × List ℕ)) → AllStandFor old took → AllTookSized took → (all : List (List Reached)) → AreReached edition old targets all → (parts : List Part) → AllZip (IsPartOf all) targets parts
-    → (opening : FinMap id_cmp Action) → IsOpening old targets opening → (reports : List Report) (added : FinMap id_cmp Action) → IsRunOf opening all parts reports added → AreBuiltFrom edition took targets reports (joined lesser opening added)
-are_built_from edition old took targets stand sized all reached parts parts_are opening opens reports added run =
+    → (opening : FinMap id_cmp Action) → CacheStandsFor opening (held_by took targets) → (reports : List Report) (added : FinMap id_cmp Action) → IsRunOf opening all parts reports added → AreBuiltFrom edition took targets reports (joined lesser opening added)
+are_built_from edition old took targets stand sized all reached parts parts_are opening stands reports added run =
     let pieces : Pieces edition took targets 0 all = pieces_of edition old took stand targets 0 all (λ k rs at. subst (λ n. IsReached edition old targets n rs) (let z : k ≡ 0 + k = omega arith in z) (reached.are k rs at)) in
     let ps : List (Piece edition took) = pieces.list in
     let each : (k : ℕ) (p : Piece edition took) → slice_get ps k ≡ Some p → (p.number ≡ k) × (p.targets ≡ directories_at targets k) =
@@ -136,7 +136,6 @@ are_built_from edition old took targets stand sized all reached parts parts_are 
     let same : SameMembers (all_actions edition bs) (all_actions edition us) = same_actions edition took ps run.told targets each os owns.targets_are in
     let its_run : IsRun opening (reached_of_all edition took ps) run.told added = subst (λ rs. IsRun opening rs run.told added) (sym pieces.all_are) run.run in
     let E : List Action = held_by took targets in
-    let stands : CacheStandsFor opening E = opens took stand in
     record {
       all = bs;
       are = subst (λ ts. AreBuilds edition took ts bs) owns.targets_are (owns_are edition took ps run.told os);
@@ -187,11 +186,13 @@ module _ (edition : Edition) (old new : List Replica) (took : List Took) (target
     stand_after k t r its at =
         subst (λ b. ReplicaStandsFor r t.writes (if b then t.actions ++ (held_by took targets ++ C) else t.actions)) refl (stands_if k t r its at (builds targets k) refl)
 
-  pub are_built : AllTookSized took → (all : List (List Reached)) → AreReached edition old targets all → (parts : List Part) → AllZip (IsPartOf all) targets parts → (opening : FinMap id_cmp Action) → IsOpening old targets opening → (reports : List Report) (added : FinMap id_cmp Action) → IsRunOf opening all parts reports added → TakeResults targets added old new → AreBuilt edition took targets reports new
-  are_built sized all reached parts parts_are opening opens reports added run take =
-      let from = are_built_from edition old took targets stand sized all reached parts parts_are opening opens reports added run in
+  pub are_built : AllTookSized took → (all : List (List Reached)) → AreReached edition old targets all → (parts : List Part) → AllZip (IsPartOf all) targets parts → (holders : List ℕ) → HoldAll took holders targets → (opening : FinMap id_cmp Action) → IsOpening old holders opening
+      → (reports : List Report) (added : FinMap id_cmp Action) → IsRunOf opening all parts reports added → TakeResults holders targets added old new → AreBuilt edition took targets reports new
+  are_built sized all reached parts parts_are holders hold opening opens reports added run take =
       let E : List Action = held_by took targets in
-      let one : take.opening ≡ opening = one_cache take.opening opening E E (λ a. (λ c. c, λ c. c)) (take.opens took stand) (opens took stand) in
+      let stands : CacheStandsFor opening E = same_stands opening (held_at took holders) E hold (opens took stand) in
+      let from = are_built_from edition old took targets stand sized all reached parts parts_are opening stands reports added run in
+      let one : take.opening ≡ opening = one_cache take.opening opening E E (λ a. (λ c. c, λ c. c)) (take.opens took stand hold) stands in
       let have : HaveCache targets (joined lesser opening added) old new = subst (λ (m : FinMap id_cmp Action). HaveCache targets (joined lesser m added) old new) one take.have in
       record {
         all = from.all;

@@ -1,11 +1,11 @@
 -- The steps of the loops over targets.
 use Rattle.std.proofs.Common.{◌≡◌, ◌≢◌, ℕ, zero, suc, ◌+◌, ◌<◌, Bool, true, false, ◌||◌, ◌==◌, List, [], ◌∷◌, ◌++◌, map, length, take, get_or, Option, Some, None, refl, sym, ap, subst, ◌∙◌, inl, inr, arith, append-nil, append_assoc, length-append}
 use Rattle.std.specs.Prelude.{slice_set}
-use Rattle.std.specs.List.{slice_get, Contains, AllZip, list_all}
+use Rattle.std.specs.List.{All, slice_get, Contains, AllZip, list_all}
 use Rattle.std.specs.FinMap.{FinMap, empty}
 use Rattle.std.proofs.lemmas.Bool.{eqb-true, eq-eqb, cases_eq}
 use Rattle.std.proofs.lemmas.List.{take_more, map-append, length-map}
-use Rattle.std.proofs.lemmas.List.Elements.{Contains-append_left, Contains-append_right, Contains-append_cases}
+use Rattle.std.proofs.lemmas.List.Elements.{All-nil, All-cons, All-head, All-tail, Contains-append_left, Contains-append_right, Contains-append_cases}
 use Rattle.std.proofs.lemmas.List.Folds.{list_any-append}
 use Rattle.std.proofs.lemmas.Grind.{flat_map-append}
 use Rattle.ws_map.specs.Kept.{joined}
@@ -16,7 +16,7 @@ use Rattle.ws_cache.specs.Held.{id_cmp, CacheStandsFor}
 use Rattle.ws_cache.specs.Joined.{lesser}
 use Rattle.ws_cache.proofs.Joined.{empty_stands}
 use Rattle.ws_report.specs.Reports.{Verdict}
-use Rattle.ws_replica.specs.Builds.{took_at, held_by, builds, target_of}
+use Rattle.ws_replica.specs.Builds.{took_at, held_at, held_by, builds, target_of}
 use Rattle.ws_replica.specs.Holdings.{Replica, Took, AllStandFor}
 use Rattle.ws_replica.specs.Jobs.{Place, Reached, place_of, job_after, jobs_after, AreTold, AllTold}
 use Rattle.ws_replica.specs.Targets.{IsOpening, HaveCache, TakesInto, TakeResults}
@@ -88,37 +88,62 @@ all_told_whole result n rest all rows e h = subst (λ zs. AllTold result 0 all z
 
 -- ---- the opening
 
-pub held_push : (took : List Took) (targets : List (ℕ × List ℕ)) (t : ℕ × List ℕ) → held_by took (targets ++ t ∷ []) ≡ held_by took targets ++ (took_at took t.0).actions
-held_push took targets t =
-    flat_map-append (λ (t : ℕ × List ℕ). (took_at took t.0).actions) targets (t ∷ []) ∙ ap (λ zs. held_by took targets ++ zs) (append-nil (took_at took t.0).actions)
+-- the numbers of replicas that are named
+pub numbers_next : (targets : List Target) (i : ℕ) → i < length targets → map (λ t. t.replica) (take (i + 1) targets) ≡ map (λ t. t.replica) (take i targets) ++ (target_at targets i).replica ∷ []
+numbers_next targets i within =
+    ap (map (λ (t : Target). t.replica)) (take_more targets i (record { replica = 0; directory = record { ref_ptr = (0, 0); now = [] } }) within)
+    ∙ map-append (λ (t : Target). t.replica) (take i targets) (target_at targets i ∷ [])
 
--- what the first replica holds, and what those of these targets do
-abbrev pub IsOpenedBy : List Replica → ℕ → List (ℕ × List ℕ) → FinMap id_cmp Action → Type 0
-IsOpenedBy replicas first targets cache = (took : List Took) → AllStandFor replicas took → CacheStandsFor cache ((took_at took first).actions ++ held_by took targets)
+pub held_numbers : (took : List Took) (targets : List Target) → held_at took (map (λ t. t.replica) targets) ≡ held_by took (map target_of targets)
+held_numbers took [] = refl
+held_numbers took (t ∷ targets) = ap (λ zs. (took_at took t.replica).actions ++ zs) (held_numbers took targets)
+
+pub numbers_within : (targets : List Target) (numbers : List ℕ) (n : ℕ) → numbers ≡ map (λ t. t.replica) targets → All (λ t. t.replica < n) targets → All (λ k. k < n) numbers
+numbers_within targets numbers n is h = subst (All (λ k. k < n)) (sym is) (All-map targets h)
+  where
+    All-map : (ts : List Target) → All (λ t. t.replica < n) ts → All (λ k. k < n) (map (λ t. t.replica) ts)
+    All-map [] g = All-nil (λ k. k < n)
+    All-map (t ∷ ts) g = All-cons (λ k. k < n) t.replica (map (λ (u : Target). u.replica) ts) (All-head (λ (u : Target). u.replica < n) t ts g) (All-map ts (All-tail (λ (u : Target). u.replica < n) t ts g))
+
+pub first_number : (numbers : List ℕ) (k : ℕ) → Some k ≡ slice_get numbers 0 → Contains numbers k
+first_number [] k e = cc
+first_number (x ∷ numbers) k e = at_head {A = ℕ} numbers x k (some_same x k (sym e))
+
+pub no_first : (numbers : List ℕ) → None ≡ slice_get numbers 0 → numbers ≡ []
+no_first [] e = refl
+no_first (x ∷ numbers) e = cc
+
+held_push : (took : List Took) (numbers : List ℕ) (k : ℕ) → held_at took (numbers ++ k ∷ []) ≡ held_at took numbers ++ (took_at took k).actions
+held_push took numbers k =
+    flat_map-append (λ j. (took_at took j).actions) numbers (k ∷ []) ∙ ap (λ zs. held_at took numbers ++ zs) (append-nil (took_at took k).actions)
+
+-- what the first replica holds, and what those of these numbers do
+abbrev pub IsOpenedBy : List Replica → ℕ → List ℕ → FinMap id_cmp Action → Type 0
+IsOpenedBy replicas first numbers cache = (took : List Took) → AllStandFor replicas took → CacheStandsFor cache ((took_at took first).actions ++ held_at took numbers)
 
 pub opened_first : (replicas : List Replica) (first : ℕ) (r : Replica) (cache : FinMap id_cmp Action) → slice_get replicas first ≡ Some r → cache ≡ r.cache → IsOpenedBy replicas first [] cache
 opened_first replicas first r cache at is took stand =
     subst (CacheStandsFor cache) (sym (append-nil (took_at took first).actions))
     (subst (λ (m : FinMap id_cmp Action). CacheStandsFor m (took_at took first).actions) (sym is) (stands_at replicas took stand first r at).cache)
 
--- a target of another replica
-pub opened_more : (replicas : List Replica) (first : ℕ) (targets more : List (ℕ × List ℕ)) (t : ℕ × List ℕ) (r : Replica) (old new : FinMap id_cmp Action) → more ≡ targets ++ t ∷ [] → slice_get replicas t.0 ≡ Some r
-    → ((E F : List Action) → CacheStandsFor old E → CacheStandsFor r.cache F → CacheStandsFor new (E ++ F)) → IsOpenedBy replicas first targets old → IsOpenedBy replicas first more new
-opened_more replicas first targets more t r old new is at merged h took stand =
+-- another replica
+pub opened_more : (replicas : List Replica) (first : ℕ) (numbers more : List ℕ) (k : ℕ) (r : Replica) (old new : FinMap id_cmp Action) → more ≡ numbers ++ k ∷ [] → slice_get replicas k ≡ Some r
+    → ((E F : List Action) → CacheStandsFor old E → CacheStandsFor r.cache F → CacheStandsFor new (E ++ F)) → IsOpenedBy replicas first numbers old → IsOpenedBy replicas first more new
+opened_more replicas first numbers more k r old new is at merged h took stand =
     let A : List Action = (took_at took first).actions in
-    let T : List Action = (took_at took t.0).actions in
-    subst (λ ts. CacheStandsFor new (A ++ held_by took ts)) (sym is)
-    (subst (λ H. CacheStandsFor new (A ++ H)) (sym (held_push took targets t))
-    (subst (CacheStandsFor new) (append_assoc A (held_by took targets) T)
-    (merged (A ++ held_by took targets) T (h took stand) (stands_at replicas took stand t.0 r at).cache)))
+    let T : List Action = (took_at took k).actions in
+    subst (λ ks. CacheStandsFor new (A ++ held_at took ks)) (sym is)
+    (subst (λ H. CacheStandsFor new (A ++ H)) (sym (held_push took numbers k))
+    (subst (CacheStandsFor new) (append_assoc A (held_at took numbers) T)
+    (merged (A ++ held_at took numbers) T (h took stand) (stands_at replicas took stand k r at).cache)))
 
--- a target of the first replica
-pub opened_same : (replicas : List Replica) (first : ℕ) (targets more : List (ℕ × List ℕ)) (t : ℕ × List ℕ) (cache : FinMap id_cmp Action) → more ≡ targets ++ t ∷ [] → t.0 ≡ first → IsOpenedBy replicas first targets cache → IsOpenedBy replicas first more cache
-opened_same replicas first targets more t cache is same h took stand =
+-- the first replica again
+pub opened_same : (replicas : List Replica) (first : ℕ) (numbers more : List ℕ) (k : ℕ) (cache : FinMap id_cmp Action) → more ≡ numbers ++ k ∷ [] → k ≡ first → IsOpenedBy replicas first numbers cache → IsOpenedBy replicas first more cache
+opened_same replicas first numbers more k cache is same h took stand =
     let A : List Action = (took_at took first).actions in
-    let H : List Action = held_by took targets in
-    subst (λ ts. CacheStandsFor cache (A ++ held_by took ts)) (sym is)
-    (subst (λ Z. CacheStandsFor cache (A ++ Z)) (sym (held_push took targets t ∙ ap (λ k. H ++ (took_at took k).actions) same))
+    let H : List Action = held_at took numbers in
+    subst (λ ks. CacheStandsFor cache (A ++ held_at took ks)) (sym is)
+    (subst (λ Z. CacheStandsFor cache (A ++ Z)) (sym (held_push took numbers k ∙ ap (λ j. H ++ (took_at took j).actions) same))
     (same_stands cache (A ++ H) (A ++ (H ++ A)) (λ a. (
       λ c. elim (Contains-append_cases A H a c) [ inl l ↦ Contains-append_left A (H ++ A) a l | inr r ↦ Contains-append_right A (H ++ A) a (Contains-append_left H A a r) ],
       λ c. elim (Contains-append_cases A (H ++ A) a c) [
@@ -127,6 +152,13 @@ opened_same replicas first targets more t cache is same h took stand =
       ],
     )) (h took stand)))
 
+number_member : (took : List Took) (numbers : List ℕ) (k : ℕ) → Contains numbers k → (a : Action) → Contains (took_at took k).actions a → Contains (held_at took numbers) a
+number_member took [] k among a c = absurd (none_in_empty {A = ℕ} k among)
+number_member took (x ∷ numbers) k among a c = elim (head_or_later {A = ℕ} x numbers k among) [
+  | inl e ↦ Contains-append_left (took_at took x).actions (held_at took numbers) a (subst (λ j. Contains (took_at took j).actions a) (sym e) c)
+  | inr l ↦ Contains-append_right (took_at took x).actions (held_at took numbers) a (number_member took numbers k l a c)
+]
+
 held_member : (took : List Took) (targets : List (ℕ × List ℕ)) (t : ℕ × List ℕ) → Contains targets t → (a : Action) → Contains (took_at took t.0).actions a → Contains (held_by took targets) a
 held_member took [] t among a c = absurd (none_in_empty {A = ℕ × List ℕ} t among)
 held_member took (x ∷ targets) t among a c = elim (head_or_later {A = ℕ × List ℕ} x targets t among) [
@@ -134,17 +166,20 @@ held_member took (x ∷ targets) t among a c = elim (head_or_later {A = ℕ × L
   | inr l ↦ Contains-append_right (took_at took x.0).actions (held_by took targets) a (held_member took targets t l a c)
 ]
 
--- the first replica is a target's
-pub opened_whole : (replicas : List Replica) (targets : List (ℕ × List ℕ)) (first : ℕ × List ℕ) (cache : FinMap id_cmp Action) → Contains targets first → IsOpenedBy replicas first.0 targets cache → IsOpening replicas targets cache
-opened_whole replicas targets first cache among h took stand =
-    let A : List Action = (took_at took first.0).actions in
-    same_stands cache (A ++ held_by took targets) (held_by took targets) (λ a. (
-      λ c. elim (Contains-append_cases A (held_by took targets) a c) [ inl l ↦ held_member took targets first among a l | inr r ↦ r ],
-      λ c. Contains-append_right A (held_by took targets) a c,
+-- the first replica is one of them
+pub opened_whole : (replicas : List Replica) (numbers : List ℕ) (first : ℕ) (cache : FinMap id_cmp Action) → Contains numbers first → IsOpenedBy replicas first numbers cache → IsOpening replicas numbers cache
+opened_whole replicas numbers first cache among h took stand =
+    let A : List Action = (took_at took first).actions in
+    same_stands cache (A ++ held_at took numbers) (held_at took numbers) (λ a. (
+      λ c. elim (Contains-append_cases A (held_at took numbers) a c) [ inl l ↦ number_member took numbers first among a l | inr r ↦ r ],
+      λ c. Contains-append_right A (held_at took numbers) a c,
     )) (h took stand)
 
-pub opened_none : (replicas : List Replica) (targets : List (ℕ × List ℕ)) (cache : FinMap id_cmp Action) → targets ≡ [] → cache ≡ empty → IsOpening replicas targets cache
-opened_none replicas targets cache none is took stand = subst (λ ts. CacheStandsFor cache (held_by took ts)) (sym none) (empty_stands cache is)
+pub opened_none : (replicas : List Replica) (numbers : List ℕ) (cache : FinMap id_cmp Action) → numbers ≡ [] → cache ≡ empty → IsOpening replicas numbers cache
+opened_none replicas numbers cache none is took stand = subst (λ ks. CacheStandsFor cache (held_at took ks)) (sym none) (empty_stands cache is)
+
+pub held_none : (took : List Took) (targets : List (ℕ × List ℕ)) (cache : FinMap id_cmp Action) → targets ≡ [] → cache ≡ empty → CacheStandsFor cache (held_by took targets)
+held_none took targets cache none is = subst (λ ts. CacheStandsFor cache (held_by took ts)) (sym none) (empty_stands cache is)
 
 -- all targets are of one replica
 abbrev pub AllName : ℕ → List (ℕ × List ℕ) → Type 0
@@ -157,7 +192,7 @@ all_name_held took (t ∷ targets) k all a c = elim (Contains-append_cases (took
   | inr r ↦ all_name_held took targets k (λ x d. all x (later {A = ℕ × List ℕ} t targets x d)) a r
 ]
 
-opened_one : (replicas : List Replica) (targets : List (ℕ × List ℕ)) (first : ℕ × List ℕ) (r : Replica) → Contains targets first → AllName first.0 targets → slice_get replicas first.0 ≡ Some r → IsOpening replicas targets r.cache
+opened_one : (replicas : List Replica) (targets : List (ℕ × List ℕ)) (first : ℕ × List ℕ) (r : Replica) → Contains targets first → AllName first.0 targets → slice_get replicas first.0 ≡ Some r → (took : List Took) → AllStandFor replicas took → CacheStandsFor r.cache (held_by took targets)
 opened_one replicas targets first r among all at took stand =
     same_stands r.cache (took_at took first.0).actions (held_by took targets)
     (λ a. (held_member took targets first among a, all_name_held took targets first.0 all a))
@@ -272,14 +307,14 @@ module _ (targets : List (ℕ × List ℕ)) (t : ℕ × List ℕ) (cache : FinMa
 
 -- ---- results of the only replica
 
-pub takes_one : (targets : List (ℕ × List ℕ)) (first : ℕ × List ℕ) (added : FinMap id_cmp Action) (old new : List Replica) → Contains targets first → AllName first.0 targets → TakesInto first.0 added old new → TakeResults targets added old new
-takes_one targets first added old new among all h =
+pub takes_one : (holders : List ℕ) (targets : List (ℕ × List ℕ)) (first : ℕ × List ℕ) (added : FinMap id_cmp Action) (old new : List Replica) → Contains targets first → AllName first.0 targets → TakesInto first.0 added old new → TakeResults holders targets added old new
+takes_one holders targets first added old new among all h =
     let whole : FinMap id_cmp Action = joined lesser h.replica.cache added in
     let start : HaveCache [] whole old old = have_none [] whole old refl in
     let one = have_next [] first whole old old h.replica h.at start in
     record {
       opening = h.replica.cache;
-      opens = opened_one old targets first h.replica among all h.at;
+      opens = λ took stand hold. opened_one old targets first h.replica among all h.at took stand;
       have = record {
         registers = ap (map (λ (z : Replica). z.registers)) h.new_is ∙ one.registers;
         named = λ k r b at. one.named k r (ap (λ b. b || false) (eq-eqb first.0 k (sym (names_one targets first.0 k all b)))) (ap (λ zs. slice_get zs k) (sym h.new_is) ∙ at);

@@ -5,6 +5,7 @@ use Rattle.std.specs.FinMap.{FinMap}
 use Rattle.go_text.specs.declared.edition.Edition.{Edition}
 use Rattle.ws_action.specs.Actions.{Action}
 use Rattle.ws_action.specs.Clash.{NoClash, AllSized, hashed_actions}
+use Rattle.ws_map.specs.Kept.{SameMembers}
 use Rattle.ws_cache.specs.Count.{compiled_count}
 use Rattle.ws_cache.specs.Held.{id_cmp, CacheStandsFor}
 use Rattle.ws_graph.specs.declared.planned.PlanError.{PlanError}
@@ -33,6 +34,14 @@ took_at took k = slice_index_or took k (record { writes = []; actions = [] })
 -- the entries that the replicas of these targets hold
 abbrev pub held_by : List Took → List (ℕ × List ℕ) → List Action
 held_by took targets = flat_map (λ t. (took_at took t.0).actions) targets
+
+-- the entries that the replicas of these numbers hold
+abbrev pub held_at : List Took → List ℕ → List Action
+held_at took numbers = flat_map (λ k. (took_at took k).actions) numbers
+
+-- the replicas of these numbers hold together what those of the targets hold
+abbrev pub HoldAll : List Took → List ℕ → List (ℕ × List ℕ) → Type 0
+HoldAll took holders targets = SameMembers (held_at took holders) (held_by took targets)
 
 -- some target is the replica's of that number
 abbrev pub builds : List (ℕ × List ℕ) → ℕ → Bool

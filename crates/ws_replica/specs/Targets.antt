@@ -16,7 +16,7 @@ use Rattle.ws_reach.specs.Reach.{EdgesStayWithin}
 use Rattle.ws_replica.specs.Holdings.{Replica, Took, AllStandFor}
 use Rattle.ws_replica.specs.Jobs.{Reached, reached_by}
 use Rattle.ws_replica.specs.Parts.{reached_paths, reached_rows}
-use Rattle.ws_replica.specs.Builds.{held_by, builds}
+use Rattle.ws_replica.specs.Builds.{held_at, held_by, builds, HoldAll}
 
 -- what is reached of some directories, from the sources of these registers, which are of files
 pub record IsReachedBy (edition : Edition) (registers : Contents) (targets : List (List ℕ)) (reached : List Reached) : Type 0 where
@@ -63,9 +63,13 @@ pub record AreInOrder (reached : List Reached) : Type 0 where
 abbrev pub AllInOrder : List (List Reached) → Type 0
 AllInOrder all = (k : ℕ) (reached : List Reached) → slice_get all k ≡ Some reached → AreInOrder reached
 
--- the cache stands for all that the replicas of the targets hold
-abbrev pub IsOpening : List Replica → List (ℕ × List ℕ) → FinMap id_cmp Action → Type 0
-IsOpening replicas targets cache = (took : List Took) → AllStandFor replicas took → CacheStandsFor cache (held_by took targets)
+-- the cache stands for all that the replicas of these numbers hold
+abbrev pub IsOpening : List Replica → List ℕ → FinMap id_cmp Action → Type 0
+IsOpening replicas numbers cache = (took : List Took) → AllStandFor replicas took → CacheStandsFor cache (held_at took numbers)
+
+-- it stands for all that the replicas of the targets hold, where those of these numbers hold it together
+abbrev pub IsOpeningBy : List Replica → List ℕ → List (ℕ × List ℕ) → FinMap id_cmp Action → Type 0
+IsOpeningBy replicas holders targets cache = (took : List Took) → AllStandFor replicas took → HoldAll took holders targets → CacheStandsFor cache (held_by took targets)
 
 -- each replica that a target names has this cache now; the others and all registers stay
 pub record HaveCache (targets : List (ℕ × List ℕ)) (cache : FinMap id_cmp Action) (old new : List Replica) : Type 0 where
@@ -79,8 +83,8 @@ pub record TakesInto (number : ℕ) (added : FinMap id_cmp Action) (old new : Li
   pub at : slice_get old number ≡ Some replica
   pub new_is : new ≡ slice_set old number (record replica { cache = joined lesser replica.cache added })
 
--- each replica that a target names takes what all of these hold, and the new entries
-pub record TakeResults (targets : List (ℕ × List ℕ)) (added : FinMap id_cmp Action) (old new : List Replica) : Type 0 where
+-- each replica that a target names takes what all of these hold, and the new entries, where those of some numbers hold it together
+pub record TakeResults (holders : List ℕ) (targets : List (ℕ × List ℕ)) (added : FinMap id_cmp Action) (old new : List Replica) : Type 0 where
   pub opening : FinMap id_cmp Action
-  pub opens : IsOpening old targets opening
+  pub opens : IsOpeningBy old holders targets opening
   pub have : HaveCache targets (joined lesser opening added) old new

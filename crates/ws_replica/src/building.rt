@@ -3,10 +3,10 @@ ghost use Rattle.std.specs.Prelude.{◌≡◌, ◌<◌, ◌+◌, ◌++◌, List,
 ghost use Rattle.ws_replica.specs.Holdings.{Took, AllStandFor};
 ghost use Rattle.ws_replica.specs.Jobs.{place_of, reached_of, all_reached_of, all_places_of, job_after, jobs_after};
 ghost use Rattle.ws_replica.specs.Parts.{part_of, AllPartsWithin, IsRunOf};
-ghost use Rattle.ws_replica.specs.Builds.{target_of, AreBuilt, LacksPackage, AllTookSized};
+ghost use Rattle.ws_replica.specs.Builds.{target_of, AreBuilt, LacksPackage, AllTookSized, HoldAll};
 
 use crate::acted::{all_acted, remember_all};
-use crate::openings::{all_planned, give_results, opening_of};
+use crate::openings::{all_planned, give_results, numbers_of, opening_of};
 use crate::parts::{Part, all_parts};
 use crate::reached::{Place, Reached};
 use crate::telling::{number_after, part_reports, reports};
@@ -131,9 +131,38 @@ pub fn build<R: Threads + Wait + Sync, G: Gate>(
         → LacksPackage edition took (map target_of targets.now) }
     ensures err { OnErr result (replicas.new ≡ replicas.old) }
 {
+    let holders = numbers_of(alloc, targets)?;
+    build_over(
+        rt, alloc, replicas, targets, &holders, edition, workers, gate,
+    )
+}
+
+/// Builds targets as `build` does, on a board that is opened over the join of the caches of some
+/// replicas alone, by their numbers, where these hold together all that those of the targets hold.
+pub fn build_over<R: Threads + Wait + Sync, G: Gate>(
+    rt: &R,
+    alloc: Global,
+    replicas: &mut [Replica],
+    targets: &[Target<'_>],
+    holders: &[usize],
+    edition: Edition,
+    workers: u64,
+    gate: &G,
+) -> Result<Vec<Report>, BuildError>
+    requires within { All (λ t. t.replica < length replicas.old) targets.now }
+    requires holding { All (λ k. k < length replicas.old) holders.now }
+    requires some { 0 < workers }
+    ensures ok { IfOk result (λ reports. (took : List Took) → AllStandFor replicas.old took → AllTookSized took
+        → HoldAll took holders.now (map target_of targets.now)
+        → AreBuilt edition took (map target_of targets.now) reports.items replicas.new) }
+    ensures registers { map (λ r. r.registers) replicas.new ≡ map (λ r. r.registers) replicas.old }
+    ensures none { result ≡ Err BuildError.NoPackage → (took : List Took) → AllStandFor replicas.old took
+        → LacksPackage edition took (map target_of targets.now) }
+    ensures err { OnErr result (replicas.new ≡ replicas.old) }
+{
     let all = all_planned(rt, alloc, replicas, targets, edition)?;
     let parts = all_parts(alloc, all.as_slice(), targets)?;
-    let opening = opening_of(alloc, replicas, targets)?;
+    let opening = opening_of(alloc, replicas, holders)?;
     let mut acted = Vec::new(alloc);
     let (reports, added) = run(
         rt,
@@ -146,6 +175,6 @@ pub fn build<R: Threads + Wait + Sync, G: Gate>(
         &mut acted,
     )?;
     remember_all(replicas, acted.as_slice())?;
-    give_results(alloc, replicas, targets, &added)?;
+    give_results(alloc, replicas, targets, holders, &added)?;
     Ok(reports)
 }

@@ -35,7 +35,7 @@ ghost use Rattle.ws_replica.specs.Targets.{IsReachedBy};
 ghost use Rattle.ws_version_vector.specs.Told.{Brings};
 ghost use Rattle.ws_register.specs.News.{HasNewsAt};
 
-pub use building::{Target, build};
+pub use building::{Target, build, build_over};
 use go_text::edition::Edition;
 use go_text::source::Source;
 use go_text::text::Text;

@@ -102,23 +102,34 @@ pub(crate) fn all_planned(
     Ok(all)
 }
 
-/// The join of the caches of the replicas that the targets name. Where they name one replica its
-/// cache is shared, and nothing that grows with it is copied.
+/// The numbers of the replicas that the targets name.
+pub(crate) fn numbers_of(alloc: Global, targets: &[Target<'_>]) -> Result<Vec<usize>, AllocError>
+    ensures { IfOk result (λ numbers. numbers.items ≡ map (λ t. t.replica) targets.now) }
+{
+    let mut numbers = Vec::with_capacity(alloc, targets.len())?;
+    for target in targets {
+        numbers.push(target.replica)?;
+    }
+    Ok(numbers)
+}
+
+/// The join of the caches of the replicas of some numbers. Where it is one replica its cache is
+/// shared, and nothing that grows with it is copied.
 pub(crate) fn opening_of(
     alloc: Global,
     replicas: &[Replica],
-    targets: &[Target<'_>],
+    numbers: &[usize],
 ) -> Result<Cache, AllocError>
-    requires { All (λ t. t.replica < length replicas.now) targets.now }
-    ensures { IfOk result (λ cache. IsOpening replicas.now (map target_of targets.now) cache) }
+    requires { All (λ k. k < length replicas.now) numbers.now }
+    ensures { IfOk result (λ cache. IsOpening replicas.now numbers.now cache) }
 {
-    let Some(first) = targets.first() else {
+    let Some(first) = numbers.first() else {
         return Ok(Cache::new(alloc));
     };
-    let mut opening = replica_at(replicas, first.replica).cache().copy()?;
-    for target in targets {
-        if target.replica != first.replica {
-            opening.merge(replica_at(replicas, target.replica).cache())?;
+    let mut opening = replica_at(replicas, *first).cache().copy()?;
+    for number in numbers {
+        if *number != *first {
+            opening.merge(replica_at(replicas, *number).cache())?;
         }
     }
     Ok(opening)
@@ -155,17 +166,20 @@ fn put_all(replicas: &mut [Replica], targets: &[Target<'_>], caches: Vec<Cache>)
     }
 }
 
-/// Each replica that a target names then has its cache joined with the opening and the new
-/// entries: in place where they name one replica; and where they name several, all that can fail
-/// comes before the first of them changes. An `Err` changes nothing.
+/// Each replica that a target names then has the join of the caches of some replicas, which hold
+/// all that those of the targets hold, and of the new entries: in place where the targets name one
+/// replica; and where they name several, all that can fail comes before the first of them changes.
+/// An `Err` changes nothing.
 pub(crate) fn give_results(
     alloc: Global,
     replicas: &mut [Replica],
     targets: &[Target<'_>],
+    holders: &[usize],
     added: &Cache,
 ) -> Result<(), AllocError>
-    requires { All (λ t. t.replica < length replicas.old) targets.now }
-    ensures ok { OnOk result (TakeResults (map target_of targets.now) added.now replicas.old replicas.new) }
+    requires named { All (λ t. t.replica < length replicas.old) targets.now }
+    requires holding { All (λ k. k < length replicas.old) holders.now }
+    ensures ok { OnOk result (TakeResults holders.now (map target_of targets.now) added.now replicas.old replicas.new) }
     ensures err { OnErr result (replicas.new ≡ replicas.old) }
 {
     let Some(first) = targets.first() else {
@@ -175,7 +189,7 @@ pub(crate) fn give_results(
         take_into(replicas, first.replica, added)?;
         return Ok(());
     }
-    let mut cache = opening_of(alloc, replicas, targets)?;
+    let mut cache = opening_of(alloc, replicas, holders)?;
     cache.merge(added)?;
     let caches = copies(alloc, targets.len(), &cache)?;
     put_all(replicas, targets, caches);

@@ -4,7 +4,7 @@ ghost use Rattle.ws_replica.specs.Holdings.{Took, AllStandFor};
 ghost use Rattle.ws_replica.specs.Builds.{target_of, AreBuiltFrom, LacksPackage, AllTookSized};
 
 use crate::building::{Target, run};
-use crate::openings::{all_planned, opening_of};
+use crate::openings::{all_planned, numbers_of, opening_of};
 use crate::parts::all_parts;
 use crate::{BuildError, Replica};
 use go_text::edition::Edition;
@@ -84,7 +84,8 @@ pub fn build_from<R: Threads + Wait + Sync, G: Gate>(
         → LacksPackage edition took (map target_of targets.now) }
 {
     let mut replicas = replicas_of(alloc, snapshots)?;
-    let opening = opening_of(alloc, &replicas, targets)?;
+    let numbers = numbers_of(alloc, targets)?;
+    let opening = opening_of(alloc, &replicas, &numbers)?;
     let mut cache = opening.copy()?;
     let all = all_planned(rt, alloc, replicas.as_mut_slice(), targets, edition)?;
     let parts = all_parts(alloc, all.as_slice(), targets)?;

@@ -90,13 +90,13 @@ module _ (asked : List (List ℕ × List ℕ)) (text : Option (List ℕ)) (world
         } in
         record { tells = tells; counted = kept }
 
-    pub build_told : AreApart (names_in world) → (edition : Edition) (reports : List Report) (told : List ℕ) (ms : List Named) (compiled : List (List ℕ)) → edition ≡ world.edition
-        → told ≡ flat_map report_line (zip asked reports) → Built edition targets reports ns ms → ((all : List TargetBuild) → AreCompiled compiled (after_builds world asked (Some all))) → TellsCounted (Build asked) text world told ms compiled
+    pub build_told : AreApart (names_in world) → (holders : List ℕ) → numbered.HoldAll (took_of world.replicas) holders targets → (edition : Edition) (reports : List Report) (told : List ℕ) (ms : List Named) (compiled : List (List ℕ)) → edition ≡ world.edition
+        → told ≡ flat_map report_line (zip asked reports) → Built edition holders targets reports ns ms → ((all : List TargetBuild) → AreCompiled compiled (after_builds world asked (Some all))) → TellsCounted (Build asked) text world told ms compiled
     unfolding After Prints
-    build_told apart edition reports told ms compiled same t built kept =
+    build_told apart holders hold edition reports told ms compiled same t built kept =
         let took : List Took = took_of world.replicas in
         let sized = subst AllSized (sym (taken_actions world.replicas)) (all_sized ns world.replicas h) in
-        let b = subst (λ n. AreBuilt n took targets reports (replicas_of ms)) same (built.builds took (all_stand_for ns world.replicas h) sized) in
+        let b = subst (λ n. AreBuilt n took targets reports (replicas_of ms)) same (built.builds took (all_stand_for ns world.replicas h) sized hold) in
         let builds : AreBuilds world asked (Some b.all) = same_builds world ns h asked targets b.all are b.are in
         let held = same_held world ns h asked targets are in
         let next : World = after_builds world asked (Some b.all) in

@@ -9,10 +9,11 @@ use Rattle.std.proofs.lemmas.List.{get_or-set_same, get_or-set_other, length-map
 use Rattle.std.proofs.lemmas.List.Elements.{All-head, All-tail, Contains-append_left, Contains-append_right, Contains-append_cases}
 use Rattle.ws_action.specs.Actions.{Action}
 use Rattle.ws_version.specs.Writes.{Write as AWrite}
-use Rattle.ws_version_vector.specs.Counts.{AreRaisedAndShared, is_among}
+use Rattle.ws_action.proofs.Members.{none_in_empty, head_or_later, at_head, later}
+use Rattle.ws_version_vector.specs.Counts.{counts_at, AreBelow, AreRaisedAndShared, is_among}
 use Rattle.ws_version_vector.specs.Told.{AreKept, took_at}
 use Rattle.ws_version_vector.proofs.Told.{grown as with_batch, among_first, among_later}
-use Rattle.ws_version_vector.proofs.Kept.{raised_kept, shared_kept, AnyTook, same_kept}
+use Rattle.ws_version_vector.proofs.Kept.{raised_kept, shared_kept, AnyTook, same_kept, within_below}
 use Rattle.ws_replica.specs.Builds as numbered
 use Rattle.ws_replica.specs.Builds.{target_of, builds}
 use Rattle.ws_replica.specs.Holdings.{Took}
@@ -26,6 +27,7 @@ use Rattle.ws_command.specs.Commands.{Build}
 use Rattle.ws_command.specs.Refusals.{first_of}
 use Rattle.ws_session.specs.Standing.{AllStand, AreApart, names_in, IsTarget, AreWritten, AreCompiled, writes_in, actions_in}
 use Rattle.ws_session.proofs.Building.{took_read, same_held, same_tests, targets_within}
+use Rattle.ws_session.proofs.Joining.{from_flat, into_flat}
 use Rattle.ws_session.proofs.Settled.{took_of}
 use Rattle.ws_session.proofs.Standings.{same_length}
 use Rattle.ws_session.proofs.Taken.{took_actions}
@@ -110,6 +112,44 @@ any_held rs (t ∷ targets) k a e c =
     by_or (t.replica == k) (is_among k (numbers_of targets)) e
     (λ here. Contains-append_left first rest a (subst (λ z. Contains z a) (sym its) (subst (λ j. Contains (took_at j (actions_in rs)) a) (sym (eqb-true t.replica k here)) c)))
     (λ later. Contains-append_right first rest a (any_held rs targets k a later c))
+
+-- ---- who holds all of it
+
+among_contains : (k : ℕ) (ks : List ℕ) → is_among k ks ≡ true → Contains ks k
+among_contains k [] e = cc
+among_contains k (x ∷ ks) e =
+    by_or (x == k) (is_among k ks) e (λ here. at_head {A = ℕ} ks x k (eqb-true x k here)) (λ rest. later {A = ℕ} x ks k (among_contains k ks rest))
+
+contains_among : (k : ℕ) (ks : List ℕ) → Contains ks k → is_among k ks ≡ true
+contains_among k [] c = absurd (none_in_empty {A = ℕ} k c)
+contains_among k (x ∷ ks) c = elim (head_or_later {A = ℕ} x ks k c) [
+  | inl same ↦ subst (λ z. is_among z (x ∷ ks) ≡ true) same (among_first x ks)
+  | inr rest ↦ among_later x k ks (contains_among k ks rest)
+]
+
+-- the numbers that targets name are those of replicas
+pub numbers_within : (n : ℕ) (targets : List Target) → All (λ t. t.replica < n) targets → (k : ℕ) → Contains (numbers_of targets) k → k < n
+numbers_within n [] h k c = absurd (none_in_empty {A = ℕ} k c)
+numbers_within n (t ∷ targets) h k c = elim (head_or_later {A = ℕ} t.replica (numbers_of targets) k c) [
+  | inl same ↦ subst (λ z. z < n) same (All-head (λ (u : Target). u.replica < n) t targets h)
+  | inr rest ↦ numbers_within n targets (All-tail (λ (u : Target). u.replica < n) t targets h) k rest
+]
+
+-- those that have all results that any of the targets has hold them together
+pub hold_all : (compiled : List (List ℕ)) (world : World) (targets : List Target) (holders : List ℕ) → AreCompiled compiled world → AreBelow compiled (numbers_of targets) holders → ((k : ℕ) → Contains holders k → Contains (numbers_of targets) k)
+    → numbered.HoldAll (took_of world.replicas) holders (map target_of targets)
+hold_all compiled world targets holders kept below among a =
+    let rs = world.replicas in
+    let its : (k : ℕ) → (numbered.took_at (took_of rs) k).actions ≡ took_at k (actions_in rs) = λ k. ap (λ (u : Took). u.actions) (took_read rs k) ∙ sym (took_actions rs k) in (
+      λ c.
+          let one = from_flat (λ k. (numbered.took_at (took_of rs) k).actions) holders a c in
+          any_held rs targets one.0 a (contains_among one.0 (numbers_of targets) (among one.0 one.1)) (subst (λ z. Contains z a) (its one.0) one.2),
+      λ c.
+          let one = held_any rs targets a c in
+          let top = below one.0 (among_contains one.0 (numbers_of targets) one.1) in
+          let held = within_below kept.0 one.0 top.0 (counts_at one.0 compiled) (counts_at top.0 compiled) (took_at one.0 (actions_in rs)) (took_at top.0 (actions_in rs)) (kept.1 one.0) (kept.1 top.0) top.2 a one.2 in
+          into_flat (λ k. (numbered.took_at (took_of rs) k).actions) holders top.0 a top.1 (subst (λ z. Contains z a) (sym (its top.0)) held),
+    )
 
 -- ---- the batch that was compiled, at the first of them
 

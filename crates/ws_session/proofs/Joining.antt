@@ -33,14 +33,14 @@ compiled_by took tops = flat_map (λ t. (numbered.took_at took t).actions) tops
 
 -- ---- members of a list of lists
 module _ {X Y : Type 0} (f : X → List Y) where
-  from_flat : (xs : List X) (y : Y) → Contains (flat_map f xs) y → (x : X) × Contains xs x × Contains (f x) y
+  pub from_flat : (xs : List X) (y : Y) → Contains (flat_map f xs) y → (x : X) × Contains xs x × Contains (f x) y
   from_flat [] y c = absurd (none_in_empty y c)
   from_flat (x ∷ xs) y c = elim (Contains-append_cases (f x) (flat_map f xs) y c) [
     | inl l ↦ (x, Contains-append_left (x ∷ []) xs x (0, omega arith, refl), l)
     | inr r ↦ let rest = from_flat xs y r in (rest.0, Contains-append_right (x ∷ []) xs rest.0 rest.1, rest.2)
   ]
 
-  into_flat : (xs : List X) (x : X) (y : Y) → Contains xs x → Contains (f x) y → Contains (flat_map f xs) y
+  pub into_flat : (xs : List X) (x : X) (y : Y) → Contains xs x → Contains (f x) y → Contains (flat_map f xs) y
   into_flat [] x y c d = absurd (none_in_empty x c)
   into_flat (z ∷ xs) x y c d = elim (head_or_later z xs x c) [
     | inl same ↦ Contains-append_left (f z) (flat_map f xs) y (subst (λ q. Contains (f q) y) (sym same) d)
@@ -63,10 +63,10 @@ module _ {A : Type 0} (f : Replica → List A) (rs : List Replica) (n : ℕ) (ma
 some_of_all : {A : Type 0} (f : Replica → List A) (rs : List Replica) (tops : List ℕ) → IsWithin (flat_map (λ t. took_at t (map f rs)) tops) (flat_map f rs)
 some_of_all f rs tops a c = let one = from_flat (λ t. took_at t (map f rs)) tops a c in into_all f rs one.0 a one.2
 
-written_are : (rs : List Replica) (tops : List ℕ) → written_by (took_of rs) tops ≡ flat_map (λ t. took_at t (writes_in rs)) tops
+pub written_are : (rs : List Replica) (tops : List ℕ) → written_by (took_of rs) tops ≡ flat_map (λ t. took_at t (writes_in rs)) tops
 written_are rs tops = flat_alike (λ t. (numbered.took_at (took_of rs) t).writes) (λ t. took_at t (writes_in rs)) (λ t. ap (λ (k : Took). k.writes) (took_read rs t) ∙ sym (took_writes rs t)) tops
 
-compiled_are : (rs : List Replica) (tops : List ℕ) → compiled_by (took_of rs) tops ≡ flat_map (λ t. took_at t (actions_in rs)) tops
+pub compiled_are : (rs : List Replica) (tops : List ℕ) → compiled_by (took_of rs) tops ≡ flat_map (λ t. took_at t (actions_in rs)) tops
 compiled_are rs tops = flat_alike (λ t. (numbered.took_at (took_of rs) t).actions) (λ t. took_at t (actions_in rs)) (λ t. ap (λ (k : Took). k.actions) (took_read rs t) ∙ sym (took_actions rs t)) tops
 
 pub written_all : (rs : List Replica) (tops : List ℕ) → IsWithin (written_by (took_of rs) tops) (all_taken (took_of rs)).writes
@@ -85,7 +85,7 @@ module _ (world : World) (n : ℕ) (many : n ≡ length world.replicas) (wrote :
 both_all : {A : Type 0} (V W U : List A) → IsWithin V U → IsWithin W U → IsWithin U V → SameMembers (V ++ W) U
 both_all V W U v w u a = (λ c. elim (Contains-append_cases V W a c) [ inl l ↦ v a l | inr r ↦ w a r ], λ c. Contains-append_left V W a (u a c))
 
-all_both : {A : Type 0} (V W U : List A) → IsWithin V U → IsWithin W U → IsWithin U W → SameMembers (V ++ W) U
+pub all_both : {A : Type 0} (V W U : List A) → IsWithin V U → IsWithin W U → IsWithin U W → SameMembers (V ++ W) U
 all_both V W U v w u a = (λ c. elim (Contains-append_cases V W a c) [ inl l ↦ v a l | inr r ↦ w a r ], λ c. Contains-append_right V W a (u a c))
 
 -- what the writers wrote and the builders compiled is all

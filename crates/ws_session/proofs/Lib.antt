@@ -8,6 +8,7 @@ pub mod Filed
 pub mod IdRows
 pub mod IdsTelling
 pub mod Joining
+pub mod KnownWrites
 pub mod Lines
 pub mod Merging
 pub mod Names

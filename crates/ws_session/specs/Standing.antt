@@ -17,7 +17,8 @@ use Rattle.ws_version_vector.specs.declared.vector.News.{News}
 use Rattle.ws_version_vector.specs.Counts.{count_at, counts_at, IsRaised, IsMost, AreFirst, AreShared}
 use Rattle.ws_version_vector.specs.Counts as counted
 use Rattle.ws_version_vector.specs.Keyed.{IsPushed, AreLogged}
-use Rattle.ws_version_vector.specs.Told.{AreKept, Brings}
+use Rattle.ws_version_vector.specs.Told.{AreKept, Brings, IsWithin}
+use Rattle.ws_version_vector.specs.Told as written
 use Rattle.ws_register.specs.Sources.{top}
 use Rattle.ws_register.specs.Edits.{greatest_at, is_missing, removed}
 use Rattle.ws_register.specs.News.{HasNewsAt}
@@ -25,7 +26,7 @@ use Rattle.ws_action.specs.Actions.{Action}
 use Rattle.ws_action.specs.Clash.{AllSized, NoClash, hashed_actions}
 use Rattle.ws_replica.specs.Reports.{TargetBuild, IsTargetBuild, actions_of}
 use Rattle.ws_replica.specs.declared.building.Target.{Target}
-use Rattle.ws_replica.specs.Builds.{took_at, target_of, AllTookSized, AreBuilt, LacksPackage}
+use Rattle.ws_replica.specs.Builds.{took_at, target_of, AllTookSized, AreBuilt, LacksPackage, HoldAll}
 use Rattle.ws_report.specs.declared.Report.{Report}
 use Rattle.ws_report.specs.Reports.{rows}
 use Rattle.ws_replica.specs.Holdings as holdings
@@ -253,6 +254,14 @@ HoldsAllOf named indices joined =
     (took : List Took) → AllStandFor (replicas_of named.items) took
     → ReplicaStandsFor joined (flat_map (λ k. (took_at took k).writes) indices) (flat_map (λ k. (took_at took k).actions) indices)
 
+-- A replica holds all that another does, of which the results of these writers are a part, and with it what these wrote, where the other
+-- has all writes of the replica at `first`.
+abbrev pub HoldsWritesOf : Vec Named Global → Written → holdings.Replica → ℕ → List ℕ → holdings.Replica → Type 0
+HoldsWritesOf named wrote results first writers joined =
+    (world : World) (V : List Write) (E : List Action) → AllStand named.items world.replicas → AreWritten wrote world.replicas
+    → IsWithin (written.took_at first (writes_in world.replicas)) V → IsWithin (flat_map (λ k. written.took_at k (actions_in world.replicas)) writers) E
+    → ReplicaStandsFor results V E → ReplicaStandsFor joined (V ++ flat_map (λ k. written.took_at k (writes_in world.replicas)) writers) E
+
 -- what is news of the second's writes, by paths where these are known
 abbrev pub IsBrought : News → Option (Vec (List ℕ) Global) → List Write → List Write → Type 0
 IsBrought writes None V W = Brings writes V W
@@ -287,15 +296,15 @@ abbrev pub AreTargets : List Named → List (List ℕ × List ℕ) → Result (V
 AreTargets named asked (Ok targets) = (targets_row named asked ≡ None) × AllZip (IsTarget named) asked (map target_of targets.items)
 AreTargets named asked (Err refusal) = targets_row named asked ≡ Some refusal
 
--- replicas built targets, with these reports, and each has its name and number
-pub record Built (edition : Edition) (targets : List (ℕ × List ℕ)) (reports : List Report) (old new : List Named) : Type 0 where
+-- replicas built targets, with these reports, where those of some numbers held all; and each has its name and number
+pub record Built (edition : Edition) (holders : List ℕ) (targets : List (ℕ × List ℕ)) (reports : List Report) (old new : List Named) : Type 0 where
   pub labels : labels_of new ≡ labels_of old
-  pub builds : (took : List Took) → AllStandFor (replicas_of old) took → AllTookSized took → AreBuilt edition took targets reports (replicas_of new)
+  pub builds : (took : List Took) → AllStandFor (replicas_of old) took → AllTookSized took → HoldAll took holders targets → AreBuilt edition took targets reports (replicas_of new)
 
 -- or nothing changed, since a target has no package files
-abbrev pub AreBuiltBy : Edition → List (ℕ × List ℕ) → List Named → Option (Vec Report Global) → List Named → Type 0
-AreBuiltBy edition targets old None new = (new ≡ old) × ((took : List Took) → AllStandFor (replicas_of old) took → LacksPackage edition took targets)
-AreBuiltBy edition targets old (Some reports) new = Built edition targets reports.items old new
+abbrev pub AreBuiltBy : Edition → List ℕ → List (ℕ × List ℕ) → List Named → Option (Vec Report Global) → List Named → Type 0
+AreBuiltBy edition holders targets old None new = (new ≡ old) × ((took : List Took) → AllStandFor (replicas_of old) took → LacksPackage edition took targets)
+AreBuiltBy edition holders targets old (Some reports) new = Built edition holders targets reports.items old new
 
 -- the name of a target's replica, with its directory
 abbrev pub words_of : List Named → ℕ × List ℕ → List ℕ × List ℕ

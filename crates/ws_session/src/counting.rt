@@ -1,7 +1,8 @@
 //! How much the replicas of a session took of one another: what each command counts.
 
+ghost use Rattle.std.specs.List.{Contains};
 ghost use Rattle.std.specs.Prelude.{◌≡◌, ℕ, List, map, vec_len, Option, None, IfOk, OnOk};
-ghost use Rattle.ws_version_vector.specs.Counts.{AreRaisedAndShared};
+ghost use Rattle.ws_version_vector.specs.Counts.{AreBelow, AreRaisedAndShared};
 ghost use Rattle.ws_command.specs.Commands.{Write, Remove, Merge, Settle};
 ghost use Rattle.ws_session.specs.Standing.{index_of, text_in, applied_by, SettlesFrom, SettlesIn, SettlesCounted, IsWriteCounted, IsMergeCounted, MergesCounted, SharesCounted};
 
@@ -154,6 +155,30 @@ fn count_merge(
     vectors.merge(mine, theirs)
 }
 
+/// The numbers of the replicas that targets name.
+fn numbers_of(alloc: Global, targets: &[Target<'_>]) -> Result<Vec<usize>, AllocError>
+    ensures { IfOk result (λ numbers. numbers.items ≡ map (λ t. t.replica) targets.now) }
+{
+    let mut numbers = Vec::new(alloc);
+    for target in targets {
+        numbers.push(target.replica)?;
+    }
+    Ok(numbers)
+}
+
+/// The numbers of replicas that hold together all results of those that targets name.
+pub(crate) fn holders_of(
+    alloc: Global,
+    compiled: &Vectors,
+    targets: &[Target<'_>],
+) -> Result<Vec<usize>, AllocError>
+    ensures below { IfOk result (λ holders. AreBelow compiled.now (map (λ t. t.replica) targets.now) holders.items) }
+    ensures within { IfOk result (λ holders. (k : ℕ) → Contains holders.items k → Contains (map (λ t. t.replica) targets.now) k) }
+{
+    let numbers = numbers_of(alloc, targets)?;
+    compiled.tops_among(&numbers)
+}
+
 /// Counts what a build of targets compiled at the first replica, and what all of them took of one
 /// another.
 pub(crate) fn count_build(
@@ -163,9 +188,6 @@ pub(crate) fn count_build(
 ) -> Result<(), AllocError>
     ensures { OnOk result (AreRaisedAndShared (map (λ t. t.replica) targets.now) compiled.old compiled.new) }
 {
-    let mut numbers = Vec::new(alloc);
-    for target in targets {
-        numbers.push(target.replica)?;
-    }
+    let numbers = numbers_of(alloc, targets)?;
     compiled.raise_and_share(&numbers)
 }

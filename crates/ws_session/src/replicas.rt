@@ -13,7 +13,8 @@ ghost use Rattle.ws_command.specs.Seen.{seen};
 ghost use Rattle.ws_command.specs.Commands.{Create, Write, Remove, Apply, Build, Run, Ids, Show};
 
 use crate::counting::{
-    apply_counted, count_build, merge_counted, remove_counted, settle_counted, write_counted,
+    apply_counted, count_build, holders_of, merge_counted, remove_counted, settle_counted,
+    write_counted,
 };
 use crate::taking::{parted, rejoined};
 use crate::written::Written;
@@ -30,7 +31,7 @@ use ws_command::printing::{ids_lines, report_lines, run_lines, show_lines};
 use ws_command::refusal::{Refusal, refused};
 use ws_path::{FilePath, file_name, is_path};
 use ws_register::EditError;
-use ws_replica::{BuildError, Gate, Replica, Target, build, ids, image};
+use ws_replica::{BuildError, Gate, Replica, Target, build_over, ids, image};
 use ws_report::{IdLine, Report};
 use ws_version::{Held, Version};
 use ws_version_vector::Vectors;
@@ -331,8 +332,8 @@ fn targets_of<'a>(
     Ok(Ok(targets))
 }
 
-/// The replicas build targets: the reports, or nothing, and no change, where a target has no
-/// package files.
+/// The replicas build targets, where some, by their numbers, hold together what those of the
+/// targets hold: the reports, or nothing, and no change, where a target has no package files.
 fn build_all<R: Threads + Wait + Sync, G: Gate>(
     rt: &R,
     alloc: Global,
@@ -341,17 +342,20 @@ fn build_all<R: Threads + Wait + Sync, G: Gate>(
     gate: &G,
     named: &mut Vec<Named>,
     targets: &[Target<'_>],
+    holders: &[usize],
 ) -> Result<Option<Vec<Report>>, AllocError>
     requires some { 0 < workers }
     requires within { All (λ t. t.replica < vec_len named.old) targets.now }
-    ensures { IfOk result (λ reports. AreBuiltBy edition (map target_of targets.now) named.old.items reports named.new.items) }
+    requires holding { All (λ k. k < vec_len named.old) holders.now }
+    ensures { IfOk result (λ reports. AreBuiltBy edition holders.now (map target_of targets.now) named.old.items reports named.new.items) }
 {
     let (labels, mut replicas) = parted(alloc, mem::replace(named, Vec::new(alloc)))?;
-    let built = build(
+    let built = build_over(
         rt,
         alloc,
         replicas.as_mut_slice(),
         targets,
+        holders,
         edition,
         workers,
         gate,
@@ -401,7 +405,17 @@ fn build_targets<R: Threads + Wait + Sync, G: Gate>(
         Ok(targets) => targets,
         Err(refusal) => return refused(alloc, refusal),
     };
-    let reports = build_all(rt, alloc, edition, workers, gate, named, targets.as_slice())?;
+    let holders = holders_of(alloc, compiled, targets.as_slice())?;
+    let reports = build_all(
+        rt,
+        alloc,
+        edition,
+        workers,
+        gate,
+        named,
+        targets.as_slice(),
+        holders.as_slice(),
+    )?;
     match reports {
         None => refused(alloc, Refusal::NoPackage),
         Some(reports) => {

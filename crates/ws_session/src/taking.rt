@@ -1,9 +1,10 @@
 //! What the replicas of a session take of one another: merges, and settles of all.
-ghost use Rattle.std.specs.Prelude.{◌≡◌, ◌≢◌, ◌<◌, vec_len, replicate, IfOk, OnOk, None};
+ghost use Rattle.std.specs.Prelude.{◌≡◌, ◌≢◌, ◌<◌, ℕ, vec_len, replicate, Some, IfOk, IfSome, OnOk, None};
+ghost use Rattle.std.specs.List.{slice_get};
 ghost use Rattle.std.specs.List.{All, flat_map};
 ghost use Rattle.ws_replica.specs.Holdings.{ReplicaStandsFor};
 ghost use Rattle.ws_command.specs.Commands.{Merge, Settle};
-ghost use Rattle.ws_session.specs.Standing.{AllStand, AreCounted, SettlesCounted, ChangedAt, MergedFrom, TakesNews, HoldsAllOf, replicas_of, labels_of};
+ghost use Rattle.ws_session.specs.Standing.{AllStand, AreCounted, SettlesCounted, ChangedAt, MergedFrom, TakesNews, HoldsAllOf, HoldsWritesOf, replicas_of, labels_of};
 ghost use Rattle.ws_session.specs.World.{World};
 
 use crate::replicas::{Named, index_of};
@@ -16,7 +17,7 @@ use ws_path::FilePath;
 use ws_replica::Replica;
 use ws_replica::join::settle;
 use ws_version::Join;
-use ws_version_vector::{News, Vectors};
+use ws_version_vector::{News, Vectors, VersionVector};
 
 /// A replica takes what is news of what another holds, of its writes those at some paths where
 /// these are known.
@@ -164,7 +165,53 @@ fn copies_of(alloc: Global, replica: &Replica, count: usize) -> Result<Vec<Repli
     Ok(copies)
 }
 
-/// What all replicas hold together: only those are walked of which none has all that another has.
+/// What one replica holds, with what some others wrote, where the paths of it are known, and few. It
+/// has all that the replica at `first` wrote, and every result of the others.
+fn with_writes(
+    alloc: Global,
+    named: &Vec<Named>,
+    wrote: &Written,
+    results: &Replica,
+    first: usize,
+    writers: &[usize],
+) -> Result<Option<Replica>, AllocError>
+    requires { All (λ t. t < vec_len named.now) writers.now }
+    ensures { IfOk result (λ joined. IfSome joined (HoldsWritesOf named.now wrote.now results.now first writers.now)) }
+{
+    let mut joined = results.copy()?;
+    let mut taken = VersionVector::new(alloc);
+    taken.merge(wrote.counts.at(first))?;
+    for writer in writers {
+        let theirs = wrote.counts.at(*writer);
+        let Some(paths) = wrote.paths_between(alloc, taken.counts(), theirs)? else {
+            return Ok(None);
+        };
+        joined.merge_at(&named[*writer].replica, paths.as_slice(), News::Nothing)?;
+        taken.merge(theirs)?;
+    }
+    Ok(Some(joined))
+}
+
+/// The same, where some replica has results.
+fn with_known_writes(
+    alloc: Global,
+    named: &Vec<Named>,
+    wrote: &Written,
+    results: &Replica,
+    builders: &[usize],
+    writers: &[usize],
+) -> Result<Option<Replica>, AllocError>
+    requires { All (λ t. t < vec_len named.now) writers.now }
+    ensures { IfOk result (λ joined. IfSome joined (λ joined. (first : ℕ) × (slice_get builders.now 0 ≡ Some first) × HoldsWritesOf named.now wrote.now results.now first writers.now joined)) }
+{
+    match builders.first() {
+        None => Ok(None),
+        Some(first) => with_writes(alloc, named, wrote, results, *first, writers),
+    }
+}
+
+/// What all replicas hold together. Only those are joined of which none has all that another has,
+/// and of their writes only the news are looked up, where these are known, and few.
 fn together<R: Threads + Sync>(
     rt: &R,
     alloc: Global,
@@ -178,10 +225,13 @@ fn together<R: Threads + Sync>(
     let count = named.len();
     let writers = wrote.counts.tops(count)?;
     let builders = compiled.tops(count)?;
-    let mut joined = joined_of(rt, alloc, named, &writers)?;
     let results = joined_of(rt, alloc, named, &builders)?;
-    joined.merge_news(&results, News::Nothing, News::Everything)?;
-    Ok(joined)
+    if let Some(joined) = with_known_writes(alloc, named, wrote, &results, &builders, &writers)? {
+        return Ok(joined);
+    }
+    let mut both = joined_of(rt, alloc, named, &writers)?;
+    both.merge_news(&results, News::Nothing, News::Everything)?;
+    Ok(both)
 }
 
 /// Every replica takes what all hold: each shares what they have together.

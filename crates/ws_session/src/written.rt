@@ -49,23 +49,24 @@ impl Written {
         ensures { IfOk result (λ paths. IfSome paths (λ paths. AreKeysBetween self.now.logs (counts_at mine self.now.counts) (counts_at theirs self.now.counts) paths.items)) }
     {
         match news {
-            News::Something => self.paths_between(alloc, mine, theirs),
+            News::Something => {
+                self.paths_between(alloc, self.counts.at(mine), self.counts.at(theirs))
+            }
             _ => Ok(None),
         }
     }
 
-    /// The same, whatever the news. An `Err` is for want of memory.
-    fn paths_between(
+    /// The paths of what those with the second counts took and those with the first lack, if these
+    /// paths are known, and few. An `Err` is for want of memory.
+    pub(crate) fn paths_between(
         &self,
         alloc: Global,
-        mine: usize,
-        theirs: usize,
+        mine: &[u64],
+        theirs: &[u64],
     ) -> Result<Option<Vec<FilePath>>, AllocError>
-        ensures { IfOk result (λ paths. IfSome paths (λ paths. AreKeysBetween self.now.logs (counts_at mine self.now.counts) (counts_at theirs self.now.counts) paths.items)) }
+        ensures { IfOk result (λ paths. IfSome paths (λ paths. AreKeysBetween self.now.logs mine.now theirs.now paths.items)) }
     {
-        let own = self.counts.at(mine);
-        let others = self.counts.at(theirs);
-        let Some(keys) = self.logs.keys_between(own, others)? else {
+        let Some(keys) = self.logs.keys_between(mine, theirs)? else {
             return Ok(None);
         };
         paths_at(alloc, keys.as_slice())

@@ -26,7 +26,7 @@ module _ {A : Type 0} where
   kept_by : (lists : ℕ → List (List A)) (k : ℕ) (c d : List ℕ) (V W : List A) → d ≡ c → W ≡ V → IsKept lists k c V → IsKept lists k d W
   kept_by lists k c d V W e f h = subst (λ (z : List ℕ). IsKept lists k z W) (sym e) (subst (λ (z : List A). IsKept lists k c z) (sym f) h)
 
-  kept_merged : (lists : ℕ → List (List A)) (i j : ℕ) (c d e : List ℕ) (V W : List A) → IsKept lists i c V → IsKept lists j d W → IsMost c d e → IsKept lists i e (V ++ W)
+  pub kept_merged : (lists : ℕ → List (List A)) (i j : ℕ) (c d e : List ℕ) (V W : List A) → IsKept lists i c V → IsKept lists j d W → IsMost c d e → IsKept lists i e (V ++ W)
   kept_merged lists i j c d e V W h k most = record {
     told = λ a v. elim (Contains-append_cases V W a v) [
       | inl l ↦ told_below lists c e a (left_most c d e most) (h.told a l)

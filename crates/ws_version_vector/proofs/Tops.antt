@@ -84,3 +84,26 @@ tops_more all n tops next h below k lt = elim (cases_eq n k) [
 
 pub within_more : (n : ℕ) (tops next : List ℕ) → ((t : ℕ) → Contains tops t → t < n) → ((t : ℕ) → Contains next t → (t ≡ n) ⊎ Contains tops t) → (t : ℕ) → Contains next t → t < n + 1
 within_more n tops next h f t c = elim (f t c) [ inl e ↦ omega (arith, e) | inr old ↦ let lt = h t old in omega (arith, lt) ]
+
+-- ---- the tops of some
+
+pub none_below : (all : List (List ℕ)) (among tops : List ℕ) → AreBelow all (take 0 among) tops
+none_below all among tops k c = absurd (let lt = c.1 in omega (arith, lt))
+
+pub some_more : (all : List (List ℕ)) (among tops next : List ℕ) (i at : ℕ) → i < length among → at ≡ slice_index_or among i at → AreBelow all (take i among) tops → AreBelow all (at ∷ tops) next → AreBelow all (take (i + 1) among) next
+some_more all among tops next i at lt is h below k c =
+    elim (Contains-push_cases (take i among) (slice_index_or among i at) k (subst (λ z. Contains z k) (take_more among i at lt) c)) [
+      | inl old ↦
+          let f = h k old in
+          let g = below f.0 (Contains-append_right (at ∷ []) tops f.0 f.1) in
+          (g.0, g.1, below_further (counts_at k all) (counts_at f.0 all) (counts_at g.0 all) f.2 g.2)
+      | inr same ↦ below k (subst (λ z. Contains (at ∷ tops) z) (is ∙ same) (Contains-append_left (at ∷ []) tops at (Contains-push [] at)))
+    ]
+
+pub among_more : (among tops next : List ℕ) (i at : ℕ) → i < length among → at ≡ slice_index_or among i at → ((t : ℕ) → Contains tops t → Contains (take i among) t) → ((t : ℕ) → Contains next t → (t ≡ at) ⊎ Contains tops t)
+    → (t : ℕ) → Contains next t → Contains (take (i + 1) among) t
+among_more among tops next i at lt is h f t c =
+    subst (λ z. Contains z t) (sym (take_more among i at lt)) (elim (f t c) [
+      | inl same ↦ subst (λ z. Contains (take i among ++ slice_index_or among i at ∷ []) z) (sym (same ∙ is)) (Contains-push (take i among) (slice_index_or among i at))
+      | inr old ↦ Contains-append_left (take i among) (slice_index_or among i at ∷ []) t (h t old)
+    ])

@@ -124,6 +124,19 @@ impl Vectors {
         Ok(tops)
     }
 
+    /// Those of some replicas that have together what all of these have. An `Err` is for want of
+    /// memory.
+    pub fn tops_among(&self, among: &[usize]) -> Result<Vec<usize>, AllocError>
+        ensures tops { IfOk result (λ tops. AreBelow self.now among.now tops.items) }
+        ensures within { IfOk result (λ tops. (t : ℕ) → Contains tops.items t → Contains among.now t) }
+    {
+        let mut tops = Vec::new(self.alloc);
+        for at in among {
+            tops = self.with_top(tops, *at)?;
+        }
+        Ok(tops)
+    }
+
     // The numbers of replicas with one more, if none of them has all that it has, and without
     // those of which it has all.
     fn with_top(&self, tops: Vec<usize>, at: usize) -> Result<Vec<usize>, AllocError>

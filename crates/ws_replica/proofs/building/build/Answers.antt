@@ -1,54 +1,15 @@
-use Rattle.std.proofs.Common.{◌≡◌, ◌<◌, ◌∙◌, List, sym, ap, subst, map, length}
-use Rattle.std.proofs.lemmas.List.{length-map}
-use Rattle.std.specs.Prelude.{Vec}
-use Rattle.std.specs.Global.{Global}
-use Rattle.std.specs.List.{All, AllZip}
-use Rattle.ws_replica.specs.Builds.{target_of}
-use Rattle.ws_replica.specs.Holdings.{Replica}
-use Rattle.ws_replica.specs.Jobs.{reached_of, all_reached_of}
-use Rattle.ws_replica.specs.Parts.{part_of, AllPartsWithin, IsPartOf, IsRunOf}
-use Rattle.ws_replica.specs.Targets.{AllInOrder, IsOpening, TakeResults}
-use Rattle.ws_replica.specs.declared.parts.Part.{Part}
-use Rattle.ws_replica.specs.declared.reached.Reached.{Reached}
-use Rattle.ws_replica.proofs.BuiltTargets.{are_built}
-use Rattle.ws_replica.proofs.PartSteps.{named_within}
+use Rattle.std.proofs.Common.{◌≡◌, ◌∙◌, List, ℕ, sym, ap, subst}
+use Rattle.std.proofs.lemmas.Result.{IfOk-weaker}
+use Rattle.std.specs.List.{All, Contains}
+use Rattle.ws_action.specs.Actions.{Action}
+use Rattle.ws_replica.specs.Builds.{target_of, held_at}
+use Rattle.ws_replica.proofs.TargetSteps.{held_numbers, numbers_within}
 use Rattle.ws_replica.proofs.building.build.Goals as goal
 
-pub all_parts-requires-clause-named : goal.all_parts-requires-clause-named
-all_parts-requires-clause-named g c =
-    let all = c.in_ok-all.all.items in
-    let same : length c.args.replicas.now ≡ length c.as_slice.result.now =
-    sym c.in_ok-all.ensures.ok.size ∙ length-map all (λ (v : Vec Reached Global). map reached_of v.items) ∙ ap (λ (xs : List (Vec Reached Global)). length xs) (sym c.as_slice.ensures.value) in
-    named_within c.args.targets.now (length c.args.replicas.now) (length c.as_slice.result.now) same c.requires.within
-
-pub all_parts-requires-clause-order : goal.all_parts-requires-clause-order
-all_parts-requires-clause-order g c = subst (λ (xs : List (Vec Reached Global)). AllInOrder (all_reached_of xs)) (sym c.as_slice.ensures.value) c.in_ok-all.ensures.order
-
-pub opening_of-requires : goal.opening_of-requires
-opening_of-requires g c = subst (λ (rs : List Replica). All (λ t. t.replica < length rs) c.args.targets.now) (sym c.in_ok-all.ensures.same) c.requires.within
-
-pub give_results-requires : goal.give_results-requires
-give_results-requires g c = subst (λ (rs : List Replica). All (λ t. t.replica < length rs) c.args.targets.now) (sym (c.in_ok-remember_all.ensures ∙ c.in_ok-all.ensures.same)) c.requires.within
-
-pub returns-clause-registers : goal.returns-clause-registers
-returns-clause-registers g c = c.in_ok-give_results.ensures.ok.have.registers ∙ ap (map (λ (r : Replica). r.registers)) (c.in_ok-remember_all.ensures ∙ c.in_ok-all.ensures.same)
-
-pub run-requires-clause-within : goal.run-requires-clause-within
-run-requires-clause-within g c κs within =
-    subst (λ (ps : List Part). AllPartsWithin (length c.in_ok-all.all.items) ps) (sym c.as_slice-2.ensures.value)
-    (subst (λ (xs : List (Vec Reached Global)). AllPartsWithin (length xs) c.in_ok-parts.parts.items) c.as_slice.ensures.value c.in_ok-parts.ensures.within)
+pub build_over-requires-clause-holding : goal.build_over-requires-clause-holding
+build_over-requires-clause-holding g c κs within = numbers_within c.args.targets.now c.deref.result.now _ (c.deref.ensures.value ∙ c.in_ok-holders.ensures) c.requires.within
 
 pub returns-clause-ok : goal.returns-clause-ok
-returns-clause-ok g c took stand sized =
-    let all = all_reached_of c.in_ok-all.all.items in
-    let parts = map part_of c.in_ok-parts.parts.items in
-    let targets = map target_of c.args.targets.now in
-    let parts_are : AllZip (IsPartOf all) targets parts = subst (λ (xs : List (Vec Reached Global)). AllZip (IsPartOf (all_reached_of xs)) targets parts) c.as_slice.ensures.value c.in_ok-parts.ensures.are in
-    let run : IsRunOf c.in_ok-opening.opening all parts c.in_ok-reports.reports.items c.in_ok-reports.added =
-    subst (λ (ps : List Part). IsRunOf c.in_ok-opening.opening all (map part_of ps) c.in_ok-reports.reports.items c.in_ok-reports.added) c.as_slice-2.ensures.value c.in_ok-reports.ensures in
-    let same : c.all_planned.new.replicas ≡ c.args.replicas.now = c.in_ok-all.ensures.same in
-    let opens : IsOpening c.args.replicas.now targets c.in_ok-opening.opening = subst (λ (rs : List Replica). IsOpening rs targets c.in_ok-opening.opening) same c.in_ok-opening.ensures in
-    let take : TakeResults targets c.in_ok-reports.added c.args.replicas.now c.give_results.new.replicas =
-    subst (λ (rs : List Replica). TakeResults targets c.in_ok-reports.added rs c.give_results.new.replicas) (c.in_ok-remember_all.ensures ∙ same) c.in_ok-give_results.ensures.ok in
-    are_built c.args.edition c.args.replicas.now c.give_results.new.replicas took targets stand sized
-    all c.in_ok-all.ensures.ok parts parts_are c.in_ok-opening.opening opens c.in_ok-reports.reports.items c.in_ok-reports.added run take
+returns-clause-ok g c = IfOk-weaker c.build_over.result _ _ (λ reports built took stand sized.
+    let same : held_at took c.deref.result.now ≡ _ = ap (held_at took) (c.deref.ensures.value ∙ c.in_ok-holders.ensures) ∙ held_numbers took c.args.targets.now in
+    built took stand sized (λ a. (λ d. subst (λ (E : List Action). Contains E a) same d, λ d. subst (λ (E : List Action). Contains E a) (sym same) d))) c.build_over.ensures.ok

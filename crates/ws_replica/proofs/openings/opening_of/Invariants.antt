@@ -1,7 +1,6 @@
-use Rattle.std.proofs.Common.{map, take}
-use Rattle.ws_replica.specs.Builds.{target_of}
+use Rattle.std.proofs.Common.{take}
 use Rattle.ws_replica.proofs.TargetSteps.{IsOpenedBy}
 use Rattle.ws_replica.proofs.openings.opening_of.Given as goal
 
-abbrev pub invariant-loop-target : goal.invariant-loop-target
-invariant-loop-target l = IsOpenedBy l.replicas l.first.replica (map target_of (take l.target-index l.targets)) l.opening
+abbrev pub invariant-loop-number : goal.invariant-loop-number
+invariant-loop-number l = IsOpenedBy l.replicas l.first (take l.number-index l.numbers) l.opening

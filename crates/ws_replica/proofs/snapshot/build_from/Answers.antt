@@ -1,14 +1,14 @@
-use Rattle.std.proofs.Common.{◌≡◌, ◌∙◌, List, map, sym, ap, subst, length}
+use Rattle.std.proofs.Common.{◌≡◌, ◌<◌, ◌∙◌, ℕ, List, map, sym, ap, subst, length}
 use Rattle.std.proofs.lemmas.List.{length-map}
 use Rattle.std.specs.Prelude.{Vec}
 use Rattle.std.specs.Global.{Global}
 use Rattle.std.specs.FinMap.{FinMap}
-use Rattle.std.specs.List.{AllZip}
+use Rattle.std.specs.List.{All, AllZip}
 use Rattle.ws_map.specs.Kept.{joined}
 use Rattle.ws_action.specs.Actions.{Action}
-use Rattle.ws_cache.specs.Held.{id_cmp}
+use Rattle.ws_cache.specs.Held.{id_cmp, CacheStandsFor}
 use Rattle.ws_cache.specs.Joined.{lesser}
-use Rattle.ws_replica.specs.Builds.{target_of, AreBuiltFrom}
+use Rattle.ws_replica.specs.Builds.{target_of, held_at, held_by, AreBuiltFrom}
 use Rattle.ws_replica.specs.Holdings.{Replica}
 use Rattle.ws_replica.specs.Jobs.{reached_of, all_reached_of}
 use Rattle.ws_replica.specs.Parts.{part_of, AllPartsWithin, IsPartOf, IsRunOf}
@@ -17,6 +17,7 @@ use Rattle.ws_replica.specs.declared.parts.Part.{Part}
 use Rattle.ws_replica.specs.declared.reached.Reached.{Reached}
 use Rattle.ws_replica.proofs.BuiltTargets.{are_built_from}
 use Rattle.ws_replica.proofs.PartSteps.{named_within}
+use Rattle.ws_replica.proofs.TargetSteps.{held_numbers, numbers_within}
 use Rattle.ws_replica.proofs.snapshot.build_from.Goals as goal
 
 pub all_parts-requires-clause-named : goal.all_parts-requires-clause-named
@@ -29,6 +30,12 @@ all_parts-requires-clause-named g c =
 
 pub all_parts-requires-clause-order : goal.all_parts-requires-clause-order
 all_parts-requires-clause-order g c = subst (λ (xs : List (Vec Reached Global)). AllInOrder (all_reached_of xs)) (sym c.as_slice.ensures.value) c.in_ok-all.ensures.order
+
+pub opening_of-requires : goal.opening_of-requires
+opening_of-requires g c =
+    let held : c.deref.result.now ≡ c.args.snapshots.now = c.deref.ensures.value ∙ c.in_ok-replicas.ensures in
+    numbers_within c.args.targets.now c.deref-2.result.now (length c.deref.result.now) (c.deref-2.ensures.value ∙ c.in_ok-numbers.ensures)
+    (subst (λ (rs : List Replica). All (λ t. t.replica < length rs) c.args.targets.now) (sym held) c.requires.within)
 
 pub run-requires-clause-within : goal.run-requires-clause-within
 run-requires-clause-within g c κs within =
@@ -47,7 +54,10 @@ returns-clause-ok g c took stand sized =
     let parts_are : AllZip (IsPartOf all) targets parts = subst (λ (xs : List (Vec Reached Global)). AllZip (IsPartOf (all_reached_of xs)) targets parts) c.as_slice.ensures.value c.in_ok-parts.ensures.are in
     let run : IsRunOf opening all parts c.in_ok-reports.reports.items c.in_ok-reports.added =
     subst (λ (ps : List Part). IsRunOf opening all (map part_of ps) c.in_ok-reports.reports.items c.in_ok-reports.added) c.as_slice-2.ensures.value c.in_ok-reports.ensures in
-    let opens : IsOpening held targets opening = subst (λ (rs : List Replica). IsOpening rs targets opening) (c.deref.ensures.value ∙ c.in_ok-replicas.ensures) c.in_ok-opening.ensures in
+    let numbers : List ℕ = c.deref-2.result.now in
+    let opens : IsOpening held numbers opening = subst (λ (rs : List Replica). IsOpening rs numbers opening) (c.deref.ensures.value ∙ c.in_ok-replicas.ensures) c.in_ok-opening.ensures in
+    let same : held_at took numbers ≡ held_by took targets = ap (held_at took) (c.deref-2.ensures.value ∙ c.in_ok-numbers.ensures) ∙ held_numbers took c.args.targets.now in
+    let stands : CacheStandsFor opening (held_by took targets) = subst (CacheStandsFor opening) same (opens took stand) in
     let merged : c.merge.new.self ≡ joined lesser opening c.in_ok-reports.added = c.in_ok-merge.ensures.ok ∙ ap (λ (m : FinMap id_cmp Action). joined lesser m c.in_ok-reports.added) c.in_ok-cache.ensures in
     subst (AreBuiltFrom edition took targets c.in_ok-reports.reports.items) (sym merged)
-    (are_built_from edition held took targets stand sized all reached parts parts_are opening opens c.in_ok-reports.reports.items c.in_ok-reports.added run)
+    (are_built_from edition held took targets stand sized all reached parts parts_are opening stands c.in_ok-reports.reports.items c.in_ok-reports.added run)
