@@ -40,12 +40,12 @@ COUNTS = """# How often the house's rules are broken, which only shrinks: tools/
 def house(room, names="Whole b.alone " * 12, lines=41, functions=119, long=801):
     """A repository of one crate, whose rules are broken as far as these numbers say."""
     os.makedirs(os.path.join(room, "tools"), exist_ok=True)
-    for name in ("crates", "house.py", "kit.py", "gate"):
+    for name in ("crates", "house.py", "kit.py", "sources.py", "gate"):
         shutil.copy(os.path.join(TOP, "tools", name), os.path.join(room, "tools"))
     written(room, {f"crates/go_text/specs/{name}.antt": text for name, text in SPECS.items()})
     body = ROOT.replace("NAMES", names.strip()).replace("BODY", "\n".join(["    c;"] * (lines - 1)))
     written(room, {"crates/go_text/src/lib.rt": body + "fn more() {}\n" * (functions)})
-    written(room, {"crates.txt": "go_text:\n", "docs/GATE.md": "", "tools/minutes": "", "tests/rows": "\n" * long})
+    written(room, {"crates.txt": "go_text:\n", "docs/GATE.md": "", "tests/rows": "\n" * long})
     written(room, {"docs/PROOFS.md": "Of `first`: `Whole`.\n```\nalone\n```\n"})
     return lambda *words: ran(sys.executable, "tools/crates", *words, folder=room)
 

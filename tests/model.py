@@ -8,7 +8,7 @@ import hashlib
 import sys
 
 sys.dont_write_bytecode = True
-from script import GREATEST, LONGEST_TEXTS, REFUSALS, Refused, directory, edition_of, is_counted, is_of_package, is_path, name_of, number, targets_of, text_error
+from workspace import GREATEST, LONGEST_TEXTS, REFUSALS, Refused, directory, edition_of, is_counted, is_of_package, is_path, name_of, number, targets_of, text_error
 
 # A chain of 1,000 imports is asked for its end before it answers.
 sys.setrecursionlimit(20000)

@@ -25,7 +25,7 @@ def written(folder, files):
 def ran(*command, given=b"", folder=None, path=None):
     """Runs a command and returns its status, and what it printed and complained."""
     environment = dict(os.environ, PATH=f"{path}:{os.environ['PATH']}") if path else None
-    how = {"cwd": folder, "env": environment, "capture_output": True, "check": False, "timeout": 120}
+    how = {"cwd": folder, "env": environment, "capture_output": True, "check": False, "timeout": 300}
     done = subprocess.run(command, input=given, **how)
     return done.returncode, done.stdout.decode("utf-8", "replace"), done.stderr.decode("utf-8", "replace")
 

@@ -11,6 +11,7 @@ from dataclasses import dataclass
 from functools import cached_property
 
 from kit import PARTS, TOP
+from sources import Definition, Tree, read, rust_lines
 
 KEPT = os.path.join(TOP, "tools", "house.txt")
 PAGES = ("PROOFS", "TRUST", "THEOREM")
@@ -29,9 +30,7 @@ USE = {
 NAME = re.compile(r"[A-Za-z0-9_'?\-]+")
 CLAUSE = re.compile(r"\b(?:requires|ensures|invariant|decreases)\b\*?\s*(?:[A-Za-z_][\w-]*)?\s*\{")
 FUNCTION = re.compile(r"( *)(?:pub(?:\([a-z: ]+\))? )?(?:const )?fn (\w+)")
-DEFINITION = re.compile(r"(\s*)((?:(?:abbrev|unfoldable|pub|record|data|ruleset)\s+)*)([^\s:(){}]+)(?=[\s({:])")
-BLOCK = re.compile(r"\s*(abbrev mutual|mutual|module\b)")
-TOKEN = re.compile(r"[A-Za-z_0-9?'◌∷«»\-]+(?:\.[A-Za-z_0-9?'\-]+)*|[^\sA-Za-z_0-9(){},.]+")
+HEADER = re.compile(r"(?:  )?(?:abbrev |unfoldable |opaque )?pub (?:record |data )?([^\s:(){}]+)(?=[\s({:])")
 
 
 @dataclass
@@ -50,12 +49,10 @@ class Source:
 
     def __init__(self, path):
         self.path, self.ext = os.path.relpath(path, TOP), path.rsplit(".", 1)[1]
-        _, self.crate, self.part, *self.place = self.path.split("/")
-        with open(path, encoding="utf-8") as file:
-            self.text = file.read()
+        _, self.crate, self.part, *_ = self.path.split("/")
+        self.text = read(path)
         # (as long as the text, line by line)
         self.read = UNREAD[self.ext].sub(lambda it: re.sub(r"[^\n]", " ", it[0]), self.text)
-        self.module = ".".join([self.crate, self.part, *self.place]).rsplit(".", 1)[0]
 
     def line(self, at):
         return f"{self.path}:{self.text.count(chr(10), 0, at) + 1}"
@@ -68,28 +65,6 @@ class Source:
             alone = None if m[3] is not None else m[4] or m[2].split(".")[-1]
             found.append(Use(m.start(), bool(m[1]), m[2], [(it[0], it[-1]) for it in names], alone))
         return found
-
-    @cached_property
-    def defined(self):
-        """The definitions with their texts, and of each constructor or field its type."""
-        found, parts, current, depth = defaultdict(str), {}, None, 0
-        for line in filter(str.strip, self.read.split("\n")):
-            indent = len(line) - len(line.lstrip())
-            if indent < depth:
-                depth = indent - indent % 2
-            if re.match(r"(pub )?use ", line):
-                continue
-            if BLOCK.match(line):
-                depth, current = indent + 2, None
-                continue
-            m = DEFINITION.match(line)
-            if m and indent == depth and (m[2].strip() or re.match(r"\s*\S+\s*:", line)):
-                current = m[3], bool(re.search(r"\b(record|data)\b", m[2])), indent
-            elif current and current[1] and indent == current[2] + 2 and (part := re.match(r"\s*(?:pub )?([^\s:]+)", line)):
-                parts[part[1]] = current[0]
-            if current:
-                found[current[0]] += f"{line}\n"
-        return found, parts
 
 
 def says(name, names, text):
@@ -111,48 +86,21 @@ def unused(sources):
             yield from (f"{it.line(use.at)}: {name}" for name in lost)
 
 
-class Citations:
-    """Which definitions of specs/ each one stands on."""
-
-    def __init__(self, sources):
-        self.sources = sources
-        self.of = {it.module: it for it in sources if it.part == "specs" and it.place != ["Lib.antt"]}
-        self.known = {(module, name) for module, it in self.of.items() for name in it.defined[0]}
-        self.brought = {module: {name: (use.module, own) for use in it.uses for own, name in use.names} for module, it in self.of.items()}
-
-    def definition(self, module, name):
-        """The definition that a name of a module stands for, where a name of a part stands for its type's."""
-        whole = self.of[module].defined[1].get(name, name) if module in self.of else name
-        return (module, name) if (module, name) in self.known else (module, whole) if (module, whole) in self.known else None
-
-    def stands_on(self, module, name):
-        text = self.of[module].defined[0][name]
-        tokens = set(TOKEN.findall(text))
-        names = tokens | {it.partition(".")[0] for it in tokens} | set(NAME.findall(text))
-        brought = self.brought[module]
-        yield from (self.definition(module, it) for it in names)
-        yield from (self.definition(*brought[it]) for it in brought if it in names or not NAME.fullmatch(it) and says(it, names, text))
-        for use in self.of[module].uses:
-            if use.alone:
-                yield from (self.definition(use.module, it.split(".")[1]) for it in tokens if it.startswith(f"{use.alone}."))
-
-    def of_clauses(self):
-        """The definitions that the functions' own files name."""
-        for it in self.sources:
-            for use in it.uses if it.ext == "rt" else []:
-                names = [own for own, _ in use.names] or re.findall(rf"{re.escape(use.alone or '')}\.([A-Za-z_][\w'?-]*)", it.text)
-                yield from (self.definition(use.module, name) for name in names)
-
-
 def uncited(sources):
-    by, seen = Citations(sources), set()
-    todo = list(by.of_clauses())
-    while todo:
-        key = todo.pop()
-        if key and key not in seen:
-            seen.add(key)
-            todo += by.stands_on(*key)
-    yield from (f"{by.of[module].path}: {name}" for module, name in sorted(by.known - seen))
+    """Definitions of specs/ that nothing comes to from the functions' own files; those of one block are one."""
+    tree = Tree(TOP)
+    modules = [it for files in tree.code.values() for it in files]
+    left = [found for it in modules for found in tree.cited(Definition(it, [], rust_lines(text_of(it.file))))]
+    left += [found for it in modules for definition in it.defined.values() for found in tree.cited(definition)]
+    seen = set()
+    while left:
+        it = left.pop()
+        if not isinstance(it, str) and id(it) not in seen:
+            seen.add(id(it))
+            left += tree.cited(it)
+    for path in sorted(it for it in tree.logic if ".specs." in it and not it.endswith(".Lib")):
+        lost = {id(it): it for it in tree.module(path).defined.values() if id(it) not in seen}
+        yield from (f"{os.path.relpath(it.module.file, TOP)}: {it.names[0]}" for it in lost.values())
 
 
 def end_of_clause(text, at):
@@ -197,18 +145,22 @@ def long_bodies(sources):
 
 def ambiguous(sources):
     """Names in the pages on what is proved, beside their quotations, that two pages of specs/ define."""
-    pages = defaultdict(list)
+    pages, block = defaultdict(list), ""
     for it in sources:
-        for name in it.defined[0] if it.part == "specs" else ():
-            pages[name].append(it.path)
-    text = "".join(re.sub(r"(?s)```.*?```", "", read(os.path.join(TOP, "docs", f"{page}.md"))) for page in PAGES)
+        for line in it.read.split("\n") if it.part == "specs" else ():
+            block = line if line[:1].strip() else block
+            found = HEADER.match(line)
+            # (in a record they are its fields)
+            if found and found[1] != "use" and (line == block or "mutual" in block or block.startswith("module")):
+                pages[found[1]].append(it.path)
+    text = "".join(re.sub(r"(?s)```.*?```", "", text_of(os.path.join(TOP, "docs", f"{page}.md"))) for page in PAGES)
     named = {name for code in re.findall(r"`([^`]+)`", text) for name in NAME.findall(code)}
     yield from (f"{name}: {' '.join(pages[name])}" for name in sorted(named) if len(pages[name]) > 1)
 
 
 def long_files(sources):
     for path in [it.path for it in sources] + [it for pattern in SCRIPTS for it in glob.glob(pattern, root_dir=TOP)]:
-        lines = read(os.path.join(TOP, path)).count("\n") if os.path.isfile(os.path.join(TOP, path)) else 0
+        lines = text_of(os.path.join(TOP, path)).count("\n")
         if lines > LONG_FILE:
             yield f"{path}: {lines} lines"
 
@@ -229,11 +181,11 @@ LOOKS = {
 }
 
 
-def read(path):
+def text_of(path):
+    """The text of a file, or nothing where there is none."""
     try:
-        with open(path, encoding="utf-8") as file:
-            return file.read()
-    except (FileNotFoundError, UnicodeDecodeError):
+        return read(path)
+    except (OSError, UnicodeDecodeError):
         return ""
 
 
@@ -245,7 +197,7 @@ def found():
 
 
 def kept():
-    rows = (line.split(" ", 1) for line in read(KEPT).splitlines() if not line.startswith("#"))
+    rows = (line.split(" ", 1) for line in text_of(KEPT).splitlines() if not line.startswith("#"))
     return {rule: int(count) for count, rule in rows}
 
 

@@ -8,6 +8,7 @@ import functools
 import glob
 import hashlib
 import os
+import re
 import resource
 import select
 import shutil
@@ -19,8 +20,8 @@ import time
 TOP = os.path.dirname(os.path.dirname(os.path.abspath(__file__)))
 PROVED = os.path.join(TOP, "proved.txt")
 PARTS = ("src", "specs", "proofs")
-# All crates together, 8,400 kilobytes, took about 100 processor minutes.
-MINUTES_OF_A_KILOBYTE = 0.012
+# What the proof of a crate takes that the gate didn't time yet.
+MINUTES_OF_A_CRATE = 5
 NO_KIT = "there is no rt on the path: the Rattle kit is needed, as README.md says"
 
 
@@ -138,22 +139,15 @@ def said_of_proofs(program):
 
 
 def timed():
-    """The processor minutes that the proof of each crate took in a measured build, by tools/minutes."""
-    with open(os.path.join(TOP, "tools", "minutes"), encoding="utf-8") as file:
-        rows = (line.split() for line in file if line.strip() and not line.startswith("#"))
-        return {row[0]: float(row[1]) for row in rows}
+    """The processor minutes that the proof of each crate took in the run of the gate that docs/GATE.md tells of."""
+    with open(os.path.join(TOP, "docs", "GATE.md"), encoding="utf-8") as file:
+        return {name: float(worked) for name, worked in re.findall(r"(?m)^\| (\w+) \|[^|\n]*\| (\d+\.\d\d) \|", file.read())}
 
 
 def reckoned(crates):
-    """The processor minutes that the proofs of some crates take. One that wasn't timed takes what its size lets expect."""
+    """The processor minutes that the proofs of some crates take."""
     known = timed()
-    return sum(known[name] if name in known else size(name) * MINUTES_OF_A_KILOBYTE for name in crates)
-
-
-def size(crate):
-    """The kilobytes of a crate's sources."""
-    folders = [os.path.join(TOP, "crates", crate, part) for part in PARTS]
-    return sum(os.path.getsize(os.path.join(at, it)) for folder in folders for at, _, names in os.walk(folder) for it in names) / 1000
+    return sum(known.get(name, MINUTES_OF_A_CRATE) for name in crates)
 
 
 class Watch:

@@ -1,7 +1,7 @@
 """Proves a program of this checkout and what stands below it, and builds it.
 
-The prover's lines go to out/build.log, each with the minutes since the start. What is left is reckoned from tools/minutes at the pace
-of this build. Beside a proved program stands the sum of the sources that it was proved of.
+The prover's lines go to out/build.log, each with the minutes since the start. What is left is reckoned from docs/GATE.md. Beside a proved
+program stands the sum of the sources that it was proved of.
 """
 import os
 import re
@@ -58,95 +58,58 @@ def keep_sum(program, total):
     os.utime(kit.program_file(program))
 
 
-class Log:
-    """The log of a build, whose lines have the minutes since the start."""
+class Progress:
+    """How far a proof is, and its log."""
 
-    def __init__(self, file):
-        self.file, self.start = file, time.monotonic()
-
-    def minutes(self):
-        return (time.monotonic() - self.start) / 60
+    def __init__(self, crates, file):
+        self.crates, self.done, self.functions = crates, 0, ""
+        self.file, self.start, self.last, self.begun = file, time.monotonic(), time.monotonic(), time.monotonic()
 
     def write(self, line):
-        self.file.write(f"{self.minutes():7.2f} {line}")
+        self.file.write(f"{(time.monotonic() - self.start) / 60:7.2f} {line}")
         self.file.flush()
 
-
-class Progress:
-    """How far a proof is: the crates that are done, and the one that is proved now. The pace is that of crates which began
-    with nothing that an earlier run kept."""
-
-    def __init__(self, program, log):
-        self.crates, self.done, self.measured, self.worked = kit.needed(program), [], [], 0.0
-        self.log, self.last = log, log.minutes()
-        self.begin(None)
-
-    def begin(self, name):
-        self.now, self.functions, self.is_measured = name, "", False
-        self.start, self.before = self.log.minutes(), kit.processor_seconds()
-
-    def end(self):
-        """Notes that the crate is proved, and what that took."""
-        self.done.append(self.now)
-        if self.is_measured:
-            self.measured.append(self.now)
-            self.worked += self.log.minutes() - self.start
-            seconds = kit.processor_seconds() - self.before
-            self.log.write(f"goset: {self.now} took {seconds:.0f} processor seconds\n")
-
     def hear(self, line):
+        """Takes a line of the prover."""
+        self.write(line)
         if line.startswith("rt: waiting for another rt"):
             say(line.strip().removeprefix("rt: "))
-        if line.startswith("logic=proved"):
-            self.is_measured = self.is_measured is not None
-        elif "begins with what a check kept" in line:
-            self.is_measured = None
         counted = re.match(r"so far: (\d+ of \d+ functions)", line)
         self.functions = f" ({counted[1]})" if counted else self.functions
 
-    def left(self):
-        """The minutes that are left."""
-        passed, rest = kit.reckoned(self.measured), self.crates[len(self.done) :]
-        pace = min(max(self.worked / passed, 0.1), 10.0) if passed > 0 else 1 / gain()
-        here, later = (kit.reckoned(it) * pace for it in (rest[:1], rest[1:]))
-        return later + max(here - (self.log.minutes() - self.start), 0.0)
+    def end(self):
+        """Notes that the crate is proved."""
+        self.done, self.functions, self.begun = self.done + 1, "", time.monotonic()
 
     def tell(self):
         """Says how far it is, if it is time for that."""
-        if (self.log.minutes() - self.last) * 60 >= QUIET_SECONDS:
-            self.last = self.log.minutes()
-            where = f"{len(self.done)} of {len(self.crates)} crates proved, now {self.now}{self.functions}"
-            say(f"{where}; {told_minutes(self.left())} left")
+        now, rest = time.monotonic(), self.crates[self.done :]
+        if now - self.last >= QUIET_SECONDS:
+            here, later = (kit.reckoned(it) / gain() for it in (rest[:1], rest[1:]))
+            left = later + max(here - (now - self.begun) / 60, 0.0)
+            say(f"{self.done} of {len(self.crates)} crates proved, now {rest[0]}{self.functions}; {told_minutes(left)} left")
+            self.last = now
 
 
-def run_logged(command, folder, log, progress):
-    """Runs a command of the kit, writes its lines into the log, and returns its status."""
-    how = {"cwd": folder, "stdin": subprocess.DEVNULL, "stdout": subprocess.PIPE, "stderr": subprocess.STDOUT}
-    with kit.started(command, **how) as child:
-        for line in kit.lines_of(child, SECONDS_OF_A_LOOK):
-            if line is not None:
-                log.write(line)
-                progress.hear(line)
-            progress.tell()
-        return child.wait()
-
-
-def prove(program, log):
-    """Proves the program and what it stands on, and builds it; returns the status."""
-    progress = Progress(program, log)
-    log.write(f"goset: {said('rt', 'version')}, {kit.processors()} processors\n")
-    log.write(f"goset: sources of commit {said('git', 'rev-parse', '--short', 'HEAD') or 'unknown'}\n")
-    say(f"proving the {len(progress.crates)} crates of {program}, and then building it: {cost(program)}")
-    for name in progress.crates:
-        progress.begin(name)
-        log.write(f"goset: {name}\n")
+def prove(crates, file, program=None):
+    """Proves crates, each behind those below it, and builds the program, if there is one; returns the status."""
+    progress = Progress(crates, file)
+    progress.write(f"goset: {said('rt', 'version')}, {kit.processors()} processors\n")
+    progress.write(f"goset: sources of commit {said('git', 'rev-parse', '--short', 'HEAD') or 'unknown'}\n")
+    say(f"proving {len(crates)} crates{' and then building the program' * bool(program)}: {cost(crates)}")
+    for name in crates:
+        progress.write(f"goset: {name}\n")
         # a crate behind all below it is proved without a quick pass over all sources, and by as many processes as fit
-        command = ["rt", "run" if name == program else "lib"]
-        status = run_logged(command, os.path.join(TOP, "crates", name), log, progress)
-        if status:
-            return status
+        how = {"cwd": os.path.join(TOP, "crates", name), "stdin": subprocess.DEVNULL, "stdout": subprocess.PIPE, "stderr": subprocess.STDOUT}
+        with kit.started(["rt", "run" if name == program else "lib"], **how) as child:
+            for line in kit.lines_of(child, SECONDS_OF_A_LOOK):
+                if line is not None:
+                    progress.hear(line)
+                progress.tell()
+            if child.wait():
+                return child.returncode
         progress.end()
-    say(f"{len(progress.done)} of {len(progress.crates)} crates proved, and the program is built")
+    say(f"{progress.done} of {progress.done} crates proved{', and the program is built' * bool(program)}")
     return 0
 
 
@@ -159,17 +122,23 @@ def gain():
     return min(kit.processors(), 2)
 
 
-def cost(program):
-    """What a proof of the program takes, in words."""
-    minutes = kit.reckoned(kit.needed(program)) / gain()
-    return f"{told_minutes(minutes)} where nothing is proved yet and nothing runs beside it"
+def cost(crates):
+    """What a proof of some crates takes, in words."""
+    return f"{told_minutes(kit.reckoned(crates) / gain())} where nothing is proved yet and nothing runs beside it"
 
 
-def show_end():
-    """Prints the first errors of the log, and its end."""
-    with open(LOG, encoding="utf-8") as log:
-        lines = log.readlines()
-    print("".join([it for it in lines[:-20] if ": error" in it][:10] + lines[-20:]), end="", file=sys.stderr)
+def logged(prove):
+    """Calls what proves with the log, and shows the first errors of the log and its end where that fails; returns the status."""
+    os.makedirs(os.path.dirname(LOG), exist_ok=True)
+    with open(LOG, "w+", encoding="utf-8") as file:
+        say(f"the prover's lines go to {os.path.relpath(LOG)}")
+        status = prove(file)
+        file.seek(0)
+        lines = file.readlines() if status else []
+    if status:
+        print("".join([it for it in lines[:-20] if ": error" in it][:10] + lines[-20:]), end="", file=sys.stderr)
+        say(f"the build failed; these are the first errors and the end of {os.path.relpath(LOG)}")
+    return status
 
 
 def build(program):
@@ -177,16 +146,11 @@ def build(program):
     if is_current(program):
         return 0
     total = sources_sum(program)
-    with open(LOG, "w", encoding="utf-8") as file:
-        say(f"the prover's lines go to {os.path.relpath(LOG)}")
-        status = prove(program, Log(file))
-    if status:
-        show_end()
-        say(f"the build failed; these are the first errors and the end of {os.path.relpath(LOG)}")
-    elif sources_sum(program) != total:
+    status = logged(lambda file: prove(kit.needed(program), file, program))
+    if not status and sources_sum(program) != total:
         say("a source changed meanwhile: this program is of no sources that are there; start again")
-        status = 1
-    else:
+        return 1
+    if not status:
         keep_sum(program, total)
     return status
 

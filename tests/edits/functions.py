@@ -13,16 +13,18 @@ ANSWERED = re.compile(r"(?:note: )?(?:\./)?proofs/(?P<at>\S+?)/(?:Answers|Invari
 
 
 class Function:
-    """A function of a source file: its lines, the name that tells it from others, and what `rt check --only` calls it, if it does."""
+    """A function of a source file: its lines, its type and the trait, if it has any, the name that tells it from others, and what
+    `rt check --only` calls it, if it does."""
 
-    def __init__(self, file, first, last, owner, name, cycle):
-        self.file, self.first, self.last, self.name = file, first, last, name
+    def __init__(self, file, lines, first, owner, name, cycle):
+        self.file, self.first, self.last, self.name = file, first, first + len(lines) - 1, name
+        self.text, self.types = "\n".join(lines), owner or ()
         self.modules = re.fullmatch(r"src/(.+)\.rt", file)[1].split("/")
         if self.modules in (["lib"], ["main"]):
             self.modules = []
         # (functions of a cycle have one proof)
         self.key = cycle or (file, first)
-        self.word = None if owner is None else "::".join([*self.modules, *owner, name])
+        self.word = None if owner is None else "::".join([*self.modules, *filter(None, ["".join(owner)]), name])
 
     def is_meant(self, line):
         """Whether a line says that a goal of the function isn't proved."""
@@ -45,29 +47,18 @@ class Function:
 
 def functions_in(file, text):
     """The functions of a source file."""
-    found, owner, indent, begun, cycle = [], [], "", None, None
-    for number, line in enumerate(text.split("\n"), 1):
+    found, owner, indent, begun, cycle, lines = [], (), "", None, None, text.split("\n")
+    for number, line in enumerate(lines, 1):
         if line.startswith("impl"):
             head = re.match(r"impl(?:<.*?>)? (?:(\w+) for )?(\w+)(?:<.*>)? \{$", line)
-            owner, indent = [head[2] + (head[1] or "")] if head else None, "    "
+            owner, indent = (head[2], head[1] or "") if head else None, "    "
         elif line == "}" and indent and not begun:
-            owner, indent = [], ""
+            owner, indent = (), ""
         cycle = (re.match(r"\s*#\[cycle\((\w+)\)\]", line) or [None, cycle])[1]
         head = re.match(indent + r"(?:pub(?:\(.*?\))? )?(?:const )?fn (\w+)", line)
         if head:
             begun = number, head[1]
         if begun and line == indent + "}":
-            found.append(Function(file, begun[0], number, owner, begun[1], cycle))
+            found.append(Function(file, lines[begun[0] - 1 : number], begun[0], owner, begun[1], cycle))
             begun, cycle = None, None
     return found
-
-
-def without_bodies(file, text):
-    """A source file without comments and without what functions do: what crates above it rest on."""
-    lines = text.split("\n")
-    for it in functions_in(file, text):
-        its = lines[it.first - 1 : it.last]
-        opens = [at for at, line in enumerate(its) if line.strip() == "{"] or [at for at, line in enumerate(its) if line.endswith(" {")]
-        if opens:
-            lines[it.first + opens[0] : it.last - 1] = [""] * (len(its) - opens[0] - 2)
-    return "\n".join(line for line in lines if line.strip() and not line.lstrip().startswith("//"))

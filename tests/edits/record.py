@@ -1,10 +1,10 @@
 """What was seen of must-fail edits: which were refused, by what, and on which sources.
 
-tests/edits/seen.txt has a line for each edit that was tried. An edit is due where its crate, a contract of a crate below
-it, or its own text differs from what was tried then. The tables of README.md are made of that file.
+tests/edits/seen.txt has a line for each edit that was tried. An edit is due where its text, a function that it changes, or
+anything that is stated of what this function names differs from what was tried then. The tables of README.md are made of
+that file.
 """
 import glob
-import hashlib
 import os
 import re
 import subprocess
@@ -13,20 +13,21 @@ import sys
 HERE = os.path.dirname(os.path.abspath(__file__))
 TOP = os.path.dirname(os.path.dirname(HERE))
 SEEN, PAGE = os.path.join(HERE, "seen.txt"), os.path.join(HERE, "README.md")
-sys.path[:0] = [HERE, os.path.join(TOP, "tools")]
-from functions import ANSWERED, PLACED, SEARCHED, without_bodies
-from kit import needed
+sys.path.insert(0, HERE)
+from functions import ANSWERED, PLACED, SEARCHED
+from stated import Stated, read
 
-PARTS = ("src", "specs", "proofs")
 TITLE = """\
-# The must-fail edits that were tried, by `tests/edits/try` or the gate. A line has the edit; digests of its crate's sources,
-# of the contracts of the crates below it, and of its own text; the kit; and what the prover said of it.
+# The must-fail edits that were tried, by `tests/edits/try` or the gate. A line has the edit; digests of its text with the
+# functions that it changes, and of what is stated of all that these name; the kit; and what the prover said of it.
 """
 
 SECTION = "## What was seen, and what is due\n"
 MADE = """
-`tests/edits/try --page` makes this table from seen.txt. An edit is due where its crate's sources, a contract of a crate
-below it or its own text aren't those on which it was tried; `tests/edits/try --due` says which, and why.
+`tests/edits/try --page` makes this table from seen.txt. An edit is due where its text or the function that it changes isn't
+what was tried, or anything that its refusal rests on: the function's contract, the contracts and types of what it calls, and
+the definitions that these cite, in any crate. `tests/edits/try --due` says which are due, and why. Where no line of the
+prover was kept, an earlier run of the gate that passed refused the edit, on sources that are the same by this rule.
 
 | Crate | Edits | Refused | Not refused | Due |
 |---|---|---|---|---|
@@ -43,76 +44,25 @@ def edits():
     return dict(sorted(found.items()))
 
 
-def text_of(path):
-    with open(path, encoding="utf-8") as file:
-        return file.read()
-
-
-def digest(texts):
-    return hashlib.sha256("\0".join(texts).encode()).hexdigest()[:12]
-
-
-def files_of(crate, parts):
-    """The files of these parts of a crate, by their names in its folder."""
-    folder = os.path.join(TOP, "crates", crate)
-    found = []
-    for part in parts:
-        for at, _, names in os.walk(os.path.join(folder, part)):
-            found += [os.path.relpath(os.path.join(at, name), folder) for name in names]
-    return {file: os.path.join(folder, file) for file in sorted(found)}
-
-
-def sources(crate):
-    """A digest of a crate's sources."""
-    return digest(it for file, path in files_of(crate, PARTS).items() for it in (file, text_of(path)))
-
-
-def contracts(crate):
-    """What crates above rest on: definitions, and sources without what functions do."""
-    told = []
-    for file, path in files_of(crate, ("src", "specs")).items():
-        text = text_of(path)
-        told += [file, without_bodies(file, text) if file.startswith("src/") else text]
-    return digest(told)
-
-
-class Sources:
-    """The digests of the checkout, each made once."""
-
-    def __init__(self):
-        self.own, self.stated, self.beneath = {}, {}, {}
-
-    def of(self, crate):
-        """The digests of a crate's sources, and of the contracts of all crates below it."""
-        if crate not in self.own:
-            self.own[crate] = sources(crate)
-            below = [it for it in needed(crate) if it != crate]
-            for it in below:
-                self.stated[it] = self.stated.get(it) or contracts(it)
-            self.beneath[crate] = digest(it + self.stated[it] for it in sorted(below))
-        return self.own[crate], self.beneath[crate]
-
-
 def kit_name():
     said = subprocess.run(["rt", "version"], capture_output=True, text=True, check=False).stdout.split()
     return said[0] if said else "unknown"
 
 
 def seen():
-    """What was seen of each edit: the digests of its crate, of what is below it and of its text, the kit, and what was said."""
+    """What was seen of each edit: the digests of what it changes and of what is stated of that, the kit, and what was said."""
     if not os.path.exists(SEEN):
         return {}
-    rows = [line.split(" ", 5) for line in text_of(SEEN).split("\n") if line and not line.startswith("#")]
+    rows = [line.split(" ", 4) for line in read(SEEN).split("\n") if line and not line.startswith("#")]
     return {edit: tuple(rest) for edit, *rest in rows}
 
 
 def note(told, kit=None):
     """Keeps what was said of some edits, on the sources as they are."""
-    known, files, now, kit = seen(), edits(), Sources(), kit or kit_name()
+    known, files, now, kit = seen(), edits(), Stated(), kit or kit_name()
     for edit, said in told.items():
         if edit in files:
-            own, below = now.of(edit.partition("/")[0])
-            known[edit] = (own, below, digest([text_of(files[edit])]), kit, said.strip())
+            known[edit] = (*now.of(edit, files[edit]), kit, said.strip())
     rows = [" ".join([edit, *known[edit]]) for edit in sorted(known) if edit in files]
     with open(SEEN, "w", encoding="utf-8") as file:
         file.write(TITLE + "\n".join(rows) + "\n")
@@ -122,17 +72,15 @@ def why_due(edit, path, known, now):
     """Why an edit is due, or nothing where what was seen of it holds."""
     if edit not in known:
         return "it was never tried"
-    own, below = now.of(edit.partition("/")[0])
-    if known[edit][2] != digest([text_of(path)]):
-        return "its text changed"
-    if known[edit][0] != own:
-        return "its crate changed"
-    return "" if known[edit][1] == below else "a contract below its crate changed"
+    changed, stated = now.of(edit, path)
+    if known[edit][0] != changed:
+        return "its text changed, or what it changes"
+    return "" if known[edit][1] == stated else "a contract, type or definition changed that its function names"
 
 
 def due():
     """The edits that are due, each with why."""
-    known, now = seen(), Sources()
+    known, now = seen(), Stated()
     reasons = {edit: why_due(edit, path, known, now) for edit, path in edits().items()}
     return {edit: why for edit, why in reasons.items() if why}
 
@@ -177,7 +125,7 @@ def read_gate(log):
     """Keeps what a log of the gate says of edits, where the crates are those that it ran on; or says why they aren't."""
     if not os.path.isfile(log):
         return f"there is no log {os.path.relpath(log)}: a run of .ci/run writes out/gate.log"
-    lines = [re.sub(r"^ *\d+\.\d\d ", "", line) for line in text_of(log).split("\n")]
+    lines = [re.sub(r"^ *\d+\.\d\d ", "", line) for line in read(log).split("\n")]
     tree = next((line.rpartition(" ")[2] for line in lines if line.startswith("gate: crates of tree ")), None)
     if not tree or tree != git("rev-parse", "HEAD:crates") or git("status", "--porcelain", "crates", "crates.txt"):
         return f"{os.path.relpath(log)} isn't of the crates as they are here"
@@ -193,7 +141,7 @@ def told(edit, path, known, now):
     """What the page says of an edit."""
     if why_due(edit, path, known, now):
         return "due"
-    said = known[edit][4]
+    said = known[edit][3]
     return said.removeprefix(REFUSED) if is_refused(said) else f"**{said}**"
 
 
@@ -210,7 +158,7 @@ def counts(files, known, now):
     found = {}
     for edit, path in files.items():
         row = found.setdefault(edit.partition("/")[0], [0, 0, 0, 0])
-        which = 3 if why_due(edit, path, known, now) else 1 if is_refused(known[edit][4]) else 2
+        which = 3 if why_due(edit, path, known, now) else 1 if is_refused(known[edit][3]) else 2
         row[0] += 1
         row[which] += 1
     return found
@@ -218,8 +166,8 @@ def counts(files, known, now):
 
 def page():
     """Writes the tables of the page anew."""
-    files, known, now = edits(), seen(), Sources()
-    written, _, _ = text_of(PAGE).partition(SECTION)
+    files, known, now = edits(), seen(), Stated()
+    written, _, _ = read(PAGE).partition(SECTION)
     rows = counts(files, known, now)
     total = [sum(row[at] for row in rows.values()) for at in range(4)]
     lines = [with_causes(line, files, known, now) for line in written.split("\n")]
