@@ -1,22 +1,23 @@
 -- What is known of the objects of specifications that have no fault.
-use Rattle.std.proofs.Common.{◌≡◌, ℕ, zero, suc, ◌+◌, ◌<◌, true, false, List, [], ◌∷◌, ◌++◌, Option, Some, None, map, length, refl, sym, ap, ◌∙◌, subst, arith, eq-eqb}
+use Rattle.std.proofs.Common.{◌≡◌, ℕ, zero, suc, ◌+◌, ◌<◌, Bool, true, false, List, [], ◌∷◌, ◌++◌, Option, Some, None, map, length, refl, sym, ap, ◌∙◌, subst, arith, eq-eqb}
 use Rattle.std.specs.Prelude.{option_map, option_and_then, unwrap_or, nat_eq}
-use Rattle.std.specs.List.{slice_get}
+use Rattle.std.specs.List.{slice_get, list_any}
 use Rattle.go_text.specs.declared.place.Place.{Place}
-use Rattle.go_ast.specs.Trees.{Name, TypeExpr, Expr, Exprs, no_exprs, some_exprs}
+use Rattle.go_ast.specs.Trees.{Name, TypeExpr, Expr, Exprs, no_exprs, some_exprs, ConstSpec}
 use Rattle.go_types.specs.Types.{Type'}
 use Rattle.go_typed.specs.Trees as typed
 use Rattle.go_typed.specs.Trees.{Symbol}
 use Rattle.go_scope.specs.Names.{Used, in_expr, in_exprs}
-use Rattle.go_expr.specs.Known.{Known, results, Verdict, Scope}
+use Rattle.go_expr.specs.Known.{Known, results, Verdict, Scope, look_up}
 use Rattle.go_expr.specs.Rules.{fine, defaulted, settled_type}
 use Rattle.go_expr.specs.Verdicts as verdicts
 use Rattle.go_expr.specs.Verdicts.{asked, asked_both, joined, operand, operands, verdict, type_verdict, broken, bare_place, operand_broken, faults, type_faults}
-use Rattle.go_stmt.specs.Rules.{values_of, constants_of as constants_rule}
-use Rattle.go_stmt.specs.Statements.{each_of, operands_faults, values_faults}
+use Rattle.go_stmt.specs.Rules.{values_of, constants_of as constants_rule, variables_source}
+use Rattle.go_stmt.specs.Statements.{each_of, operands_faults, values_known, values_faults, written_faults, repeated_faults}
+use Rattle.go_stmt.proofs.Repeats.{repeated_none}
 use Rattle.go_objects.specs.Objects.{Form, constant, valued_variable, Object, paired, begin_of, other_object, unpaired, constants_of, typed_object, result_objects, variables_of}
 use Rattle.go_objects.specs.Table.{in_written, result_type, variable, declared_in}
-use Rattle.go_decl.specs.Faults.{Facts, written_type, written_faults, spec_broken, var_broken}
+use Rattle.go_decl.specs.Faults.{Facts, written_type, hides_repeated, parts_faults}
 use Rattle.go_check_laws.specs.Finds.{IsKnown}
 use Rattle.go_check_laws.proofs.Faultless.{Tells, first, second, two_none, known, mapped, type_known, value_known, operands_known, settle}
 use Rattle.go_check_laws.proofs.Rules.{defaults}
@@ -25,6 +26,7 @@ use Rattle.go_check_laws.proofs.Counts.{settled_known}
 use Rattle.go_check_laws.proofs.Groups.{constant_parts}
 use Rattle.go_check_laws.proofs.Proper.{proper, scope_proper, IsProper}
 use Rattle.go_check_laws.proofs.Counted.{Counted, counted, paired_counted, never, one_value, one_call}
+use Rattle.go_check_laws.proofs.Shown.{told_shown}
 use Rattle.go_check_laws.proofs.Follows.{scope_of, Follows, AllFollow, constant_follows, typed_follows}
 
 either : (t : Facts) (o : Option (List Object)) (os : List Object) → ((xs : List Object) → o ≡ Some xs → AllFollow t xs) → (o ≡ None → AllFollow t os) → AllFollow t (unwrap_or o os)
@@ -61,12 +63,12 @@ others_follow t file of es ns h = each_other t file ns of es ns h
 
 -- ---- constants
 
-abbrev IsFaultless : Scope → Expr → Type 0
-IsFaultless s e = faults s e ++ operand_broken e (verdict s e) ≡ []
+abbrev Anything : Expr → Type 0
+Anything e = Unit {0}
 
-each_fine : (s : Scope) (es : Exprs) → verdicts.operands_faults s es ≡ [] → EachOf (IsFaultless s) es
-each_fine s no_exprs none = tt
-each_fine s (some_exprs e es) none = (let ns = two_none (faults s e ++ operand_broken e (verdict s e)) (verdicts.operands_faults s es) none in (ns.0, each_fine s es ns.1))
+any_each : (es : Exprs) → EachOf Anything es
+any_each no_exprs = tt
+any_each (some_exprs e es) = (tt, any_each es)
 
 one_more : (a : Option typed.Expr) (b : Option (List typed.Expr)) (xs : List typed.Expr) → joined (option_map (λ v. v ∷ []) a) b ≡ Some xs → (ys : List typed.Expr) × (b ≡ Some ys) × (length xs ≡ suc (length ys))
 one_more None b xs is = absurd cc
@@ -82,7 +84,7 @@ written_known s None tells none = (None, refl)
 written_known s (Some t) tells none = mapped Some (fine (type_verdict s t)) (type_known s t tells none)
 
 unmatched : {A : Type 0} (f : Name → Expr → A) (s : Scope) (p : Place) (ns : List Name) (of : Option TypeExpr) (es : Exprs) → Tells s (in_written of ++ in_exprs es) → written_faults s of ≡ [] → verdicts.operands_faults s es ≡ []
-    → spec_broken p s (record { names = ns; type = of; values = es }) ≡ [] → paired f ns es ≡ None → ⊥
+    → broken p (asked_both (constants_rule ns) (written_type s of) (operands s es)) ≡ [] → paired f ns es ≡ None → ⊥
 unmatched f s p ns of es tells w v whole none =
     let k = written_known s of (first s (in_written of) (in_exprs es) tells) w in
     let l = operands_known s es (second s (in_written of) (in_exprs es) tells) v in
@@ -91,14 +93,31 @@ unmatched f s p ns of es tells w v whole none =
     let parts = constant_parts ns k.0 l.0 _ _ refl refl (known p (constants_rule ns k.0 l.0) (constants ns k.0 l.0) there) in
     paired_counted f (λ e. operand (verdict s e)) ns es (parts.1 ∙ operands_counted s es l.0 l.1) none
 
-pub constants_follow : (t : Facts) (file iota : ℕ) (p : Place) (ns : List Name) (of : Option TypeExpr) (es : Exprs) → written_faults (scope_of t file (Some iota)) of ≡ [] → verdicts.operands_faults (scope_of t file (Some iota)) es ≡ []
-    → spec_broken p (scope_of t file (Some iota)) (record { names = ns; type = of; values = es }) ≡ [] → AllFollow t (constants_of file iota (record { names = ns; type = of; values = es }))
-constants_follow t file iota p ns of es w v whole =
+-- where all names are told none of them hides what is repeated
+not_hidden : (t : Facts) (file : ℕ) (p : Place) (s : Scope) (us : List Used) → Tells s us → list_any (hides_repeated t file p s) us ≡ false
+not_hidden t file p s [] tells = refl
+not_hidden t file p s (u ∷ us) tells = (let one = told_shown (look_up u.0 s.names) tells.0 in rw one (not_hidden t file p s us tells.1))
+
+told_parts : (t : Facts) (file : ℕ) (repeated : Bool) (p : Place) (s : Scope) (spec : ConstSpec) → Tells s (in_written spec.type ++ in_exprs spec.values) → parts_faults t file repeated p s spec ≡ []
+    → written_faults s spec.type ++ operands_faults s spec.values ≡ []
+told_parts t file true p s spec tells none =
+    let shown = not_hidden t file p s (in_written spec.type ++ in_exprs spec.values) tells in
+    repeated_none p s spec.type spec.values (subst (λ b. repeated_faults b p s spec.type spec.values ≡ []) shown none)
+told_parts t file false p s spec tells none = none
+
+pub constants_follow : (t : Facts) (file iota : ℕ) (repeated : Bool) (p : Place) (ns : List Name) (of : Option TypeExpr) (es : Exprs)
+    → parts_faults t file repeated p (scope_of t file (Some iota)) (record { names = ns; type = of; values = es }) ≡ []
+    → broken p (asked_both (constants_rule ns) (written_type (scope_of t file (Some iota)) of) (operands (scope_of t file (Some iota)) es)) ≡ []
+    → AllFollow t (constants_of file iota (record { names = ns; type = of; values = es }))
+constants_follow t file iota repeated p ns of es parts whole =
     let s = scope_of t file (Some iota) in
     let form : Expr → Form = λ e. constant of e iota in
     either t (paired (made file ns form) ns es) (unpaired file of es ns)
-    (λ os is. pairs_follow t file ns form (IsFaultless s) (λ n e h. constant_follows t file (begin_of ns n) n of e iota w h) ns es (each_fine s es v) os is)
-    (λ none. others_follow t file of es ns (λ tells. unmatched (made file ns form) s p ns of es (tells (Some iota)) w v whole none))
+    (λ os is. pairs_follow t file ns form Anything (λ n e h. constant_follows t file (begin_of ns n) n of e iota) ns es (any_each es) os is)
+    (λ none. others_follow t file of es ns (λ tells. (
+    let told = tells (Some iota) in
+    let parts_none = two_none (written_faults s of) (operands_faults s es) (told_parts t file repeated p s (record { names = ns; type = of; values = es }) told parts) in
+    unmatched (made file ns form) s p ns of es told parts_none.0 parts_none.1 whole none)))
 
 -- ---- variables
 
@@ -181,7 +200,7 @@ some_calls s ns e several none h tells =
     (call.0, call.1, call.2, ap fine k.1 ∙ ap Some call.3, call.4)
 
 pub variables_follow : (t : Facts) (file : ℕ) (p : Place) (n : Name) (ns : List Name) (of : Option TypeExpr) (es : Exprs) → written_faults (scope_of t file None) of ≡ [] → values_faults (scope_of t file None) es ≡ []
-    → var_broken p (scope_of t file None) (record { names = n ∷ ns; type = of; values = es }) ≡ [] → AllFollow t (variables_of file (record { names = n ∷ ns; type = of; values = es }))
+    → broken p (asked_both (variables_source (n ∷ ns)) (written_type (scope_of t file None) of) (values_known (scope_of t file None) es)) ≡ [] → AllFollow t (variables_of file (record { names = n ∷ ns; type = of; values = es }))
 variables_follow t file p n ns (Some of) es w v whole = typeds_follow t file (n ∷ ns) of (n ∷ ns) w
 variables_follow t file p n ns None no_exprs w v whole =
     let s = scope_of t file None in

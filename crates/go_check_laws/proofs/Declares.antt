@@ -1,5 +1,5 @@
 -- Statements that declare variables: each is known.
-use Rattle.std.proofs.Common.{◌≡◌, ℕ, true, false, not, ◌&&◌, List, [], ◌∷◌, Option, Some, None, map, refl, sym, ap, subst, ◌∙◌, inl, inr}
+use Rattle.std.proofs.Common.{◌≡◌, ℕ, Bool, true, false, not, ◌&&◌, List, [], ◌∷◌, Option, Some, None, map, refl, sym, ap, subst, ◌∙◌, inl, inr}
 use Rattle.std.specs.Prelude.{is_some, option_map, bytes_eq}
 use Rattle.std.specs.List.{list_any}
 use Rattle.std.specs.Map.{lookup}
@@ -14,7 +14,7 @@ use Rattle.go_expr.specs.Known.{Declared, value, Scope, Fine}
 use Rattle.go_expr.specs.Rules.{fine, checked}
 use Rattle.go_expr.specs.Verdicts.{asked, both, type_verdict}
 use Rattle.go_stmt.specs.Scopes.{Env, Context, scope_in, own, number_of, paired, declare_new, follow}
-use Rattle.go_stmt.specs.Rules.{all_some, Values, suited, variables_source, differ, is_new, due_for, redefined}
+use Rattle.go_stmt.specs.Rules.{all_some, Values, suited, variables_source, differ, is_new, due_for, dues_for, redefined}
 use Rattle.go_stmt.specs.Statements.{values_at, values_known, value_types, names_at, written_at, place_at, variable_types, variables_at, specs_at, short_at}
 use Rattle.go_check_laws.specs.Finds.{IsKnown}
 use Rattle.go_check_laws.proofs.Rules.{through}
@@ -98,51 +98,57 @@ abbrev Old : Option Type' → Option (Option Declared) → Type 0
 Old None o = Unit {0}
 Old (Some t) o = is_some o ≡ true
 
-one_due : (o : Option (Option Declared)) (d : Option (Option Type')) → IsToldOwn o → due_for o ≡ Some d → (k : Option Type') × (d ≡ Some k) × Old k o
-one_due None d told is = (None, (let r : Some None ≡ d = cc in sym r), tt)
-one_due (Some None) d told is = absurd told
-one_due (Some (Some (value (local t n)))) d told is = (Some t, (let r : Some (Some t) ≡ d = cc in sym r), refl)
-one_due (Some (Some (value e))) d told is = absurd cc
-one_due (Some (Some k)) d told is = absurd cc
+one_due : (b : Bool) (o : Option (Option Declared)) (d : Option (Option Type')) → IsToldOwn o → due_for b o ≡ Some d → (k : Option Type') × (d ≡ Some k) × Old k o
+one_due b None d told is = (None, (let r : Some None ≡ d = cc in sym r), tt)
+one_due b (Some None) d told is = absurd told
+one_due b (Some (Some (value (local t n)))) d told is = (Some t, (let r : Some (Some t) ≡ d = cc in sym r), refl)
+one_due b (Some (Some (value e))) d told is = absurd cc
+one_due b (Some (Some k)) d told is = absurd cc
 
 one_more : (env : Env) (n : Name) (ns : List Name) (k : Option Type') (ks : List (Option Type')) → Old k (own env n) → Dues env ns ks → Dues env (n ∷ ns) (k ∷ ks)
 one_more env n ns None ks h rest = rest
 one_more env n ns (Some t) ks h rest = (h, rest)
 
-dues_of : (env : Env) → Whole env → (ns : List Name) (due : List (Option (Option Type'))) → all_some (map (λ n. due_for (own env n)) ns) ≡ Some due
+-- what is due for a name of the block
+abbrev own_due : List (List ℕ) → Env → Name → Option (Option (Option Type'))
+own_due constants env n = due_for (list_any (bytes_eq n.text) constants) (own env n)
+
+dues_of : (constants : List (List ℕ)) (env : Env) → Whole env → (ns : List Name) (due : List (Option (Option Type'))) → dues_for constants (own env) ns ≡ Some due
     → (ks : List (Option Type')) × (all_some due ≡ Some ks) × Dues env ns ks
-dues_of env whole [] due is = ([], (let same : [] ≡ due = cc in sym (ap all_some same)), tt)
-dues_of env whole (n ∷ ns) due is =
-    let rest = map (λ n. due_for (own env n)) ns in
-    let parts = parts_some (due_for (own env n)) rest (due, is) in
+dues_of constants env whole [] due is = ([], (let same : [] ≡ due = cc in sym (ap all_some same)), tt)
+dues_of constants env whole (n ∷ ns) due is =
+    let here = own_due constants env n in
+    let rest = map (own_due constants env) ns in
+    let parts = parts_some here rest (due, is) in
     let d = (parts.0).0 in
     let ds = (parts.1).0 in
-    let r : all_some (due_for (own env n) ∷ rest) ≡ Some (d ∷ ds) = all_front (due_for (own env n)) rest d ds (parts.0).1 (parts.1).1 in
+    let r : all_some (here ∷ rest) ≡ Some (d ∷ ds) = all_front here rest d ds (parts.0).1 (parts.1).1 in
     let same : due ≡ d ∷ ds = cc in
-    let one = one_due (own env n) d (told_own env.names.inner n.text whole.0) (parts.0).1 in
-    let others = dues_of env whole ns ds (parts.1).1 in
+    let one = one_due (list_any (bytes_eq n.text) constants) (own env n) d (told_own env.names.inner n.text whole.0) (parts.0).1 in
+    let others = dues_of constants env whole ns ds (parts.1).1 in
     let all : all_some (d ∷ ds) ≡ Some (one.0 ∷ others.0) = all_front d ds one.0 others.0 one.1 others.1 in
     (one.0 ∷ others.0, ap all_some same ∙ all, one_more env n ns one.0 others.0 one.2 others.2)
 
-redefined_suits : (env : Env) → Whole env → (ns : List Name) (v : Values) (o : Option (List (Option (Option Type')))) → all_some (map (λ n. due_for (own env n)) ns) ≡ o
-    → not (differ ns && list_any (λ n. is_new n (own env n)) ns) ≡ false → IsKnown (fine (redefined (own env) ns v)) → (ks : List (Option Type')) × Dues env ns ks × IsKnown (fine (suited ks v))
-redefined_suits env whole ns v None at new k = absurd (let r : fine (redefined (own env) ns v) ≡ None = rw (new, at, redefined) refl in cc)
-redefined_suits env whole ns v (Some due) at new k =
-    let dues = dues_of env whole ns due at in
-    let r : redefined (own env) ns v ≡ suited dues.0 v = rw (new, at, dues.1, redefined) refl in
+redefined_suits : (constants : List (List ℕ)) (env : Env) → Whole env → (ns : List Name) (v : Values) (o : Option (List (Option (Option Type')))) → dues_for constants (own env) ns ≡ o
+    → not (differ ns && list_any (λ n. is_new n (own env n)) ns) ≡ false → IsKnown (fine (redefined constants (own env) ns v)) → (ks : List (Option Type')) × Dues env ns ks × IsKnown (fine (suited ks v))
+redefined_suits constants env whole ns v None at new k = absurd (let r : fine (redefined constants (own env) ns v) ≡ None = rw (new, at, redefined) refl in cc)
+redefined_suits constants env whole ns v (Some due) at new k =
+    let dues = dues_of constants env whole ns due at in
+    let r : redefined constants (own env) ns v ≡ suited dues.0 v = rw (new, at, dues.1, redefined) refl in
     (dues.0, dues.2, subst (λ v. IsKnown (fine v)) r k)
 
-redefined_by : (env : Env) → Whole env → (ns : List Name) (v : Values) → IsKnown (fine (redefined (own env) ns v)) → (ks : List (Option Type')) × Dues env ns ks × IsKnown (fine (suited ks v))
-redefined_by env whole ns v k = elim (cases_Bool (not (differ ns && list_any (λ n. is_new n (own env n)) ns))) [
-  | inl is ↦ absurd (let r : fine (redefined (own env) ns v) ≡ None = rw is refl in cc)
-  | inr new ↦ redefined_suits env whole ns v (all_some (map (λ n. due_for (own env n)) ns)) refl new k
+redefined_by : (constants : List (List ℕ)) (env : Env) → Whole env → (ns : List Name) (v : Values) → IsKnown (fine (redefined constants (own env) ns v))
+    → (ks : List (Option Type')) × Dues env ns ks × IsKnown (fine (suited ks v))
+redefined_by constants env whole ns v k = elim (cases_Bool (not (differ ns && list_any (λ n. is_new n (own env n)) ns))) [
+  | inl is ↦ absurd (let r : fine (redefined constants (own env) ns v) ≡ None = rw is refl in cc)
+  | inr new ↦ redefined_suits constants env whole ns v (dues_for constants (own env) ns) refl new k
 ]
 
-short_typed : (s : Scope) (ns : List Name) (es : Exprs) (env : Env) → Whole env → (f : Source → typed.Stmt) (v : Option Values) → values_known s es ≡ v
-    → IsKnown (fine (asked (λ (k : Values). checked (λ source. Fine (f source)) (redefined (own env) ns k)) v)) → AllDue env (paired ns (value_types s es))
-short_typed s ns es env whole f None is k = absurd cc
-short_typed s ns es env whole f (Some v) is k =
-    let suits = redefined_by env whole ns v (through_known f (redefined (own env) ns v) k) in
+short_typed : (constants : List (List ℕ)) (s : Scope) (ns : List Name) (es : Exprs) (env : Env) → Whole env → (f : Source → typed.Stmt) (v : Option Values) → values_known s es ≡ v
+    → IsKnown (fine (asked (λ (k : Values). checked (λ source. Fine (f source)) (redefined constants (own env) ns k)) v)) → AllDue env (paired ns (value_types s es))
+short_typed constants s ns es env whole f None is k = absurd cc
+short_typed constants s ns es env whole f (Some v) is k =
+    let suits = redefined_by constants env whole ns v (through_known f (redefined constants (own env) ns v) k) in
     fit_due env ns suits.0 (value_types s es) suits.1 (values_fit s es v suits.0 is suits.2)
 
 pub short_sure : (c : Context) → Outside c → (p : Place) (ns : List Name) (es : Exprs) → Sure Any (short_at c p ns es)
@@ -150,7 +156,8 @@ short_sure c out p ns es env whole none =
     let s = scope_in c None env in
     let change = declare_new (paired ns (value_types s es)) in
     let f = λ (source : Source). typed.define (map (number_of (change env)) ns) source in
-    let rule = λ (k : Values). checked (λ source. Fine (f source)) (redefined (own env) ns k) in
-    let known : AreDue (own env) ns = λ due at. (let dues = dues_of env whole ns due at in (dues.0, dues.1)) in
-    let one = sure_node Any p rule (values_at c es) (λ k q. through _ (redefined (own env) ns k) (λ x. tt) (redefinitions (own env) ns k known)) (values_sure c out es) env whole none in
-    (one.0, due_whole (paired ns (value_types s es)) env (short_typed s ns es env whole f (values_known s es) refl ((one.0).0, (one.0).1)) whole)
+    let rule = λ (k : Values). checked (λ source. Fine (f source)) (redefined c.constants (own env) ns k) in
+    let known : AreDue c.constants (own env) ns = λ due at. (let dues = dues_of c.constants env whole ns due at in (dues.0, dues.1)) in
+    let one =
+    sure_node Any p rule (values_at c es) (λ k q. through _ (redefined c.constants (own env) ns k) (λ x. tt) (redefinitions c.constants (own env) ns k known)) (values_sure c out es) env whole none in
+    (one.0, due_whole (paired ns (value_types s es)) env (short_typed c.constants s ns es env whole f (values_known s es) refl ((one.0).0, (one.0).1)) whole)

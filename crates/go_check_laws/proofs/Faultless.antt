@@ -11,10 +11,10 @@ use Rattle.go_types.specs.Types.{Type'}
 use Rattle.go_typed.specs.Trees.{Expr as Typed}
 use Rattle.go_scope.specs.Names.{Used, in_type, in_fields, in_expr, in_bound, in_exprs, in_elements, in_element}
 use Rattle.go_expr.specs.Known.{type', declared, Known, Verdict, Fine, Breaks, Passed, Scope, look_up}
-use Rattle.go_expr.specs.Rules.{fine, checked, valued, type_due, array_of, slice_of, declared_field, struct_of, value_due, literal, literal_of, Due, element_due, due_type, untyped_literal, selected, exported_by, index_of, cut_of, made, unmade, binary_of, unary_of, converted, called}
+use Rattle.go_expr.specs.Rules.{fine, checked, valued, type_due, array_of, slice_of, declared_field, struct_of, value_due, literal, literal_of, Due, element_due, due_type, untyped_literal, selected, exported_by, index_of, cut_of, made, unmade, unprinted, binary_of, unary_of, converted, called}
 use Rattle.go_expr.specs.Verdicts.{asked, both, asked_both, joined, qualified_known, operand, inside, subject, callee, key_text, is_make, is_name, verdict, bound_known, made_verdict, operands, elements, element_verdict, type_verdict, fields_known, broken, bare_place, part_broken, operand_broken, struct_place, faults, bound_faults, made_faults, call_faults, operands_faults, elements_faults, element_faults, type_faults, fields_faults}
 use Rattle.go_check_laws.specs.Finds.{IsKnown, IsTold, Finds}
-use Rattle.go_check_laws.proofs.Rules.{IsAsked, as_value, literals, types_due, arrays, slices, structs, values_due, unpackaged_told, selectable_told, callable_told, literals_of, untyped, selections, qualifications, indexes, cuts, makes, conversions, calls, binaries, unaries}
+use Rattle.go_check_laws.proofs.Rules.{IsAsked, as_value, literals, types_due, arrays, slices, structs, values_due, unpackaged_told, unprinted_asked, selectable_told, callable_told, literals_of, untyped, selections, qualifications, indexes, cuts, makes, conversions, calls, binaries, unaries}
 
 -- ---- names that a tree uses
 
@@ -235,9 +235,10 @@ mutual
             let of = type_of (bare_place e) (verdict s e) (settle s false e front ns.0) ns.1 in
             rw is (by_two made (fine due) (operands s es) of (operands_known s es others ns.2) makes))
         | inr other ↦ (
-            let ns = three_none (faults s e) [] (operands_faults s es) (rw other at none) in
-            let known = known_of (verdict s e) (settle s false e front ns.0) in
-            rw other (by_two unmade (fine (verdict s e)) (operands s es) known (operands_known s es others ns.2) (λ k xs. tt)))
+            let due = asked unprinted (fine (verdict s e)) in
+            let ns = three_none (faults s e) (part_broken e due) (operands_faults s es) (rw other at none) in
+            let of = known (bare_place e) due (by_one unprinted (fine (verdict s e)) (known_of (verdict s e) (settle s false e front ns.0)) unprinted_asked) ns.1 in
+            rw other (by_two unmade (fine due) (operands s es) of (operands_known s es others ns.2) (λ k xs. tt)))
       ]
 
   pub operands_known : (s : Scope) (es : Exprs) → Tells s (in_exprs es) → operands_faults s es ≡ [] → IsKnown (operands s es)

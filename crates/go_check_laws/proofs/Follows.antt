@@ -17,7 +17,9 @@ use Rattle.go_expr.specs.Rules.{fine, valued, assigned, lies_in, constant_due, i
 use Rattle.go_expr.specs.Verdicts.{asked, asked_both, broken, operand, operand_broken, verdict, faults, type_faults}
 use Rattle.go_objects.specs.Objects.{Form, constant, type', typed_variable, valued_variable, result_variable, function', other, Object, firsts, type_object}
 use Rattle.go_objects.specs.Table.{in_written, used_by, scope_at, constant_verdict, named_type, variable, object_verdict, declared_in}
-use Rattle.go_decl.specs.Faults.{Facts, own_constant, constant_faults, object_faults, written_faults}
+use Rattle.go_stmt.specs.Statements.{first_fault, least_at, written_faults}
+use Rattle.go_stmt.proofs.Repeats.{none_at, no_first}
+use Rattle.go_decl.specs.Faults.{Facts, written_type, own_constant, object_faults}
 use Rattle.go_check_laws.proofs.Faultless.{Tells, first, second, two_none, type_known, value_known}
 
 abbrev pub IsConstant : Option Declared → Type 0
@@ -86,7 +88,7 @@ fitting_constant p t (typed.constant u c) none = elim (cases_Bool (not (assignab
 fitting_constant p t x none = absurd cc
 
 constant_known : (s : Scope) (t : Option TypeExpr) (e : Expr) (p : Place) → Tells s (in_written t ++ in_expr false e) → written_faults s t ≡ [] → faults s e ++ operand_broken e (verdict s e) ≡ []
-    → constant_faults s p t e ≡ [] → IsConstant (declared_in (fine (constant_verdict s t e)))
+    → broken p (asked_both own_constant (written_type s t) (operand (verdict s e))) ≡ [] → IsConstant (declared_in (fine (constant_verdict s t e)))
 constant_known s None e p tells w v own =
     let ns = two_none (faults s e) (operand_broken e (verdict s e)) v in
     let k = value_known s e tells ns.0 ns.1 in
@@ -105,9 +107,14 @@ constant_known s (Some t) e p tells w v own =
           ∙ ap (λ (x : Verdict typed.Expr). declared_in (fine (valued (asked constant_due (fine x))))) fit.2,
     )
 
-pub constant_follows : (t : Facts) (file : ℕ) (p : Place) (n : Name) (of : Option TypeExpr) (e : Expr) (iota : ℕ) → written_faults (scope_of t file (Some iota)) of ≡ []
-    → faults (scope_of t file (Some iota)) e ++ operand_broken e (verdict (scope_of t file (Some iota)) e) ≡ [] → Follows t (record { file = file; begins = p; name = n; form = constant of e iota })
-constant_follows t file p n of e iota w v tells own = constant_known (scope_of t file (Some iota)) of e p (tells (Some iota)) w v own
+-- a constant by itself has the faults of its type and of its value
+pub constant_follows : (t : Facts) (file : ℕ) (p : Place) (n : Name) (of : Option TypeExpr) (e : Expr) (iota : ℕ) → Follows t (record { file = file; begins = p; name = n; form = constant of e iota })
+constant_follows t file p n of e iota tells own =
+    let s = scope_of t file (Some iota) in
+    let value = faults s e ++ operand_broken e (verdict s e) in
+    let parts = two_none (least_at p (first_fault (written_faults s of) ++ first_fault value)) (broken p (asked_both own_constant (written_type s of) (operand (verdict s e)))) own in
+    let firsts = two_none (first_fault (written_faults s of)) (first_fault value) (none_at p (first_fault (written_faults s of) ++ first_fault value) parts.0) in
+    constant_known s of e p (tells (Some iota)) (no_first (written_faults s of) firsts.0) (no_first value firsts.1) parts.1
 
 -- ---- types
 

@@ -3,16 +3,16 @@ use Rattle.std.proofs.Common.{◌≡◌, List, [], ◌∷◌, Option, Some, None
 use Rattle.std.specs.List.{flat_map}
 use Rattle.go_ast.specs.Trees.{Name, TypeExpr, Block, block, Parameter, Function}
 use Rattle.go_types.specs.Types.{Type'}
-use Rattle.go_typed.specs.Trees as typed
 use Rattle.go_expr.specs.Known.{Scope}
 use Rattle.go_expr.specs.Rules.{fine}
-use Rattle.go_expr.specs.Verdicts.{asked, type_verdict, type_faults, broken}
+use Rattle.go_expr.specs.Verdicts.{type_verdict, type_faults}
 use Rattle.go_stmt.specs.Scopes.{Env, Context, nothing, scope_in, declare_variable, follow}
 use Rattle.go_stmt.specs.Rules.{all_some, ended}
-use Rattle.go_stmt.specs.Statements.{names_at, list_at}
-use Rattle.go_stmt.specs.Functions.{declare_parameters, type_at, parameter_at, parameters_at, results_at, body_at, function_of, function_at}
+use Rattle.go_stmt.specs.Statements.{names_at, begun, list_at}
+use Rattle.go_stmt.specs.Functions.{declare_parameters, type_at, parameter_at, parameters_at, result_types, results_at, body_at, closing, Parts, whole, whole_at, function_of, function_at}
 use Rattle.go_check_laws.specs.Finds.{IsKnown}
 use Rattle.go_check_laws.specs.Locals.{IsLocalBlock}
+use Rattle.go_check_laws.proofs.Rules.{IsAsked, through}
 use Rattle.go_check_laws.proofs.Steps.{ends}
 use Rattle.go_check_laws.proofs.Faultless.{two_none, told_type}
 use Rattle.go_check_laws.proofs.Forms.{Whole, Outside, all_told, variable_whole, Any, Sure, any, sure_given, both_sure, sure_seen, sure_appended, sure_node}
@@ -53,19 +53,18 @@ results_sure : (c : Context) → Outside c → (ts : List TypeExpr) → Sure Any
 results_sure c out ts env whole none = (any (results_at c ts env).known (all_types (scope_in c None nothing) (tells c out) ts none), whole)
 
 body_sure : (c : Context) → Outside c → (rs : List TypeExpr) (b : Block) → IsLocalBlock b → Sure Any (body_at c rs b)
-body_sure c out rs (block p ss q) l env whole none =
-    let inner = record c { results = (results_at c rs env).known } in
-    let list = list_at inner ss in
-    let parts = follow (results_at c rs) list in
-    let ns = two_none (parts env).faults (broken q (asked (λ (k : List Type' × List typed.Stmt). ended k.0 k.1) (parts env).known)) none in
-    let front = two_none (results_at c rs env).faults (list (results_at c rs env).after).faults ns.0 in
-    let of = results_sure c out rs env whole front.0 in
-    sure_node Any q (λ k. ended k.0 k.1) parts (λ k r. ends k.0 k.1)
-    (both_sure (results_at c rs) list (results_sure c out rs) (statements_sure inner (out, ((of.0).0, (of.0).1)) ss l)) env whole none
+body_sure c out rs (block p ss q) l =
+    let inner = record (begun c) { results = result_types c rs } in
+    both_sure (results_at c rs) (list_at inner ss) (results_sure c out rs) (statements_sure inner out ss l)
+
+wholes : (k : Parts) → IsAsked (whole k)
+wholes k = through _ (ended (k.1).0 (k.1).1) (λ inside. tt) (ends (k.1).0 (k.1).1)
 
 pub function_known : (c : Context) (f : Function) → Outside c → IsLocalBlock f.body → (function_at c f).faults ≡ [] → IsKnown (function_at c f).known
 unfolding function_at
 function_known c f out l none =
     let form = follow (parameters_at c f.parameters) (body_at c f.results f.body) in
-    let one = sure_seen Any Any (function_of f (form nothing).after.types) form (λ x q. tt) (both_sure (parameters_at c f.parameters) (body_at c f.results f.body) (parameters_sure c out f.parameters) (body_sure c out f.results f.body l)) nothing (tt, tt) none in
+    let parts = both_sure (parameters_at c f.parameters) (body_at c f.results f.body) (parameters_sure c out f.parameters) (body_sure c out f.results f.body l) in
+    let all = sure_node Any (closing f.body) whole form (λ k q. wholes k) parts in
+    let one = sure_seen Any Any (function_of f (whole_at c f nothing).after.types) (whole_at c f) (λ x q. tt) all nothing (tt, tt) none in
     ((one.0).0, (one.0).1)

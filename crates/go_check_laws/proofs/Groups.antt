@@ -1,5 +1,5 @@
 -- Declarations in functions: constants too are known.
-use Rattle.std.proofs.Common.{◌≡◌, ℕ, suc, Bool, true, false, not, ◌&&◌, List, [], ◌∷◌, Option, Some, None, map, length, refl, sym, ap, subst, ◌∙◌, inl, inr, arith}
+use Rattle.std.proofs.Common.{◌≡◌, ℕ, suc, Bool, true, false, not, ◌&&◌, List, [], ◌∷◌, ◌++◌, Option, Some, None, map, length, refl, sym, ap, subst, ◌∙◌, inl, inr, arith}
 use Rattle.std.specs.Prelude.{nat_eq, option_map}
 use Rattle.std.specs.List.{list_all, zip, flat_map}
 use Rattle.std.proofs.lemmas.Bool.{cases_Bool, eqb-true}
@@ -10,20 +10,23 @@ use Rattle.go_types.specs.Types.{Type'}
 use Rattle.go_types.specs.Relations.{assignable}
 use Rattle.go_typed.specs.Trees as typed
 use Rattle.go_typed.specs.Trees.{Source, each, constant, define}
-use Rattle.go_expr.specs.Known.{Declared, Scope, Fine}
+use Rattle.go_expr.specs.Known.{Declared, Scope, Fine, look_up}
 use Rattle.go_expr.specs.Rules.{fine, checked, assigned, lies_in, wrong}
 use Rattle.go_expr.specs.Verdicts.{asked, both, operand, verdict, type_verdict}
-use Rattle.go_stmt.specs.Scopes.{Env, Context, scope_in, paired, declare, Checked, still, follow}
+use Rattle.go_stmt.specs.Scopes.{Env, Context, scope_in, paired, declare, still, follow}
 use Rattle.go_stmt.specs.Rules.{all_some, suited_one, is_constant, constants_source, constants_of}
 use Rattle.go_scope.specs.Specifications.{meant, is_repeated}
-use Rattle.go_stmt.specs.Statements.{each_of, operands_faults, names_at, written_at, place_at, declared_as, constant_in, declare_constants, told_at, constants_at, group_at, declaration_at}
-use Rattle.go_check_laws.specs.Finds.{IsKnown}
+use Rattle.go_stmt.specs.Statements.{each_of, operands_faults, names_at, written_at, place_at, declared_as, constant_in, declare_constants, written_faults, repeated_faults, spec_at, constants_at, group_at, declaration_at}
+use Rattle.go_uses.specs.Uses.{in_const}
+use Rattle.go_stmt.proofs.Repeats.{repeated_none}
+use Rattle.go_check_laws.specs.Finds.{IsKnown, IsTold}
 use Rattle.go_check_laws.proofs.Rules.{through, assignments}
 use Rattle.go_check_laws.proofs.Steps as steps
 use Rattle.go_check_laws.proofs.Forms.{Whole, Outside, all_told, declared_whole, AllTyped, Any, Sure, any, sure_given, both_sure, sure_appended, sure_node}
 use Rattle.go_check_laws.proofs.Counts.{AllSome, through_known, suited_parts, right, pair_typed, some_counted, parts_some, all_front}
 use Rattle.go_check_laws.proofs.Leaves.{all_operands, names_sure, written_sure}
 use Rattle.go_check_laws.proofs.Declares.{specs_sure}
+use Rattle.go_check_laws.proofs.Shown.{all_shown}
 
 constants_whole : (ns : List (Name × Option Declared)) (env : Env) → AllTyped ns → Whole env → Whole (declare_constants ns env)
 constants_whole [] env typed h = h
@@ -125,13 +128,18 @@ declared_constants s ns t es env (Some u) (Some xs) w is k =
     let counted : length (each_of (constant_in s t) es) ≡ length xs = each_count (constant_in s t) (λ e. operand (verdict s e)) es ∙ some_counted (each_of (λ e. operand (verdict s e)) es) xs is in
     pair_typed ns (each_of (constant_in s t) es) (parts.1 ∙ sym counted) (typed_as s t u es xs ns env w is known)
 
-unmapped : {A B : Type 0} (f : A → B) (xs : List A) → map f xs ≡ [] → xs ≡ []
-unmapped f [] h = refl
-unmapped f (x ∷ xs) h = absurd cc
+-- what is repeated is told, since no name in it hides it
+written_anywhere : (s : Scope) (t : Option TypeExpr) (env : Env) → written_faults s t ≡ (written_at s t env).faults
+written_anywhere s None env = refl
+written_anywhere s (Some t) env = refl
 
-told_sure : {A : Type 0} (repeated : Bool) (p : Place) (form : Env → Checked A) → Sure Any form → Sure Any (told_at repeated p form)
-told_sure true p form h env whole none = h env whole (unmapped (λ f. (p, f.1)) (form env).faults none)
-told_sure false p form h env whole none = h env whole none
+spec_sure : (s : Scope) (p : Place) (repeated : Bool) (spec : ConstSpec) → ((x : List ℕ) → IsTold (look_up x s.names))
+    → Sure Any (follow (written_at s spec.type) (still (operands_faults s spec.values) (operands_of s spec.values))) → Sure Any (spec_at s p repeated spec)
+spec_sure s p true spec told h env whole none =
+    let shown = all_shown s told (in_const spec) in
+    let nothing_told = subst (λ b. repeated_faults b p s spec.type spec.values ≡ []) shown none in
+    h env whole (ap (λ l. l ++ operands_faults s spec.values) (sym (written_anywhere s spec.type env)) ∙ repeated_none p s spec.type spec.values nothing_told)
+spec_sure s p false spec told h env whole none = h env whole none
 
 constants_sure : (c : Context) → Outside c → (p : Place) (iota : ℕ) (repeated : Bool) (spec : ConstSpec) → Sure Any (constants_at c p iota repeated spec)
 constants_sure c out p iota repeated spec env whole none =
@@ -140,9 +148,9 @@ constants_sure c out p iota repeated spec env whole none =
     let tells = all_told c (Some iota) env out whole in
     let rule = λ (k : List Name × (Option Type' × List typed.Expr)). checked (λ s. Fine (s ∷ [])) (constants_of spec.names (k.1).0 (k.1).1) in
     let values = still (operands_faults s spec.values) (operands_of s spec.values) in
-    let behind = told_at repeated first (follow (written_at s spec.type) values) in
+    let behind = spec_at s first repeated spec in
     let values_sure : Sure Any values = λ e w n. (any (operands_of s spec.values) (all_operands s tells spec.values n), w) in
-    let behind_sure = told_sure repeated first (follow (written_at s spec.type) values) (both_sure (written_at s spec.type) values (written_sure s tells spec.type) values_sure) in
+    let behind_sure = spec_sure s first repeated spec tells (both_sure (written_at s spec.type) values (written_sure s tells spec.type) values_sure) in
     let all = both_sure (names_at spec.names) behind (names_sure spec.names) behind_sure in
     let one = sure_node Any first rule (follow (names_at spec.names) behind) (λ k q. through _ (constants_of spec.names (k.1).0 (k.1).1) (λ x. tt) (steps.constants spec.names (k.1).0 (k.1).1)) all env whole none in (
       one.0,

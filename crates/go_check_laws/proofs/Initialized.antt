@@ -14,8 +14,8 @@ use Rattle.go_expr.specs.Known.{Scope, Verdict, Fine, Breaks, Known, declared, v
 use Rattle.go_expr.specs.Rules.{fine, checked, wrong, least, each_unless}
 use Rattle.go_expr.specs.Verdicts.{asked, asked_both, operand, verdict, type_verdict, broken}
 use Rattle.go_stmt.specs.Rules.{all_some, Values, separate, together, no_values, values_of, are_none, suited_one, takes, suited, variables_source}
-use Rattle.go_stmt.specs.Statements.{each_of, values_known, values_faults}
-use Rattle.go_decl.specs.Faults.{Facts, written_type, written_faults, var_parts_faults, var_broken, variables_apart, name_faults, var_spec_faults}
+use Rattle.go_stmt.specs.Statements.{each_of, values_known, values_faults, written_faults}
+use Rattle.go_decl.specs.Faults.{Facts, written_type, var_parts_faults, variables_by, name_faults, var_spec_faults}
 use Rattle.go_objects.specs.Table.{scope_at}
 use Rattle.go_package.specs.Typed.{own_name, each_alone, initializations_by, spec_initializations}
 use Rattle.go_check_laws.specs.Finds.{IsKnown}
@@ -196,16 +196,18 @@ spec_initialized t called file tells [] of es none = nameless t called file of e
 spec_initialized t called file tells (n ∷ ns) of no_exprs none =
     let s = scope_at t.package t.known file None in
     let spec : VarSpec = record { names = n ∷ ns; type = of; values = no_exprs } in
-    let own = two_none (flat_map (name_faults t file) (n ∷ ns)) (var_parts_faults s spec ++ (var_broken n.place s spec ++ variables_apart t file n.place s spec)) none in
-    let rest = two_none (var_parts_faults s spec) (var_broken n.place s spec ++ variables_apart t file n.place s spec) own.1 in
-    let whole = two_none (var_broken n.place s spec) (variables_apart t file n.place s spec) rest.1 in
+    let itself = variables_by t file n.place spec (written_type s spec.type) (values_known s spec.values) in
+    let own = two_none (flat_map (name_faults t file) (n ∷ ns)) (var_parts_faults s spec ++ itself) none in
+    let rest = two_none (var_parts_faults s spec) itself own.1 in
+    let whole = two_none (broken n.place (asked_both (variables_source (n ∷ ns)) (written_type s spec.type) (values_known s spec.values))) _ rest.1 in
     let parts = two_none (written_faults s of) (values_faults s no_exprs) rest.0 in
     zero_spec t called file s tells n.place n ns of parts.0 whole.0
 spec_initialized t called file tells (n ∷ ns) of (some_exprs e es) none =
     let s = scope_at t.package t.known file None in
     let spec : VarSpec = record { names = n ∷ ns; type = of; values = some_exprs e es } in
-    let own = two_none (flat_map (name_faults t file) (n ∷ ns)) (var_parts_faults s spec ++ (var_broken n.place s spec ++ variables_apart t file n.place s spec)) none in
-    let rest = two_none (var_parts_faults s spec) (var_broken n.place s spec ++ variables_apart t file n.place s spec) own.1 in
-    let whole = two_none (var_broken n.place s spec) (variables_apart t file n.place s spec) rest.1 in
+    let itself = variables_by t file n.place spec (written_type s spec.type) (values_known s spec.values) in
+    let own = two_none (flat_map (name_faults t file) (n ∷ ns)) (var_parts_faults s spec ++ itself) none in
+    let rest = two_none (var_parts_faults s spec) itself own.1 in
+    let whole = two_none (broken n.place (asked_both (variables_source (n ∷ ns)) (written_type s spec.type) (values_known s spec.values))) _ rest.1 in
     let parts = two_none (written_faults s of) (values_faults s (some_exprs e es)) rest.0 in
     valued_spec t called file s tells n.place (n ∷ ns) of e es parts.0 parts.1 whole.0

@@ -1,7 +1,7 @@
 -- Each object of a package without fault is known.
-use Rattle.std.proofs.Common.{◌≡◌, ℕ, zero, suc, ◌<◌, Bool, true, false, List, [], ◌∷◌, ◌++◌, Option, Some, None, map, length, codes, refl, sym, ap, ◌∙◌, subst, inl, inr, arith}
+use Rattle.std.proofs.Common.{◌≡◌, ℕ, zero, suc, ◌<◌, Bool, ◌||◌, List, [], ◌∷◌, ◌++◌, Option, Some, None, map, length, codes, refl, sym, ap, ◌∙◌, subst, inl, inr, arith}
 use Rattle.std.specs.Prelude.{bytes_eq, unwrap_or}
-use Rattle.std.specs.List.{slice_get, flat_map, cons_option, Contains}
+use Rattle.std.specs.List.{slice_get, flat_map, list_any, cons_option, Contains}
 use Rattle.std.proofs.lemmas.Bool.{cases_Bool}
 use Rattle.go_text.specs.declared.edition.Edition.{Edition}
 use Rattle.go_text.specs.declared.place.Place.{Place}
@@ -10,16 +10,16 @@ use Rattle.go_scope.specs.Order.{GroundedIn, Grounded}
 use Rattle.go_typed.specs.Trees as typed
 use Rattle.go_expr.specs.Known.{Declared, value, type', function as known_function, Names, package', Fine}
 use Rattle.go_expr.specs.Rules.{fine}
-use Rattle.go_expr.specs.Verdicts as verdicts
-use Rattle.go_expr.specs.Verdicts.{broken, type_faults}
-use Rattle.go_stmt.specs.Statements.{values_faults}
+use Rattle.go_expr.specs.Verdicts.{asked_both, broken, operands, type_faults}
+use Rattle.go_stmt.specs.Rules.{constants_of as constants_rule, variables_source}
+use Rattle.go_stmt.specs.Statements.{values_known, values_faults, written_faults}
 use Rattle.go_stmt.specs.Functions.{function_at}
 use Rattle.go_scope.specs.Specifications.{meant, is_repeated}
-use Rattle.go_objects.specs.Objects.{Object, constants_of, in_group, variables_of, type_object, objects_in, objects_from, objects_of}
+use Rattle.go_objects.specs.Objects.{Object, constants_of, in_group, variables_of, type_object, objects_in, objects_from, firsts, objects_of}
 use Rattle.go_objects.specs.Objects as forms
 use Rattle.go_objects.specs.Table.{Package, imports_at, needs, rows, used_by, object_verdict, declared_in, IsTable}
 use Rattle.go_objects.proofs.Lookups.{Named, need_edge, rows_stay, length_rows}
-use Rattle.go_decl.specs.Faults.{Facts, Faults, AreRecursive, context_at, name_faults, object_faults, written_faults, spec_broken, parts_faults, told_at, constants_apart, constants_faults, group_faults, type_spec_faults, var_parts_faults, var_broken, variables_apart, var_spec_faults, own_faults, top_faults, files_faults}
+use Rattle.go_decl.specs.Faults.{Facts, AreRecursive, context_at, name_faults, object_faults, written_type, parts_faults, constants_by, constants_faults, group_faults, type_spec_faults, var_parts_faults, variables_by, var_spec_faults, own_faults, top_faults, files_faults}
 use Rattle.go_decl.proofs.Faultless.{faultless_grounded}
 use Rattle.go_package.specs.Imports.{Importable, package_at, import_name, named_import, imports_in, imports_of}
 use Rattle.go_package.specs.Packages.{numbered_faults, file_faults, each_file, main_faults, package_faults, package_in, AreFacts}
@@ -38,10 +38,6 @@ unmapped : {A B : Type 0} (f : A → B) (xs : List A) → map f xs ≡ [] → xs
 unmapped f [] h = refl
 unmapped f (x ∷ xs) h = absurd cc
 
-untold : (repeated : Bool) (p : Place) (fs : Faults) → told_at repeated p fs ≡ [] → fs ≡ []
-untold true p fs h = unmapped (λ f. (p, f.1)) fs h
-untold false p fs h = h
-
 nameless : (file iota : ℕ) (of : Option TypeExpr) (es : Exprs) → constants_of file iota (record { names = []; type = of; values = es }) ≡ []
 nameless file iota of no_exprs = refl
 nameless file iota of (some_exprs e es) = refl
@@ -52,11 +48,12 @@ constant_spec t file iota repeated [] of es none = subst (AllFollow t) (sym (nam
 constant_spec t file iota repeated (n ∷ ns) of es none =
     let s = scope_of t file (Some iota) in
     let spec : ConstSpec = record { names = n ∷ ns; type = of; values = es } in
-    let own = two_none (flat_map (name_faults t file) (n ∷ ns)) (told_at repeated n.place (parts_faults s spec) ++ (spec_broken n.place s spec ++ constants_apart t file iota n.place s spec)) none in
-    let rest = two_none (told_at repeated n.place (parts_faults s spec)) (spec_broken n.place s spec ++ constants_apart t file iota n.place s spec) own.1 in
-    let whole = two_none (spec_broken n.place s spec) (constants_apart t file iota n.place s spec) rest.1 in
-    let parts = two_none (written_faults s of) (verdicts.operands_faults s es) (untold repeated n.place (parts_faults s spec) rest.0) in
-    constants_follow t file iota n.place (n ∷ ns) of es parts.0 parts.1 whole.0
+    let parts = parts_faults t file repeated n.place s spec in
+    let itself = constants_by t file iota n.place spec (written_type s of) (operands s es) in
+    let own = two_none (flat_map (name_faults t file) (n ∷ ns)) (parts ++ itself) none in
+    let rest = two_none parts itself own.1 in
+    let whole = two_none (broken n.place (asked_both (constants_rule (n ∷ ns)) (written_type s of) (operands s es))) _ rest.1 in
+    constants_follow t file iota repeated n.place (n ∷ ns) of es rest.0 whole.0
 
 group_follows : (t : Facts) (file iota : ℕ) (before : ConstSpec) (ss : List ConstSpec) → group_faults t file iota before ss ≡ [] → AllFollow t (in_group file iota before ss)
 group_follows t file iota before [] none = tt
@@ -77,9 +74,10 @@ variable_spec t file [] of es none = subst (AllFollow t) (sym (no_variables file
 variable_spec t file (n ∷ ns) of es none =
     let s = scope_of t file None in
     let spec : VarSpec = record { names = n ∷ ns; type = of; values = es } in
-    let own = two_none (flat_map (name_faults t file) (n ∷ ns)) (var_parts_faults s spec ++ (var_broken n.place s spec ++ variables_apart t file n.place s spec)) none in
-    let rest = two_none (var_parts_faults s spec) (var_broken n.place s spec ++ variables_apart t file n.place s spec) own.1 in
-    let whole = two_none (var_broken n.place s spec) (variables_apart t file n.place s spec) rest.1 in
+    let itself = variables_by t file n.place spec (written_type s of) (values_known s es) in
+    let own = two_none (flat_map (name_faults t file) (n ∷ ns)) (var_parts_faults s spec ++ itself) none in
+    let rest = two_none (var_parts_faults s spec) itself own.1 in
+    let whole = two_none (broken n.place (asked_both (variables_source (n ∷ ns)) (written_type s of) (values_known s es))) _ rest.1 in
     let parts = two_none (written_faults s of) (values_faults s es) rest.0 in
     variables_follow t file n.place n ns of es parts.0 parts.1 whole.0
 
@@ -129,13 +127,20 @@ files_follow t number (f ∷ fs) none =
 
 -- ---- objects by themselves
 
-object_none : (t : Facts) (os : List Object) (k : ℕ) (o : Object) → flat_map (numbered_faults t) os ≡ [] → slice_get os k ≡ Some o → object_faults t o ≡ []
-object_none t [] k o none at = absurd cc
-object_none t (x ∷ xs) zero o none at =
-    let same : x ≡ o = cc in
+first_none : (t : Facts) (x : Object) (xs : List Object) → object_faults t x ≡ [] → ((k : ℕ) (o : Object) → slice_get xs k ≡ Some o → object_faults t o ≡ []) → (k : ℕ) (o : Object)
+    → slice_get (x ∷ xs) k ≡ Some o → object_faults t o ≡ []
+first_none t x xs own others zero o at = (let same : x ≡ o = cc in subst (λ (y : Object). object_faults t y ≡ []) same own)
+first_none t x xs own others (suc k) o at = others k o at
+
+-- the same of those that names find
+firsts_none : (t : Facts) (names : List (List ℕ)) (os : List Object) → flat_map (numbered_faults t) os ≡ [] → (k : ℕ) (o : Object) → slice_get (firsts names os) k ≡ Some o → object_faults t o ≡ []
+firsts_none t names [] none k o at = absurd cc
+firsts_none t names (x ∷ xs) none k o at =
     let ns = front (numbered_faults t x) (flat_map (numbered_faults t) xs) none in
-    subst (λ (y : Object). object_faults t y ≡ []) same (unmapped (λ f. (x.file, f)) (object_faults t x) ns.0)
-object_none t (x ∷ xs) (suc k) o none at = object_none t xs k o (front (numbered_faults t x) (flat_map (numbered_faults t) xs) none).1 at
+    elim (cases_Bool (bytes_eq x.name.text (codes "_") || list_any (bytes_eq x.name.text) names)) [
+      | inl out ↦ firsts_none t names xs ns.1 k o (rw out at at)
+      | inr new ↦ first_none t x (firsts (names ++ x.name.text ∷ []) xs) (unmapped (λ f. (x.file, f)) (object_faults t x) ns.0) (firsts_none t (names ++ x.name.text ∷ []) xs ns.1) k o (rw new at at)
+    ]
 
 -- ---- imports
 
@@ -196,7 +201,7 @@ pub record Given (t : Facts) : Type 0 where
   pub table : IsTable t.package t.known
   pub whole : (file : ℕ) → AreWhole (imports_at t.package file)
   pub follow : AllFollow t t.package.objects
-  pub none : flat_map (numbered_faults t) t.package.objects ≡ []
+  pub none : (k : ℕ) (o : Object) → slice_get t.package.objects k ≡ Some o → object_faults t o ≡ []
   pub grounded : (k : ℕ) → Grounded (rows t.package) k
 
 object_known : (t : Facts) → Given t → (n k : ℕ) → GroundedIn (rows t.package) n k → (o : Object) → slice_get t.package.objects k ≡ Some o → IsOf o.form (declared_in (fine (object_verdict t.package t.known o)))
@@ -211,7 +216,7 @@ object_known t h (suc n) k g o at =
     let entry = h.table.grounded m there.0 there.1 (n, g m edge) in
     let known : KnownAt t.known m = (there.0.name.text, is.0, entry ∙ ap (λ (d : Option Declared). Some (there.0.name.text, d)) is.1) in
     known) in
-    follow_at t p.objects k o h.follow at (λ iota. tells_needs p t.known o.file iota h.table.named (h.whole o.file) (used_by o.form) each) (object_none t p.objects k o h.none at)
+    follow_at t p.objects k o h.follow at (λ iota. tells_needs p t.known o.file iota h.table.named (h.whole o.file) (used_by o.form) each) (h.none k o at)
 
 -- what the table has of an object
 pub entry_known : (t : Facts) → Given t → (k : ℕ) (o : Object) → slice_get t.package.objects k ≡ Some o
@@ -234,13 +239,14 @@ pub given : (edition : Edition) (path : List ℕ) (files : List File) (ps : List
 given edition path files ps t whole are none =
     let objects : t.package.objects ≡ objects_of files = ap (λ (p : Package). p.objects) are.package_is in
     let declared_none = no_faults ps t files none in
-    let rest = front (each_file (file_faults ps t) 0 files) (packages.constants_faults t ++ main_faults t files) none in
+    let rest = front (each_file (file_faults ps t) 0 files) (packages.constants_faults t files ++ main_faults t files) none in
+    let apart = (front (packages.constants_faults t files) (main_faults t files) rest.1).0 in
     let marks = subst (λ (p : Package). AreRecursive (rows p) t.recursive) (sym are.package_is) are.recursive in
     record {
       table = subst (λ (p : Package). IsTable p t.known) (sym are.package_is) are.known;
       whole = λ file. subst (λ (p : Package). AreWhole (imports_at p file)) (sym are.package_is) (whole_files ps whole files file);
       follow = subst (λ (os : List Object). AllFollow t os) (sym objects) (follow_firsts t [] (objects_from 0 files) (files_follow t 0 files declared_none));
-      none = (front (packages.constants_faults t) (main_faults t files) rest.1).0;
+      none = λ k o at. firsts_none t [] (objects_from 0 files) apart k o (subst (λ (os : List Object). slice_get os k ≡ Some o) objects at);
       grounded = faultless_grounded t files objects marks declared_none;
     }
 

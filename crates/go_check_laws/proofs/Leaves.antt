@@ -6,12 +6,12 @@ use Rattle.go_ast.specs.Trees.{Name, TypeExpr, Expr, Exprs, no_exprs, some_exprs
 use Rattle.go_expr.specs.Known.{Known, Scope, look_up}
 use Rattle.go_expr.specs.Rules.{fine}
 use Rattle.go_expr.specs.Verdicts as verdicts
-use Rattle.go_expr.specs.Verdicts.{asked, operand, operands, verdict, type_verdict, broken, bare_place, operand_broken, faults, type_faults, joined}
+use Rattle.go_expr.specs.Verdicts.{asked, operand, operands, verdict, type_verdict, broken, bare_place, operand_broken, faults}
 use Rattle.go_stmt.specs.Scopes.{Env, Context, scope_in, Checked, still, given, follow, seen, node}
-use Rattle.go_stmt.specs.Rules.{all_some, separate, values_of, performed, assigned_to}
+use Rattle.go_stmt.specs.Rules.{all_some, separate, values_of, stated, performed, assigned_to}
 use Rattle.go_stmt.specs.Statements.{value_at, each_of, operands_faults, values_known, values_faults, values_at, names_at, written_at, blank_left, left_at, lefts_at, condition_at, tag_at, cases_at}
 use Rattle.go_check_laws.specs.Finds.{IsKnown, IsTold}
-use Rattle.go_check_laws.proofs.Steps.{several, performances, assignments_to}
+use Rattle.go_check_laws.proofs.Steps.{several, statements, performances, assignments_to}
 use Rattle.go_check_laws.proofs.Faultless.{two_none, known, known_of, by_one, mapped, joined_known, told_settled, told_value, told_type}
 use Rattle.go_check_laws.proofs.Forms.{Outside, all_told, Any, Sure, any, sure_given, both_sure, sure_if, sure_seen, sure_appended, sure_node}
 
@@ -76,8 +76,9 @@ call_sure c out e env whole none =
     let s = scope_in c None env in
     (any (fine (verdict s e)) (known_of (verdict s e) (told_settled s e (all_told c None env out whole) none)), whole)
 
-pub performed_sure : (c : Context) → Outside c → (p : Place) (e : Expr) → Sure Any (node p performed (call_at c e))
-performed_sure c out p e = sure_node Any p performed (call_at c e) (λ x q. performances x) (call_sure c out e)
+pub performed_sure : (c : Context) → Outside c → (p : Place) (e : Expr) → Sure Any (node p performed (node (bare_place e) stated (call_at c e)))
+performed_sure c out p e =
+    sure_node Any p performed (node (bare_place e) stated (call_at c e)) (λ x q. performances x) (sure_node Any (bare_place e) stated (call_at c e) (λ x q. statements x) (call_sure c out e))
 
 pub assigned_sure : (c : Context) → Outside c → (p : Place) (ls rs : Exprs) → Sure Any (node p (λ k. assigned_to k.0 k.1) (follow (lefts_at c ls) (values_at c rs)))
 assigned_sure c out p ls rs =

@@ -20,6 +20,7 @@ pub mod Plain
 pub mod Proper
 pub mod Rests
 pub mod Rules
+pub mod Shown
 pub mod Signatures
 pub mod Spreads
 pub mod Statements

@@ -13,7 +13,7 @@ use Rattle.go_types.specs.Types.{Type', basic}
 use Rattle.go_typed.specs.Trees as typed
 use Rattle.go_expr.specs.Known.{Declared, value, type', function, println, length', capacity', make', append', panic', Names, Known, declared, package', results, printed, panicked, Verdict, Fine, Breaks, Passed, Scope, look_up, named, basic_types, left_out, slice_functions, others, universe}
 use Rattle.go_expr.specs.Seen.{iota_of}
-use Rattle.go_expr.specs.Rules.{fine, checked, valued, literal, literal_of, exported, selected, field_of, value_due, index_of, cut_of, converted, called, one, function_call, each_unless, assigned, printable, length_of, capacity_of, appended, unary_of, binary_of, string as string_type, is_exported}
+use Rattle.go_expr.specs.Rules.{fine, checked, valued, literal, literal_of, exported, selected, field_of, value_due, index_of, cut_of, converted, called, one, function_call, each_unless, assigned, printable, length_of, capacity_of, appended, printing, unary_of, binary_of, string as string_type, is_exported}
 use Rattle.go_expr.specs.Verdicts.{asked, both, asked_both, inside, subject, callee, operand, is_make, bound_known, made_verdict, call_verdict, operands, elements, verdict, type_verdict}
 use Rattle.go_objects.specs.Table.{Package, imports_at, scope_at}
 use Rattle.go_check_laws.proofs.Packages.{Entries}
@@ -63,7 +63,7 @@ of_function s (t ∷ u ∷ ts) (Fine xs) = tt
 of_function s ts (Breaks kind) = tt
 of_function s ts Passed = tt
 
-of_library : (v : Verdict (List typed.Expr)) → IsProper (checked (λ ys. Fine (printed (typed.pack_exprs ys))) v)
+of_library : (v : Verdict (List typed.Expr)) → IsProper (printing v)
 of_library (Fine xs) = tt
 of_library (Breaks kind) = tt
 of_library Passed = tt

@@ -26,7 +26,7 @@ use Rattle.go_types.specs.Types.{Type', basic, array, slice, struct}
 use Rattle.go_types.specs.Relations.{underlying, assignable, convertible}
 use Rattle.go_typed.specs.Trees.{Symbol, Expr, constant, append, absent, present, literal as typed_literal, expr_type, pack_exprs, pack_parts}
 use Rattle.go_expr.specs.Known.{value, type', function, println, length', capacity', make', append', panic', Names, Known, declared, package', results, printed, panicked, Verdict, Fine, Breaks, Passed, named}
-use Rattle.go_expr.specs.Rules.{fine, checked, valued, wrong, lesser, least, each_unless, constant_in, given, int_kind, is_integer, is_untyped, is_bool, is_string, lies_in, uint, type_due, is_small, array_of, slice_of, slice_element, int, is_exported, FieldList, field_names, packed, differ, listed, struct_of, assigned, default_type, defaulted, condition, constant_due, value_due, unpackaged, selectable, callable, literal, numeral, number_of, ElementList, when, any_keyed, parts_by, struct_faults, struct_slot, array_parts, struct_parts, parts_of, slice_parts, literal_of, Due, taken as due_taken, written as due_written, nothing as due_nothing, untyped_literal, field_named, fields_of, is_visible, field_of, exported, selected, exported_by, indexed_type, is_within, known_length, index_of, is_bound, bound_of, are_ordered, cut_to, given_bounds, cut_of, size_of, made_of, made, appended, converted, holds_call, length_in, length_of, capacity_of, one, function_call, printable, called, common, is_defined, result_type, divides_by_zero, operated, operand_type, combined, shift_of, shifted, binary_of, operator_of, is_operand, unary_of}
+use Rattle.go_expr.specs.Rules.{fine, checked, valued, wrong, lesser, least, each_unless, constant_in, given, int_kind, is_integer, is_untyped, is_bool, is_string, lies_in, uint, type_due, is_small, array_of, slice_of, slice_element, int, is_exported, FieldList, field_names, packed, differ, listed, struct_of, assigned, default_type, defaulted, condition, constant_due, value_due, unpackaged, unprinted, selectable, callable, literal, numeral, number_of, ElementList, when, any_keyed, parts_by, struct_faults, struct_slot, array_parts, struct_parts, parts_of, slice_parts, literal_of, Due, taken as due_taken, written as due_written, nothing as due_nothing, untyped_literal, printing, field_named, fields_of, is_visible, field_of, exported, selected, exported_by, indexed_type, is_within, known_length, index_of, is_bound, bound_of, are_ordered, cut_to, given_bounds, cut_of, size_of, made_of, made, appended, converted, holds_call, length_in, length_of, capacity_of, one, function_call, printable, called, common, is_defined, result_type, divides_by_zero, operated, operand_type, combined, shift_of, shifted, binary_of, operator_of, is_operand, unary_of}
 use Rattle.go_check_laws.specs.Finds.{IsTold}
 use Rattle.go_check_laws.proofs.Plain.{IsPlain, represented, one_operand, two_operands, shift_operands}
 
@@ -155,6 +155,14 @@ unpackaged_told (results ts s es) = tt
 unpackaged_told (printed es) = tt
 unpackaged_told (panicked e) = tt
 
+-- what is no call of Println is asked for nothing where a type is made
+pub unprinted_asked : (k : Known) → IsAsked (unprinted k)
+unprinted_asked (declared d) = tt
+unprinted_asked (package' names) = tt
+unprinted_asked (results ts s es) = tt
+unprinted_asked (printed es) = tt
+unprinted_asked (panicked e) = tt
+
 pub selectable_told : (k : Known) → IsTold (Fine k) → IsTold (selectable k)
 selectable_told (package' names) whole = whole
 selectable_told k whole = as_value (value_due k) (values_due k)
@@ -190,9 +198,18 @@ literals_of path t es = elim (slice_element t) as (λ o. slice_element t ≡ o �
   | None ↦ λ at. rw (at, IsAsked) (through (parts_literal t) (parts_of path t es) (λ x. tt) (parts path t es))
 ] refl
 
+-- of two faults one is told
+abbrev told_kind : Option FaultKind → Verdict Expr
+told_kind o = elim o [ None ↦ Passed | Some kind ↦ Breaks kind ]
+
+some_unwritten : (k : FaultKind) (o : Option FaultKind) → IsAsked (told_kind (lesser (Some k) o))
+some_unwritten k None = tt
+some_unwritten k (Some l) = elim (cases_Bool (nat_le (fault_number k) (fault_number l))) [ inl is ↦ rw is tt | inr not_so ↦ rw not_so tt ]
+
 pub untyped : (path : List ℕ) (due : Due) (es : ElementList) → IsAsked (untyped_literal path due es)
 untyped path (due_taken t) es = literals_of path t es
-untyped path (due_written o) es = tt
+untyped path (due_written None) es = tt
+untyped path (due_written (Some t)) es = some_unwritten Mismatch (least (wrong (literal_of path t es)))
 untyped path due_nothing es = tt
 
 -- ---- selectors, index expressions and calls
@@ -329,6 +346,11 @@ call_told s [] xs = tt
 call_told s (t ∷ []) xs = tt
 call_told s (t ∷ u ∷ ts) xs = tt
 
+prints : (v : Verdict (List Expr)) → IsAsked v → IsTold (printing v)
+prints (Fine ys) h = tt
+prints (Breaks kind) h = tt
+prints Passed h = absurd h
+
 pub calls : (k : Known) (xs : List Expr) → IsTold (called k xs)
 calls (declared (value e)) xs = tt
 calls (declared (type' t)) xs = as_value (checked (converted t) (one xs)) (through (converted t) (one xs) (conversions t) (alone xs))
@@ -336,7 +358,7 @@ calls (declared (function s ts rs)) xs = elim (cases_Bool (nat_eq (length ts) (l
   | inl is ↦ rw is (told (function_call s rs) (each_unless [] (map (λ k. assigned k.0 k.1) (zip ts xs))) (call_told s rs) (together [] (map (λ k. assigned k.0 k.1) (zip ts xs))))
   | inr not_so ↦ rw not_so tt
 ]
-calls (declared println) xs = told _ (each_unless [] (map printable xs)) (λ ys. tt) (together [] (map printable xs))
+calls (declared println) xs = prints (each_unless [] (map printable xs)) (together [] (map printable xs))
 calls (declared length') xs = as_value (checked length_of (one xs)) (through length_of (one xs) lengths (alone xs))
 calls (declared capacity') xs = as_value (checked capacity_of (one xs)) (through capacity_of (one xs) capacities (alone xs))
 calls (declared make') xs = tt

@@ -18,8 +18,8 @@ use Rattle.go_expr.specs.Known.{Declared, function, declared, Fine, Breaks, Scop
 use Rattle.go_expr.specs.Rules.{fine, differ}
 use Rattle.go_expr.specs.Verdicts.{asked_both, type_verdict, type_faults}
 use Rattle.go_stmt.specs.Scopes.{Env, Context, nothing, scope_in, own, declare_variable}
-use Rattle.go_stmt.specs.Statements.{names_faults, list_at}
-use Rattle.go_stmt.specs.Functions.{declare_parameters, type_at, parameter_at, parameters_at, results_at, body_at, function_at}
+use Rattle.go_stmt.specs.Statements.{names_faults, begun, list_at}
+use Rattle.go_stmt.specs.Functions.{declare_parameters, type_at, parameter_at, parameters_at, result_types, results_at, body_at, function_at}
 use Rattle.go_objects.specs.Objects.{function'}
 use Rattle.go_objects.specs.Table.{own_names, parameter_names, types_known, parameters_known, function_verdict, declared_in}
 use Rattle.go_decl.specs.Faults.{Facts, context_at}
@@ -181,9 +181,8 @@ results_typed s (t ∷ ts) tells none =
 
 results_fine : (c : Context) (rs : List TypeExpr) (b : Block) (env : Env) → (body_at c rs b env).faults ≡ [] → flat_map (type_faults (outer c)) rs ≡ []
 results_fine c rs (block p ss q) env none =
-    let list = list_at (record c { results = (results_at c rs env).known }) ss env in
-    let front = two_none ((results_at c rs env).faults ++ list.faults) _ none in
-    (two_none (results_at c rs env).faults list.faults front.0).0
+    let list = list_at (record (begun c) { results = result_types c rs }) ss env in
+    (two_none (results_at c rs env).faults list.faults none).0
 
 signature_known : (s : Scope) (x : Symbol) (ps : List Parameter) (ts : List TypeExpr) → differ (parameter_names ps) ≡ true → IsKnown (parameters_known s ps) → IsKnown (types_known s ts)
     → IsFunction (declared_in (fine (function_verdict s x ps ts)))
@@ -202,7 +201,8 @@ function_follows t file f none tells own =
     let c = context_at t file in
     let s = scope_of t file None in
     let p = parameters_at c f.parameters nothing in
-    let parts = two_none p.faults (body_at c f.results f.body p.after).faults none in
+    let front = two_none (p.faults ++ (body_at c f.results f.body p.after).faults) _ none in
+    let parts = two_none p.faults (body_at c f.results f.body p.after).faults front.0 in
     let in_parameters = flat_map (λ (p : Parameter). in_type p.type) f.parameters in
     let in_results = flat_map in_type f.results in
     signature_known s (record { path = t.package.path; name = f.name.text }) f.parameters f.results

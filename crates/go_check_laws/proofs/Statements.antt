@@ -9,23 +9,19 @@ use Rattle.go_typed.specs.Trees.{expr_type}
 use Rattle.go_types.specs.Types.{Type'}
 use Rattle.go_expr.specs.Rules.{default_type}
 use Rattle.go_expr.specs.Verdicts.{asked, broken}
-use Rattle.go_stmt.specs.Scopes.{Env, Context, Checked, still, given, follow, single, node}
+use Rattle.go_stmt.specs.Scopes.{Env, Context, Checked, given, follow, single, node}
 use Rattle.go_stmt.specs.Rules.{updated, stepped, conditional, looped, Clause, clause_of, switched, branch, returned}
-use Rattle.go_stmt.specs.Statements.{value_at, values_at, declaration_at, one_block, begins_at, simple_at, optional_at, condition_at, in_block, in_loop, in_clause, before_others, leads_on, is_last, tag_at, cases_at, clause_at, statement_at, if_at, else_at, block_at, list_at, clauses_at}
+use Rattle.go_stmt.specs.Statements.{value_at, values_at, declaration_at, one_block, begins_at, simple_at, optional_at, condition_at, in_block, in_loop, in_clause, before_others, behind, leads_on, is_last, tag_at, cases_at, clause_at, statement_at, if_at, else_at, block_at, list_at, clauses_at}
 use Rattle.go_check_laws.specs.Finds.{IsKnown}
 use Rattle.go_check_laws.specs.Locals.{AreLocal, IsLocalIn, IsLocalBlock, IsLocalIf, IsLocalElse, AreLocalClauses}
 use Rattle.go_check_laws.proofs.Rules.{IsAsked}
 use Rattle.go_check_laws.proofs.Steps.{updates, steps, conditionals, loops, clauses, branches, returns, switches}
 use Rattle.go_check_laws.proofs.Faultless.{two_none, mapped}
-use Rattle.go_check_laws.proofs.Forms.{Outside, Any, Sure, any, sure_given, both_sure, sure_seen, sure_single, sure_appended, sure_node, sure_inside}
+use Rattle.go_check_laws.proofs.Forms.{Outside, Any, Sure, sure_given, both_sure, sure_seen, sure_single, sure_appended, sure_node, sure_inside}
 use Rattle.go_check_laws.proofs.Leaves.{value_sure, values_sure, performed_sure, assigned_sure, condition_sure, tag_sure, cases_sure}
 use Rattle.go_check_laws.proofs.Declares.{short_sure}
 use Rattle.go_check_laws.proofs.Groups.{declaration_sure}
 use Rattle.go_check_laws.proofs.Turns.{range_sure}
-
--- names outside are told, and it is known what the function gives
-abbrev pub Good : Context → Type 0
-Good c = Outside c × IsKnown c.results
 
 simple_sure : (c : Context) → Outside c → (p : Place) (s : Simple) → Sure Any (simple_at c p s)
 simple_sure c out p (call_statement e) = performed_sure c out p e
@@ -39,9 +35,6 @@ simple_sure c out p (short_var_decl ns es) = short_sure c out p ns es
 optional_sure : (c : Context) → Outside c → (p : Place) (o : Option Simple) → Sure Any (optional_at c p o)
 optional_sure c out p None = sure_given []
 optional_sure c out p (Some s) = sure_single Any (simple_at c (begins_at p s) s) (simple_sure c out (begins_at p s) s)
-
-results_sure : (c : Context) → IsKnown c.results → Sure Any (still [] c.results)
-results_sure c k env whole none = (any c.results k, whole)
 
 branch_sure : (p : Place) (may_stand : Bool) (ss : List typed.Stmt) → Sure Any (node p (branch may_stand) (given ss))
 branch_sure p may_stand ss = sure_node Any p (branch may_stand) (given ss) (λ x q. branches may_stand x) (sure_given ss)
@@ -81,56 +74,57 @@ switch_sure c out p before tag cs h =
     sure_node Any p rule parts (λ k q. switches k.0 (k.1).0 (k.1).1) all env whole none)
 
 mutual
-  statement_sure : (c : Context) → Good c → (s : Stmt) → IsLocalIn s → Sure Any (statement_at c s)
+  statement_sure : (c : Context) → Outside c → (s : Stmt) → IsLocalIn s → Sure Any (statement_at c s)
   statement_sure c g (empty p) l = sure_given []
-  statement_sure c g (declaration p d) l = sure_seen Any Any one_block (declaration_at c d) (λ x q. tt) (declaration_sure c g.0 d l)
-  statement_sure c g (simple p s) l = sure_single Any (simple_at c p s) (simple_sure c g.0 p s)
+  statement_sure c g (declaration p d) l = sure_seen Any Any one_block (declaration_at c d) (λ x q. tt) (declaration_sure c g d l)
+  statement_sure c g (simple p s) l = sure_single Any (simple_at c p s) (simple_sure c g p s)
   statement_sure c g (return p es) l =
-      sure_node Any p (λ k. returned k.0 k.1) (follow (still [] c.results) (values_at c es)) (λ x q. returns x.0 x.1) (both_sure (still [] c.results) (values_at c es) (results_sure c g.1) (values_sure c g.0 es))
+      sure_node Any p (returned c.results) (values_at c es) (λ x q. returns c.results x) (values_sure c g es)
   statement_sure c g (break p) l = branch_sure p c.breaks (typed.break ∷ [])
   statement_sure c g (continue p) l = branch_sure p c.continues (typed.continue ∷ [])
   statement_sure c g (fallthrough p) l = branch_sure p c.falls []
   statement_sure c g (block_statement b) l = sure_seen Any Any one_block (block_at c b) (λ x q. tt) (block_sure c g b l)
   statement_sure c g (if_statement i) l = if_sure c g i l
   statement_sure c g (for_statement p before e post b) l =
-      let body = both_sure (optional_at c p post) (block_at (in_loop c) b) (optional_sure c g.0 p post) (block_sure (in_loop c) g b l) in
-      let middle = both_sure (condition_at c e) (follow (optional_at c p post) (block_at (in_loop c) b)) (condition_sure c g.0 e) body in
+      let body = both_sure (optional_at c p post) (block_at (in_loop c) b) (optional_sure c g p post) (block_sure (in_loop c) g b l) in
+      let middle = both_sure (condition_at c e) (follow (optional_at c p post) (block_at (in_loop c) b)) (condition_sure c g e) body in
       let parts = follow (optional_at c p before) (follow (condition_at c e) (follow (optional_at c p post) (block_at (in_loop c) b))) in
       sure_inside Any (node p (λ k. looped k.0 (k.1).0 ((k.1).1).0 ((k.1).1).1) parts)
       (sure_node Any p (λ k. looped k.0 (k.1).0 ((k.1).1).0 ((k.1).1).1) parts (λ k q. loops k.0 (k.1).0 ((k.1).1).0 ((k.1).1).1)
-      (both_sure (optional_at c p before) (follow (condition_at c e) (follow (optional_at c p post) (block_at (in_loop c) b))) (optional_sure c g.0 p before) middle))
-  statement_sure c g (range_statement p o e b) l = range_sure c g.0 p o e b (block_sure (in_loop c) g b l)
-  statement_sure c g (switch_statement p before tag cs) l = switch_sure c g.0 p before tag cs (λ compared k. clauses_sure c g compared k false cs l)
+      (both_sure (optional_at c p before) (follow (condition_at c e) (follow (optional_at c p post) (block_at (in_loop c) b))) (optional_sure c g p before) middle))
+  statement_sure c g (range_statement p o e b) l = range_sure c g p o e b (block_sure (in_loop c) g b l)
+  statement_sure c g (switch_statement p before tag cs) l = switch_sure c g p before tag cs (λ compared k. clauses_sure c g compared k false cs l)
 
-  if_sure : (c : Context) → Good c → (i : If) → IsLocalIf i → Sure Any (if_at c i)
+  if_sure : (c : Context) → Outside c → (i : If) → IsLocalIf i → Sure Any (if_at c i)
   if_sure c g (conditional_if p before e b other) l =
       let arms = both_sure (block_at c b) (else_at c other) (block_sure c g b l.0) (else_sure c g other l.1) in
-      let middle = both_sure (value_at c e) (follow (block_at c b) (else_at c other)) (value_sure c g.0 e) arms in
+      let middle = both_sure (value_at c e) (follow (block_at c b) (else_at c other)) (value_sure c g e) arms in
       let parts = follow (optional_at c p before) (follow (value_at c e) (follow (block_at c b) (else_at c other))) in
       sure_inside Any (node p (λ k. conditional k.0 (k.1).0 ((k.1).1).0 ((k.1).1).1) parts)
       (sure_node Any p (λ k. conditional k.0 (k.1).0 ((k.1).1).0 ((k.1).1).1) parts (λ k q. conditionals k.0 (k.1).0 ((k.1).1).0 ((k.1).1).1)
-      (both_sure (optional_at c p before) (follow (value_at c e) (follow (block_at c b) (else_at c other))) (optional_sure c g.0 p before) middle))
+      (both_sure (optional_at c p before) (follow (value_at c e) (follow (block_at c b) (else_at c other))) (optional_sure c g p before) middle))
 
-  else_sure : (c : Context) → Good c → (e : Else) → IsLocalElse e → Sure Any (else_at c e)
+  else_sure : (c : Context) → Outside c → (e : Else) → IsLocalElse e → Sure Any (else_at c e)
   else_sure c g no_else l = sure_given []
   else_sure c g (else_block b) l = block_sure c g b l
   else_sure c g (else_if i) l = if_sure c g i l
 
-  block_sure : (c : Context) → Good c → (b : Block) → IsLocalBlock b → Sure Any (block_at c b)
+  block_sure : (c : Context) → Outside c → (b : Block) → IsLocalBlock b → Sure Any (block_at c b)
   block_sure c g (block p ss q) l = sure_inside Any (list_at (in_block c) ss) (list_sure (in_block c) g ss l)
 
-  list_sure : (c : Context) → Good c → (ss : Stmts) → AreLocal ss → Sure Any (list_at c ss)
+  list_sure : (c : Context) → Outside c → (ss : Stmts) → AreLocal ss → Sure Any (list_at c ss)
   list_sure c g no_stmts l = sure_given []
-  list_sure c g (some_stmts s ss) l = sure_appended (statement_at (before_others c ss) s) (list_at c ss) (statement_sure (before_others c ss) g s l.0) (list_sure c g ss l.1)
+  list_sure c g (some_stmts s ss) l =
+      sure_appended (statement_at (before_others c ss) s) (list_at (behind c s) ss) (statement_sure (before_others c ss) g s l.0) (list_sure (behind c s) g ss l.1)
 
-  clauses_sure : (c : Context) → Good c → (tag : Option Type') → IsKnown tag → (again : Bool) (cs : Clauses) → AreLocalClauses cs → Sure Any (clauses_at c tag again cs)
+  clauses_sure : (c : Context) → Outside c → (tag : Option Type') → IsKnown tag → (again : Bool) (cs : Clauses) → AreLocalClauses cs → Sure Any (clauses_at c tag again cs)
   clauses_sure c g tag known again no_clauses l = sure_given []
   clauses_sure c g tag known again (clause p values ss rest) l =
       let body = list_at (in_clause c (not (is_last rest))) ss in
       let one = clause_at c tag again (leads_on ss && not (is_last rest)) p values body in
       sure_appended (single one) (clauses_at c tag (again || not (is_some values)) rest)
-      (sure_single Any one (clause_sure c g.0 tag known again (leads_on ss && not (is_last rest)) p values body (list_sure (in_clause c (not (is_last rest))) g ss l.0)))
+      (sure_single Any one (clause_sure c g tag known again (leads_on ss && not (is_last rest)) p values body (list_sure (in_clause c (not (is_last rest))) g ss l.0)))
       (clauses_sure c g tag known (again || not (is_some values)) rest l.1)
 
-pub statements_sure : (c : Context) → Good c → (ss : Stmts) → AreLocal ss → Sure Any (list_at c ss)
+pub statements_sure : (c : Context) → Outside c → (ss : Stmts) → AreLocal ss → Sure Any (list_at c ss)
 statements_sure c g ss l = list_sure c g ss l

@@ -1,6 +1,6 @@
 -- Rules of statements over parts that are known pass nothing over.
-use Rattle.std.proofs.Common.{◌≡◌, ℕ, Bool, true, false, not, ◌&&◌, ◌||◌, Option, Some, None, List, [], ◌∷◌, map, length, refl, inl, inr}
-use Rattle.std.specs.Prelude.{nat_le, nat_eq, option_map}
+use Rattle.std.proofs.Common.{◌≡◌, ℕ, Bool, true, false, not, ◌&&◌, ◌||◌, Option, Some, None, Ok, Err, List, [], ◌∷◌, map, length, refl, inl, inr}
+use Rattle.std.specs.Prelude.{nat_le, nat_eq, option_map, unwrap_or}
 use Rattle.std.specs.List.{list_any, list_all, zip}
 use Rattle.std.proofs.lemmas.Bool.{cases_Bool}
 use Rattle.go_text.specs.declared.fault.FaultKind.{FaultKind}
@@ -15,7 +15,7 @@ use Rattle.go_typed.specs.Trees.{Expr, call, binary, expr_type, here, Stmt, pack
 use Rattle.go_expr.specs.Known.{Declared, value, Known, declared, results as call_results, printed, panicked, Verdict, Fine, Breaks, Passed}
 use Rattle.go_expr.specs.Rules.{lesser, least, wrong, each_unless, value_due, is_integer, defaulted, condition, binary_of}
 use Rattle.go_typed.specs.Terminating.{list_terminates}
-use Rattle.go_stmt.specs.Rules.{all_some, Values, separate, together as results_of, no_values, values_of, suited_one, takes, suited, is_constant, constants_source, constants_of, are_none, variables_source, differ, is_new, due_for, redefined, performed, left_to, left_side, assigned_to, is_left, updating, updated, stepped, conditional, loop_condition, looped, counted, ranged, Clause, case_value, clause_of, switched, branch, returned, ended}
+use Rattle.go_stmt.specs.Rules.{all_some, Values, separate, together as results_of, no_values, values_of, suited_one, takes, suited, is_constant, constants_source, constants_of, are_none, variables_source, differ, is_new, suited_if, suited_partly, dues_for, redefined, stated, performed, left_to, left_side, assigned_to, is_left, updating, updated, stepped, conditional, loop_condition, looped, counted, ranged, Clause, case_value, clause_of, switched, branch, returned, ended}
 use Rattle.go_check_laws.proofs.Rules.{IsAsked, through, together, values_due, defaults, conditions, binaries}
 
 abbrev alone : Expr → Verdict Values
@@ -55,13 +55,13 @@ variables ns None values = suits (map (λ n. None) ns) values
 variables ns (Some t) values = elim (cases_Bool (are_none values)) [ inl is ↦ rw is tt | inr not_so ↦ rw not_so (suits (map (λ n. Some t) ns) values) ]
 
 -- what is due for names is known, where they have a due at all
-abbrev pub AreDue : (Name → Option (Option Declared)) → List Name → Type 0
-AreDue own ns = (due : List (Option (Option Type'))) → all_some (map (λ n. due_for (own n)) ns) ≡ Some due → (k : List (Option Type')) × (all_some due ≡ Some k)
+abbrev pub AreDue : List (List ℕ) → (Name → Option (Option Declared)) → List Name → Type 0
+AreDue constants own ns = (due : List (Option (Option Type'))) → dues_for constants own ns ≡ Some due → (k : List (Option Type')) × (all_some due ≡ Some k)
 
-pub redefinitions : (own : Name → Option (Option Declared)) (ns : List Name) (values : Values) → AreDue own ns → IsAsked (redefined own ns values)
-redefinitions own ns values known = elim (cases_Bool (not (differ ns && list_any (λ n. is_new n (own n)) ns))) [
+pub redefinitions : (constants : List (List ℕ)) (own : Name → Option (Option Declared)) (ns : List Name) (values : Values) → AreDue constants own ns → IsAsked (redefined constants own ns values)
+redefinitions constants own ns values known = elim (cases_Bool (not (differ ns && list_any (λ n. is_new n (own n)) ns))) [
   | inl is ↦ rw is tt
-  | inr new ↦ elim (all_some (map (λ n. due_for (own n)) ns)) as (λ o. all_some (map (λ n. due_for (own n)) ns) ≡ o → IsAsked (redefined own ns values)) [
+  | inr new ↦ elim (dues_for constants own ns) as (λ o. dues_for constants own ns ≡ o → IsAsked (redefined constants own ns values)) [
     | None ↦ λ at. rw (new, at, IsAsked) tt
     | Some due ↦ λ at. (let k = known due at in rw (new, at, k.1, IsAsked) (suits k.0 values))
   ] refl
@@ -72,9 +72,18 @@ performances (declared (value (call t f es))) = tt
 performances (declared (value e)) = tt
 performances (declared d) = tt
 performances (call_results ts f es) = tt
-performances (printed es) = tt
+performances (printed (Ok es)) = tt
+performances (printed (Err kind)) = tt
 performances (panicked e) = tt
 performances k = tt
+
+pub statements : (k : Known) → IsAsked (stated k)
+statements (printed (Ok es)) = tt
+statements (printed (Err kind)) = tt
+statements (declared d) = tt
+statements (call_results ts f es) = tt
+statements (panicked e) = tt
+statements k = tt
 
 pub assignments_to : (es : List (Option Expr)) (values : Values) → IsAsked (assigned_to es values)
 assignments_to es values = elim (all_some (map left_side es)) as (λ o. all_some (map left_side es) ≡ o → IsAsked (assigned_to es values)) [
@@ -136,8 +145,16 @@ pub branches : (may_stand : Bool) (ss : List Stmt) → IsAsked (branch may_stand
 branches true ss = tt
 branches false ss = tt
 
-pub returns : (ts : List Type') (values : Values) → IsAsked (returned ts values)
-returns ts values = through _ (suited (map Some ts) values) (λ x. tt) (suits (map Some ts) values)
+suits_partly : (due : List (Option (Option Type'))) (values : Values) → IsAsked (suited_partly due values)
+suits_partly due (separate es) = elim (cases_Bool (nat_eq (length due) (length es))) [
+  | inl is ↦ rw is (through _ (each_unless [] (map suited_if (zip due es))) (λ x. tt) (together [] (map suited_if (zip due es))))
+  | inr not_so ↦ rw not_so tt
+]
+suits_partly due (results_of ts f es) = suits (map (λ t. unwrap_or t None) due) (results_of ts f es)
+suits_partly due no_values = tt
+
+pub returns : (ts : List (Option Type')) (values : Values) → IsAsked (returned ts values)
+returns ts values = through _ (suited_partly (map (option_map Some) ts) values) (λ x. tt) (suits_partly (map (option_map Some) ts) values)
 
 pub ends : (ts : List Type') (ss : List Stmt) → IsAsked (ended ts ss)
 ends ts ss = elim (cases_Bool (nat_eq (length ts) 0 || list_terminates (pack_stmts ss))) [ inl is ↦ rw is tt | inr not_so ↦ rw not_so tt ]

@@ -1,28 +1,27 @@
 -- A loop over a range: its variable is known, where the range is.
-use Rattle.std.proofs.Common.{◌≡◌, ℕ, Bool, true, false, not, Option, Some, None, List, [], ◌∷◌, ◌++◌, refl, sym, ap, subst, ◌∙◌, inl, inr}
+use Rattle.std.proofs.Common.{◌≡◌, ℕ, Bool, false, not, Option, Some, None, List, [], ◌∷◌, ◌++◌, refl, sym, ap, subst, ◌∙◌, inl, inr}
 use Rattle.std.specs.Prelude.{if◌then◌else◌}
-use Rattle.std.specs.List.{list_any}
 use Rattle.std.proofs.lemmas.Bool.{cases_Bool}
 use Rattle.go_text.specs.declared.place.Place.{Place}
 use Rattle.go_text.specs.declared.fault.FaultKind.TheVariants.{Mismatch, Assign, Range}
 use Rattle.go_ast.specs.Trees.{Name, Expr, Block, range_statement}
 use Rattle.go_types.specs.Types.{Type'}
 use Rattle.go_types.specs.Relations.{assignable}
-use Rattle.go_scope.specs.Names.{Used}
 use Rattle.go_typed.specs.Trees as typed
 use Rattle.go_typed.specs.Trees.{expr_type}
-use Rattle.go_expr.specs.Known.{Known, Verdict, Fine, Breaks, Passed, Scope, look_up}
+use Rattle.go_expr.specs.Known.{Scope, look_up}
 use Rattle.go_expr.specs.Rules.{fine, is_integer, lies_in, default_type}
 use Rattle.go_expr.specs.Verdicts.{asked, both, operand, verdict, broken}
 use Rattle.go_stmt.specs.Scopes.{Env, Context, scope_in, declare_new, Checked, follow, node, perhaps}
 use Rattle.go_stmt.specs.Rules.{ranged}
-use Rattle.go_stmt.specs.Statements.{value_at, in_loop, range_type, range_names, range_number, is_unknown, is_hidden, block_at, statement_at}
+use Rattle.go_stmt.specs.Statements.{value_at, in_loop, range_type, range_names, range_number, is_hidden, block_at, statement_at}
 use Rattle.go_check_laws.specs.Finds.{IsKnown, IsTold}
 use Rattle.go_check_laws.proofs.Rules.{IsAsked}
 use Rattle.go_check_laws.proofs.Steps.{ranges}
 use Rattle.go_check_laws.proofs.Faultless.{two_none, known}
 use Rattle.go_check_laws.proofs.Forms.{Outside, all_told, AllTyped, new_whole, Any, Sure, any, sure_inside}
 use Rattle.go_check_laws.proofs.Leaves.{value_sure}
+use Rattle.go_check_laws.proofs.Shown.{all_shown}
 
 abbrev inner_range : Context → Place → Option Name → Expr → Block → Env → Checked (List typed.Stmt)
 inner_range c p o e b env =
@@ -35,16 +34,6 @@ typed_names : (o : Option Name) (t : Option Type') → IsKnown t → AllTyped (r
 typed_names None t k = tt
 typed_names (Some n) None k = absurd cc
 typed_names (Some n) (Some t) k = tt
-
--- where all names are told none of them hides what a range breaks
-told_shown : (v : Verdict Known) → IsTold v → elim v [ Passed ↦ true | _ ↦ false ] ≡ false
-told_shown (Fine k) h = refl
-told_shown (Breaks kind) h = refl
-told_shown Passed h = absurd h
-
-all_shown : (s : Scope) → ((x : List ℕ) → IsTold (look_up x s.names)) → (us : List Used) → list_any (is_unknown s) us ≡ false
-all_shown s told [] = refl
-all_shown s told (u ∷ us) = (let one = told_shown (look_up u.0 s.names) (told u.0) in rw one (all_shown s told us))
 
 shown : (s : Scope) → ((x : List ℕ) → IsTold (look_up x s.names)) → (o : Option Name) (t : Option Type') (b : Block) → is_hidden s o t b ≡ false
 shown s told o None b = all_shown s told _

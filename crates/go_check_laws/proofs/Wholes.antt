@@ -9,8 +9,8 @@ use Rattle.go_text.specs.declared.edition.Edition.{Edition}
 use Rattle.go_ast.specs.Trees.{constants, variables, types, VarSpec, Function, TopLevel, declared, function, File}
 use Rattle.go_types.specs.Types.{Type'}
 use Rattle.go_typed.specs.Trees as typed
-use Rattle.go_stmt.specs.Scopes.{Context, nothing, follow}
-use Rattle.go_stmt.specs.Functions.{parameters_at, body_at, function_of, function_at}
+use Rattle.go_stmt.specs.Scopes.{Context, nothing}
+use Rattle.go_stmt.specs.Functions.{Parts, whole_at, function_of, function_at}
 use Rattle.go_objects.specs.Objects.{objects_of}
 use Rattle.go_objects.specs.Table.{Package, own_names, imports_at, scope_at}
 use Rattle.go_decl.specs.Faults.{Facts, context_at, var_spec_faults, top_faults, files_faults}
@@ -46,15 +46,14 @@ two a b c d e f = ap (λ x. x ++ c) e ∙ ap (λ x. b ++ x) f
 abbrev names : List typed.Function → List (List ℕ)
 names fs = map (λ (f : typed.Function). f.name) fs
 
-named_by : (f : Function) (ts : List Type') (o : Option (List Type' × (List Type' × List typed.Stmt))) (g : typed.Function) → option_map (function_of f ts) o ≡ Some g → g.name ≡ f.name.text
+named_by : (f : Function) (ts : List Type') (o : Option Parts) (g : typed.Function) → option_map (function_of f ts) o ≡ Some g → g.name ≡ f.name.text
 named_by f ts None g is = absurd cc
 named_by f ts (Some k) g is = (let same : function_of f ts k ≡ g = cc in sym (ap (λ (h : typed.Function). h.name) same))
 
 function_named : (c : Context) (f : Function) (g : typed.Function) → (function_at c f).known ≡ Some g → g.name ≡ f.name.text
 unfolding function_at
 function_named c f g is =
-    let form = follow (parameters_at c f.parameters) (body_at c f.results f.body) in
-    named_by f (form nothing).after.types (form nothing).known g is
+    named_by f (whole_at c f nothing).after.types (whole_at c f nothing).known g is
 
 one_function : (t : Facts) (file : ℕ) (f : Function) → IsKnown (function_at (context_at t file) f).known → names (top_functions t file (function f)) ≡ own_names (f.name ∷ [])
 one_function t file f k =

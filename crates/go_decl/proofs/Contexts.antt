@@ -1,5 +1,5 @@
 -- Where a function stands, as the code has it.
-use Rattle.std.proofs.Common.{◌≡◌, ℕ, Option, None, false, List, String, ap, ◌∙◌}
+use Rattle.std.proofs.Common.{◌≡◌, ℕ, Option, [], false, List, String, ap, ◌∙◌}
 use Rattle.std.specs.Global.{Global}
 use Rattle.indexmap.specs.IndexMap.{IndexMap}
 use Rattle.go_text.specs.declared.edition.Edition.{Edition}
@@ -14,7 +14,7 @@ use Rattle.go_objects.proofs.Standing.{stands_outside}
 use Rattle.go_decl.specs.Faults.{Facts, context_at}
 
 abbrev by : List ℕ → (Option ℕ → List (List ℕ × Verdict Known)) → Context
-by path outside = record { path = path; outside = outside; results = None; breaks = false; continues = false; falls = false }
+by path outside = record { path = path; outside = outside; results = []; constants = []; breaks = false; continues = false; falls = false }
 
 abbrev of_package : Package → Names → ℕ → Context
 of_package p known file = by p.path (λ iota. (scope_at p known file iota).names)

@@ -1,9 +1,8 @@
 -- The parts of a specification of constants, and its faults.
-use Rattle.std.proofs.Common.{◌≡◌, ℕ, Bool, true, false, ◌&&◌, Option, Some, None, refl, append-nil, Result, Ok, Err, List, [], ◌∷◌, ◌++◌, map, sym, ap, ◌∙◌, subst}
+use Rattle.std.proofs.Common.{◌≡◌, ℕ, Bool, true, false, ◌&&◌, Option, Some, None, refl, append-nil, Result, Ok, Err, List, [], ◌∷◌, ◌++◌, sym, ap, ◌∙◌, subst}
 use Rattle.std.specs.Prelude.{is_some, option_map}
 use Rattle.std.specs.List.{slice_get, flat_map}
 use Rattle.go_text.specs.declared.place.Place.{Place}
-use Rattle.go_text.specs.declared.fault.FaultKind.{FaultKind}
 use Rattle.go_ast.specs.Trees as trees
 use Rattle.go_ast.specs.Trees.{Name, TypeExpr}
 use Rattle.go_scope.specs.Names.{Used}
@@ -13,10 +12,11 @@ use Rattle.go_expr.specs.declared.error.ExprError.TheVariants.{Faulty, Memory}
 use Rattle.go_expr.specs.declared.error.RuleError.{RuleError}
 use Rattle.go_expr.specs.declared.error.RuleError.TheVariants as rules
 use Rattle.go_expr.specs.Seen.{Fails, Gives, LocatedAt}
-use Rattle.go_expr.specs.Verdicts.{asked, both, broken}
+use Rattle.go_expr.specs.Verdicts.{asked, both, broken, operands}
+use Rattle.go_stmt.specs.Statements.{values_known}
 use Rattle.go_objects.specs.Objects.{Object}
 use Rattle.go_objects.specs.Table.{scope_at}
-use Rattle.go_decl.specs.Faults.{Facts, Faults, name_faults, told_at, parts_faults, spec_broken, apart, constants_apart, constants_faults, var_parts_faults, var_broken, variables_apart, var_spec_faults}
+use Rattle.go_decl.specs.Faults.{Facts, Faults, name_faults, parts_faults, written_type, apart, constants_by, constants_faults, var_parts_faults, variables_by, var_spec_faults}
 use Rattle.go_decl.specs.Seen.{Finds}
 
 pub sooner : (e : ExprError) (fs gs : Faults) → Fails e fs → Fails e (fs ++ gs)
@@ -27,37 +27,32 @@ pub later : {X : Type 0} (r : Result X ExprError) (fs gs : Faults) → fs ≡ []
 later r [] gs none h = h
 later r (f ∷ fs) gs none h = cc
 
--- where another tells what was found
-pub told_there : (repeated : Bool) (p own : Place) (kind : FaultKind) (fs : Faults) → repeated ≡ true → Fails (Faulty own kind) fs → Fails (Faulty p kind) (told_at repeated p fs)
-told_there repeated p own kind fs there h = (map (λ f. (p, f.1)) h.0, ap (λ b. told_at b p fs) there ∙ ap (map (λ f. (p, f.1))) h.1)
-
 -- ---- a specification whose names and parts have no fault
 
 abbrev whole_constants : Facts → ℕ → ℕ → Place → Scope → trees.ConstSpec → Faults
-whole_constants t file iota p s spec = spec_broken p s spec ++ constants_apart t file iota p s spec
+whole_constants t file iota p s spec = constants_by t file iota p spec (written_type s spec.type) (operands s spec.values)
 
 pub checked_spec : {X : Type 0} (r : Result X ExprError) (t : Facts) (file iota : ℕ) (repeated : Bool) (ns : List Name) (of : Option TypeExpr) (es : trees.Exprs) (s : Scope) (n : Name) (p : Place) →
-    slice_get ns 0 ≡ Some n → p ≡ n.place → s ≡ scope_at t.package t.known file (Some iota) → flat_map (name_faults t file) ns ≡ [] → told_at repeated p (parts_faults s (record { names = ns; type = of; values = es })) ≡ [] →
-    Finds r (spec_broken p s (record { names = ns; type = of; values = es }) ++ constants_apart t file iota p s (record { names = ns; type = of; values = es })) →
+    slice_get ns 0 ≡ Some n → p ≡ n.place → s ≡ scope_at t.package t.known file (Some iota) → flat_map (name_faults t file) ns ≡ [] →
+    Finds r (parts_faults t file repeated p s (record { names = ns; type = of; values = es }) ++ whole_constants t file iota p s (record { names = ns; type = of; values = es })) →
     Finds r (constants_faults t file iota repeated (record { names = ns; type = of; values = es }))
-checked_spec r t file iota repeated [] of es s n p first there stands names parts h = cc
-checked_spec r t file iota repeated (m ∷ ms) of es s n p first there stands names parts h =
+checked_spec r t file iota repeated [] of es s n p first there stands names h = cc
+checked_spec r t file iota repeated (m ∷ ms) of es s n p first there stands names h =
     let spec : trees.ConstSpec = record { names = m ∷ ms; type = of; values = es } in
     let same : m ≡ n = cc in
     let at : p ≡ m.place = there ∙ ap (λ (x : Name). x.place) (sym same) in
     let own = flat_map (name_faults t file) (m ∷ ms) in
-    let rest = λ (q : Place) (z : Scope). told_at repeated q (parts_faults z spec) ++ whole_constants t file iota q z spec in
+    let rest = λ (q : Place) (z : Scope). parts_faults t file repeated q z spec ++ whole_constants t file iota q z spec in
     subst (λ (q : Place). Finds r (own ++ rest q (scope_at t.package t.known file (Some iota)))) at
-    (subst (λ (z : Scope). Finds r (own ++ rest p z)) stands
-    (later r own (rest p s) names (later r (told_at repeated p (parts_faults s spec)) (whole_constants t file iota p s spec) parts h)))
+    (subst (λ (z : Scope). Finds r (own ++ rest p z)) stands (later r own (rest p s) names h))
 
 -- variables likewise
 abbrev whole_variables : Facts → ℕ → Place → Scope → trees.VarSpec → Faults
-whole_variables t file p s spec = var_broken p s spec ++ variables_apart t file p s spec
+whole_variables t file p s spec = variables_by t file p spec (written_type s spec.type) (values_known s spec.values)
 
 pub checked_variables : {X : Type 0} (r : Result X ExprError) (t : Facts) (file : ℕ) (ns : List Name) (of : Option TypeExpr) (es : trees.Exprs) (s : Scope) (n : Name) (p : Place) →
     slice_get ns 0 ≡ Some n → p ≡ n.place → s ≡ scope_at t.package t.known file None → flat_map (name_faults t file) ns ≡ [] → var_parts_faults s (record { names = ns; type = of; values = es }) ≡ [] →
-    Finds r (var_broken p s (record { names = ns; type = of; values = es }) ++ variables_apart t file p s (record { names = ns; type = of; values = es })) →
+    Finds r (whole_variables t file p s (record { names = ns; type = of; values = es })) →
     Finds r (var_spec_faults t file (record { names = ns; type = of; values = es }))
 checked_variables r t file [] of es s n p first there stands names parts h = cc
 checked_variables r t file (m ∷ ms) of es s n p first there stands names parts h =

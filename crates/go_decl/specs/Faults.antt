@@ -11,11 +11,11 @@ use Rattle.go_typed.specs.Trees.{Expr as Typed}
 use Rattle.go_scope.specs.Names.{Used, in_exprs}
 use Rattle.go_scope.specs.Order.{DependsOnItself}
 use Rattle.go_expr.specs.Known.{Names, Verdict, Fine, Scope}
-use Rattle.go_expr.specs.Rules.{fine, checked, least, constant_due, assigned, defaulted}
-use Rattle.go_expr.specs.Verdicts.{asked, both, asked_both, operand, verdict, broken, operands, type_verdict, type_faults, operands_faults}
+use Rattle.go_expr.specs.Rules.{fine, checked, constant_due, assigned, defaulted}
+use Rattle.go_expr.specs.Verdicts.{asked, both, asked_both, operand, verdict, broken, operands, type_verdict, operand_broken, faults, type_faults, operands_faults}
 use Rattle.go_stmt.specs.Scopes.{Context}
 use Rattle.go_stmt.specs.Rules.{Values, constants_of, variables_source}
-use Rattle.go_stmt.specs.Statements.{values_known, values_faults}
+use Rattle.go_stmt.specs.Statements.{is_unknown, values_known, values_faults, first_fault, written_faults, least_at, repeated_faults}
 use Rattle.go_stmt.specs.Functions.{function_at}
 use Rattle.go_objects.specs.Objects as objects
 use Rattle.go_scope.specs.Specifications.{meant, is_repeated}
@@ -66,8 +66,11 @@ written_type s t = elim t [ None ↦ Some None | Some t ↦ option_map Some (fin
 abbrev pub own_constant : Option Type' → Typed → Verdict Typed
 own_constant t e = checked (λ e. elim t [ None ↦ Fine e | Some t ↦ assigned t e ]) (constant_due e)
 
+-- the least fault of its type and its value, or its own
 abbrev pub constant_faults : Scope → Place → Option TypeExpr → Expr → Faults
-constant_faults s p t e = broken p (asked_both own_constant (written_type s t) (operand (verdict s e)))
+constant_faults s p t e =
+    least_at p (first_fault (written_faults s t) ++ first_fault (faults s e ++ operand_broken e (verdict s e)))
+    ++ broken p (asked_both own_constant (written_type s t) (operand (verdict s e)))
 
 -- https://go.dev/ref/spec#Variable_declarations
 -- the value of a variable without a type lies in the type that it takes of it
@@ -94,38 +97,24 @@ hides t file p u = elim (number_of t.package.objects u.0) [
   | Some k ↦ not (is_known t.known k) && not (is_of_spec file p (slice_get t.package.objects k))
 ]
 
--- of some faults the one of the least number, at a place
-abbrev pub least_at : Place → Faults → Faults
-least_at p fs = elim (least (map (λ f. f.1) fs)) [ None ↦ [] | Some kind ↦ (p, kind) ∷ [] ]
-
 -- A specification of which a part isn't known can't be asked as a whole. It is asked for each of its objects by itself, unless a name in it hides that.
 abbrev pub apart : Facts → ℕ → Place → Bool → List Used → List Object → Faults
 apart t file p whole us os = if whole || list_any (hides t file p) us then [] else least_at p (flat_map (object_faults t) os)
 
 -- ---- constants: https://go.dev/ref/spec#Constant_declarations
 
--- as many values as names, all constant, each assignable to the type that is written
-abbrev pub spec_broken : Place → Scope → ConstSpec → Faults
-spec_broken p s spec = broken p (asked_both (constants_of spec.names) (written_type s spec.type) (operands s spec.values))
+-- a name that stands for a faulty declaration hides the faults of what is repeated, unless the specification itself declares it
+abbrev pub hides_repeated : Facts → ℕ → Place → Scope → Used → Bool
+hides_repeated t file p s u = is_unknown s u && hides t file p u
 
-abbrev pub written_faults : Scope → Option TypeExpr → Faults
-written_faults s t = elim t [ None ↦ [] | Some t ↦ type_faults s t ]
+-- its type and its values, which are one node where they are repeated
+abbrev pub parts_faults : Facts → ℕ → Bool → Place → Scope → ConstSpec → Faults
+parts_faults t file repeated p s spec =
+    if repeated then repeated_faults (list_any (hides_repeated t file p s) (in_written spec.type ++ in_exprs spec.values)) p s spec.type spec.values
+    else written_faults s spec.type ++ operands_faults s spec.values
 
--- its type and its values
-abbrev pub parts_faults : Scope → ConstSpec → Faults
-parts_faults s spec = written_faults s spec.type ++ operands_faults s spec.values
-
--- faults of what is written for a specification before, and repeated, are those of the one that repeats it
-abbrev pub told_at : Bool → Place → Faults → Faults
-told_at repeated p fs = if repeated then map (λ f. (p, f.1)) fs else fs
-
--- each of its constants by itself, where it can't be asked as a whole
-abbrev pub constants_apart : Facts → ℕ → ℕ → Place → Scope → ConstSpec → Faults
-constants_apart t file iota p s spec =
-    apart t file p (is_some (both (written_type s spec.type) (operands s spec.values))) (in_written spec.type ++ in_exprs spec.values)
-    (objects.constants_of file iota spec)
-
--- the faults of a specification itself, by what is known of its type and its values
+-- The faults of a specification itself, by what is known of its type and its values: there are as many values as names, all constant, each assignable to the
+-- type that is written; or those of each constant by itself, where it can't be asked as a whole.
 abbrev pub constants_by : Facts → ℕ → ℕ → Place → ConstSpec → Option (Option Type') → Option (List Typed) → Faults
 constants_by t file iota p spec of values =
     broken p (asked_both (constants_of spec.names) of values)
@@ -136,7 +125,8 @@ abbrev pub constants_faults : Facts → ℕ → ℕ → Bool → ConstSpec → F
 constants_faults t file iota repeated spec = elim spec.names [
   | [] ↦ []
   | first ∷ others ↦ (let s = scope_at t.package t.known file (Some iota) in
-      flat_map (name_faults t file) spec.names ++ (told_at repeated first.place (parts_faults s spec) ++ (spec_broken first.place s spec ++ constants_apart t file iota first.place s spec)))
+      flat_map (name_faults t file) spec.names ++ (parts_faults t file repeated first.place s spec
+      ++ constants_by t file iota first.place spec (written_type s spec.type) (operands s spec.values)))
 ]
 
 abbrev pub group_faults : Facts → ℕ → ℕ → ConstSpec → List ConstSpec → Faults
@@ -154,16 +144,7 @@ type_spec_faults t file s =
 abbrev pub var_parts_faults : Scope → VarSpec → Faults
 var_parts_faults s spec = written_faults s spec.type ++ values_faults s spec.values
 
-abbrev pub var_broken : Place → Scope → VarSpec → Faults
-var_broken p s spec = broken p (asked_both (variables_source spec.names) (written_type s spec.type) (values_known s spec.values))
-
--- each of its variables by itself, where it can't be asked as a whole
-abbrev pub variables_apart : Facts → ℕ → Place → Scope → VarSpec → Faults
-variables_apart t file p s spec =
-    apart t file p (is_some (both (written_type s spec.type) (values_known s spec.values))) (in_written spec.type ++ in_exprs spec.values)
-    (variables_of file spec)
-
--- the faults of a specification itself, by what is known of its type and its values
+-- the faults of a specification itself, by what is known of its type and its values, or those of each variable by itself, where it can't be asked as a whole
 abbrev pub variables_by : Facts → ℕ → Place → VarSpec → Option (Option Type') → Option Values → Faults
 variables_by t file p spec of values =
     broken p (asked_both (variables_source spec.names) of values)
@@ -174,7 +155,8 @@ abbrev pub var_spec_faults : Facts → ℕ → VarSpec → Faults
 var_spec_faults t file spec = elim spec.names [
   | [] ↦ []
   | first ∷ others ↦ (let s = scope_at t.package t.known file None in
-      flat_map (name_faults t file) spec.names ++ (var_parts_faults s spec ++ (var_broken first.place s spec ++ variables_apart t file first.place s spec)))
+      flat_map (name_faults t file) spec.names
+      ++ (var_parts_faults s spec ++ variables_by t file first.place spec (written_type s spec.type) (values_known s spec.values)))
 ]
 
 -- https://go.dev/ref/spec#Function_declarations
@@ -183,7 +165,8 @@ abbrev pub context_at : Facts → ℕ → Context
 context_at t file = record {
   path = t.package.path;
   outside = λ iota. (scope_at t.package t.known file iota).names;
-  results = None;
+  results = [];
+  constants = [];
   breaks = false;
   continues = false;
   falls = false;

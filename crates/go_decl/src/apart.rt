@@ -1,5 +1,5 @@
 //! Constants and variables that are asked by themselves.
-ghost use Rattle.std.specs.Prelude.{◌≡◌, ◌++◌, map, false, IfOk};
+ghost use Rattle.std.specs.Prelude.{◌≡◌, ◌≢◌, ◌++◌, [], map, false, IfOk};
 ghost use Rattle.std.specs.List.{flat_map, list_any, slice_get};
 ghost use Rattle.std.specs.Option.{option_map};
 ghost use Rattle.go_ast.specs.Views.{expr_of as expr_tree, type_of as type_tree};
@@ -8,16 +8,19 @@ ghost use Rattle.go_typed.specs.Views.{expr_of};
 ghost use Rattle.go_scope.specs.Names.{used, in_exprs};
 ghost use Rattle.go_expr.specs.Rules.{least, defaulted};
 ghost use Rattle.go_expr.specs.Seen.{scope_of, names_of, Gives};
-ghost use Rattle.go_expr.specs.Verdicts.{asked, asked_both, broken};
+ghost use Rattle.go_expr.specs.Verdicts.{asked, asked_both, operand, verdict, broken, operand_broken, faults};
 ghost use Rattle.go_objects.specs.Packages.{package_of};
 ghost use Rattle.go_objects.specs.Seen.{object_of, spec_of};
 ghost use Rattle.go_objects.specs.Table.{in_written};
-ghost use Rattle.go_decl.specs.Faults.{is_known, written_type, own_constant, constant_faults, variable_faults, object_faults, is_of_spec, hides, least_at, apart};
+ghost use Rattle.go_decl.specs.Faults.{is_known, written_type, own_constant, constant_faults, variable_faults, object_faults, is_of_spec, hides, hides_repeated, apart};
+ghost use Rattle.go_stmt.specs.Statements.{written_faults, least_at};
 ghost use Rattle.go_decl.specs.Seen.{facts_of, Finds};
 
 use crate::facts::Facts;
+use crate::variables::check_written;
 use go_ast::expression::{Expr, TypeExpr};
 use go_expr::error::{ExprError, RuleError};
+use go_expr::expression::check_operand;
 use go_expr::gather::lesser;
 use go_expr::known::Names;
 use go_expr::node::constant_in;
@@ -28,6 +31,8 @@ use go_objects::evaluation::{operand_in, scope_in, type_in};
 use go_objects::object::{Form, Object};
 use go_objects::package::{Package, spec_names};
 use go_scope::names::UsedName;
+use go_stmt::hidden::is_unknown;
+use go_stmt::repeated::{value_fault, written_fault};
 use go_text::fault::FaultKind;
 use go_text::place::Place;
 use go_typed::expression::TypedExpr;
@@ -51,6 +56,41 @@ pub(crate) fn check_apart(
         return Ok(());
     }
     check_least(alloc, facts, place, objects)
+}
+
+// Whether a name hides the faults of a specification that begins at a place and repeats its type and
+// its values: it stands there for a faulty declaration, and no other of the specification declares it.
+// An `Err` only where memory ran out.
+pub(crate) fn hides_repeated(
+    alloc: Global,
+    facts: &Facts<'_>,
+    file: usize,
+    scope: &Scope<'_>,
+    place: Place,
+    spec: Spec<'_>,
+) -> Result<bool, AllocError>
+    ensures { let names = in_written (spec_of spec.entry).type ++ in_exprs (spec_of spec.entry).values in
+        IfOk result (λ b. b ≡ list_any (hides_repeated (facts_of facts.now) file place (scope_of scope.now)) names) }
+{
+    let names = spec_names(alloc, spec)?;
+    any_hides_repeated(facts, file, scope, place, &names)
+}
+
+fn any_hides_repeated(
+    facts: &Facts<'_>,
+    file: usize,
+    scope: &Scope<'_>,
+    place: Place,
+    names: &[UsedName<'_>],
+) -> Result<bool, AllocError>
+    ensures { IfOk result (λ b. b ≡ list_any (hides_repeated (facts_of facts.now) file place (scope_of scope.now)) (map used names.now)) }
+{
+    for name in names {
+        if is_unknown(scope, place, *name)? && hides(facts, file, place, *name) {
+            return Ok(true);
+        }
+    }
+    Ok(false)
 }
 
 // Whether one of some names hides the faults of the specification that begins at a place.
@@ -163,7 +203,7 @@ pub fn check_object(alloc: Global, facts: &Facts<'_>, object: &Object<'_>) -> Re
     }
 }
 
-// The fault of a constant by its type and its value, where both are known.
+// The fault of a constant by its type and its value.
 fn check_constant(
     alloc: Global,
     scope: &Scope<'_>,
@@ -173,9 +213,53 @@ fn check_constant(
 ) -> Result<(), ExprError>
     ensures { Finds result (constant_faults (scope_of scope.now) place (option_map (λ t. type_tree t.now) type_expr.entry) (expr_tree value.now)) }
 {
-    let of = written_in(alloc, scope, type_expr)?;
-    let value = operand_in(alloc, scope, value)?;
-    check_parts(alloc, place, of, value)
+    match check_own(alloc, scope, type_expr, value) {
+        Ok(own) => check_parts(alloc, place, own.of, own.value),
+        Err(ExprError::Faulty(_, _)) => check_faulty(alloc, scope, place, type_expr, value),
+        Err(ExprError::Memory) => Err(ExprError::Memory),
+    }
+}
+
+// The type that is written and the value of a constant, where they are known.
+#[derive(Drop)]
+struct Own {
+    of: Option<Option<GoType>>,
+    value: Option<TypedExpr>,
+}
+
+// What is known of the type and the value of a constant, or the first fault in them.
+fn check_own(
+    alloc: Global,
+    scope: &Scope<'_>,
+    type_expr: Option<&TypeExpr>,
+    value: &Expr,
+) -> Result<Own, ExprError>
+    ensures faults { let s = scope_of scope.now in let e = expr_tree value.now in
+        Finds result (written_faults s (option_map (λ t. type_tree t.now) type_expr.entry) ++ (faults s e ++ operand_broken e (verdict s e))) }
+    ensures of { IfOk result (λ own. option_map (option_map type_of) own.of ≡ written_type (scope_of scope.now) (option_map (λ t. type_tree t.now) type_expr.entry)) }
+    ensures value { IfOk result (λ own. option_map expr_of own.value ≡ operand (verdict (scope_of scope.now) (expr_tree value.now))) }
+{
+    let of = check_written(alloc, scope, type_expr)?;
+    let value = check_operand(alloc, scope, value)?;
+    Ok(Own { of, value })
+}
+
+// The least fault of the type and the value of a constant, at a place, where they have one.
+fn check_faulty(
+    alloc: Global,
+    scope: &Scope<'_>,
+    place: Place,
+    type_expr: Option<&TypeExpr>,
+    value: &Expr,
+) -> Result<(), ExprError>
+    ensures { let s = scope_of scope.now in let t = option_map (λ t. type_tree t.now) type_expr.entry in let e = expr_tree value.now in
+        written_faults s t ++ (faults s e ++ operand_broken e (verdict s e)) ≢ [] → Finds result (constant_faults s place t e) }
+{
+    let written = written_fault(alloc, scope, type_expr)?;
+    match lesser(written, value_fault(alloc, scope, value)?) {
+        Some(kind) => Err(ExprError::Faulty(place, kind)),
+        None => Ok(()),
+    }
 }
 
 #[tactic(auto, using(crate::proofs::Parts::located, crate::proofs::Parts::unbroken))]

@@ -1,19 +1,20 @@
 //! The faults of declarations of constants.
-ghost use Rattle.std.specs.Prelude.{◌≡◌, [], map, is_some, None, Ok, IfOk};
+ghost use Rattle.std.specs.Prelude.{◌≡◌, ◌≢◌, ◌++◌, ℕ, [], true, map, is_some, None, IfOk};
 ghost use Rattle.std.specs.Option.{option_map};
 ghost use Rattle.go_ast.specs.Trees.{no_exprs};
 ghost use Rattle.go_ast.specs.Views.{const_of};
 ghost use Rattle.go_types.specs.Views.{type_of};
 ghost use Rattle.go_typed.specs.Views.{expr_of};
-ghost use Rattle.go_expr.specs.Verdicts.{both, asked_both, broken, operands};
+ghost use Rattle.go_expr.specs.Verdicts.{both, asked_both, broken, operands, operands_faults};
 ghost use Rattle.go_expr.specs.Seen.{scope_of, all_of, Fails};
 ghost use Rattle.go_stmt.specs.Rules.{constants_of};
+ghost use Rattle.go_stmt.specs.Statements.{written_faults};
 ghost use Rattle.go_objects.specs.Objects as objects;
 ghost use Rattle.go_objects.specs.Seen.{spec_of};
-ghost use Rattle.go_decl.specs.Faults.{Faults, written_type, parts_faults, told_at, constants_by, constants_faults, group_faults};
+ghost use Rattle.go_decl.specs.Faults.{written_type, parts_faults, constants_by, constants_faults, group_faults};
 ghost use Rattle.go_decl.specs.Seen.{facts_of, Finds};
 
-use crate::apart::check_apart;
+use crate::apart::{check_apart, hides_repeated};
 use crate::facts::Facts;
 use crate::names::check_names;
 use crate::variables::check_written;
@@ -25,6 +26,7 @@ use go_expr::scope::Scope;
 use go_objects::declarations::{Spec, constants_of as constants_in, meant};
 use go_objects::evaluation::scope_in;
 use go_stmt::declaration::constants_of;
+use go_stmt::repeated::repeated_fault;
 use go_text::place::Place;
 use go_typed::expression::TypedExpr;
 use go_types::types::GoType;
@@ -85,8 +87,86 @@ fn check_constants(
     };
     check_names(facts, file, spec.names)?;
     let scope = scope_in(facts.package(), facts.known(), file, Some(iota));
-    let parts = told_at(repeated, first.place(), check_parts(alloc, &scope, spec))?;
-    check_whole(alloc, facts, file, iota, first.place(), spec, parts)
+    match check_parts(alloc, &scope, spec) {
+        Ok(parts) => check_whole(alloc, facts, file, iota, first.place(), spec, parts),
+        Err(error) => {
+            check_faulty(
+                alloc,
+                facts,
+                file,
+                &scope,
+                first.place(),
+                repeated,
+                spec,
+                error,
+            )
+        }
+    }
+}
+
+// The fault of a specification whose type and values have one, and are repeated or not.
+fn check_faulty(
+    alloc: Global,
+    facts: &Facts<'_>,
+    file: usize,
+    scope: &Scope<'_>,
+    place: Place,
+    repeated: bool,
+    spec: Spec<'_>,
+    error: ExprError,
+) -> Result<(), ExprError>
+    ensures { (iota : ℕ) → let t = facts_of facts.now in let s = scope_of scope.now in let c = spec_of spec.entry in
+        Fails error (written_faults s c.type ++ operands_faults s c.values) →
+        Finds result (parts_faults t file repeated place s c ++ constants_by t file iota place c (written_type s c.type) (operands s c.values)) }
+{
+    if repeated {
+        check_repeated(alloc, facts, file, scope, place, spec, error)
+    } else {
+        Err(error)
+    }
+}
+
+// The fault of a specification whose type and values have one and are repeated, so that they are one
+// node at a place, unless a name in them hides it: a faulty one of another specification.
+fn check_repeated(
+    alloc: Global,
+    facts: &Facts<'_>,
+    file: usize,
+    scope: &Scope<'_>,
+    place: Place,
+    spec: Spec<'_>,
+    error: ExprError,
+) -> Result<(), ExprError>
+    ensures { (iota : ℕ) → let t = facts_of facts.now in let s = scope_of scope.now in let c = spec_of spec.entry in
+        Fails error (written_faults s c.type ++ operands_faults s c.values) →
+        Finds result (parts_faults t file true place s c ++ constants_by t file iota place c (written_type s c.type) (operands s c.values)) }
+{
+    match error {
+        ExprError::Memory => Err(ExprError::Memory),
+        ExprError::Faulty(_, _) => told_repeated(alloc, facts, file, scope, place, spec),
+    }
+}
+
+fn told_repeated(
+    alloc: Global,
+    facts: &Facts<'_>,
+    file: usize,
+    scope: &Scope<'_>,
+    place: Place,
+    spec: Spec<'_>,
+) -> Result<(), ExprError>
+    ensures { (iota : ℕ) → let t = facts_of facts.now in let s = scope_of scope.now in let c = spec_of spec.entry in
+        written_faults s c.type ++ operands_faults s c.values ≢ [] →
+        Finds result (parts_faults t file true place s c ++ constants_by t file iota place c (written_type s c.type) (operands s c.values)) }
+{
+    let hidden = hides_repeated(alloc, facts, file, scope, place, spec)?;
+    if hidden {
+        return Ok(());
+    }
+    match repeated_fault(alloc, scope, spec.type_expr, spec.values)? {
+        Some(kind) => Err(ExprError::Faulty(place, kind)),
+        None => Ok(()),
+    }
 }
 
 // The first fault of a specification itself: as a whole where its parts are known, else that of its
@@ -110,36 +190,10 @@ fn check_whole(
     check_apart(alloc, facts, file, place, spec, &objects)
 }
 
-// An answer whose fault is told at a place, where what it speaks of is repeated there.
-fn told_at(
-    repeated: bool,
-    place: Place,
-    parts: Result<Parts, ExprError>,
-) -> Result<Parts, ExprError>
-    ensures faults { (faults : Faults) → Finds parts faults → Finds result (told_at repeated place faults) }
-    ensures same { IfOk result (λ known. parts ≡ Ok known) }
-{
-    match parts {
-        Ok(parts) => Ok(parts),
-        Err(error) => Err(error_at(repeated, place, error)),
-    }
-}
-
-fn error_at(repeated: bool, place: Place, error: ExprError) -> ExprError
-    ensures { (faults : Faults) → Fails error faults → Fails result (told_at repeated place faults) }
-{
-    match error {
-        ExprError::Memory => ExprError::Memory,
-        ExprError::Faulty(own, kind) => {
-            let place = if repeated { place } else { own };
-            ExprError::Faulty(place, kind)
-        }
-    }
-}
-
 // The type and the values of a specification, or the first fault in them.
 fn check_parts(alloc: Global, scope: &Scope<'_>, spec: Spec<'_>) -> Result<Parts, ExprError>
-    ensures faults { Finds result (parts_faults (scope_of scope.now) (spec_of spec.entry)) }
+    ensures faults { let s = scope_of scope.now in
+        Finds result (written_faults s (spec_of spec.entry).type ++ operands_faults s (spec_of spec.entry).values) }
     ensures of { IfOk result (λ parts. option_map (option_map type_of) parts.of ≡ written_type (scope_of scope.now) (spec_of spec.entry).type) }
     ensures values { IfOk result (λ parts. option_map (all_of expr_of) parts.values ≡ operands (scope_of scope.now) (spec_of spec.entry).values) }
 {

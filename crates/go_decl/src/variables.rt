@@ -7,11 +7,11 @@ ghost use Rattle.go_types.specs.Views.{type_of};
 ghost use Rattle.go_expr.specs.Verdicts.{both, asked_both, broken};
 ghost use Rattle.go_expr.specs.Seen.{scope_of};
 ghost use Rattle.go_stmt.specs.Rules.{variables_source};
-ghost use Rattle.go_stmt.specs.Statements.{values_known};
+ghost use Rattle.go_stmt.specs.Statements.{values_known, written_faults};
 ghost use Rattle.go_stmt.specs.Seen.{values_seen};
 ghost use Rattle.go_objects.specs.Objects.{variables_of};
 ghost use Rattle.go_objects.specs.Seen.{spec_of};
-ghost use Rattle.go_decl.specs.Faults.{written_type, written_faults, var_parts_faults, variables_by, var_spec_faults};
+ghost use Rattle.go_decl.specs.Faults.{written_type, var_parts_faults, variables_by, var_spec_faults};
 ghost use Rattle.go_decl.specs.Seen.{facts_of, Finds};
 
 use crate::apart::check_apart;

@@ -8,7 +8,7 @@ use Rattle.go_ast.specs.Trees.{TypeExpr, named, qualified, array, slice, struct,
 use Rattle.go_expr.specs.Known.{type', declared, Known, Verdict, Fine, Breaks, Passed, Scope, look_up}
 use Rattle.go_types.specs.Types.{Type'}
 use Rattle.go_typed.specs.Trees.{Expr as Typed}
-use Rattle.go_expr.specs.Rules.{fine, checked, valued, type_due, array_of, slice_of, declared_field, struct_of, value_due, unpackaged, selectable, callable, literal, literal_of, Due, element_due, due_type, untyped_literal, selected, exported_by, index_of, cut_of, made, unmade, binary_of, unary_of, converted, called}
+use Rattle.go_expr.specs.Rules.{fine, checked, valued, type_due, array_of, slice_of, declared_field, struct_of, value_due, unpackaged, selectable, callable, literal, literal_of, Due, element_due, due_type, untyped_literal, selected, exported_by, index_of, cut_of, made, unmade, unprinted, binary_of, unary_of, converted, called}
 use Rattle.go_expr.specs.Verdicts.{asked, both, asked_both, joined, qualified_known, operand, inside, subject, callee, key_text, is_make, is_name, verdict, bound_known, made_verdict, operands, elements, element_verdict, type_verdict, fields_known, broken, bare_place, part_broken, operand_broken, struct_place, faults, bound_faults, made_faults, call_faults, operands_faults, elements_faults, element_faults, type_faults, fields_faults}
 
 abbrev IsKnown : {A : Type 0} → Option A → Type 0
@@ -146,7 +146,7 @@ mutual
         let ks = two made (fine of) (operands s es) (rw is at k) in
         rw is (none_of_three (faults s e) (part_broken e of) (operands_faults s es)
         (clean s e (part type_due (fine (verdict s e)) ks.0)) (own (bare_place e) of ks.0) (operands_clean s es ks.1)))
-    | inr other ↦ absurd (never_made (fine (verdict s e)) (operands s es) (rw other at k))
+    | inr other ↦ absurd (never_made (fine (asked unprinted (fine (verdict s e)))) (operands s es) (rw other at k))
   ]
 
   operands_clean : (s : Scope) (es : Exprs) → IsKnown (operands s es) → operands_faults s es ≡ []
@@ -200,3 +200,13 @@ faulty_unknown s e some = unknown (fine (verdict s e)) (faults s e) (clean s e) 
 
 pub faulty_type_unknown : (s : Scope) (t : TypeExpr) → type_faults s t ≢ [] → fine (type_verdict s t) ≡ None
 faulty_type_unknown s t some = unknown (fine (type_verdict s t)) (type_faults s t) (type_clean s t) some
+
+-- the same of values
+operand_clean : (s : Scope) (e : Expr) → IsKnown (operand (verdict s e)) → faults s e ++ operand_broken e (verdict s e) ≡ []
+operand_clean s e k = none (faults s e) (operand_broken e (verdict s e)) (clean s e (valued_in s e k)) (value_unbroken s e k)
+
+pub faulty_operand_unknown : (s : Scope) (e : Expr) → faults s e ++ operand_broken e (verdict s e) ≢ [] → operand (verdict s e) ≡ None
+faulty_operand_unknown s e some = unknown (operand (verdict s e)) (faults s e ++ operand_broken e (verdict s e)) (operand_clean s e) some
+
+pub faulty_operands_unknown : (s : Scope) (es : Exprs) → operands_faults s es ≢ [] → operands s es ≡ None
+faulty_operands_unknown s es some = unknown (operands s es) (operands_faults s es) (operands_clean s es) some

@@ -1,5 +1,5 @@
 -- What is answered of a node, by what is known of its parts.
-use Rattle.std.proofs.Common.{◌≡◌, Bool, true, false, append-nil, Option, Result, Err, List, [], ◌∷◌, ◌++◌, Box, Vec, Global, sym, ap, ◌∙◌, subst, refl}
+use Rattle.std.proofs.Common.{◌≡◌, Bool, true, false, Option, Result, Err, List, [], ◌∷◌, ◌++◌, Box, Vec, Global, sym, ap, ◌∙◌, subst, refl}
 use Rattle.go_text.specs.declared.place.Place.{Place}
 use Rattle.go_text.specs.declared.fault.FaultKind.{FaultKind}
 use Rattle.go_ast.specs.Trees.{TypeExpr, Expr, Exprs, some_exprs, call, composite_lit, Elements}
@@ -7,7 +7,7 @@ use Rattle.std.specs.Prelude.{map, option_map, string_bytes, if◌then◌else◌
 use Rattle.go_types.specs.Types as types
 use Rattle.go_types.specs.Views.{type_of, fields_in}
 use Rattle.go_types.specs.declared.types.Field.{Field}
-use Rattle.go_expr.specs.Rules.{fine, valued, type_due, made, unmade, called, packed, listed}
+use Rattle.go_expr.specs.Rules.{fine, valued, type_due, made, unmade, unprinted, called, packed, listed}
 use Rattle.go_expr.specs.declared.error.ExprError.{ExprError}
 use Rattle.go_ast.specs.declared.expression.Expr.{Expr as Expression}
 use Rattle.go_ast.specs.declared.expression.ExprKind.{ExprKind, CompositeLit}
@@ -55,16 +55,19 @@ pub other_called : {X : Type 0} (view : X → Known) (r : Result (Option X) Expr
     Behind view r (operands_faults s es) p (asked_both called o (operands s es)) → Behind view r (call_faults s o es) p (call_verdict s o es)
 other_called view r s p o es other h = subst (λ (b : Bool). Behind view r (faults_by b s es) p (call_by b s o es)) (sym other) h
 
--- what is made, by whether the first operand may be a type
-abbrev made_if : Bool → Scope → Expr → Exprs → Verdict Typed
-made_if b s e es = if b then asked_both made (fine (asked type_due (fine (verdict s e)))) (operands s es) else asked_both unmade (fine (verdict s e)) (operands s es)
-
-abbrev due_if : Bool → Scope → Expr → List (Place × FaultKind)
-due_if b s e = if b then part_broken e (asked type_due (fine (verdict s e))) else []
-
--- the type that is made
+-- the type that is made, and what else may stand there
 abbrev pub due_of_name : Scope → Expr → Verdict types.Type'
 due_of_name s e = asked type_due (fine (verdict s e))
+
+abbrev pub other_than_name : Scope → Expr → Verdict Known
+other_than_name s e = asked unprinted (fine (verdict s e))
+
+-- what is made, by whether the first operand may be a type
+abbrev made_if : Bool → Scope → Expr → Exprs → Verdict Typed
+made_if b s e es = if b then asked_both made (fine (due_of_name s e)) (operands s es) else asked_both unmade (fine (other_than_name s e)) (operands s es)
+
+abbrev due_if : Bool → Scope → Expr → List (Place × FaultKind)
+due_if b s e = if b then part_broken e (due_of_name s e) else part_broken e (other_than_name s e)
 
 by_name : {X : Type 0} (view : X → Known) (r : Result (Option X) ExprError) (s : Scope) (p : Place) (e : Expr) (es : Exprs) → is_name e ≡ true →
     Behind view r (faults s e ++ part_broken e (due_of_name s e) ++ operands_faults s es) p (valued (asked_both made (fine (due_of_name s e)) (operands s es))) →
@@ -72,11 +75,9 @@ by_name : {X : Type 0} (view : X → Known) (r : Result (Option X) ExprError) (s
 by_name view r s p e es is h = subst (λ (b : Bool). Behind view r (faults s e ++ due_if b s e ++ operands_faults s es) p (valued (made_if b s e es))) (sym is) h
 
 by_other : {X : Type 0} (view : X → Known) (r : Result (Option X) ExprError) (s : Scope) (p : Place) (e : Expr) (es : Exprs) → is_name e ≡ false →
-    Behind view r (faults s e ++ operands_faults s es) p (valued (asked_both unmade (fine (verdict s e)) (operands s es))) →
+    Behind view r (faults s e ++ part_broken e (other_than_name s e) ++ operands_faults s es) p (valued (asked_both unmade (fine (other_than_name s e)) (operands s es))) →
     Behind view r (made_faults s (some_exprs e es)) p (valued (made_verdict s (some_exprs e es)))
-by_other view r s p e es other h =
-    subst (λ (b : Bool). Behind view r (faults s e ++ due_if b s e ++ operands_faults s es) p (valued (made_if b s e es))) (sym other)
-    (subst (λ (l : List (Place × FaultKind)). Behind view r (l ++ operands_faults s es) p (valued (asked_both unmade (fine (verdict s e)) (operands s es)))) (sym (append-nil (faults s e))) h)
+by_other view r s p e es other h = subst (λ (b : Bool). Behind view r (faults s e ++ due_if b s e ++ operands_faults s es) p (valued (made_if b s e es))) (sym other) h
 
 -- a name whose type has no fault
 pub made_named : {X : Type 0} (view : X → Known) (r : Result (Option X) ExprError) (s : Scope) (p : Place) (e : Expr) (es : Exprs) (k : Option types.Type') → is_name e ≡ true →
@@ -95,17 +96,18 @@ name_fails view error s p e es is h =
 
 -- what can't be a type, without fault
 pub made_unnamed : {X : Type 0} (view : X → Known) (r : Result (Option X) ExprError) (s : Scope) (p : Place) (e : Expr) (es : Exprs) (k : Option Known) → is_name e ≡ false →
-    faults s e ≡ [] → fine (verdict s e) ≡ k → Behind view r (operands_faults s es) p (valued (asked_both unmade k (operands s es))) →
+    faults s e ++ part_broken e (other_than_name s e) ≡ [] → fine (other_than_name s e) ≡ k → Behind view r (operands_faults s es) p (valued (asked_both unmade k (operands s es))) →
     Behind view r (made_faults s (some_exprs e es)) p (valued (made_verdict s (some_exprs e es)))
 made_unnamed view r s p e es k other none gives h =
     by_other view r s p e es other
-    (subst (λ (o : Option Known). Behind view r (faults s e ++ operands_faults s es) p (valued (asked_both unmade o (operands s es)))) (sym gives)
+    (subst (λ (o : Option Known). Behind view r (faults s e ++ part_broken e (other_than_name s e) ++ operands_faults s es) p (valued (asked_both unmade o (operands s es)))) (sym gives)
     (subst (λ (l : List (Place × FaultKind)). Behind view r (l ++ operands_faults s es) p (valued (asked_both unmade k (operands s es)))) (sym none) h))
 
-pub other_fails : {X : Type 0} (view : X → Known) (error : ExprError) (s : Scope) (p : Place) (e : Expr) (es : Exprs) → is_name e ≡ false → Fails error (faults s e) →
+pub other_fails : {X : Type 0} (view : X → Known) (error : ExprError) (s : Scope) (p : Place) (e : Expr) (es : Exprs) → is_name e ≡ false → Fails error (faults s e ++ part_broken e (other_than_name s e)) →
     Behind view (Err error) (made_faults s (some_exprs e es)) p (valued (made_verdict s (some_exprs e es)))
 other_fails view error s p e es other h =
-    by_other view (Err error) s p e es other (fails_front error (faults s e ++ operands_faults s es) _ (fails_front error (faults s e) (operands_faults s es) h))
+    let own = faults s e ++ part_broken e (other_than_name s e) in
+    by_other view (Err error) s p e es other (fails_front error (own ++ operands_faults s es) _ (fails_front error own (operands_faults s es) h))
 
 -- a literal whose type has no fault
 pub literal_asked : {X : Type 0} (view : X → Known) (r : Result (Option X) ExprError) (s : Scope) (p q : Place) (t : TypeExpr) (es : Elements) (k : Option types.Type') → type_faults s t ≡ [] → fine (type_verdict s t) ≡ k → Answers view r (elements_faults s k 0 es ++ broken p (literal_verdict s k es)) (fine (literal_verdict s k es)) → Answers view r (faults s (composite_lit p t q es)) (fine (verdict s (composite_lit p t q es)))

@@ -1,5 +1,5 @@
 -- What is known of expressions, and of names where they stand.
-use Rattle.std.specs.Prelude.{ℕ, Bool, true, false, List, [], ◌∷◌, ◌++◌, map, if◌then◌else◌, Option, Some, None, unwrap_or, bytes_eq, codes}
+use Rattle.std.specs.Prelude.{ℕ, Bool, true, false, List, [], ◌∷◌, ◌++◌, map, if◌then◌else◌, Option, Some, None, Result, unwrap_or, bytes_eq, codes}
 use Rattle.std.specs.Map.{lookup}
 use Rattle.go_text.specs.declared.edition.Edition.{Edition}
 use Rattle.go_text.specs.Editions.{has_slices}
@@ -35,9 +35,10 @@ pub data Known : Type 0 where
   declared : Declared → Known
   -- an imported package, by the names that it exports
   package' : Names → Known
-  -- a call of a function that has no result or several, of these types; a call of Println with operands; a call of panic
+  -- a call of a function that has no result or several, of these types; a call of Println with operands, or with what is wrong with them, which is asked of a
+  -- statement alone; a call of panic
   results : List Type' → Symbol → Exprs → Known
-  printed : Exprs → Known
+  printed : Result Exprs FaultKind → Known
   panicked : Expr → Known
 
 -- Of a node: it is fine, and this is known of it; it breaks a rule; or it is passed over, since a part of it isn't fine or no rule is known of its form.

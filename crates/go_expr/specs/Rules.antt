@@ -338,9 +338,20 @@ element_due (Some t) n key = elim (underlying t) [
 abbrev pub due_type : Due → Option Type'
 due_type due = elim due [ taken t ↦ Some t | written o ↦ o | nothing ↦ None ]
 
--- one that leaves out its type; where nothing is due it is any value
+-- what takes a value for which nothing is due takes any
+abbrev pub any_value : Expr
+any_value = constant (basic basics.Bool) (Truth true)
+
+-- a literal that has to write its type breaks this rule beside those that it breaks as one of the type, if there is one
+abbrev pub unwritten : List ℕ → Option Type' → ElementList → Option FaultKind
+unwritten path o es = least (Mismatch ∷ (elim o [ None ↦ [] | Some t ↦ wrong (literal_of path t es) ]))
+
 abbrev pub untyped_literal : List ℕ → Due → ElementList → Verdict Expr
-untyped_literal path due es = elim due [ taken t ↦ literal_of path t es | written o ↦ Breaks Mismatch | nothing ↦ Fine (constant (basic basics.Bool) (Truth true)) ]
+untyped_literal path due es = elim due [
+  | taken t ↦ literal_of path t es
+  | written o ↦ elim (unwritten path o es) [ None ↦ Passed | Some kind ↦ Breaks kind ]
+  | nothing ↦ Fine any_value
+]
 
 -- ---- selectors, index expressions and calls
 
@@ -435,7 +446,10 @@ sizes_faults xs = elim xs [ n ∷ [] ↦ [] | n ∷ c ∷ [] ↦ when (not (are_
 abbrev pub made : Type' → List Expr → Verdict Expr
 made t xs = checked (made_of t) (each_unless (when (not (is_some (slice_element t))) Mismatch ++ sizes_faults xs) (map size_of xs))
 
--- of what can't be a type nothing is made
+-- of what can't be a type nothing is made; it needn't be a value, but a call of Println is a statement
+abbrev pub unprinted : Known → Verdict Known
+unprinted k = elim k [ printed operands ↦ Breaks Mismatch | k ↦ Fine k ]
+
 abbrev pub unmade : Known → List Expr → Verdict Expr
 unmade k xs = Breaks Mismatch
 
@@ -514,11 +528,15 @@ function_call s ts xs = results ts s (pack_exprs xs)
 abbrev pub printable : Expr → Verdict Expr
 printable e = if is_integer (expr_type e) || is_string (expr_type e) || is_bool (expr_type e) then defaulted e else Breaks Mismatch
 
+-- where it is no statement it isn't asked whether it prints its operands
+abbrev pub printing : Verdict (List Expr) → Verdict Known
+printing v = elim v [ Fine ys ↦ Fine (printed (Ok (pack_exprs ys))) | Breaks kind ↦ Fine (printed (Err kind)) | Passed ↦ Passed ]
+
 abbrev pub called : Known → List Expr → Verdict Known
 called (declared (type' t)) xs = valued (checked (converted t) (one xs))
 called (declared (function s ts rs)) xs =
     if nat_eq (length ts) (length xs) then checked (λ ys. Fine (function_call s rs ys)) (each_unless [] (map (λ k. assigned k.0 k.1) (zip ts xs))) else Breaks Count
-called (declared println) xs = checked (λ ys. Fine (printed (pack_exprs ys))) (each_unless [] (map printable xs))
+called (declared println) xs = printing (each_unless [] (map printable xs))
 called (declared length') xs = valued (checked length_of (one xs))
 called (declared capacity') xs = valued (checked capacity_of (one xs))
 called (declared append') xs = valued (appended xs)

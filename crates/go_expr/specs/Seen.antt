@@ -66,6 +66,11 @@ declared_of declarations.Panic = known.panic'
 abbrev pub names_of : {A S : Type 0} → IndexMap (String A) (Option declared.Declared) S → known.Names
 names_of names = map (λ e. (string_bytes e.0, option_map declared_of e.1)) names.entries
 
+-- the operands of a call of Println, or what is wrong with them
+abbrev pub printed_of : Result (Vec TypedExpr Global) FaultKind → Result typed.Exprs FaultKind
+printed_of (Ok es) = Ok (exprs_in es.items)
+printed_of (Err kind) = Err kind
+
 abbrev pub known_of : knowns.Known → known.Known
 known_of (variants.Value e) = known.declared (known.value (expr_of e))
 known_of (variants.Type t) = known.declared (known.type' (type_of t))
@@ -78,7 +83,7 @@ known_of variants.Append = known.declared known.append'
 known_of variants.Panic = known.declared known.panic'
 known_of (variants.Package names) = known.package' (names_of names.now)
 known_of (variants.Results ts s es) = known.results (map type_of ts.items) s (exprs_in es.items)
-known_of (variants.Printed es) = known.printed (exprs_in es.items)
+known_of (variants.Printed operands) = known.printed (printed_of operands)
 known_of (variants.Panicked e) = known.panicked (expr_of e)
 
 -- what the names in a scope find: those of blocks, those of imports, those of the package, iota where it has a value, and the others

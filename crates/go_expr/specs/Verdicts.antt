@@ -11,7 +11,7 @@ use Rattle.go_types.specs.declared.types.Untyped.TheVariants as kinds
 use Rattle.go_types.specs.Types.{Type', basic}
 use Rattle.go_typed.specs.Trees.{Expr as Typed, constant}
 use Rattle.go_expr.specs.Known.{type', make', declared, Known, Verdict, Fine, Breaks, Passed, Scope, look_up}
-use Rattle.go_expr.specs.Rules.{fine, checked, valued, type_due, array_of, slice_of, FieldList, declared_field, struct_of, value_due, unpackaged, selectable, callable, literal, ElementList, literal_of, Due, element_due, due_type, untyped_literal, selected, exported_by, index_of, cut_of, made, unmade, binary_of, unary_of, converted, called}
+use Rattle.go_expr.specs.Rules.{fine, checked, valued, type_due, array_of, slice_of, FieldList, declared_field, struct_of, value_due, unpackaged, selectable, callable, literal, ElementList, literal_of, Due, element_due, due_type, untyped_literal, selected, exported_by, index_of, cut_of, made, unmade, unprinted, binary_of, unary_of, converted, called}
 
 -- a rule over parts, which is asked where they are fine
 abbrev pub asked : {A B : Type 0} → (A → Verdict B) → Option A → Verdict B
@@ -58,11 +58,10 @@ abbrev pub is_package_name : Expr → Bool
 is_package_name (name p x) = true
 is_package_name e = false
 
--- a type, or a name of one, or one of a package
+-- a type, or a name of one, or one of a package, without parentheses
 abbrev pub is_name : Expr → Bool
 is_name (name p x) = true
 is_name (selector p e x) = is_package_name e
-is_name (parenthesized p e) = is_name e
 is_name (type_operand p t) = true
 is_name e = false
 
@@ -97,7 +96,7 @@ abbrev mutual
   made_verdict s no_exprs = Breaks Count
   made_verdict s (some_exprs e es) =
       if is_name e then asked_both made (fine (asked type_due (fine (verdict s e)))) (operands s es)
-      else asked_both unmade (fine (verdict s e)) (operands s es)
+      else asked_both unmade (fine (asked unprinted (fine (verdict s e)))) (operands s es)
 
   pub operands : Scope → Exprs → Option (List Typed)
   operands s no_exprs = Some []
@@ -175,11 +174,12 @@ abbrev mutual
   bound_faults s no_bound = []
   bound_faults s (bound e) = faults s e ++ operand_broken e (verdict s e)
 
-  -- a name that is due to be a type
+  -- a name is due to be a type, and anything else is no call of Println
   pub made_faults : Scope → Exprs → List (Place × FaultKind)
   made_faults s no_exprs = []
   made_faults s (some_exprs e es) =
-      faults s e ++ (if is_name e then part_broken e (asked type_due (fine (verdict s e))) else []) ++ operands_faults s es
+      faults s e ++ (if is_name e then part_broken e (asked type_due (fine (verdict s e))) else part_broken e (asked unprinted (fine (verdict s e))))
+      ++ operands_faults s es
 
   pub operands_faults : Scope → Exprs → List (Place × FaultKind)
   operands_faults s no_exprs = []

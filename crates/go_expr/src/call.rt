@@ -5,9 +5,10 @@ ghost use Rattle.std.specs.Option.{option_map};
 ghost use Rattle.go_types.specs.Views.{type_of};
 ghost use Rattle.go_typed.specs.Views.{expr_of};
 ghost use Rattle.go_expr.specs.Known as known;
-ghost use Rattle.go_expr.specs.Rules.{assigned, conversion_to, converted, each_unless, function_call, length_in, length_of, capacity_of, one, printable, called, valued};
+ghost use Rattle.go_expr.specs.Known.{Fine};
+ghost use Rattle.go_expr.specs.Rules.{assigned, printing, conversion_to, converted, each_unless, function_call, length_in, length_of, capacity_of, one, printable, called, valued};
 ghost use Rattle.go_expr.specs.Verdicts.{asked_both};
-ghost use Rattle.go_expr.specs.Seen.{known_of, function_of, all_of, AnswersAt, Gives};
+ghost use Rattle.go_expr.specs.Seen.{known_of, printed_of, function_of, all_of, AnswersAt, Gives};
 
 use crate::error::{ExprError, RuleError};
 use crate::evaluation::holds_call;
@@ -209,6 +210,20 @@ fn all_printable(alloc: Global, arguments: Vec<TypedExpr>) -> Result<Vec<TypedEx
     all.finish()
 }
 
+/// The operands of a call of Println, or what is wrong with them. An `Err` only where memory ran out.
+fn printed(
+    alloc: Global,
+    arguments: Vec<TypedExpr>,
+) -> Result<Result<Vec<TypedExpr>, FaultKind>, AllocError>
+    ensures { IfOk result (λ operands. printing (each_unless [] (map printable (map expr_of arguments.items))) ≡ Fine (known.printed (printed_of operands))) }
+{
+    match all_printable(alloc, arguments) {
+        Ok(operands) => Ok(Ok(operands)),
+        Err(RuleError::Broken(kind)) => Ok(Err(kind)),
+        Err(RuleError::Memory) => Err(AllocError),
+    }
+}
+
 /// A conversion of arguments to a type. `Count` where they aren't one.
 fn type_called<'a>(
     alloc: Global,
@@ -257,7 +272,7 @@ fn called<'a>(
     match callee {
         Known::Type(of) => type_called(alloc, of, arguments),
         Known::Function(function) => function_called(alloc, &function, arguments),
-        Known::Println => Ok(Known::Printed(all_printable(alloc, arguments)?)),
+        Known::Println => Ok(Known::Printed(printed(alloc, arguments)?)),
         Known::Length => length_called(alloc, arguments),
         Known::Capacity => capacity_called(alloc, arguments),
         Known::Append => append_called(alloc, arguments),

@@ -8,7 +8,7 @@ ghost use Rattle.go_typed.specs.Trees.{Expr};
 ghost use Rattle.go_typed.specs.Views.{expr_of, part_of};
 ghost use Rattle.go_expr.specs.declared.error.RuleError.TheVariants.{Memory};
 ghost use Rattle.go_expr.specs.Known.{Verdict, Fine};
-ghost use Rattle.go_expr.specs.Rules.{checked, valued, least, differ, keys, key_fault, any_keyed, all_keyed, is_counted, struct_faults, element_part, parts_by, field_slot, struct_slot, each_unless, array_parts, struct_parts, parts_of, slice_parts, literal_of, element_due, due_type, untyped_literal, is_visible};
+ghost use Rattle.go_expr.specs.Rules.{checked, valued, least, differ, keys, key_fault, any_keyed, all_keyed, is_counted, struct_faults, element_part, parts_by, field_slot, struct_slot, each_unless, array_parts, struct_parts, parts_of, slice_parts, literal_of, element_due, due_type, any_value, unwritten, untyped_literal, is_visible};
 ghost use Rattle.go_expr.specs.Verdicts.{asked, asked_both, key_text};
 ghost use Rattle.go_expr.specs.Seen.{known_of, element_of, field_of, fields_seen, slots_of, due_of, all_of, AnswersAt, Gathers, Gives};
 
@@ -406,6 +406,33 @@ impl<'a> Due<'a> {
     }
 }
 
+/// What takes a value for which nothing is due takes any.
+fn any_value() -> TypedExpr
+    ensures { expr_of result ≡ any_value }
+{
+    constant(GoType::Basic(Basic::Bool), Const::Bool(true))
+}
+
+/// The least of what is wrong with a literal that has to write its type: that it doesn't, and what it
+/// breaks as one of the type, if there is one. An `Err` only where memory ran out.
+fn unwritten(
+    alloc: Global,
+    path: &str,
+    of: Option<&GoType>,
+    elements: Vec<Element<'_>>,
+) -> Result<Option<FaultKind>, AllocError>
+    ensures { IfOk result (λ kind. kind ≡ unwritten path.now (option_map (λ t. type_of t.now) of.entry) (map element_of elements.entry.items)) }
+{
+    let Some(of) = of else {
+        return Ok(Some(FaultKind::Mismatch));
+    };
+    match literal_of(alloc, path, of.copy()?, elements) {
+        Ok(_) => Ok(Some(FaultKind::Mismatch)),
+        Err(RuleError::Broken(kind)) => Ok(lesser(Some(FaultKind::Mismatch), Some(kind))),
+        Err(RuleError::Memory) => Err(AllocError),
+    }
+}
+
 /// A literal at a place that leaves out its type, in the package of a path, where its elements are
 /// known. Where nothing is due it is any value, since nothing takes it.
 pub(crate) fn untyped_literal_at(
@@ -425,11 +452,11 @@ pub(crate) fn untyped_literal_at(
             Ok(value) => Ok(Some(value)),
             Err(error) => Err(error.at(place)),
         },
-        Due::Written(_) => Err(ExprError::Faulty(place, FaultKind::Mismatch)),
-        Due::Nothing => {
-            let truth = GoType::Basic(Basic::Bool);
-            Ok(Some(constant(truth, Const::Bool(true))))
-        }
+        Due::Written(of) => match unwritten(alloc, path, of, elements)? {
+            Some(kind) => Err(ExprError::Faulty(place, kind)),
+            None => Ok(None),
+        },
+        Due::Nothing => Ok(Some(any_value())),
     }
 }
 

@@ -3,7 +3,7 @@ ghost use Rattle.std.specs.Prelude.{◌≡◌};
 ghost use Rattle.std.specs.Option.{option_map};
 ghost use Rattle.go_ast.specs.Views.{expr_of as expr_tree};
 ghost use Rattle.go_typed.specs.Views.{expr_of};
-ghost use Rattle.go_expr.specs.Rules.{selectable, callable, unpackaged, value_due};
+ghost use Rattle.go_expr.specs.Rules.{selectable, callable, unpackaged, unprinted, value_due};
 ghost use Rattle.go_expr.specs.Verdicts.{asked, bare_place};
 ghost use Rattle.go_expr.specs.Seen.{known_of, AnswersAt, Gives};
 
@@ -52,6 +52,19 @@ pub(crate) fn inside_at<'a>(
 {
     match known {
         Some(Known::Package(_)) => Err(ExprError::Faulty(place, FaultKind::Mismatch)),
+        known => Ok(known),
+    }
+}
+
+/// What is known at a place where `make` wants a type and finds none: a call of Println is a statement.
+pub(crate) fn unprinted_at<'a>(
+    place: Place,
+    known: Option<Known<'a>>,
+) -> Result<Option<Known<'a>>, ExprError>
+    ensures { AnswersAt known_of result place (asked unprinted (option_map known_of known.entry)) }
+{
+    match known {
+        Some(Known::Printed(_)) => Err(ExprError::Faulty(place, FaultKind::Mismatch)),
         known => Ok(known),
     }
 }

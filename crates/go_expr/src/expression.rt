@@ -5,13 +5,13 @@ ghost use Rattle.go_ast.specs.Trees.{struct, pack_fields};
 ghost use Rattle.go_ast.specs.Views.{bound_of, expr_of as expr_tree, exprs_in, value_of as element_tree, type_of as type_tree, field_of as field_tree};
 ghost use Rattle.go_types.specs.Views.{type_of};
 ghost use Rattle.go_typed.specs.Views.{expr_of};
-ghost use Rattle.go_expr.specs.Rules.{fine, called, made, unmade, type_due, element_due, valued};
+ghost use Rattle.go_expr.specs.Rules.{fine, called, made, unmade, unprinted, type_due, element_due, valued};
 ghost use Rattle.go_expr.specs.Verdicts.{asked, asked_both, joined, broken, operand, inside, subject, callee, key_text, is_make, is_name, verdict, bound_known, call_verdict, made_verdict, operands, elements as elements_known, element_verdict, type_verdict, fields_known, part_broken, operand_broken, faults, bound_faults, call_faults, made_faults, operands_faults, elements_faults, element_faults, type_faults, fields_faults};
 ghost use Rattle.go_expr.specs.Seen.{known_of, element_of, elements_in, literal_verdict, field_of, scope_of, all_of, Answers, Behind};
 
 use crate::call::{call_at, conversion_at};
 use crate::composite::{Element, element_due, key_text, literal_at, untyped_literal_at};
-use crate::due::{bare_place, callee_at, inside_at, operand_at, subject_at};
+use crate::due::{bare_place, callee_at, inside_at, operand_at, subject_at, unprinted_at};
 use crate::error::ExprError;
 use crate::known::Known;
 use crate::literal::{literal, rune, text_constant};
@@ -236,7 +236,7 @@ fn check_make<'a>(
         let of = check_type_operand(alloc, scope, first)?;
         return check_sizes(alloc, scope, place, of, arguments);
     }
-    let known = check_expr(alloc, scope, first)?;
+    let known = check_unprinted(alloc, scope, first)?;
     check_no_type(alloc, scope, place, known, arguments)
 }
 
@@ -292,7 +292,7 @@ fn check_behind(
     Ok(all)
 }
 
-/// Whether an expression is a type, or a name of one, or one of a package.
+/// Whether an expression is a type, or a name of one, or one of a package, without parentheses.
 #[tactic(auto, unfolding(go_ast::specs::Views::expr_of, go_ast::specs::Views::type_of))]
 fn is_name(e: &Expr) -> bool
     ensures { result ≡ is_name (expr_tree e.now) }
@@ -300,9 +300,22 @@ fn is_name(e: &Expr) -> bool
     match &e.kind {
         ExprKind::Name(_) | ExprKind::Type(_) => true,
         ExprKind::Selector(operand, _) => matches!(operand.kind, ExprKind::Name(_)),
-        ExprKind::Parenthesized(inside) => is_name(inside),
         _ => false,
     }
+}
+
+/// What is known of an argument that can't be a type, or the first fault in it.
+#[cycle(check)]
+fn check_unprinted<'a>(
+    alloc: Global,
+    scope: &Scope<'a>,
+    e: &Expr,
+) -> Result<Option<Known<'a>>, ExprError>
+    ensures { let k = asked unprinted (fine (verdict (scope_of scope.now) (expr_tree e.now))) in
+        Answers known_of result (faults (scope_of scope.now) (expr_tree e.now) ++ part_broken (expr_tree e.now) k) (fine k) }
+{
+    let known = check_expr(alloc, scope, e)?;
+    unprinted_at(bare_place(e), known)
 }
 
 /// The type that an argument is, or the first fault in it.

@@ -9,6 +9,7 @@ use crate::error::ExprError;
 use crate::node::{constant, global, local};
 use go_const::constant::Const;
 use go_symbol::Symbol;
+use go_text::fault::FaultKind;
 use go_text::place::Place;
 use go_typed::expression::TypedExpr;
 use go_types::types::GoType;
@@ -133,8 +134,8 @@ pub enum Known<'a> {
     Package(&'a Names),
     /// A call that has no result or several, of these types.
     Results(Vec<GoType>, Symbol, Vec<TypedExpr>),
-    /// A call of Println with operands.
-    Printed(Vec<TypedExpr>),
+    /// A call of Println with operands, or what is wrong with them, which only a statement asks.
+    Printed(Result<Vec<TypedExpr>, FaultKind>),
     /// A call of panic.
     Panicked(TypedExpr),
 }

@@ -8,7 +8,7 @@ use Rattle.go_types.specs.Types.{Type'}
 use Rattle.go_scope.specs.Names.{Used, in_type, in_fields, in_expr, in_bound, in_exprs, in_elements, in_element}
 use Rattle.go_typed.specs.Trees.{Expr as Typed}
 use Rattle.go_expr.specs.Known.{type', declared, Known, Verdict, Fine, Scope, look_up}
-use Rattle.go_expr.specs.Rules.{fine, checked, valued, type_due, array_of, slice_of, declared_field, struct_of, value_due, ElementList, literal_of, Due, element_due, due_type, untyped_literal, selected, exported_by, index_of, cut_of, made, unmade, unary_of, binary_of, converted, called}
+use Rattle.go_expr.specs.Rules.{fine, checked, valued, type_due, array_of, slice_of, declared_field, struct_of, value_due, ElementList, literal_of, Due, element_due, due_type, untyped_literal, selected, exported_by, index_of, cut_of, made, unmade, unprinted, unary_of, binary_of, converted, called}
 use Rattle.go_expr.specs.Verdicts.{asked, both, asked_both, joined, operand, callee, inside, subject, key_text, is_make, is_name, verdict, bound_known, made_verdict, call_verdict, operands, elements, element_verdict, type_verdict, fields_known}
 
 -- at each name that is used
@@ -52,7 +52,7 @@ cut_between e bounds = cut_of e bounds.0 bounds.1
 
 -- what is made, by what is known of the first operand and of the others
 abbrev made_by : Expr → Verdict Known → Option (List Typed) → Verdict Typed
-made_by e v sizes = if is_name e then asked_both made (fine (asked type_due (fine v))) sizes else asked_both unmade (fine v) sizes
+made_by e v sizes = if is_name e then asked_both made (fine (asked type_due (fine v))) sizes else asked_both unmade (fine (asked unprinted (fine v))) sizes
 
 -- a call of what is known, by what it makes and by its operands
 abbrev called_by : Option Known → Verdict Typed → Option (List Typed) → Verdict Known

@@ -16,11 +16,9 @@ use go_ast::name::Name;
 use go_text::place::Place;
 use std::alloc::{AllocError, Global};
 
-/// What some files declare. An `Err` only where memory ran out.
-pub(crate) fn all_objects<'a>(
-    alloc: Global,
-    files: &[&'a File],
-) -> Result<Vec<Object<'a>>, AllocError>
+/// What some files declare, under names that may be blank or doubled. An `Err` only where memory ran
+/// out.
+pub fn all_objects<'a>(alloc: Global, files: &[&'a File]) -> Result<Vec<Object<'a>>, AllocError>
     ensures { IfOk result (λ found. map object_of found.items ≡ objects_from 0 (map (λ f. file_of f.now) files.now)) }
 {
     let mut found = Vec::new(alloc);

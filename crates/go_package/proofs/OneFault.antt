@@ -8,13 +8,14 @@ use Rattle.go_text.specs.declared.fault.FaultKind.{FaultKind}
 use Rattle.go_text.specs.declared.fault.FaultKind.TheVariants.{Redeclared, Recursive}
 use Rattle.go_ast.specs.Trees.{Name, ConstSpec, VarSpec, TypeSpec, constants, variables, types, Function, TopLevel, declared, function, File}
 use Rattle.go_expr.specs.Known.{Names}
-use Rattle.go_expr.specs.Verdicts.{broken, type_faults}
+use Rattle.go_expr.specs.Verdicts.{broken, operands, type_faults}
 use Rattle.go_scope.specs.Specifications.{meant, is_repeated}
-use Rattle.go_objects.specs.Objects.{type_object}
+use Rattle.go_objects.specs.Objects.{type_object, objects_from}
 use Rattle.go_objects.specs.Table.{Package, number_of, scope_at, object_verdict}
 use Rattle.go_objects.proofs.Filling.{one_table}
+use Rattle.go_stmt.specs.Statements.{values_known}
 use Rattle.go_stmt.specs.Functions.{function_at}
-use Rattle.go_decl.specs.Faults.{Facts, Faults, is_declared_by, name_faults, spec_broken, constants_apart, parts_faults, told_at, group_faults, type_spec_faults, var_parts_faults, var_broken, variables_apart, var_spec_faults, context_at, top_faults}
+use Rattle.go_decl.specs.Faults.{Facts, Faults, is_declared_by, name_faults, written_type, parts_faults, constants_by, group_faults, type_spec_faults, var_parts_faults, variables_by, var_spec_faults, context_at, top_faults}
 use Rattle.go_decl.specs.Faults as decl
 use Rattle.go_package.specs.Imports.{Importable, imports_in}
 use Rattle.go_package.specs.Packages.{import_faults, imports_faults, file_faults, each_file, numbered_faults, constants_faults, main_faults, package_faults, IsFaultIn}
@@ -63,7 +64,8 @@ same_constants : (p : Package) (n : Names) (r q : List Bool) → Alike r q → (
     → decl.constants_faults (by p n r) file iota repeated spec ≡ decl.constants_faults (by p n q) file iota repeated spec
 same_constants p n r q h file iota repeated spec =
     let s = scope_at p n file (Some iota) in
-    by_first spec.names (λ first. told_at repeated first.place (parts_faults s spec) ++ (spec_broken first.place s spec ++ constants_apart (by p n q) file iota first.place s spec))
+    by_first spec.names
+    (λ first. parts_faults (by p n q) file repeated first.place s spec ++ constants_by (by p n q) file iota first.place spec (written_type s spec.type) (operands s spec.values))
     (flat_map (name_faults (by p n r) file) spec.names) (flat_map (name_faults (by p n q) file) spec.names) (same_names p n r q h file spec.names)
 
 same_group : (p : Package) (n : Names) (r q : List Bool) → Alike r q → (file iota : ℕ) (before : ConstSpec) (ss : List ConstSpec)
@@ -81,7 +83,7 @@ same_type p n r q h file s =
 same_variables : (p : Package) (n : Names) (r q : List Bool) → Alike r q → (file : ℕ) (spec : VarSpec) → var_spec_faults (by p n r) file spec ≡ var_spec_faults (by p n q) file spec
 same_variables p n r q h file spec =
     let s = scope_at p n file None in
-    by_first spec.names (λ first. var_parts_faults s spec ++ (var_broken first.place s spec ++ variables_apart (by p n q) file first.place s spec))
+    by_first spec.names (λ first. var_parts_faults s spec ++ variables_by (by p n q) file first.place spec (written_type s spec.type) (values_known s spec.values))
     (flat_map (name_faults (by p n r) file) spec.names) (flat_map (name_faults (by p n q) file) spec.names) (same_names p n r q h file spec.names)
 
 same_function : (p : Package) (n : Names) (r q : List Bool) → Alike r q → (file : ℕ) (f : Function) → decl.function_faults (by p n r) file f ≡ decl.function_faults (by p n q) file f
@@ -118,10 +120,10 @@ same_main p n r q (f ∷ fs) = refl
 same_package : (ps : List Importable) (p : Package) (n : Names) (r q : List Bool) → Alike r q → (files : List File) → package_faults ps (by p n r) files ≡ package_faults ps (by p n q) files
 same_package ps p n r q h files =
     two (each_file (file_faults ps (by p n r)) 0 files) (each_file (file_faults ps (by p n q)) 0 files)
-    (constants_faults (by p n r) ++ main_faults (by p n r) files) (constants_faults (by p n q) ++ main_faults (by p n q) files)
+    (constants_faults (by p n r) files ++ main_faults (by p n r) files) (constants_faults (by p n q) files ++ main_faults (by p n q) files)
     (each_same (file_faults ps (by p n r)) (file_faults ps (by p n q)) (same_file ps p n r q h) 0 files)
-    (two (constants_faults (by p n r)) (constants_faults (by p n q)) (main_faults (by p n r) files) (main_faults (by p n q) files)
-    (flat_same (numbered_faults (by p n r)) (numbered_faults (by p n q)) (λ o. refl) p.objects) (same_main p n r q files))
+    (two (constants_faults (by p n r) files) (constants_faults (by p n q) files) (main_faults (by p n r) files) (main_faults (by p n q) files)
+    (flat_same (numbered_faults (by p n r)) (numbered_faults (by p n q)) (λ o. refl) (objects_from 0 files)) (same_main p n r q files))
 
 one_truth : (a b : Bool) → (IsTrue a → IsTrue b) → (IsTrue b → IsTrue a) → a ≡ b
 one_truth true true f g = refl

@@ -29,4 +29,4 @@ none_declared ps t number (f ∷ fs) h =
     ap (λ (l : Faults). map (λ x. (number, x)) l ++ files_faults t (suc number) fs) none ∙ none_declared ps t (suc number) fs (back here rest h)
 
 pub no_faults : (ps : List Importable) (t : Facts) (files : List File) → package_faults ps t files ≡ [] → files_faults t 0 files ≡ []
-no_faults ps t files h = none_declared ps t 0 files (front (each_file (file_faults ps t) 0 files) (constants_faults t ++ main_faults t files) h)
+no_faults ps t files h = none_declared ps t 0 files (front (each_file (file_faults ps t) 0 files) (constants_faults t files ++ main_faults t files) h)

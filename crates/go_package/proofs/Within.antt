@@ -1,14 +1,14 @@
 -- The first fault of a package stands in one of its files.
-use Rattle.std.proofs.Common.{◌≡◌, ℕ, suc, ◌+◌, ◌<◌, Bool, true, false, List, [], ◌∷◌, ◌++◌, length, map, Option, Some, None, sym, subst, arith}
-use Rattle.std.specs.Prelude.{bytes_eq, codes, ◌||◌, ◌&&◌, not, is_some, unwrap_or, option_map, if◌then◌else◌}
-use Rattle.std.specs.List.{slice_get, flat_map, list_any}
+use Rattle.std.proofs.Common.{◌≡◌, ℕ, suc, ◌+◌, ◌<◌, Bool, true, false, List, [], ◌∷◌, ◌++◌, length, map, Option, Some, None, subst, arith}
+use Rattle.std.specs.Prelude.{bytes_eq, codes, ◌&&◌, not, is_some, unwrap_or, option_map, if◌then◌else◌}
+use Rattle.std.specs.List.{slice_get, flat_map}
 use Rattle.go_text.specs.declared.edition.Edition.{Edition}
 use Rattle.go_text.specs.declared.place.Place.{Place}
 use Rattle.go_text.specs.declared.fault.FaultKind.{FaultKind}
 use Rattle.go_text.specs.declared.fault.FaultKind.TheVariants.{Main}
 use Rattle.go_ast.specs.Trees.{Name, TypeExpr, Expr, Exprs, no_exprs, some_exprs, ConstSpec, VarSpec, constants, variables, types, TopLevel, declared, function, File}
 use Rattle.go_scope.specs.Specifications.{meant}
-use Rattle.go_objects.specs.Objects.{Object, constant, function', paired, begin_of, other_object, unpaired, constants_of, in_group, typed_object, valued_object, result_objects, uncounted, variables_of, type_object, objects_in, objects_from, firsts, objects_of}
+use Rattle.go_objects.specs.Objects.{Object, constant, function', paired, begin_of, other_object, unpaired, constants_of, in_group, typed_object, valued_object, result_objects, uncounted, variables_of, type_object, objects_in, objects_from}
 use Rattle.go_objects.specs.Table.{number_of}
 use Rattle.go_decl.specs.Faults.{Facts, Faults, object_faults}
 use Rattle.go_package.specs.Imports.{Importable}
@@ -105,18 +105,6 @@ all_from n k (f ∷ fs) e =
     all_append number n (flat_map (objects_in k) f.declarations) (objects_from (suc k) fs) (all_flat number n (objects_in k) (all_in n k (omega (arith, e))) f.declarations)
     (all_from n (suc k) fs (omega (arith, e)))
 
-all_firsts : (n : ℕ) (names : List (List ℕ)) (os : List Object) → Objects n os → Objects n (firsts names os)
-all_firsts n names [] h = tt
-all_firsts n names (o ∷ os) h =
-    by_name (bytes_eq o.name.text (codes "_") || list_any (bytes_eq o.name.text) names) (all_firsts n names os h.1) (all_firsts n (names ++ o.name.text ∷ []) os h.1)
-  where
-    by_name : (b : Bool) → Objects n (firsts names os) → Objects n (firsts (names ++ o.name.text ∷ []) os) → Objects n (if b then firsts names os else o ∷ firsts (names ++ o.name.text ∷ []) os)
-    by_name true here later = here
-    by_name false here later = (h.0, later)
-
-all_objects : (files : List File) → Objects (length files) (objects_of files)
-all_objects files = all_firsts (length files) [] (objects_from 0 files) (all_from (length files) 0 files (omega arith))
-
 -- ---- faults
 
 abbrev Found : ℕ → Numbered → Type 0
@@ -152,10 +140,11 @@ found_main t (f ∷ fs) =
     found_append (length (f ∷ fs)) _ (absent_main_faults t f.package) (found_each (length (f ∷ fs)) (λ k file. flat_map (names_faults f.package.text) file.declarations) 0 (f ∷ fs) (omega arith))
     (found_absent (length (f ∷ fs)) t f.package (omega arith))
 
-found_all : (ps : List Importable) (t : Facts) (files : List File) → Objects (length files) t.package.objects → Found (length files) (package_faults ps t files)
-found_all ps t files os =
+found_all : (ps : List Importable) (t : Facts) (files : List File) → Found (length files) (package_faults ps t files)
+found_all ps t files =
     found_append (length files) (each_file (file_faults ps t) 0 files) _ (found_each (length files) (file_faults ps t) 0 files (omega arith))
-    (found_append (length files) (constants_faults t) (main_faults t files) (found_constants (length files) t t.package.objects os) (found_main t files))
+    (found_append (length files) (constants_faults t files) (main_faults t files)
+    (found_constants (length files) t (objects_from 0 files) (all_from (length files) 0 files (omega arith))) (found_main t files))
 
 first_found : (n : ℕ) (xs : Numbered) (x : ℕ × (Place × FaultKind)) → Found n xs → slice_get xs 0 ≡ Some x → x.0 < n
 first_found n [] x h e = cc
@@ -165,6 +154,4 @@ first_found n (y ∷ ys) x h e =
 
 -- the fault of a package stands in one of its files
 pub fault_within : (edition : Edition) (path : List ℕ) (files : List File) (ps : List Importable) (fault : ℕ × (Place × FaultKind)) → IsFaultOf edition path files ps (Some fault) → fault.0 < length files
-fault_within edition path files ps fault it =
-    let os = subst (λ p. Objects (length files) p.objects) (sym it.are.package_is) (all_objects files) in
-    first_found (length files) (package_faults ps it.facts files) fault (found_all ps it.facts files os) it.first
+fault_within edition path files ps fault it = first_found (length files) (package_faults ps it.facts files) fault (found_all ps it.facts files) it.first

@@ -8,7 +8,7 @@ use Rattle.go_text.specs.declared.fault.FaultKind.TheVariants.{Redeclared, Unuse
 use Rattle.go_ast.specs.Trees.{Name, ConstSpec, VarSpec, TypeSpec, constants, variables, types, Function, TopLevel, declared, function, File}
 use Rattle.go_expr.specs.Known.{Names}
 use Rattle.go_uses.specs.Uses.{file_refers}
-use Rattle.go_objects.specs.Objects.{Object, objects_of}
+use Rattle.go_objects.specs.Objects.{Object, objects_from, objects_of}
 use Rattle.go_objects.specs.Table.{Package, number_of, rows, IsTable}
 use Rattle.go_decl.specs.Faults.{Facts, Faults, AreRecursive, object_faults, top_faults}
 use Rattle.go_package.specs.Imports.{Importable, imports_in, imports_of}
@@ -50,12 +50,13 @@ each_file faults number (f ∷ fs) = map (λ x. (number, x)) (faults number f) +
 
 -- ---- specifications that hide one another
 
--- Each names a faulty one of another, so none is asked. The first constant, or variable without a type, that is faulty by itself is told behind the others.
+-- Each names a faulty one of another, so none is asked. The first constant, or variable without a type, that is faulty by itself is told behind the others,
+-- whether its name is blank or not.
 abbrev pub numbered_faults : Facts → Object → Numbered
 numbered_faults t o = map (λ x. (o.file, x)) (object_faults t o)
 
-abbrev pub constants_faults : Facts → Numbered
-constants_faults t = flat_map (numbered_faults t) t.package.objects
+abbrev pub constants_faults : Facts → List File → Numbered
+constants_faults t files = flat_map (numbered_faults t) (objects_from 0 files)
 
 -- ---- main and init: https://go.dev/ref/spec#Program_execution and https://go.dev/ref/spec#Package_initialization
 
@@ -92,7 +93,7 @@ main_faults t (f ∷ fs) =
 -- ---- packages
 
 abbrev pub package_faults : List Importable → Facts → List File → Numbered
-package_faults ps t files = each_file (file_faults ps t) 0 files ++ (constants_faults t ++ main_faults t files)
+package_faults ps t files = each_file (file_faults ps t) 0 files ++ (constants_faults t files ++ main_faults t files)
 
 -- the fault of the package that some files are, if it has one
 pub record IsFaultIn (p : Package) (files : List File) (ps : List Importable) (fault : Option (ℕ × (Place × FaultKind))) : Type 0 where

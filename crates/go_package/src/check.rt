@@ -109,7 +109,7 @@ pub(crate) fn check_facts<'a>(
     ensures { FindsIn result (package_faults (importables_of packages.now.all.now) (facts_of facts.now) (files_of files.now)) }
 {
     check_files(alloc, packages, facts, files)?;
-    check_constants(alloc, facts)?;
+    check_constants(alloc, facts, files)?;
     check_main(facts, files)
 }
 

@@ -1,22 +1,31 @@
 //! Specifications that hide one another: the constants and variables in them, each by itself.
 ghost use Rattle.std.specs.Prelude.{map};
+ghost use Rattle.go_package.specs.Seen.{files_of};
 ghost use Rattle.std.specs.List.{flat_map};
 ghost use Rattle.go_objects.specs.Seen.{object_of};
 ghost use Rattle.go_decl.specs.Seen.{facts_of, FindsIn};
 ghost use Rattle.go_package.specs.Packages.{numbered_faults, constants_faults};
 
 use crate::check::numbered;
+use go_ast::file::File;
 use go_decl::apart::check_object;
 use go_decl::error::DeclError;
 use go_decl::facts::Facts;
+use go_objects::declarations::all_objects;
 use go_objects::object::Object;
 use std::alloc::Global;
 
-/// The first fault of a constant, or of a variable without a type, by itself, with its file.
-pub(crate) fn check_constants(alloc: Global, facts: &Facts<'_>) -> Result<(), DeclError>
-    ensures { FindsIn result (constants_faults (facts_of facts.now)) }
+/// The first fault of a constant, or of a variable without a type, by itself, with its file, whether its
+/// name is blank or not.
+pub(crate) fn check_constants(
+    alloc: Global,
+    facts: &Facts<'_>,
+    files: &[&File],
+) -> Result<(), DeclError>
+    ensures { FindsIn result (constants_faults (facts_of facts.now) (files_of files.now)) }
 {
-    check_each(alloc, facts, facts.package().objects.list())
+    let objects = all_objects(alloc, files)?;
+    check_each(alloc, facts, &objects)
 }
 
 fn check_each(alloc: Global, facts: &Facts<'_>, objects: &[Object<'_>]) -> Result<(), DeclError>

@@ -19,9 +19,9 @@ use Rattle.go_expr.specs.Rules as rules
 use Rattle.go_expr.specs.Rules.{fine, defaulted, default_type, each_unless}
 use Rattle.go_expr.specs.Verdicts.{asked, both, operand, operands, verdict, broken}
 use Rattle.go_scope.specs.Scopes.{is_blank}
-use Rattle.go_stmt.specs.Scopes.{Env, Context, scope_in, enter, own, number_of, declare_new, Checked, still, given, follow, single, node, inside, perhaps}
-use Rattle.go_stmt.specs.Rules.{Values, returned, conditional, looped, ranged, Clause, case_value, clause_of, switched, branch}
-use Rattle.go_stmt.specs.Statements.{value_at, values_at, declaration_at, simple_at, optional_at, condition_at, in_block, in_loop, in_clause, before_others, leads_on, is_last, tag_at, cases_at, clause_at, range_type, range_names, range_number, is_hidden, statement_at, if_at, else_at, block_at, list_at, clauses_at}
+use Rattle.go_stmt.specs.Scopes.{Env, Context, scope_in, enter, own, number_of, declare_new, Checked, given, follow, single, node, inside, perhaps}
+use Rattle.go_stmt.specs.Rules.{returned, conditional, looped, ranged, Clause, case_value, clause_of, switched, branch}
+use Rattle.go_stmt.specs.Statements.{value_at, values_at, declaration_at, simple_at, optional_at, condition_at, in_block, in_loop, in_clause, before_others, behind as past, leads_on, is_last, tag_at, cases_at, clause_at, range_type, range_names, range_number, is_hidden, statement_at, if_at, else_at, block_at, list_at, clauses_at}
 use Rattle.go_package_laws.proofs.Soundness.{Table, IsSoundType, AreSoundTypes, IsSoundValue}
 use Rattle.go_package_laws.proofs.Texts.{HasTexts, HaveTexts}
 use Rattle.go_package_laws.proofs.BodyTexts.{MayHaveTexts, CasesHaveTexts, FirstHasTexts, IsPost, StmtHasTexts, StmtsHaveTexts, BlockHasTexts, IfHasTexts, ElseHasTexts, ClausesHaveTexts}
@@ -65,21 +65,18 @@ module _ (x : Expected) (w : Table) (functions : Symbol → Option Signature) (v
 
   -- names outside of the function are sound wherever they stand, and so is what the function gives
   abbrev pub Good : Context → Type 0
-  Good c = ((b k : Bool) → Outside w (setting b k) c) × ((ts : List Type') → c.results ≡ Some ts → (ts ≡ results) × AreSoundTypes w ts) × ((s : Symbol) (t : Type') → variables s ≡ Some t → IsSoundType w t)
+  Good c = ((b k : Bool) → Outside w (setting b k) c) × ((c.results ≡ map Some results) × AreSoundTypes w results) × ((s : Symbol) (t : Type') → variables s ≡ Some t → IsSoundType w t)
 
   covers : (d : List ℕ) (ss : List typed.Stmt) → Covers d (behind d ss)
   covers d ss = all_covers (pack_stmts ss) d
 
   -- ---- what returns and branches are made of
 
-  results_sure : (c : Context) → Good c → Sure w locals stays (λ d ts. (ts ≡ results) × AreSoundTypes w ts) (still [] c.results)
-  results_sure c g env = (grows_none env, λ d r lies none ts is. (g.1 ts is, r))
-
   return_sure : (c : Context) → Good c → (p : Place) (es : source.Exprs) → HaveTexts es → Sure w locals behind (AreList w (at c)) (statement_at c (return p es))
   return_sure c g p es texts =
-      sure_node w locals (λ d (k : List Type' × Values). d) (λ d (k : List Type' × Values). ((k.0 ≡ results) × AreSoundTypes w k.0) × AreSoundValues x w (at c) d k.1) behind (AreList w (at c)) p (λ k. returned k.0 k.1) (follow (still [] c.results) (values_at c es))
-      (λ d k y h is l. sound_return x w (at c) d k.0 k.1 y (h.0).0 (h.0).1 h.1 is)
-      (sure_follow w locals stays (λ d ts. (ts ≡ results) × AreSoundTypes w ts) stays (AreSoundValues x w (at c)) (still [] c.results) (values_at c es) (results_sure c g) (values_sure x w (at c) c (g.0 c.breaks c.continues) es texts))
+      sure_node w locals stays (AreSoundValues x w (at c)) behind (AreList w (at c)) p (returned c.results) (values_at c es)
+      (λ d k y h is l. sound_return x w (at c) d results k y refl (g.1).1 h (subst (λ ts. returned ts k ≡ Fine y) (g.1).0 is))
+      (values_sure x w (at c) c (g.0 c.breaks c.continues) es texts)
 
   branch_sure : (g : Setting) (p : Place) (b : Bool) (ss : List typed.Stmt) → ((d : List ℕ) → b ≡ true → AreList w g d ss × (d ≡ behind d ss)) → Sure w locals behind (AreList w g) (node p (branch b) (given ss))
   branch_sure g p b ss h =
@@ -326,7 +323,8 @@ module _ (x : Expected) (w : Table) (functions : Symbol → Option Signature) (v
 
     pub list_sure : (c : Context) → Good c → (ss : Stmts) → StmtsHaveTexts ss → Sure w locals behind (AreList w (at c)) (list_at c ss)
     list_sure c g no_stmts texts = sure_none w (at c)
-    list_sure c g (some_stmts s ss) texts = sure_appended w (at c) (statement_at (before_others c ss) s) (list_at c ss) (statement_sure (before_others c ss) g s texts.0) (list_sure c g ss texts.1)
+    list_sure c g (some_stmts s ss) texts =
+        sure_appended w (at c) (statement_at (before_others c ss) s) (list_at (past c s) ss) (statement_sure (before_others c ss) g s texts.0) (list_sure (past c s) g ss texts.1)
 
     clauses_sure : (c : Context) → Good c → (compared : Option Type') (again : Bool) (cs : Clauses) → ClausesHaveTexts cs → Sure w locals stays (SoundClauses (at c) compared cs) (clauses_at c compared again cs)
     clauses_sure c g compared again no_clauses texts = sure_given w locals (SoundClauses (at c) compared no_clauses) [] (λ d l. ((λ h. h), λ t is sound. tt))

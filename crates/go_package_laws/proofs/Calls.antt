@@ -10,7 +10,7 @@ use Rattle.go_typed.specs.Trees.{Symbol, Expr, expr_type, pack_exprs}
 use Rattle.go_meaning_laws.specs.WellTyped.{Setting, is_string, exprs_types, IsCall, IsExpr, AreExprs}
 use Rattle.go_expr.specs.Known.{value, type', function, println, length', capacity', make', append', panic', Known, declared, package', results, printed, panicked, Verdict, Fine, Breaks, Passed}
 use Rattle.go_expr.specs.Rules as rules
-use Rattle.go_expr.specs.Rules.{fine, checked, valued, wrong, each_unless, lies_in, as_type, assigned, default_type, defaulted, value_due, string, converted, length_of, capacity_of, appended, one, function_call, printable, called}
+use Rattle.go_expr.specs.Rules.{fine, checked, valued, wrong, each_unless, printing, lies_in, as_type, assigned, default_type, defaulted, value_due, string, converted, length_of, capacity_of, appended, one, function_call, printable, called}
 use Rattle.go_package_laws.proofs.Soundness.{Table, AreSoundTypes, IsSoundValue, IsSoundDeclared}
 use Rattle.go_package_laws.proofs.SoundNames.{IsSoundKnown}
 use Rattle.go_package_laws.proofs.Assigned.{Gives, GoodAs, assigned_gives, defaulted_gives}
@@ -104,13 +104,17 @@ module _ (w : Table) (g : Setting) (d : List ℕ) where
       printed_front (Breaks kind) vs h k = k
       printed_front Passed vs h k = k
 
+  printing_gives : (v : Verdict (List Expr)) → Gives (λ ys. AreExprs g d (pack_exprs ys)) v → Gives (IsSoundKnown w g d) (printing v)
+  printing_gives (Fine ys) h = h
+  printing_gives (Breaks kind) h = tt
+  printing_gives Passed h = tt
+
   pub called_gives : (k : Known) (xs : List Expr) → IsSoundKnown w g d k → Every (IsSoundValue w g d) xs → Gives (IsSoundKnown w g d) (called k xs)
   called_gives (declared (type' t)) xs h k =
       valued_gives (checked (converted t) (one xs)) (checked_gives (IsSoundValue w g d) (IsSoundValue w g d) (converted t) (one xs) (one_gives xs k) (λ x good. converted_gives w g d t x h good))
   called_gives (declared (function s ts rs)) xs h k = function_if s ts rs xs h k (nat_eq (length ts) (length xs)) refl
   called_gives (declared println) xs h k =
-      checked_gives (λ ys. AreExprs g d (pack_exprs ys)) (IsSoundKnown w g d) (λ ys. Fine (printed (pack_exprs ys))) (each_unless [] (map printable xs))
-      (each_gives (λ ys. AreExprs g d (pack_exprs ys)) [] (map printable xs) (λ none sure. printables xs k)) (λ ys good. good)
+      printing_gives (each_unless [] (map printable xs)) (each_gives (λ ys. AreExprs g d (pack_exprs ys)) [] (map printable xs) (λ none sure. printables xs k))
   called_gives (declared length') xs h k =
       valued_gives (checked length_of (one xs)) (checked_gives (IsSoundValue w g d) (IsSoundValue w g d) length_of (one xs) (one_gives xs k) (λ x good. length_gives w g d x good))
   called_gives (declared capacity') xs h k =

@@ -1,17 +1,20 @@
 -- What the rules make of statements whose parts are well typed.
-use Rattle.std.proofs.Common.{◌≡◌, ℕ, Bool, true, false, not, ◌&&◌, Option, Some, None, List, [], ◌∷◌, ◌++◌, map, refl, sym, ap, subst, ◌∙◌, true≢false}
-use Rattle.go_text.specs.declared.fault.FaultKind.TheVariants.{Mismatch}
+use Rattle.std.proofs.Common.{◌≡◌, ℕ, Bool, true, false, not, ◌&&◌, Option, Some, None, List, [], ◌∷◌, ◌++◌, map, length, refl, sym, ap, subst, ◌∙◌, true≢false}
+use Rattle.std.specs.Prelude.{nat_eq, option_map, unwrap_or, if◌then◌else◌}
+use Rattle.std.proofs.lemmas.List.{length-map}
+use Rattle.std.specs.List.{zip}
+use Rattle.go_text.specs.declared.fault.FaultKind.TheVariants.{Mismatch, Count}
 use Rattle.go_types.specs.declared.types.Basic.TheVariants as basics
 use Rattle.go_types.specs.declared.types.Untyped.TheVariants as kinds
 use Rattle.go_types.specs.Types.{Type', basic, array, slice, struct, named}
 use Rattle.go_typed.specs.Trees as typed
-use Rattle.go_typed.specs.Trees.{Expr, expr_type, Exprs, Stmt, if_statement, for_statement, switch_statement, range_statement, return, Source, pack_exprs, pack_stmts, pack_clauses, Clauses}
+use Rattle.go_typed.specs.Trees.{Expr, expr_type, Exprs, Stmt, if_statement, for_statement, switch_statement, range_statement, return, Source, each, pack_exprs, pack_stmts, pack_clauses, Clauses}
 use Rattle.go_meaning_laws.specs.WellTyped.{Setting, AllSuit, after, source_types, AreExprs, exprs_types, AreCases, IsStmt, AreStmts, AreClauses, IsConditionOrNone, in_loop, in_post, in_clause, is_last}
-use Rattle.go_expr.specs.Known.{Fine, Breaks}
+use Rattle.go_expr.specs.Known.{Verdict, Fine, Breaks}
 use Rattle.go_expr.specs.Rules as rules
 use Rattle.go_expr.specs.Rules.{checked, condition, default_type, defaulted, each_unless}
 use Rattle.go_expr.specs.Verdicts.{asked}
-use Rattle.go_stmt.specs.Rules.{Values, suited, returned, conditional, loop_condition, looped, ranged, Clause, case_value, clause_of, switched, branch}
+use Rattle.go_stmt.specs.Rules.{Values, separate, together, no_values, suited_one, suited_if, suited_partly, suited, returned, conditional, loop_condition, looped, ranged, Clause, case_value, clause_of, switched, branch}
 use Rattle.go_package_laws.proofs.Soundness.{Table, IsSoundType, AreSoundTypes, IsSoundValue}
 use Rattle.go_package_laws.proofs.Expected.{Expected}
 use Rattle.go_package_laws.proofs.Values.{checked_part, own_types, AreDue, SoundDue, AreSoundValues, AllSoundValues, sound_suited}
@@ -49,6 +52,29 @@ body_part : (o : Option (List Stmt)) (f : List Stmt → List Stmt) (y : List Stm
 body_part None f y h = absurd cc
 body_part (Some ss) f y h = (ss, refl, cc)
 
+-- where all is known that is due
+some_mapped : (ts : List Type') → map (option_map Some) (map Some ts) ≡ map Some (map Some ts)
+some_mapped [] = refl
+some_mapped (t ∷ ts) = ap (λ l. Some (Some t) ∷ l) (some_mapped ts)
+
+each_known : (due : List (Option Type')) (es : List Expr) → map suited_if (zip (map Some due) es) ≡ map suited_one (zip due es)
+each_known [] es = refl
+each_known (o ∷ os) [] = refl
+each_known (o ∷ os) (e ∷ es) = ap (λ l. suited_one (o, e) ∷ l) (each_known os es)
+
+whole_due : (due : List (Option Type')) → map (λ t. unwrap_or t None) (map Some due) ≡ due
+whole_due [] = refl
+whole_due (o ∷ os) = ap (λ l. o ∷ l) (whole_due os)
+
+abbrev counted_values : ℕ → List Expr → List (Verdict Expr) → Verdict Source
+counted_values n es vs = if nat_eq n (length es) then checked (λ es. Fine (each (pack_exprs es))) (each_unless [] vs) else Breaks Count
+
+partly_whole : (due : List (Option Type')) (values : Values) → suited_partly (map Some due) values ≡ suited due values
+partly_whole due (separate es) =
+    ap (λ n. counted_values n es (map suited_if (zip (map Some due) es))) (length-map due Some) ∙ ap (counted_values (length due) es) (each_known due es)
+partly_whole due (together ts f es) = ap (λ l. suited l (together ts f es)) (whole_due due)
+partly_whole due no_values = refl
+
 module _ (x : Expected) (w : Table) (g : Setting) where
   -- a statement behind some others, which declares nothing
   list_end : (d : List ℕ) (before : List Stmt) (s : Stmt) (y : List Stmt) → AreList w g d before → IsStmt g (behind d before) s → after (behind d before) s ≡ behind d before → before ++ s ∷ [] ≡ y → AreList w g d y × (behind d before ≡ behind d y)
@@ -56,10 +82,12 @@ module _ (x : Expected) (w : Table) (g : Setting) where
       subst (λ (ss : List Stmt). AreList w g d ss × (behind d before ≡ behind d ss)) same
       (more_stmts g d before (s ∷ []) h (k, tt), sym stays ∙ sym (behind_more d before (s ∷ [])))
 
-  pub sound_return : (d : List ℕ) (ts : List Type') (values : Values) (y : List Stmt) → ts ≡ g.results → AreSoundTypes w ts → AreSoundValues x w g d values → returned ts values ≡ Fine y → AreList w g d y × (d ≡ behind d y)
+  pub sound_return : (d : List ℕ) (ts : List Type') (values : Values) (y : List Stmt) → ts ≡ g.results → AreSoundTypes w ts → AreSoundValues x w g d values → returned (map Some ts) values ≡ Fine y
+      → AreList w g d y × (d ≡ behind d y)
   sound_return d ts values y same sound h is =
-      let part = checked_part (λ (source : Source). Fine (return source ∷ [])) (suited (map Some ts) values) y is in
-      let suit = sound_suited x w g d (map Some ts) values part.0 (all_due w ts sound) h part.1 in
+      let part = checked_part (λ (source : Source). Fine (return source ∷ [])) (suited_partly (map (option_map Some) (map Some ts)) values) y is in
+      let made : suited (map Some ts) values ≡ Fine part.0 = sym (ap (λ due. suited_partly due values) (some_mapped ts) ∙ partly_whole (map Some ts) values) ∙ part.1 in
+      let suit = sound_suited x w g d (map Some ts) values part.0 (all_due w ts sound) h made in
       let done : return part.0 ∷ [] ≡ y = (let q : Fine (return part.0 ∷ []) ≡ Fine y = part.2 in cc) in
       let gives : AllSuit (source_types part.0) g.results = subst (AllSuit (source_types part.0)) same (due_suits w ts (own_types values) (source_types part.0) suit.1) in
       list_end d [] (return part.0) y tt (suit.0, gives) refl done

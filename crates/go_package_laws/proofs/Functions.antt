@@ -17,14 +17,14 @@ use Rattle.go_typed.specs.Terminating.{list_terminates}
 use Rattle.go_scope.specs.Scopes.{is_blank}
 use Rattle.go_stmt.specs.Scopes.{Env, Context, nothing, scope_in, declare_variable}
 use Rattle.go_stmt.specs.Rules.{all_some, ended}
-use Rattle.go_stmt.specs.Statements.{list_at}
-use Rattle.go_stmt.specs.Functions.{declare_parameters, type_at, parameter_at, parameters_at, results_at, body_at, function_of, function_at}
+use Rattle.go_stmt.specs.Statements.{begun, list_at}
+use Rattle.go_stmt.specs.Functions.{declare_parameters, type_at, parameter_at, parameters_at, result_types, results_at, body_at, closing, Parts, whole, function_of, function_at}
 use Rattle.go_package_laws.proofs.Soundness.{Table, IsSoundType, AreSoundTypes}
 use Rattle.go_package_laws.proofs.Texts.{TypeHasTexts}
 use Rattle.go_package_laws.proofs.BodyTexts.{ParametersHaveTexts, ResultsHaveTexts, FunctionHasTexts, BlockHasTexts}
 use Rattle.go_package_laws.proofs.Expected.{Expected}
 use Rattle.go_package_laws.proofs.Related.{two_none, BlocksSound, setting_in, Grows, grows_none, grows_on, AllSound, Related, Lies, lies_before}
-use Rattle.go_package_laws.proofs.Values.{some_part}
+use Rattle.go_package_laws.proofs.Values.{checked_part, some_part}
 use Rattle.go_package_laws.proofs.Numbered.{Outside, scope_sound, variable_grows, more_names, at_place, nth_left}
 use Rattle.go_package_laws.proofs.Leaves.{fine_is}
 use Rattle.go_package_laws.proofs.Bodies.{Good, list_sure}
@@ -106,19 +106,41 @@ ended_parts (t ∷ ts) ss k true b p q h = absurd (let none : length (t ∷ ts) 
 ended_parts (t ∷ ts) ss k false true p q h = (let r : ended (t ∷ ts) ss ≡ Fine (t ∷ ts, ss) = rw (p, q) refl in (q, cc))
 ended_parts (t ∷ ts) ss k false false p q h = absurd (let r : ended (t ∷ ts) ss ≡ Breaks NoReturn = rw (p, q) refl in cc)
 
-body_parts : (a : Option (List Type')) (b : Option (List typed.Stmt)) (k : List Type' × List typed.Stmt) → fine (asked (λ (k : List Type' × List typed.Stmt). ended k.0 k.1) (both a b)) ≡ Some k
-    → (a ≡ Some k.0) × (b ≡ Some k.1) × ((are_none k.0 || list_terminates (pack_stmts k.1)) ≡ true)
+body_parts : (a : Option (List Type')) (b : Option (List typed.Stmt)) (k : List Type' × List typed.Stmt) → both a b ≡ Some k → (a ≡ Some k.0) × (b ≡ Some k.1)
 body_parts None b k h = absurd cc
 body_parts (Some ts) None k h = absurd cc
-body_parts (Some ts) (Some ss) k h =
-    let made = ended_parts ts ss k (nat_eq (length ts) 0) (list_terminates (pack_stmts ss)) refl refl (fine_is (ended ts ss) k h) in
-    subst (λ (k : List Type' × List typed.Stmt). (Some ts ≡ Some k.0) × (Some ss ≡ Some k.1) × ((are_none k.0 || list_terminates (pack_stmts k.1)) ≡ true)) made.1 (refl, refl, made.0)
+body_parts (Some ts) (Some ss) k h = (let same : (ts, ss) ≡ k = cc in (ap (λ j. Some j.0) same, ap (λ j. Some j.1) same))
 
-whole_parts : (a : Option (List Type')) (b : Option (List Type' × List typed.Stmt)) (f : List Type' × (List Type' × List typed.Stmt) → typed.Function) (y : typed.Function) → option_map f (both a b) ≡ Some y
-    → (ps : List Type') × (k : List Type' × List typed.Stmt) × (a ≡ Some ps) × (b ≡ Some k) × (f (ps, k) ≡ y)
-whole_parts None b f y h = absurd cc
-whole_parts (Some ps) None f y h = absurd cc
-whole_parts (Some ps) (Some k) f y h = (ps, k, refl, refl, cc)
+closed_parts : (ps : List Type') (k : List Type' × List typed.Stmt) (y : Parts) → whole (ps, k) ≡ Fine y → (ended k.0 k.1 ≡ Fine y.1) × (ps ≡ y.0)
+closed_parts ps k y h =
+    let part = checked_part (λ inside. Fine (ps, inside)) (ended k.0 k.1) y h in
+    let same : (ps, part.0) ≡ y = (let q : Fine (ps, part.0) ≡ Fine y = part.2 in cc) in
+    (part.1 ∙ ap (λ (j : Parts). Fine j.1) same, ap (λ (j : Parts). j.0) same)
+
+-- what is known of a whole function, and that it doesn't run off its end where something is due
+ended_whole : (a : Option (List Type')) (b : Option (List Type' × List typed.Stmt)) (y : Parts) → fine (asked whole (both a b)) ≡ Some y
+    → (a ≡ Some y.0) × (b ≡ Some y.1) × ((are_none (y.1).0 || list_terminates (pack_stmts (y.1).1)) ≡ true)
+ended_whole None b y h = absurd cc
+ended_whole (Some ps) None y h = absurd cc
+ended_whole (Some ps) (Some k) y h =
+    let parts = closed_parts ps k y (fine_is (whole (ps, k)) y h) in
+    let made = ended_parts k.0 k.1 y.1 (nat_eq (length k.0) 0) (list_terminates (pack_stmts k.1)) refl refl parts.0 in
+    (ap Some parts.1, ap Some made.1, subst (λ (j : List Type' × List typed.Stmt). (are_none j.0 || list_terminates (pack_stmts j.1)) ≡ true) made.1 made.0)
+
+whole_parts : (a : Option (List Type')) (b : Option (List Type' × List typed.Stmt)) (f : Parts → typed.Function) (y : typed.Function) → option_map f (fine (asked whole (both a b))) ≡ Some y
+    → (ps : List Type') × (k : List Type' × List typed.Stmt) × (a ≡ Some ps) × (b ≡ Some k) × ((are_none k.0 || list_terminates (pack_stmts k.1)) ≡ true) × (f (ps, k) ≡ y)
+whole_parts a b f y h = elim (fine (asked whole (both a b))) as (λ o. fine (asked whole (both a b)) ≡ o → option_map f o ≡ Some y
+    → (ps : List Type') × (k : List Type' × List typed.Stmt) × (a ≡ Some ps) × (b ≡ Some k) × ((are_none k.0 || list_terminates (pack_stmts k.1)) ≡ true) × (f (ps, k) ≡ y)) [
+      | None ↦ λ is q. absurd cc
+      | Some z ↦ λ is q. (let parts = ended_whole a b z is in (z.0, z.1, parts.0, parts.1, parts.2, cc))
+    ] refl h
+
+-- the types that are known, where all are
+all_mapped : (os : List (Option Type')) (ts : List Type') → all_some os ≡ Some ts → os ≡ map Some ts
+all_mapped [] ts is = (let same : [] ≡ ts = cc in ap (map Some) same)
+all_mapped (o ∷ os) ts is =
+    let part = some_part o os ts is in
+    ap (λ p. p ∷ os) part.2 ∙ ap (λ l. Some part.0 ∷ l) (all_mapped os part.1 part.3) ∙ ap (map Some) (sym part.4)
 
 module _ (x : Expected) (w : Table) (packages : List Package) where
   -- names outside of a function are sound wherever they stand
@@ -158,9 +180,7 @@ module _ (x : Expected) (w : Table) (packages : List Package) where
       all_known (fine (type_verdict (scope_in c None nothing) t)) (map (λ t. fine (type_verdict (scope_in c None nothing) t)) ts) w ks (λ u at. signature_type c out t texts.0 u at) (λ us at. results_sound c out ts texts.1 us at) is
 
   body_result : (c : Context) (rs : List TypeExpr) (b : Block) (env : Env) (k : List Type' × List typed.Stmt) → (body_at c rs b env).known ≡ Some k → (results_at c rs nothing).known ≡ Some k.0
-  body_result c rs (block p ss q) env k is =
-      let inner = record c { results = (results_at c rs env).known } in
-      (body_parts (results_at c rs env).known (list_at inner ss env).known k is).0
+  body_result c rs (block p ss q) env k is = (body_parts (results_at c rs env).known (list_at (record (begun c) { results = result_types c rs }) ss env).known k is).0
 
   -- ---- parameters in scope
 
@@ -203,23 +223,22 @@ module _ (x : Expected) (w : Table) (packages : List Package) where
   -- ---- bodies and functions
 
   body_sure : (c : Context) → SoundOutside c → SoundPackageVariables → (rs : List TypeExpr) (b : Block) → ResultsHaveTexts rs → BlockHasTexts b → (env : Env) → (body_at c rs b env).faults ≡ [] → (k : List Type' × List typed.Stmt) → (body_at c rs b env).known ≡ Some k
-      → Grows env (body_at c rs b env).after × ((results_at c rs nothing).known ≡ Some k.0) × AreSoundTypes w k.0 × ((are_none k.0 || list_terminates (pack_stmts k.1)) ≡ true)
+      → Grows env (body_at c rs b env).after × ((results_at c rs nothing).known ≡ Some k.0) × AreSoundTypes w k.0
       × ((d : List ℕ) → Related w (body_at c rs b env).after.types env d → AreStmts (setting_in (signature_at packages) (variable_at packages) (body_at c rs b env).after.types k.0 c.breaks c.continues) d (pack_stmts k.1))
   body_sure c out v rs (block p ss q) texts more env none k is =
-      let inner = record c { results = (results_at c rs env).known } in
+      let inner = record (begun c) { results = result_types c rs } in
       let list = list_at inner ss env in
       let parts = body_parts (results_at c rs env).known list.known k is in
       let locals = list.after.types in
       let sound = results_sound c out rs texts k.0 parts.0 in
       let good : Good x w (signature_at packages) (variable_at packages) locals k.0 inner = (
         λ b j. out locals k.0 b j,
-        λ ts given. (let same : Some k.0 ≡ Some ts = sym parts.0 ∙ given in let one : k.0 ≡ ts = cc in (sym one, subst (AreSoundTypes w) one sound)),
+        (all_mapped (result_types c rs) k.0 parts.0, sound),
         v,
       ) in
       let sure = list_sure x w (signature_at packages) (variable_at packages) locals k.0 inner good ss more env in
-      let faultless = two_none ((results_at c rs env).faults ++ list.faults) (broken q (asked (λ (k : List Type' × List typed.Stmt). ended k.0 k.1) (both (results_at c rs env).known list.known))) none in
-      let lists = two_none (results_at c rs env).faults list.faults faultless.0 in
-      (sure.0, parts.0, sound, parts.2, λ d r. (sure.1 d r ([], append-nil locals) lists.1 k.1 parts.1).0)
+      let lists = two_none (results_at c rs env).faults list.faults none in
+      (sure.0, parts.0, sound, λ d r. (sure.1 d r ([], append-nil locals) lists.1 k.1 parts.1).0)
 
   parameters_related : (c : Context) (ps : List Parameter) (ts rest : List Type') → AreSoundTypes w ts → (parameters_at c ps nothing).known ≡ Some ts → (parameters_at c ps nothing).after.types ≡ ts
       → Related w (ts ++ rest) (parameters_at c ps nothing).after (first (length ts))
@@ -247,7 +266,7 @@ module _ (x : Expected) (w : Table) (packages : List Package) where
       let parts = whole_parts start.known body.known (function_of f body.after.types) y is in
       let params = parameters_sound c out f.parameters texts.0 nothing parts.0 parts.2 in
       let results = results_sound c out f.results texts.1 (parts.1).0 (body_result c f.results f.body start.after parts.1 parts.3) in
-      subst (λ (y : typed.Function). AreSoundTypes w y.parameters × AreSoundTypes w y.results) parts.4 (params.0, results)
+      subst (λ (y : typed.Function). AreSoundTypes w y.parameters × AreSoundTypes w y.results) parts.5 (params.0, results)
 
   pub sound_function : (c : Context) (f : Function) → c.breaks ≡ false → c.continues ≡ false → SoundOutside c → SoundPackageVariables → FunctionHasTexts f → (function_at c f).faults ≡ [] → (y : typed.Function) → (function_at c f).known ≡ Some y
       → IsFunction packages y × ((parameters_at c f.parameters nothing).known ≡ Some y.parameters) × ((results_at c f.results nothing).known ≡ Some y.results) × AreSoundTypes w y.parameters × AreSoundTypes w y.results × (y.name ≡ f.name.text)
@@ -260,17 +279,18 @@ module _ (x : Expected) (w : Table) (packages : List Package) where
       let parts = whole_parts start.known body.known (function_of f types) y is in
       let ts = parts.0 in
       let k = parts.1 in
-      let faultless = two_none start.faults body.faults none in
+      let inside_it = two_none (start.faults ++ body.faults) (broken (closing f.body) (asked whole (both start.known body.known))) none in
+      let faultless = two_none start.faults body.faults inside_it.0 in
       let params = parameters_sound c out f.parameters texts.0 nothing ts parts.2 in
       let made = body_sure c out v f.results f.body texts.1 texts.2 env faultless.1 k parts.3 in
       let rest = ((made.0).1).0 in
-      let whole : ts ++ rest ≡ types = ap (λ l. l ++ rest) (sym params.1) ∙ ((made.0).1).1 in
+      let whole_types : ts ++ rest ≡ types = ap (λ l. l ++ rest) (sym params.1) ∙ ((made.0).1).1 in
       let related = parameters_related c f.parameters ts rest params.0 parts.2 params.1 in
-      let stmts = made.4 (first (length ts)) (subst (λ l. Related w l env (first (length ts))) whole related) in
-      let behind_them : drop (length ts) types ≡ rest = ap (drop (length ts)) (sym whole) ∙ drop_front ts rest in
-      let locals : types ≡ ts ++ drop (length ts) types = sym whole ∙ ap (λ l. ts ++ l) (sym behind_them) in
+      let stmts = made.3 (first (length ts)) (subst (λ l. Related w l env (first (length ts))) whole_types related) in
+      let behind_them : drop (length ts) types ≡ rest = ap (drop (length ts)) (sym whole_types) ∙ drop_front ts rest in
+      let locals : types ≡ ts ++ drop (length ts) types = sym whole_types ∙ ap (λ l. ts ++ l) (sym behind_them) in
       let one = subst (λ l. AreStmts (setting_in (signature_at packages) (variable_at packages) l k.0 c.breaks c.continues) (first (length ts)) (pack_stmts k.1)) locals stmts in
       let two = subst (λ b. AreStmts (setting_in (signature_at packages) (variable_at packages) (ts ++ drop (length ts) types) k.0 b c.continues) (first (length ts)) (pack_stmts k.1)) breaks one in
       let three = subst (λ b. AreStmts (setting_in (signature_at packages) (variable_at packages) (ts ++ drop (length ts) types) k.0 false b) (first (length ts)) (pack_stmts k.1)) continues two in
-      subst (λ (y : typed.Function). IsFunction packages y × ((parameters_at c f.parameters nothing).known ≡ Some y.parameters) × ((results_at c f.results nothing).known ≡ Some y.results) × AreSoundTypes w y.parameters × AreSoundTypes w y.results × (y.name ≡ f.name.text)) parts.4
-      (record { body = three; ended = made.3 }, parts.2, made.1, params.0, made.2, refl)
+      subst (λ (y : typed.Function). IsFunction packages y × ((parameters_at c f.parameters nothing).known ≡ Some y.parameters) × ((results_at c f.results nothing).known ≡ Some y.results) × AreSoundTypes w y.parameters × AreSoundTypes w y.results × (y.name ≡ f.name.text)) parts.5
+      (record { body = three; ended = parts.4 }, parts.2, made.1, params.0, made.2, refl)

@@ -15,10 +15,10 @@ use Rattle.go_expr.specs.Known.{Declared, Scope, Fine, Breaks}
 use Rattle.go_expr.specs.Rules.{fine, checked, assigned}
 use Rattle.go_expr.specs.Verdicts.{asked, both, operand, verdict, type_verdict}
 use Rattle.go_scope.specs.Scopes.{is_blank}
-use Rattle.go_stmt.specs.Scopes.{Env, Context, scope_in, paired, declare, Checked, still, follow, seen}
-use Rattle.go_stmt.specs.Rules.{all_some, is_constant, constants_source, constants_of}
+use Rattle.go_stmt.specs.Scopes.{Env, Context, scope_in, paired, declare, Checked, follow, seen}
+use Rattle.go_stmt.specs.Rules.{is_constant, constants_source, constants_of}
 use Rattle.go_scope.specs.Specifications.{meant, is_repeated}
-use Rattle.go_stmt.specs.Statements.{each_of, operands_faults, names_at, written_at, place_at, declared_as, constant_in, declare_constants, told_at, constants_at, group_at, declaration_at, one_block}
+use Rattle.go_stmt.specs.Statements.{each_of, names_at, place_at, declared_as, constant_in, declare_constants, spec_at, constants_at, group_at, declaration_at, one_block}
 use Rattle.go_package_laws.proofs.Soundness.{Table, IsSoundType, IsUntypedConstant, IsSoundValue}
 use Rattle.go_package_laws.proofs.SoundNames.{IsSoundScope}
 use Rattle.go_package_laws.proofs.Texts.{HasTexts, HaveTexts, TypeHasTexts}
@@ -110,7 +110,7 @@ module _ (x : Expected) (w : Table) (g : Setting) where
       let s = scope_in c (Some iota) env in
       let names = paired spec.names (each_of (constant_in s spec.type) spec.values) in
       let first = place_at p spec.names in
-      let parts = follow (names_at spec.names) (told_at repeated first (follow (written_at s spec.type) (still (operands_faults s spec.values) (all_some (each_of (λ e. operand (verdict s e)) spec.values))))) in (
+      let parts = follow (names_at spec.names) (spec_at s first repeated spec) in (
         constants_grow names env,
         λ d r lies none y is. (
             let sound = each_sound d s (scope_sound w g c out env d r (Some iota)) spec.type texts spec.values more in

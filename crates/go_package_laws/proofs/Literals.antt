@@ -19,7 +19,7 @@ use Rattle.go_typed.specs.Trees.{Expr, expr_type, pack_exprs, pack_parts}
 use Rattle.go_meaning.specs.Meaning.{most_cells}
 use Rattle.go_meaning_laws.specs.WellTyped.{Setting, part_type, IsExpr, AreElements, AreParts}
 use Rattle.go_expr.specs.Known.{type', Known, declared, Verdict, Fine, Breaks, Passed}
-use Rattle.go_expr.specs.Rules.{fine, constant_in, lesser, least, when, wrong, each_unless, numbered, checked, type_due, is_small, array_of, slice_of, slice_element, FieldList, declared_field, field_names, packed, differ, listed, struct_of, assigned, ElementList, field_named, any_keyed, field_slot, keyed_slot, element_part, parts_by, array_parts, slice_parts, is_counted, struct_faults, struct_slot, struct_parts, parts_of, literal_of, Due, taken, written, nothing, element_due, due_type, untyped_literal}
+use Rattle.go_expr.specs.Rules.{fine, constant_in, lesser, least, when, wrong, each_unless, numbered, checked, type_due, is_small, array_of, slice_of, slice_element, FieldList, declared_field, field_names, packed, differ, listed, struct_of, assigned, ElementList, field_named, any_keyed, field_slot, keyed_slot, element_part, parts_by, array_parts, slice_parts, is_counted, struct_faults, struct_slot, struct_parts, parts_of, literal_of, Due, taken, written, nothing, element_due, due_type, unwritten, untyped_literal}
 use Rattle.go_package_laws.proofs.Soundness.{Table, IsNamedField, IsSoundType, AreSoundFields, IsSoundValue}
 use Rattle.go_package_laws.proofs.SoundNames.{IsSoundKnown}
 use Rattle.go_package_laws.proofs.Texts.{AreWords}
@@ -236,9 +236,13 @@ module _ (w : Table) (g : Setting) (d : List ℕ) where
   due_type_has (written o) h = h
   due_type_has nothing h = tt
 
+  never_written : (o : Option FaultKind) → Gives (IsSoundValue w g d) (elim o [ None ↦ Passed | Some kind ↦ Breaks kind ])
+  never_written None = tt
+  never_written (Some kind) = tt
+
   pub untyped_gives : (path : List ℕ) (due : Due) (es : ElementList) → IsSoundDue due → Every (IsSoundElement w g d) es → Gives (IsSoundValue w g d) (untyped_literal path due es)
   untyped_gives path (taken t) es h k = literal_gives w g d path t es h k
-  untyped_gives path (written o) es h k = tt
+  untyped_gives path (written o) es h k = never_written (unwritten path o es)
   untyped_gives path nothing es h k = constant_value w g d (basic basics.Bool) (Truth true) (inl refl) (basics.Bool, refl, refl)
 
 -- ---- types

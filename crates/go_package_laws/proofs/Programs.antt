@@ -105,7 +105,7 @@ module _ (packages : List typed.Package) (w : Table) where
       let t = it.typed.facts in
       let ps = it.libraries ++ map importable_of it.imported in
       let whole = more_whole it.libraries (map importable_of it.imported) (libraries_whole it.libraries it.are_libraries) (imported_whole it.imported) in
-      let rest = both_none (each_file (file_faults ps t) 0 it.files) (constants_faults t ++ main_faults t it.files) it.typed.none in
+      let rest = both_none (each_file (file_faults ps t) 0 it.files) (constants_faults t it.files ++ main_faults t it.files) it.typed.none in
       record {
         edition = it.edition;
         facts = t;
@@ -117,7 +117,7 @@ module _ (packages : List typed.Package) (w : Table) where
         imports = ps;
         are = ap (λ (q : Package). q.imports) it.typed.are.package_is;
         sound = λ g d within. more_export it.libraries (map importable_of it.imported) g d (libraries_export it.libraries it.are_libraries g d) (imported_export before it.imported sound it.stand_before g d within);
-        mains = (both_none (constants_faults t) (main_faults t it.files) rest.1).1;
+        mains = (both_none (constants_faults t it.files) (main_faults t it.files) rest.1).1;
       }
 
   good_exports : (p : typed.Package) → Good p → IsSoundFor packages w p

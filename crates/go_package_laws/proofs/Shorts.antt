@@ -1,24 +1,24 @@
 -- Short declarations define new variables, and give values to those that the block has.
-use Rattle.std.proofs.Common.{◌≡◌, ℕ, Bool, true, false, not, ◌&&◌, ◌||◌, Option, Some, None, List, [], ◌∷◌, map, length, refl, sym, ap, subst, ◌∙◌, ◌⊎◌, inl, inr}
-use Rattle.std.specs.Prelude.{bytes_eq, is_some, nat_eq, unwrap_or}
-use Rattle.std.specs.List.{list_any, zip, slice_get}
+use Rattle.std.proofs.Common.{◌≡◌, ℕ, Bool, true, false, not, ◌&&◌, ◌||◌, Option, Some, None, List, [], ◌∷◌, map, refl, sym, ap, subst, ◌∙◌, ◌⊎◌, inl, inr}
+use Rattle.std.specs.Prelude.{bytes_eq, is_some}
+use Rattle.std.specs.List.{list_any, slice_get}
 use Rattle.std.specs.Map.{lookup}
 use Rattle.std.proofs.lemmas.Bool.{cases_Bool, and_parts}
 use Rattle.std.proofs.lemmas.Slice.Eq.{bytes_eq-Decides}
 use Rattle.go_text.specs.declared.place.Place.{Place}
-use Rattle.go_text.specs.declared.fault.FaultKind.TheVariants.{Redeclared, Mismatch, Count}
+use Rattle.go_text.specs.declared.fault.FaultKind.TheVariants.{Redeclared, Mismatch}
 use Rattle.go_ast.specs.Trees as source
 use Rattle.go_ast.specs.Trees.{Name}
 use Rattle.go_types.specs.Types.{Type'}
 use Rattle.go_types.specs.Relations.{underlying}
 use Rattle.go_typed.specs.Trees.{constant, local, Source, Stmt, define}
 use Rattle.go_meaning_laws.specs.WellTyped.{Setting, after, source_types, IsStmt}
-use Rattle.go_expr.specs.Known.{Declared, value, Fine, Breaks, Passed}
-use Rattle.go_expr.specs.Rules.{fine, checked, each_unless}
+use Rattle.go_expr.specs.Known.{Declared, value, Verdict, Fine, Breaks, Passed}
+use Rattle.go_expr.specs.Rules.{fine, checked}
 use Rattle.go_expr.specs.Verdicts.{asked}
 use Rattle.go_scope.specs.Scopes.{is_blank}
 use Rattle.go_stmt.specs.Scopes.{Env, Context, scope_in, own, number_of, paired, declare_new}
-use Rattle.go_stmt.specs.Rules.{all_some, Values, separate, together, no_values, suited, differ, is_new, due_for, suited_if, suited_partly, redefined}
+use Rattle.go_stmt.specs.Rules.{all_some, Values, suited, differ, is_new, due_for, dues_for, suited_partly, redefined}
 use Rattle.go_stmt.specs.Statements.{values_known, value_types, short_at}
 use Rattle.go_check_laws.proofs.Counts.{values_fit}
 use Rattle.go_check_laws.proofs.Declares.{Dues, fit_due}
@@ -88,22 +88,23 @@ module _ (x : Expected) (w : Table) (g : Setting) where
   abbrev Owned : Env → Name → Option (Option Type') → Type 0
   Owned env n due = ((own env n ≡ None) × (due ≡ Some None)) ⊎ ((u : Type') × (k : ℕ) × (own env n ≡ Some (Some (value (local u k)))) × (due ≡ Some (Some u)) × (slice_get g.locals k ≡ Some u) × IsSoundType w u)
 
-  owned_by : (d : List ℕ) (env : Env) (n : Name) → AllSound w g.locals d env.names.inner → SoundLocals w g.locals d → (o : Option (Option Declared)) → own env n ≡ o → (t : Option (Option Type')) → due_for o ≡ Some t → (k : Option Type') → t ≡ Some k
+  owned_by : (d : List ℕ) (env : Env) (n : Name) → AllSound w g.locals d env.names.inner → SoundLocals w g.locals d → (o : Option (Option Declared)) → own env n ≡ o → (b : Bool) (t : Option (Option Type')) → due_for b o ≡ Some t → (k : Option Type') → t ≡ Some k
       → Owned env n (Some k)
-  owned_by d env n h l None at t due k is = (
+  owned_by d env n h l None at b t due k is = (
       let new : Some None ≡ t = cc in
       let none : Some None ≡ Some k = new ∙ is in
       inl (at, sym none)
       )
-  owned_by d env n h l (Some None) at t due k is = absurd (let unknown : None ≡ t = cc in let no : None ≡ Some k = unknown ∙ is in cc (no))
-  owned_by d env n h l (Some (Some (value (local u m)))) at t due k is = (
+  owned_by d env n h l (Some None) at true t due k is = absurd cc
+  owned_by d env n h l (Some None) at false t due k is = absurd (let unknown : None ≡ t = cc in let no : None ≡ Some k = unknown ∙ is in cc (no))
+  owned_by d env n h l (Some (Some (value (local u m)))) at b t due k is = (
       let old : Some (Some u) ≡ t = cc in
       let type : Some (Some u) ≡ Some k = old ∙ is in
       let sound = found_sound d env.names.inner n.text (Some (value (local u m))) h at in
       inr (u, m, at, sym type, sound.0, l m u sound.0 sound.1)
       )
-  owned_by d env n h l (Some (Some (value (constant u m)))) at t due k is = absurd cc
-  owned_by d env n h l (Some (Some p)) at t due k is = absurd (found_sound d env.names.inner n.text (Some p) h at)
+  owned_by d env n h l (Some (Some (value (constant u m)))) at b t due k is = absurd cc
+  owned_by d env n h l (Some (Some p)) at b t due k is = absurd (found_sound d env.names.inner n.text (Some p) h at)
 
   -- what the block has under some names, and what is due for them
   abbrev Owns : Env → List Name → List (Option Type') → Type 0
@@ -112,18 +113,19 @@ module _ (x : Expected) (w : Table) (g : Setting) where
   Owns env (n ∷ ns) [] = ⊥
   Owns env (n ∷ ns) (k ∷ ks) = Owned env n (Some k) × Owns env ns ks
 
-  owns_of : (d : List ℕ) (env : Env) → AllSound w g.locals d env.names.inner → SoundLocals w g.locals d → (ns : List Name) (due : List (Option (Option Type'))) (ks : List (Option Type')) → all_some (map (λ n. due_for (own env n)) ns) ≡ Some due
-      → all_some due ≡ Some ks → Owns env ns ks
-  owns_of d env h l [] due ks is made = (
+  owns_of : (constants : List (List ℕ)) (d : List ℕ) (env : Env) → AllSound w g.locals d env.names.inner → SoundLocals w g.locals d → (ns : List Name) (due : List (Option (Option Type'))) (ks : List (Option Type'))
+      → dues_for constants (own env) ns ≡ Some due → all_some due ≡ Some ks → Owns env ns ks
+  owns_of constants d env h l [] due ks is made = (
       let same : [] ≡ due = cc in
       let none : Some [] ≡ Some ks = ap all_some same ∙ made in
       let empty : [] ≡ ks = cc in
       subst (Owns env []) empty tt
       )
-  owns_of d env h l (n ∷ ns) due ks is made =
-      let one = some_part (due_for (own env n)) (map (λ n. due_for (own env n)) ns) due is in
+  owns_of constants d env h l (n ∷ ns) due ks is made =
+      let here = λ (m : Name). list_any (bytes_eq m.text) constants in
+      let one = some_part (due_for (here n) (own env n)) (map (λ m. due_for (here m) (own env m)) ns) due is in
       let two = some_part one.0 one.1 ks (ap all_some (sym one.4) ∙ made) in
-      subst (Owns env (n ∷ ns)) (sym two.4) (owned_by d env n h l (own env n) refl one.0 one.2 two.0 two.2, owns_of d env h l ns one.1 two.1 one.3 two.3)
+      subst (Owns env (n ∷ ns)) (sym two.4) (owned_by d env n h l (own env n) refl (here n) one.0 one.2 two.0 two.2, owns_of constants d env h l ns one.1 two.1 one.3 two.3)
 
   short_due : (env : Env) (ns : List Name) (ks : List (Option Type')) → Owns env ns ks → SoundDue w ks
   short_due env [] [] h = tt
@@ -176,36 +178,29 @@ module _ (x : Expected) (w : Table) (g : Setting) where
       more_ready first env n ns k ks vs ts owns.0 same.0 suit (λ v vs ts rest. ready_short first ns ks vs ts (next n (Some v) env) owns.1 apart.1 (same_next first env n v ns apart.0 same.1) rest)
 
 -- where something isn't known of what is due, no source is
-never_partly : (due : List (Option (Option Type'))) (v : Values) (s : Source) → suited_partly due v ≡ Fine s → ⊥
-never_partly due (separate es) s h = elim (cases_Bool (nat_eq (length due) (length es))) [
-  | inl is ↦ (
-      let vs = each_unless [] (map suited_if (zip due es)) in
-      let r : checked {B = Source} (λ es. Passed) vs ≡ Fine s = rw is at h in
-      let part = checked_part (λ es. Passed) vs s r in
-      cc (part.2))
-  | inr not_so ↦ (let r : Breaks Count ≡ Fine s = rw not_so at h in cc (r))
-]
-never_partly due (together ts f es) s h = (let part = checked_part (λ source. Passed) (suited (map (λ t. unwrap_or t None) due) (together ts f es)) s h in cc (part.2))
-never_partly due no_values s h = cc
+never_passed : (v : Verdict Source) (s : Source) → checked {B = Source} (λ source. Passed) v ≡ Fine s → ⊥
+never_passed v s h = (let part = checked_part (λ source. Passed) v s h in cc (part.2))
 
 module _ (x : Expected) (w : Table) (g : Setting) where
-  redefined_parts : (own : Name → Option (Option Declared)) (ns : List Name) (v : Values) (s : Source) (o : Option (List (Option (Option Type')))) (b : Bool)
-      → (differ ns && list_any (λ n. is_new n (own n)) ns) ≡ b → all_some (map (λ n. due_for (own n)) ns) ≡ o → redefined own ns v ≡ Fine s
-      → (due : List (Option (Option Type'))) × (ks : List (Option Type')) × (all_some (map (λ n. due_for (own n)) ns) ≡ Some due) × (all_some due ≡ Some ks) × (differ ns ≡ true) × (suited ks v ≡ Fine s)
-  redefined_parts own ns v s o false at is h = absurd (let r : redefined own ns v ≡ Breaks Redeclared = rw at refl in cc)
-  redefined_parts own ns v s None true at is h = absurd (let r : redefined own ns v ≡ Breaks Mismatch = rw (at, is, redefined) refl in cc)
-  redefined_parts own ns v s (Some due) true at is h = elim (all_some due) as (λ k. all_some due ≡ k → (due : List (Option (Option Type'))) × (ks : List (Option Type')) × (all_some (map (λ n. due_for (own n)) ns) ≡ Some due) × (all_some due ≡ Some ks) × (differ ns ≡ true) × (suited ks v ≡ Fine s)) [
-    | None ↦ λ k. absurd (let r : redefined own ns v ≡ suited_partly due v = rw (at, is, k, redefined) refl in never_partly due v s (sym r ∙ h))
-    | Some ks ↦ λ k. (
-        let r : redefined own ns v ≡ suited ks v = rw (at, is, k, redefined) refl in
-        (due, ks, is, k, (and_parts (differ ns) (list_any (λ n. is_new n (own n)) ns) at).0, sym r ∙ h))
-  ] refl
+  redefined_parts : (constants : List (List ℕ)) (own : Name → Option (Option Declared)) (ns : List Name) (v : Values) (s : Source) (o : Option (List (Option (Option Type')))) (b : Bool)
+      → (differ ns && list_any (λ n. is_new n (own n)) ns) ≡ b → dues_for constants own ns ≡ o → redefined constants own ns v ≡ Fine s
+      → (due : List (Option (Option Type'))) × (ks : List (Option Type')) × (dues_for constants own ns ≡ Some due) × (all_some due ≡ Some ks) × (differ ns ≡ true) × (suited ks v ≡ Fine s)
+  redefined_parts constants own ns v s o false at is h = absurd (let r : redefined constants own ns v ≡ Breaks Redeclared = rw at refl in cc)
+  redefined_parts constants own ns v s None true at is h = absurd (let r : redefined constants own ns v ≡ Breaks Mismatch = rw (at, is, redefined) refl in cc)
+  redefined_parts constants own ns v s (Some due) true at is h =
+      elim (all_some due) as (λ k. all_some due ≡ k → (due : List (Option (Option Type'))) × (ks : List (Option Type')) × (dues_for constants own ns ≡ Some due) × (all_some due ≡ Some ks) × (differ ns ≡ true) × (suited ks v ≡ Fine s)) [
+        | None ↦ λ k. absurd (let r : redefined constants own ns v ≡ checked (λ source. Passed) (suited_partly due v) = rw (at, is, k, redefined) refl in never_passed (suited_partly due v) s (sym r ∙ h))
+        | Some ks ↦ λ k. (
+            let r : redefined constants own ns v ≡ suited ks v = rw (at, is, k, redefined) refl in
+            (due, ks, is, k, (and_parts (differ ns) (list_any (λ n. is_new n (own n)) ns) at).0, sym r ∙ h))
+      ] refl
 
-  short_parts : (own : Name → Option (Option Declared)) (ns : List Name) (f : Source → Stmt) (v : Option Values) (y : Stmt) → fine (asked (λ (k : Values). checked (λ source. Fine (f source)) (redefined own ns k)) v) ≡ Some y
-      → (values : Values) × (s : Source) × (v ≡ Some values) × (redefined own ns values ≡ Fine s) × (f s ≡ y)
-  short_parts own ns f None y h = absurd cc
-  short_parts own ns f (Some v) y h =
-      let part = checked_part (λ source. Fine (f source)) (redefined own ns v) y (fine_is (checked (λ source. Fine (f source)) (redefined own ns v)) y h) in
+  short_parts : (constants : List (List ℕ)) (own : Name → Option (Option Declared)) (ns : List Name) (f : Source → Stmt) (v : Option Values) (y : Stmt)
+      → fine (asked (λ (k : Values). checked (λ source. Fine (f source)) (redefined constants own ns k)) v) ≡ Some y
+      → (values : Values) × (s : Source) × (v ≡ Some values) × (redefined constants own ns values ≡ Fine s) × (f s ≡ y)
+  short_parts constants own ns f None y h = absurd cc
+  short_parts constants own ns f (Some v) y h =
+      let part = checked_part (λ source. Fine (f source)) (redefined constants own ns v) y (fine_is (checked (λ source. Fine (f source)) (redefined constants own ns v)) y h) in
       (v, part.0, refl, part.1, cc)
 
   pub short_sure : (c : Context) → Outside w g c → (p : Place) (ns : List Name) (es : source.Exprs) → HaveTexts es → Sure w g.locals after (IsStmt g) (short_at c p ns es)
@@ -216,9 +211,9 @@ module _ (x : Expected) (w : Table) (g : Setting) where
       let f = λ (source : Source). define (map (number_of final) ns) source in (
         new_grows (paired ns types) env,
         λ d r lies none y is. (
-            let k = short_parts (own env) ns f (values_known s es) y is in
-            let parts = redefined_parts (own env) ns k.0 k.1 (all_some (map (λ n. due_for (own env n)) ns)) (differ ns && list_any (λ n. is_new n (own env n)) ns) refl refl k.3 in
-            let owns = owns_of x w g d env r.0 r.2 ns parts.0 parts.1 parts.2 parts.3 in
+            let k = short_parts c.constants (own env) ns f (values_known s es) y is in
+            let parts = redefined_parts c.constants (own env) ns k.0 k.1 (dues_for c.constants (own env) ns) (differ ns && list_any (λ n. is_new n (own env n)) ns) refl refl k.3 in
+            let owns = owns_of x w g c.constants d env r.0 r.2 ns parts.0 parts.1 parts.2 parts.3 in
             let sound = sound_values x w g d s (scope_sound w g c out env d r None) es texts k.0 k.2 in
             let suit = sound_suited x w g d parts.1 k.0 k.1 (short_due x w g env ns parts.1 owns) sound parts.5 in
             let ready = ready_short x w g env ns parts.1 (own_types k.0) (source_types k.1) env owns parts.4 (same_all env ns) suit.1 in

@@ -10,12 +10,13 @@ use Rattle.go_typed.specs.Terminating.{list_terminates}
 use Rattle.go_expr.specs.Known.{Scope, Fine, Breaks}
 use Rattle.go_expr.specs.Rules.{fine}
 use Rattle.go_expr.specs.Verdicts.{both, joined, type_verdict}
-use Rattle.go_stmt.specs.Scopes.{Env, Context, nothing, scope_in, follow}
+use Rattle.go_stmt.specs.Scopes.{Env, Context, nothing, scope_in}
 use Rattle.go_stmt.specs.Rules.{all_some, ended}
-use Rattle.go_stmt.specs.Statements.{list_at}
-use Rattle.go_stmt.specs.Functions.{parameter_at, parameters_at, results_at, body_at, function_of, function_at}
+use Rattle.go_stmt.specs.Statements.{begun, list_at}
+use Rattle.go_stmt.specs.Functions.{parameter_at, parameters_at, result_types, results_at, body_at, Parts, whole, whole_at, function_of, function_at}
 use Rattle.go_objects.specs.Table.{types_known, parameters_known}
 use Rattle.go_package_laws.proofs.Forms.{fine_is, asked_parts, mapped_is}
+use Rattle.go_package_laws.proofs.Values.{checked_part}
 
 abbrev outer : Context → Scope
 outer c = scope_in c None nothing
@@ -52,10 +53,8 @@ ended_is ts ss k h = elim (cases_Bool (nat_eq (length ts) 0 || list_terminates (
 
 body_results : (c : Context) (rs : List TypeExpr) (b : Block) (env : Env) (k : List Type' × List typed.Stmt) → (body_at c rs b env).known ≡ Some k → types_known (outer c) rs ≡ Some k.0
 body_results c rs (block p ss q) env k h =
-    let form = follow (results_at c rs) (list_at (record c { results = (results_at c rs env).known }) ss) in
-    let parts = asked_parts (λ k. ended k.0 k.1) (form env).known k (fine_is _ k h) in
-    let here = both_are (results_at c rs env).known (list_at (record c { results = (results_at c rs env).known }) ss (results_at c rs env).after).known parts.0 parts.1 in
-    sym (results_same (outer c) rs) ∙ here.0 ∙ ap Some (sym (ended_is (parts.0).0 (parts.0).1 k parts.2))
+    let inner = record (begun c) { results = result_types c rs } in
+    sym (results_same (outer c) rs) ∙ (both_are (results_at c rs env).known (list_at inner ss (results_at c rs env).after).known k h).0
 
 -- its name, its parameters and its results
 pub signed : (c : Context) (f : Function) (g : typed.Function) → (function_at c f).known ≡ Some g
@@ -64,10 +63,13 @@ unfolding function_at
 signed c f g is =
     let parameters = parameters_at c f.parameters nothing in
     let body = body_at c f.results f.body parameters.after in
-    let form = follow (parameters_at c f.parameters) (body_at c f.results f.body) in
-    let made = mapped_is (function_of f (form nothing).after.types) (form nothing).known g is in
-    let parts = both_are parameters.known body.known made.0 made.1 in (
+    let made = mapped_is (function_of f (whole_at c f nothing).after.types) (whole_at c f nothing).known g is in
+    let closed = asked_parts whole (both parameters.known body.known) made.0 (fine_is _ made.0 made.1) in
+    let parts = both_are parameters.known body.known closed.0 closed.1 in
+    let part = checked_part (λ inside. Fine ((closed.0).0, inside)) (ended ((closed.0).1).0 ((closed.0).1).1) made.0 closed.2 in
+    let same : ((closed.0).0, part.0) ≡ made.0 = (let q : Fine ((closed.0).0, part.0) ≡ Fine made.0 = part.2 in cc) in
+    let results : (part.0).0 ≡ ((closed.0).1).0 = ended_is ((closed.0).1).0 ((closed.0).1).1 part.0 part.1 in (
       ap (λ (h : typed.Function). h.name) made.2,
-      sym (parameters_same c f.parameters nothing) ∙ parts.0 ∙ ap (λ (h : typed.Function). Some h.parameters) (sym made.2),
-      body_results c f.results f.body parameters.after (made.0).1 parts.1 ∙ ap (λ (h : typed.Function). Some h.results) (sym made.2),
+      sym (parameters_same c f.parameters nothing) ∙ parts.0 ∙ ap (λ (j : Parts). Some j.0) same ∙ ap (λ (h : typed.Function). Some h.parameters) (sym made.2),
+      body_results c f.results f.body parameters.after (closed.0).1 parts.1 ∙ ap Some (sym results) ∙ ap (λ (j : Parts). Some (j.1).0) same ∙ ap (λ (h : typed.Function). Some h.results) (sym made.2),
     )

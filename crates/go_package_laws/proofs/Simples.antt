@@ -1,5 +1,5 @@
 -- Simple statements are well typed.
-use Rattle.std.proofs.Common.{◌≡◌, ℕ, Bool, true, false, Option, Some, None, List, [], ◌∷◌, ◌++◌, refl, sym, subst, ◌∙◌, inl, inr}
+use Rattle.std.proofs.Common.{◌≡◌, ℕ, Bool, true, false, Option, Some, None, Ok, Err, List, [], ◌∷◌, ◌++◌, refl, sym, subst, ◌∙◌, inl, inr}
 use Rattle.std.specs.Prelude.{if◌then◌else◌}
 use Rattle.go_text.specs.declared.place.Place.{Place}
 use Rattle.go_text.specs.declared.fault.FaultKind.TheVariants.{Mismatch}
@@ -12,9 +12,9 @@ use Rattle.go_typed.specs.Trees.{Symbol, Expr, call, Exprs, Stmt, run, print, pa
 use Rattle.go_meaning_laws.specs.WellTyped.{Setting, IsExpr, after, IsStmt}
 use Rattle.go_expr.specs.Known.{Known, declared, value, results, printed, panicked, Fine, Breaks, Passed}
 use Rattle.go_expr.specs.Rules.{fine, checked, wrong, least, binary_of}
-use Rattle.go_expr.specs.Verdicts.{verdict, faults}
-use Rattle.go_stmt.specs.Scopes.{Env, Context, scope_in, Checked, still, given, follow, seen}
-use Rattle.go_stmt.specs.Rules.{Values, performed, assigned_to, is_left, updating, updated, stepped}
+use Rattle.go_expr.specs.Verdicts.{verdict, faults, bare_place}
+use Rattle.go_stmt.specs.Scopes.{Env, Context, scope_in, Checked, still, given, follow, seen, node}
+use Rattle.go_stmt.specs.Rules.{Values, stated, performed, assigned_to, is_left, updating, updated, stepped}
 use Rattle.go_stmt.specs.Statements.{value_at, values_at, blank_left, left_at, lefts_at, begins_at, simple_at, optional_at}
 use Rattle.go_package_laws.proofs.Soundness.{Table, IsSoundValue}
 use Rattle.go_package_laws.proofs.SoundNames.{IsSoundKnown}
@@ -38,13 +38,29 @@ module _ (x : Expected) (w : Table) (g : Setting) where
   sound_performed : (d : List ℕ) (k : Known) (y : Stmt) → IsSoundKnown w g d k → performed k ≡ Fine y → Plain x w g d y
   sound_performed d (declared (value (call t f es))) y h is = (let same : run (t ∷ []) f es ≡ y = cc in subst (Plain x w g d) same (run_plain d t f es h, refl))
   sound_performed d (results ts f es) y h is = (let same : run ts f es ≡ y = cc in subst (Plain x w g d) same ((h.0, h.1), refl))
-  sound_performed d (printed es) y h is = (let same : print es ≡ y = cc in subst (Plain x w g d) same (h, refl))
+  sound_performed d (printed (Ok es)) y h is = (let same : print es ≡ y = cc in subst (Plain x w g d) same (h, refl))
   sound_performed d (panicked e) y h is = (let same : panic e ≡ y = cc in subst (Plain x w g d) same (h, refl))
   sound_performed d k y h is = absurd cc
 
   -- a call that stands alone
-  call_sure : (c : Context) → Outside w g c → (e : source.Expr) → HasTexts e → Sure w g.locals stays (IsSoundKnown w g) (λ env. (let s = scope_in c None env in still (faults s e) (fine (verdict s e)) env))
+  abbrev call_at : Context → source.Expr → Env → Checked Known
+  call_at c e env = (let s = scope_in c None env in still (faults s e) (fine (verdict s e)) env)
+
+  call_sure : (c : Context) → Outside w g c → (e : source.Expr) → HasTexts e → Sure w g.locals stays (IsSoundKnown w g) (call_at c e)
   call_sure c out e texts env = (grows_none env, λ d r lies none k is. (x.sound_known w g d (scope_in c None env) e (scope_sound w g c out env d r None) texts k (fine_is (verdict (scope_in c None env) e) k is), r))
+
+  stated_same : (k y : Known) → stated k ≡ Fine y → k ≡ y
+  stated_same (printed (Ok es)) y is = cc
+  stated_same (printed (Err kind)) y is = cc
+  stated_same (declared d) y is = cc
+  stated_same (results ts f es) y is = cc
+  stated_same (panicked e) y is = cc
+  stated_same k y is = cc
+
+  stated_sure : (c : Context) → Outside w g c → (e : source.Expr) → HasTexts e → Sure w g.locals stays (IsSoundKnown w g) (node (bare_place e) stated (call_at c e))
+  stated_sure c out e texts =
+      sure_node w g.locals stays (IsSoundKnown w g) stays (IsSoundKnown w g) (bare_place e) stated (call_at c e)
+      (λ d k y h is l. (subst (IsSoundKnown w g d) (stated_same k y is) h, refl)) (call_sure c out e texts)
 
   -- ---- left sides
 
@@ -87,7 +103,7 @@ module _ (x : Expected) (w : Table) (g : Setting) where
   -- one that declares nothing
   pub plain_sure : (c : Context) → Outside w g c → SoundVariables x w g → (p : Place) (s : Simple) → IsPost (Some s) → Sure w g.locals stays (IsStmt g) (simple_at c p s)
   plain_sure c out v p (call_statement e) texts =
-      sure_node w g.locals stays (IsSoundKnown w g) stays (IsStmt g) p performed (λ env. (let s = scope_in c None env in still (faults s e) (fine (verdict s e)) env)) (λ d k y h is l. ((sound_performed d k y h is).0, refl)) (call_sure c out e texts)
+      sure_node w g.locals stays (IsSoundKnown w g) stays (IsStmt g) p performed (node (bare_place e) stated (call_at c e)) (λ d k y h is l. ((sound_performed d k y h is).0, refl)) (stated_sure c out e texts)
   plain_sure c out v p (increment e) texts =
       sure_node w g.locals stays (IsSoundValue w g) stays (IsStmt g) p (stepped Add) (value_at c e) (λ d k y h is l. ((sound_step x w g d l v Add k y h is).0, refl)) (value_sure x w g c out e texts)
   plain_sure c out v p (decrement e) texts =
@@ -109,7 +125,7 @@ module _ (x : Expected) (w : Table) (g : Setting) where
 
   pub simple_sure : (c : Context) → Outside w g c → SoundVariables x w g → (p : Place) (s : Simple) → SimpleHasTexts s → Sure w g.locals after (IsStmt g) (simple_at c p s)
   simple_sure c out v p (call_statement e) texts =
-      sure_node w g.locals stays (IsSoundKnown w g) after (IsStmt g) p performed (λ env. (let s = scope_in c None env in still (faults s e) (fine (verdict s e)) env)) (λ d k y h is l. sound_performed d k y h is) (call_sure c out e texts)
+      sure_node w g.locals stays (IsSoundKnown w g) after (IsStmt g) p performed (node (bare_place e) stated (call_at c e)) (λ d k y h is l. sound_performed d k y h is) (stated_sure c out e texts)
   simple_sure c out v p (increment e) texts =
       sure_node w g.locals stays (IsSoundValue w g) after (IsStmt g) p (stepped Add) (value_at c e) (λ d k y h is l. sound_step x w g d l v Add k y h is) (value_sure x w g c out e texts)
   simple_sure c out v p (decrement e) texts =

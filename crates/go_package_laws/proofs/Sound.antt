@@ -13,7 +13,7 @@ use Rattle.go_types.specs.Types.{Type', basic}
 use Rattle.go_typed.specs.Trees.{Expr as Typed}
 use Rattle.go_meaning_laws.specs.WellTyped.{Setting}
 use Rattle.go_expr.specs.Known.{Names, type', Known, declared, package', results, printed, panicked, Verdict, Fine, Breaks, Passed, Scope, look_up, named}
-use Rattle.go_expr.specs.Rules.{fine, checked, valued, type_due, array_of, slice_of, is_exported, declared_field, struct_of, value_due, unpackaged, selectable, callable, numeral, number_of, literal, literal_of, Due, element_due, due_type, untyped_literal, field_of, selected, exported_by, index_of, cut_of, made, unmade, binary_of, unary_of, converted, called}
+use Rattle.go_expr.specs.Rules.{fine, checked, valued, type_due, array_of, slice_of, is_exported, declared_field, struct_of, value_due, unpackaged, selectable, callable, numeral, number_of, literal, literal_of, Due, element_due, due_type, untyped_literal, field_of, selected, exported_by, index_of, cut_of, made, unmade, unprinted, binary_of, unary_of, converted, called}
 use Rattle.go_expr.specs.Verdicts.{asked, both, asked_both, joined, qualified_known, operand, inside, subject, callee, key_text, is_make, is_name, verdict, bound_known, made_verdict, operands, elements, element_verdict, type_verdict, fields_known}
 use Rattle.go_package_laws.proofs.Soundness.{Table, IsSoundType, IsSoundValue, AreSoundNames}
 use Rattle.go_package_laws.proofs.SoundNames.{IsSoundKnown, IsSoundScope}
@@ -228,7 +228,7 @@ module _ (w : Table) (g : Setting) (d : List ℕ) where
         let of = fine_has (IsSoundType w) due (type_found (verdict s e) (known_gives s e h t.0)) in
         elim (cases_Bool (is_name e)) [
           | inl is ↦ rw is (asked_both_gives (IsSoundType w) (Every (IsSoundValue w g d)) (IsSoundValue w g d) made (fine due) (operands s es) of (operands_have s es h t.1) (λ x y good each. made_gives w g d x y good each))
-          | inr other ↦ rw other (unmade_gives (fine (verdict s e)) (operands s es))
+          | inr other ↦ rw other (unmade_gives (fine (asked unprinted (fine (verdict s e)))) (operands s es))
         ]
 
     pub operands_have : (s : Scope) (es : Exprs) → IsSoundScope w g d s → HaveTexts es → Has (Every (IsSoundValue w g d)) (operands s es)

@@ -1,5 +1,5 @@
 -- What the checker knows where a name or an expression stands, so that the trees that it makes of it are well typed.
-use Rattle.std.specs.Prelude.{◌≡◌, ℕ, true, List}
+use Rattle.std.specs.Prelude.{◌≡◌, ℕ, true, List, Ok, Err}
 use Rattle.go_types.specs.Relations.{underlying}
 use Rattle.go_typed.specs.Trees.{expr_type}
 use Rattle.go_meaning_laws.specs.WellTyped.{Setting, is_string, IsCall, IsExpr, AreExprs, exprs_types}
@@ -10,7 +10,8 @@ abbrev pub IsSoundKnown : Table → Setting → List ℕ → Known → Type 0
 IsSoundKnown w g d (declared k) = IsSoundDeclared w g d k
 IsSoundKnown w g d (package' names) = AreSoundNames w g d names
 IsSoundKnown w g d (results ts s es) = AreExprs g d es × IsCall g s (exprs_types es) ts × AreSoundTypes w ts
-IsSoundKnown w g d (printed es) = AreExprs g d es
+IsSoundKnown w g d (printed (Ok es)) = AreExprs g d es
+IsSoundKnown w g d (printed (Err kind)) = Unit {0}
 IsSoundKnown w g d (panicked e) = IsExpr g d e × (is_string (underlying (expr_type e)) ≡ true)
 
 abbrev pub IsSoundScope : Table → Setting → List ℕ → Scope → Type 0

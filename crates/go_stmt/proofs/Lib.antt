@@ -1,3 +1,4 @@
+pub mod Blocks
 pub mod Clauses
 pub mod Declaring
 pub mod Failing
@@ -8,6 +9,7 @@ pub mod Lefts
 pub mod Locals
 pub mod Lookups
 pub mod Meaning
+pub mod Repeats
 pub mod Sequences
 pub mod Shown
 pub mod Tests

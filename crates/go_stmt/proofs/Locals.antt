@@ -9,10 +9,8 @@ use Rattle.go_ast.specs.Trees.{first_place, Name, TypeExpr, VarSpec, ConstSpec}
 use Rattle.go_types.specs.Types.{Type'}
 use Rattle.go_types.specs.Relations.{assignable, identical}
 use Rattle.go_typed.specs.Trees as typed
-use Rattle.go_text.specs.declared.fault.FaultKind.{FaultKind}
 use Rattle.go_text.specs.declared.fault.FaultKind.TheVariants.{Assign}
 use Rattle.go_expr.specs.declared.error.ExprError.{ExprError}
-use Rattle.go_expr.specs.declared.error.ExprError.TheVariants.{Faulty}
 use Rattle.go_expr.specs.Known.{Scope, Verdict, Fine, Breaks}
 use Rattle.go_expr.specs.Rules.{fine, checked, constant_in, assigned}
 use Rattle.go_expr.specs.Verdicts.{asked, both, broken, operand, verdict}
@@ -21,7 +19,7 @@ use Rattle.go_expr.proofs.Lists.{fails_front}
 use Rattle.go_stmt.specs.Scopes.{Env, Context, Checked, Faults, nothing, scope_in, number_of, paired, declare_new, still, follow, appended}
 use Rattle.go_stmt.specs.Rules.{Values, all_some, variables_source, constants_of}
 use Rattle.go_scope.specs.Specifications.{meant, is_repeated}
-use Rattle.go_stmt.specs.Statements.{names_faults, names_at, written_at, values_at, place_at, variable_types, variables_at, each_of, operands_faults, told_at, constants_at, declared_as, group_at}
+use Rattle.go_stmt.specs.Statements.{names_faults, names_at, written_at, values_at, place_at, variable_types, variables_at, each_of, operands_faults, spec_at, constants_at, declared_as, group_at}
 use Rattle.go_stmt.proofs.Defining.{made, made_fails}
 
 -- a rule that doesn't look at what is known of the first part
@@ -105,77 +103,63 @@ constants_rule ns k = constants_of ns (k.1).0 (k.1).1
 abbrev alone : typed.Stmt → List typed.Stmt
 alone s = s ∷ []
 
--- the faults of the type and the values, and where those of a specification before are told
-abbrev pub parts_faults : Scope → ConstSpec → Faults
-parts_faults s spec = (written_at s spec.type nothing).faults ++ operands_faults s spec.values
-
-abbrev pub told : Bool → Place → Faults → Faults
-told repeated p faults = if repeated then map (λ f. (p, f.1)) faults else faults
-
-told_none : (repeated : Bool) (p : Place) (faults : Faults) → faults ≡ [] → told repeated p faults ≡ []
-told_none true p faults none = ap (map (λ f. (p, f.1))) none
-told_none false p faults none = none
-
 abbrev values_of : Scope → ConstSpec → Option (List typed.Expr)
 values_of s spec = all_some (each_of (λ e. operand (verdict s e)) spec.values)
 
 abbrev parts_at : Scope → ConstSpec → Env → Checked (Option Type' × List typed.Expr)
 parts_at s spec = follow (written_at s spec.type) (still (operands_faults s spec.values) (values_of s spec))
 
-parts_anywhere : (s : Scope) (spec : ConstSpec) (env : Env) → (parts_at s spec env).faults ≡ parts_faults s spec
-parts_anywhere s spec env = ap (λ l. l ++ operands_faults s spec.values) (written_anywhere s spec.type env nothing)
+-- the faults of the type and the values, whatever is in scope
+pub parts_anywhere : (s : Scope) (p : Place) (repeated : Bool) (spec : ConstSpec) (env there : Env) → (spec_at s p repeated spec env).faults ≡ (spec_at s p repeated spec there).faults
+parts_anywhere s p true spec env there = refl
+parts_anywhere s p false spec env there = ap (λ l. l ++ operands_faults s spec.values) (written_anywhere s spec.type env there)
 
 parts_known : (s : Scope) (spec : ConstSpec) (env : Env) (written : Option (Option Type')) (values : Option (List typed.Expr)) → written ≡ (written_at s spec.type nothing).known →
     values ≡ values_of s spec → (parts_at s spec env).known ≡ both written values
 parts_known s spec env written values w v =
     ap (λ o. both o (values_of s spec)) (known_anywhere s spec.type env nothing ∙ sym w) ∙ ap (both written) (sym v)
 
-pub retold_first : (repeated : Bool) (at place : Place) (kind : FaultKind) (faults : Faults) → Fails (Faulty at kind) faults →
-    Fails (Faulty (if repeated then place else at) kind) (told repeated place faults)
-retold_first true at place kind faults h = (map (λ f. (place, f.1)) h.0, ap (map (λ f. (place, f.1))) h.1)
-retold_first false at place kind faults h = h
-
 -- the parts have no fault
 pub constants_made : (c : Context) (p : Place) (iota : ℕ) (repeated : Bool) (spec : ConstSpec) (env : Env) (written : Option (Option Type')) (values : Option (List typed.Expr)) (statement : Option typed.Stmt) →
-    names_faults env [] spec.names ≡ [] → parts_faults (scope_in c (Some iota) env) spec ≡ [] →
+    names_faults env [] spec.names ≡ [] → (spec_at (scope_in c (Some iota) env) (place_at p spec.names) repeated spec nothing).faults ≡ [] →
     written ≡ (written_at (scope_in c (Some iota) env) spec.type nothing).known → values ≡ values_of (scope_in c (Some iota) env) spec →
     broken (place_at p spec.names) (constants_by spec.names (both written values)) ≡ [] → fine (constants_by spec.names (both written values)) ≡ statement →
     ((constants_at c p iota repeated spec env).faults ≡ []) × ((constants_at c p iota repeated spec env).known ≡ option_map alone statement)
 constants_made c p iota repeated spec env written values statement none parts w v unbroken gives =
     let s = scope_in c (Some iota) env in
     let first = place_at p spec.names in
-    let rest = told_at repeated first (parts_at s spec) in
+    let rest = spec_at s first repeated spec in
     let same = behind spec.names (λ (k : Option Type' × List typed.Expr). constants_of spec.names k.0 k.1) (both written values) in
     made first alone (constants_rule spec.names) (follow (names_at spec.names) rest) env (both (Some spec.names) (both written values)) statement
-    (ap (λ l. l ++ (rest env).faults) none ∙ told_none repeated first (parts_at s spec env).faults (parts_anywhere s spec env ∙ parts))
+    (ap (λ l. l ++ (rest env).faults) none ∙ parts_anywhere s first repeated spec env nothing ∙ parts)
     (ap (both (Some spec.names)) (parts_known s spec env written values w v)) (ap (broken first) same ∙ unbroken) (ap fine same ∙ gives)
 
 -- their rule is broken
 pub constants_fail : (e : ExprError) (c : Context) (p : Place) (iota : ℕ) (repeated : Bool) (spec : ConstSpec) (env : Env) (written : Option (Option Type')) (values : Option (List typed.Expr)) →
-    names_faults env [] spec.names ≡ [] → parts_faults (scope_in c (Some iota) env) spec ≡ [] →
+    names_faults env [] spec.names ≡ [] → (spec_at (scope_in c (Some iota) env) (place_at p spec.names) repeated spec nothing).faults ≡ [] →
     written ≡ (written_at (scope_in c (Some iota) env) spec.type nothing).known → values ≡ values_of (scope_in c (Some iota) env) spec →
     Fails e (broken (place_at p spec.names) (constants_by spec.names (both written values))) → Fails e (constants_at c p iota repeated spec env).faults
 constants_fail e c p iota repeated spec env written values none parts w v h =
     let s = scope_in c (Some iota) env in
     let first = place_at p spec.names in
-    let rest = told_at repeated first (parts_at s spec) in
+    let rest = spec_at s first repeated spec in
     let same = behind spec.names (λ (k : Option Type' × List typed.Expr). constants_of spec.names k.0 k.1) (both written values) in
     made_fails e first alone (constants_rule spec.names) (follow (names_at spec.names) rest) env (both (Some spec.names) (both written values))
-    (ap (λ l. l ++ (rest env).faults) none ∙ told_none repeated first (parts_at s spec env).faults (parts_anywhere s spec env ∙ parts))
+    (ap (λ l. l ++ (rest env).faults) none ∙ parts_anywhere s first repeated spec env nothing ∙ parts)
     (ap (both (Some spec.names)) (parts_known s spec env written values w v)) (subst (λ (l : Faults). Fails e l) (sym (ap (broken first) same)) h)
 
 -- a part has a fault
 pub constants_part_fails : (e : ExprError) (c : Context) (p : Place) (iota : ℕ) (repeated : Bool) (spec : ConstSpec) (env : Env) → names_faults env [] spec.names ≡ [] →
-    Fails e (told repeated (place_at p spec.names) (parts_faults (scope_in c (Some iota) env) spec)) → Fails e (constants_at c p iota repeated spec env).faults
+    Fails e (spec_at (scope_in c (Some iota) env) (place_at p spec.names) repeated spec nothing).faults → Fails e (constants_at c p iota repeated spec env).faults
 constants_part_fails e c p iota repeated spec env none h =
     let s = scope_in c (Some iota) env in
     let first = place_at p spec.names in
-    let form = follow (names_at spec.names) (told_at repeated first (parts_at s spec)) in
+    let rest = spec_at s first repeated spec in
+    let form = follow (names_at spec.names) rest in
     let whole : List Name × (Option Type' × List typed.Expr) → Verdict (List typed.Stmt) = λ k. checked (λ s. Fine (s ∷ [])) (constants_rule spec.names k) in
     let own = broken first (asked whole (form env).known) in
-    let faults : (form env).faults ≡ told repeated first (parts_faults s spec) =
-    ap (λ l. l ++ told repeated first (parts_at s spec env).faults) none ∙ ap (told repeated first) (parts_anywhere s spec env) in
-    subst (λ (l : Faults). Fails e l) (sym (ap (λ l. l ++ own) faults)) (fails_front e (told repeated first (parts_faults s spec)) own h)
+    let faults : (form env).faults ≡ (rest nothing).faults = ap (λ l. l ++ (rest env).faults) none ∙ parts_anywhere s first repeated spec env nothing in
+    subst (λ (l : Faults). Fails e l) (sym (ap (λ l. l ++ own) faults)) (fails_front e (rest nothing).faults own h)
 
 -- what isn't constant declares nothing that is known
 unknown_either : (a b : Bool) (t : Type') (e : typed.Expr) → declared_as (Some e) ≡ None →

@@ -85,8 +85,8 @@ doubled_in env before n = ap (λ b. is_some (own env n) || b) (elim (cases_Bool 
       elim (cases_Bool (list_any (λ m. bytes_eq n.text m.text) before)) [ inl t ↦ rw (f, same, t) refl | inr g ↦ rw (f, same, g) refl ])
 ])
 
-next_taken : (names : List Name) (i : ℕ) (n : Name) → i < length names → n ≡ get_or names i n → take (i + 1) names ≡ take i names ++ n ∷ []
-next_taken names i n within is = ap (λ k. take k names) (add-one i) ∙ take-suc names i n within ∙ ap (λ x. take i names ++ x ∷ []) (sym is)
+pub next_taken : {A : Type 0} (xs : List A) (i : ℕ) (x : A) → i < length xs → x ≡ get_or xs i x → take (i + 1) xs ≡ take i xs ++ x ∷ []
+next_taken xs i x within is = ap (λ k. take k xs) (add-one i) ∙ take-suc xs i x within ∙ ap (λ y. take i xs ++ y ∷ []) (sym is)
 
 pub texts_taken : (names : List Name) (i : ℕ) (n : Name) → i < length names → n ≡ get_or names i n → own_texts (take i names) ++ own_texts (n ∷ []) ≡ own_texts (take (i + 1) names)
 texts_taken names i n within is = sym (ap own_texts (next_taken names i n within is) ∙ texts_append (take i names) (n ∷ []))

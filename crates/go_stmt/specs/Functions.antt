@@ -1,15 +1,17 @@
 -- Functions: https://go.dev/ref/spec#Function_declarations
 use Rattle.std.specs.Prelude.{length, drop, List, [], ◌∷◌, map, Option, None}
 use Rattle.std.specs.List.{flat_map}
+use Rattle.go_text.specs.declared.place.Place.{Place}
 use Rattle.go_ast.specs.Trees.{Name, TypeExpr, Block, block, Parameter, Function}
 use Rattle.go_types.specs.Types.{Type'}
 use Rattle.go_typed.specs.Trees as typed
 use Rattle.go_typed.specs.Trees.{pack_stmts}
-use Rattle.go_expr.specs.Rules.{fine}
+use Rattle.go_expr.specs.Known.{Verdict, Fine}
+use Rattle.go_expr.specs.Rules.{fine, checked}
 use Rattle.go_expr.specs.Verdicts.{type_verdict, type_faults}
 use Rattle.go_stmt.specs.Scopes.{Env, Context, nothing, scope_in, declare_variable, Checked, still, given, follow, seen, appended, node, declaring}
 use Rattle.go_stmt.specs.Rules.{all_some, ended}
-use Rattle.go_stmt.specs.Statements.{names_at, list_at}
+use Rattle.go_stmt.specs.Statements.{names_at, begun, list_at}
 
 -- parameters of a type: each has a number, also the blank one
 abbrev pub declare_parameters : List Name → Option Type' → Env → Env
@@ -28,17 +30,33 @@ abbrev pub parameters_at : Context → List Parameter → Env → Checked (List 
 parameters_at c [] env = given [] env
 parameters_at c (p ∷ ps) env = appended (parameter_at c p) (parameters_at c ps) env
 
-abbrev pub results_at : Context → List TypeExpr → Env → Checked (List Type')
-results_at c ts env =
-    (let s = scope_in c None nothing in still (flat_map (type_faults s) ts) (all_some (map (λ t. fine (type_verdict s t)) ts)) env)
+-- the type of each result, where it is known
+abbrev pub result_types : Context → List TypeExpr → List (Option Type')
+result_types c ts = (let s = scope_in c None nothing in map (λ t. fine (type_verdict s t)) ts)
 
--- its results are due in its body, which ends at the closing brace
+abbrev pub results_at : Context → List TypeExpr → Env → Checked (List Type')
+results_at c ts env = still (flat_map (type_faults (scope_in c None nothing)) ts) (all_some (result_types c ts)) env
+
+-- its results are due in its body
 abbrev pub body_at : Context → List TypeExpr → Block → Env → Checked (List Type' × List typed.Stmt)
-body_at c rs (block p ss q) env =
-    node q (λ k. ended k.0 k.1) (follow (results_at c rs) (list_at (record c { results = (results_at c rs env).known }) ss)) env
+body_at c rs (block p ss q) env = follow (results_at c rs) (list_at (record (begun c) { results = result_types c rs }) ss) env
+
+abbrev pub closing : Block → Place
+closing (block p ss q) = q
+
+-- the types of its parameters, those of its results, and its statements
+abbrev pub Parts : Type 0
+Parts = List Type' × (List Type' × List typed.Stmt)
+
+abbrev pub whole : Parts → Verdict Parts
+whole k = checked (λ inside. Fine (k.0, inside)) (ended (k.1).0 (k.1).1)
+
+-- the whole function is the node of the rule about its end, which stands at the closing brace
+abbrev pub whole_at : Context → Function → Env → Checked Parts
+whole_at c f = node (closing f.body) whole (follow (parameters_at c f.parameters) (body_at c f.results f.body))
 
 -- its parameters are the first of its local variables
-abbrev pub function_of : Function → List Type' → List Type' × (List Type' × List typed.Stmt) → typed.Function
+abbrev pub function_of : Function → List Type' → Parts → typed.Function
 function_of f types k = record {
   name = f.name.text;
   parameters = k.0;
@@ -49,5 +67,4 @@ function_of f types k = record {
 
 unfoldable pub function_at : Context → Function → Checked typed.Function
 function_at c f =
-    let form = follow (parameters_at c f.parameters) (body_at c f.results f.body) in
-    seen (function_of f (form nothing).after.types) form nothing
+    seen (function_of f (whole_at c f nothing).after.types) (whole_at c f) nothing

@@ -1,5 +1,5 @@
 -- What the rules say of a statement whose parts are known, in the order of the Go specification's sections.
-use Rattle.std.specs.Prelude.{ℕ, pos, Bool, true, false, ◌&&◌, ◌||◌, not, nat_eq, bytes_eq, if◌then◌else◌, length, List, [], ◌∷◌, ◌++◌, map, Option, Some, None, option_map, unwrap_or, is_some}
+use Rattle.std.specs.Prelude.{ℕ, pos, Bool, true, false, ◌&&◌, ◌||◌, not, nat_eq, bytes_eq, if◌then◌else◌, length, List, [], ◌∷◌, ◌++◌, map, Option, Some, None, Ok, Err, option_map, unwrap_or, is_some}
 use Rattle.std.specs.List.{zip, list_all, list_any}
 use Rattle.go_text.specs.declared.fault.FaultKind.TheVariants.{Redeclared, Mismatch, NoReturn, Assign, Count, Branch}
 use Rattle.go_ast.specs.declared.expression.BinaryOperator.{BinaryOperator}
@@ -55,6 +55,16 @@ suited due (together ts f es) =
     else (if list_all takes (zip due ts) then Fine (results ts f es) else Breaks Assign)
 suited due no_values = Breaks Count
 
+-- where it isn't known what is due for a value, any value is suited
+abbrev pub suited_if : Option (Option Type') × Expr → Verdict Expr
+suited_if (None, e) = Fine e
+suited_if (Some t, e) = suited_one (t, e)
+
+abbrev pub suited_partly : List (Option (Option Type')) → Values → Verdict Source
+suited_partly due (separate es) =
+    if nat_eq (length due) (length es) then checked (λ es. Fine (each (pack_exprs es))) (each_unless [] (map suited_if (zip due es))) else Breaks Count
+suited_partly due values = suited (map (λ t. unwrap_or t None) due) values
+
 -- ---- declarations
 
 -- https://go.dev/ref/spec#Constant_declarations
@@ -89,35 +99,41 @@ differ (n ∷ ns) = (is_blank n.text || not (list_any (λ m. bytes_eq n.text m.t
 abbrev pub is_new : Name → Option (Option Declared) → Bool
 is_new n own = not (is_blank n.text || is_some own)
 
--- what is due for a name, by what the block has under it: none for a new one, and the type of a variable, where something is known of it
-abbrev pub due_for : Option (Option Declared) → Option (Option (Option Type'))
-due_for own = elim own [ None ↦ Some (Some None) | Some None ↦ Some None | Some (Some (value (local t n))) ↦ Some (Some (Some t)) | _ ↦ None ]
+-- what is due for a name, by what the block has under it: none for a new one, and the type of a variable, where something is known of it;
+-- that a name is a constant's is known whatever its value is
+abbrev pub due_for : Bool → Option (Option Declared) → Option (Option (Option Type'))
+due_for of_constant own = elim own [
+  | None ↦ Some (Some None)
+  | Some None ↦ if of_constant then None else Some None
+  | Some (Some (value (local t n))) ↦ Some (Some (Some t))
+  | _ ↦ None
+]
 
--- values are passed over where it isn't known what is due for them
-abbrev pub suited_if : Option (Option Type') × Expr → Verdict Expr
-suited_if (due, e) = asked (λ t. suited_one (t, e)) due
-
-abbrev pub suited_partly : List (Option (Option Type')) → Values → Verdict Source
-suited_partly due (separate es) =
-    if nat_eq (length due) (length es) then checked (λ es. Passed) (each_unless [] (map suited_if (zip due es))) else Breaks Count
-suited_partly due values = checked (λ source. Passed) (suited (map (λ t. unwrap_or t None) due) values)
+-- by the names of the constants of the block, and by what the block has under each name
+abbrev pub dues_for : List (List ℕ) → (Name → Option (Option Declared)) → List Name → Option (List (Option (Option Type')))
+dues_for constants own ns = all_some (map (λ n. due_for (list_any (bytes_eq n.text) constants) (own n)) ns)
 
 -- the names are no uses: where nothing is known of one, all is asked but whether its own value is assignable
-abbrev pub redefined : (Name → Option (Option Declared)) → List Name → Values → Verdict Source
-redefined own ns values =
+abbrev pub redefined : List (List ℕ) → (Name → Option (Option Declared)) → List Name → Values → Verdict Source
+redefined constants own ns values =
     if not (differ ns && list_any (λ n. is_new n (own n)) ns) then Breaks Redeclared
-    else (elim (all_some (map (λ n. due_for (own n)) ns)) [
+    else (elim (dues_for constants own ns) [
       | None ↦ Breaks Mismatch
-      | Some due ↦ elim (all_some due) [ None ↦ suited_partly due values | Some due ↦ suited due values ]
+      | Some due ↦ elim (all_some due) [ None ↦ checked (λ source. Passed) (suited_partly due values) | Some due ↦ suited due values ]
     ])
 
 -- ---- simple statements
 
 -- https://go.dev/ref/spec#Expression_statements
+-- a call of Println is asked for what it prints
+abbrev pub stated : Known → Verdict Known
+stated k = elim k [ printed (Err kind) ↦ Breaks kind | k ↦ Fine k ]
+
 abbrev pub performed : Known → Verdict Stmt
 performed (declared (value (call t f es))) = Fine (run (t ∷ []) f es)
 performed (call_results ts f es) = Fine (run ts f es)
-performed (printed es) = Fine (print es)
+performed (printed (Ok es)) = Fine (print es)
+performed (printed (Err kind)) = Breaks kind
 performed (panicked e) = Fine (panic e)
 performed k = Breaks Mismatch
 
@@ -210,8 +226,9 @@ abbrev pub branch : Bool → List Stmt → Verdict (List Stmt)
 branch may_stand ss = if may_stand then Fine ss else Breaks Branch
 
 -- https://go.dev/ref/spec#Return_statements
-abbrev pub returned : List Type' → Values → Verdict (List Stmt)
-returned ts values = checked (λ source. Fine (return source ∷ [])) (suited (map Some ts) values)
+-- by the type of each result, where it is known
+abbrev pub returned : List (Option Type') → Values → Verdict (List Stmt)
+returned ts values = checked (λ source. Fine (return source ∷ [])) (suited_partly (map (option_map Some) ts) values)
 
 -- https://go.dev/ref/spec#Terminating_statements
 -- the body of a function with results doesn't run off its end

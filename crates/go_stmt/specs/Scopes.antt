@@ -19,12 +19,13 @@ pub record Env : Type 0 where
   pub names : scopes.Env (Option Declared)
   pub types : List Type'
 
--- The path of the package, what names find outside of the function, by the value that iota has, and the function's results where they are known; and whether
--- a break, a continue and a fallthrough may stand here.
+-- The path of the package, what names find outside of the function, by the value that iota has, and the types of the function's results, each where it is
+-- known; the names of the constants that this block has so far; and whether a break, a continue and a fallthrough may stand here.
 pub record Context : Type 0 where
   pub path : List ℕ
   pub outside : Option ℕ → List (List ℕ × Verdict Known)
-  pub results : Option (List Type')
+  pub results : List (Option Type')
+  pub constants : List (List ℕ)
   pub breaks : Bool
   pub continues : Bool
   pub falls : Bool

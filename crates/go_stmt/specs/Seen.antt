@@ -1,7 +1,7 @@
 -- How the code's values stand for those of the definitions, and what its answers say.
 use Rattle.std.specs.Prelude.{◌≡◌, ℕ, Bool, ◌&&◌, not, List, [], map, Option, option_map, Result, Ok, Err, Vec, Box}
 use Rattle.std.specs.Global.{Global}
-use Rattle.std.specs.List.{filter}
+use Rattle.std.specs.List.{filter, flat_map}
 use Rattle.go_text.specs.declared.place.Place.{Place}
 use Rattle.go_text.specs.declared.fault.FaultKind.{FaultKind}
 use Rattle.go_types.specs.Types.{Type'}
@@ -30,12 +30,14 @@ use Rattle.go_stmt.specs.declared.constants.Spec.{Spec}
 use Rattle.go_stmt.specs.declared.env.Env as envs
 use Rattle.go_stmt.specs.declared.context.Context as contexts
 use Rattle.go_stmt.specs.declared.function.Inside.{Inside}
+use Rattle.go_stmt.specs.declared.function.Parts.{Parts as FunctionParts}
 use Rattle.go_stmt.specs.declared.values.Values as values
 use Rattle.go_stmt.specs.declared.values.Values.TheVariants as variants
 use Rattle.go_stmt.specs.Rules.{Clause as ClauseValue, Values, separate, together, no_values}
 use Rattle.go_scope.specs.Scopes.{is_blank}
 use Rattle.go_stmt.specs.Scopes.{Env, Context, Checked}
-use Rattle.go_stmt.specs.Statements.{leads_on, in_clause, clause_at, list_at}
+use Rattle.go_stmt.specs.Functions.{Parts}
+use Rattle.go_stmt.specs.Statements.{constant_names, leads_on, in_clause, clause_at, list_at}
 
 -- names of blocks, each with what it declares where that is known
 abbrev pub shown_block : blocks.Block (Option Declared) → blocks.Block (Option known.Declared)
@@ -47,11 +49,16 @@ env_of env = record {
   types = map type_of env.types.items;
 }
 
+-- the names of the constants that some statements declare
+abbrev pub constants_in : List Stmt → List (List ℕ)
+constants_in ss = flat_map constant_names (map stmt_tree ss)
+
 abbrev pub context_of : contexts.Context → Context
 context_of c = record {
   path = c.path.now;
   outside = λ iota. names_in c.edition c.imports.now c.declared.now iota;
-  results = option_map (λ ts. map type_of ts.now) c.results;
+  results = map (option_map type_of) c.results.now;
+  constants = constants_in c.before.now;
   breaks = c.breaks;
   continues = c.continues;
   falls = c.falls;
@@ -84,6 +91,10 @@ clauses_of v = map typed_clause v.items
 -- the results and the statements of a function
 abbrev pub inside_of : Inside → List Type' × List typed.Stmt
 inside_of i = (map type_of i.results.items, typed_in i.statements)
+
+-- a function's parameters, and what is inside
+abbrev pub parts_of : FunctionParts → Parts
+parts_of p = (map type_of p.parameters.items, inside_of p.inside)
 
 -- a clause of the code, behind a default or not, and the last one or not
 abbrev pub clause_in : Context → Option Type' → Bool → Bool → Clause → Env → Checked ClauseValue

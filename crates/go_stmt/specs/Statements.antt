@@ -1,6 +1,6 @@
 -- The statements of a function: the faults in each, in the order of the text, a node behind its parts; its typed tree; and what is in scope behind it.
 use Rattle.std.specs.Prelude.{ℕ, suc, Bool, true, false, ◌&&◌, ◌||◌, not, bytes_eq, if◌then◌else◌, List, [], ◌∷◌, ◌++◌, map, Option, Some, None, option_map, option_and_then, option_to_list, is_some}
-use Rattle.std.specs.List.{list_any}
+use Rattle.std.specs.List.{flat_map, list_any}
 use Rattle.go_text.specs.declared.place.Place.{Place}
 use Rattle.go_text.specs.declared.fault.FaultKind.TheVariants.{Redeclared}
 use Rattle.go_ast.specs.Trees.{Name, TypeExpr, Expr, name, parenthesized, Exprs, no_exprs, some_exprs, place_of, first_place, Simple, call_statement, increment, decrement, assignment, operator_assignment, short_var_decl, ConstSpec, VarSpec, Decl, constants, variables, types, Stmt, empty, declaration, simple, return, break, continue, fallthrough, block_statement, if_statement, for_statement, range_statement, switch_statement, Block, block, If, conditional as conditional_if, Else, no_else, else_block, else_if, Stmts, no_stmts, some_stmts, Clauses, no_clauses, clause}
@@ -11,8 +11,9 @@ use Rattle.go_types.specs.Types.{Type', basic}
 use Rattle.go_typed.specs.Trees as typed
 use Rattle.go_typed.specs.Trees.{expr_type, pack_stmts}
 use Rattle.go_expr.specs.Known.{Declared, value, Fine, Passed, Scope, look_up}
-use Rattle.go_expr.specs.Rules.{fine, checked, is_integer, default_type, settled_type, assigned}
+use Rattle.go_expr.specs.Rules.{fine, checked, least, is_integer, default_type, settled_type, assigned}
 use Rattle.go_expr.specs.Verdicts as verdicts
+pub use Rattle.go_expr.specs.Verdicts.{operands_faults}
 use Rattle.go_expr.specs.Verdicts.{asked, both, operand, operands, verdict, type_verdict, operand_broken, part_broken, faults, type_faults}
 use Rattle.go_scope.specs.Names.{Used}
 use Rattle.go_uses.specs.Uses as uses
@@ -20,7 +21,7 @@ use Rattle.go_uses.specs.Uses.{texts, outside}
 use Rattle.go_scope.specs.Scopes.{is_blank}
 use Rattle.go_scope.specs.Specifications.{meant, is_repeated}
 use Rattle.go_stmt.specs.Scopes.{Env, Context, scope_in, declare, paired, declare_new, own, number_of, Faults, Checked, still, given, follow, seen, single, appended, node, inside, declaring, perhaps}
-use Rattle.go_stmt.specs.Rules.{all_some, Values, separate, together, no_values, values_of, constants_of, variables_source, redefined, performed, assigned_to, updated, stepped, conditional, looped, ranged, Clause, clause_of, switched, branch, returned}
+use Rattle.go_stmt.specs.Rules.{all_some, Values, separate, together, no_values, values_of, constants_of, variables_source, redefined, stated, performed, assigned_to, updated, stepped, conditional, looped, ranged, Clause, clause_of, switched, branch, returned}
 
 -- ---- expressions in statements
 
@@ -30,10 +31,6 @@ value_at c e env = (let v = verdict (scope_in c None env) e in still (faults (sc
 abbrev pub each_of : {A : Type 0} → (Expr → A) → Exprs → List A
 each_of f no_exprs = []
 each_of f (some_exprs e es) = f e ∷ each_of f es
-
-abbrev pub operands_faults : Scope → Exprs → Faults
-operands_faults s no_exprs = []
-operands_faults s (some_exprs e es) = faults s e ++ operand_broken e (verdict s e) ++ operands_faults s es
 
 -- where one call stands alone it may have several results
 abbrev pub values_known : Scope → Exprs → Option Values
@@ -57,6 +54,10 @@ alone_types (Some no_values) = []
 abbrev pub value_types : Scope → Exprs → List (Option Type')
 value_types s (some_exprs e no_exprs) = alone_types (values_known s (some_exprs e no_exprs))
 value_types s es = each_of (λ e. option_and_then settled_type (operand (verdict s e))) es
+
+-- a name that is used stands for a declaration of which nothing is known
+abbrev pub is_unknown : Scope → Used → Bool
+is_unknown s u = elim (look_up u.0 s.names) [ Passed ↦ true | _ ↦ false ]
 
 -- ---- declarations
 
@@ -104,10 +105,31 @@ abbrev pub declare_constants : List (Name × Option Declared) → Env → Env
 declare_constants [] env = env
 declare_constants ((n, d) ∷ ns) env = declare_constants ns (declare n.text d env)
 
--- faults of what is written for a specification before, and repeated, are those of the one that repeats it
-abbrev pub told_at : {A : Type 0} → Bool → Place → (Env → Checked A) → Env → Checked A
-told_at repeated p form env =
-    (let x = form env in still (if repeated then map (λ f. (p, f.1)) x.faults else x.faults) x.known x.after)
+-- the first of some faults, and of the first faults of values and of a type that is written, if one is, that of the least number, at a place
+abbrev pub first_fault : Faults → Faults
+first_fault fs = elim fs [ [] ↦ [] | f ∷ fs ↦ f ∷ [] ]
+
+abbrev pub first_faults : Scope → Exprs → Faults
+first_faults s no_exprs = []
+first_faults s (some_exprs e es) = first_fault (faults s e ++ operand_broken e (verdict s e)) ++ first_faults s es
+
+abbrev pub least_at : Place → Faults → Faults
+least_at p fs = elim (least (map (λ f. f.1) fs)) [ None ↦ [] | Some kind ↦ (p, kind) ∷ [] ]
+
+abbrev pub written_faults : Scope → Option TypeExpr → Faults
+written_faults s t = elim t [ None ↦ [] | Some t ↦ type_faults s t ]
+
+-- What is written for a specification before, and repeated, is one node at the first name of the one that repeats it: of the faults of its type and of its
+-- values it has the least, and none where a name in them hides it.
+abbrev pub repeated_faults : Bool → Place → Scope → Option TypeExpr → Exprs → Faults
+repeated_faults hidden p s t es = if hidden then [] else least_at p (first_fault (written_faults s t) ++ first_faults s es)
+
+-- the type and the values of constants
+abbrev pub spec_at : Scope → Place → Bool → ConstSpec → Env → Checked (Option Type' × List typed.Expr)
+spec_at s p repeated spec env =
+    let x = follow (written_at s spec.type) (still (operands_faults s spec.values) (all_some (each_of (λ e. operand (verdict s e)) spec.values))) env in
+    let hidden = list_any (is_unknown s) (uses.in_const spec) in
+    still (if repeated then repeated_faults hidden p s spec.type spec.values else x.faults) x.known x.after
 
 abbrev pub constants_at : Context → Place → ℕ → Bool → ConstSpec → Env → Checked (List typed.Stmt)
 constants_at c p iota repeated spec env =
@@ -115,8 +137,7 @@ constants_at c p iota repeated spec env =
     let first = place_at p spec.names in
     declaring (declare_constants (paired spec.names (each_of (constant_in s spec.type) spec.values)))
     (node first (λ k. checked (λ s. Fine (s ∷ [])) (constants_of spec.names (k.1).0 (k.1).1))
-    (follow (names_at spec.names) (told_at repeated first (follow (written_at s spec.type)
-    (still (operands_faults s spec.values) (all_some (each_of (λ e. operand (verdict s e)) spec.values))))))) env
+    (follow (names_at spec.names) (spec_at s first repeated spec))) env
 
 abbrev pub group_at : Context → Place → ℕ → ConstSpec → List ConstSpec → Env → Checked (List typed.Stmt)
 group_at c p iota before [] env = given [] env
@@ -154,7 +175,8 @@ lefts_at c (some_exprs e es) env = appended (left_at c e) (lefts_at c es) env
 abbrev pub short_at : Context → Place → List Name → Exprs → Env → Checked typed.Stmt
 short_at c p ns es env =
     let change = declare_new (paired ns (value_types (scope_in c None env) es)) in
-    declaring change (node p (λ k. checked (λ source. Fine (typed.define (map (number_of (change env)) ns) source)) (redefined (own env) ns k)) (values_at c es)) env
+    declaring change (node p (λ k. checked (λ source. Fine (typed.define (map (number_of (change env)) ns) source)) (redefined c.constants (own env) ns k))
+    (values_at c es)) env
 
 -- where it begins
 abbrev pub begins_at : Place → Simple → Place
@@ -166,7 +188,8 @@ begins_at p (operator_assignment op l r) = place_of l
 begins_at p (short_var_decl ns es) = place_at p ns
 
 abbrev pub simple_at : Context → Place → Simple → Env → Checked typed.Stmt
-simple_at c p (call_statement e) env = (let s = scope_in c None env in node p performed (still (faults s e) (fine (verdict s e))) env)
+simple_at c p (call_statement e) env =
+    (let s = scope_in c None env in node p performed (node (verdicts.bare_place e) stated (still (faults s e) (fine (verdict s e)))) env)
 simple_at c p (increment e) env = node p (stepped Add) (value_at c e) env
 simple_at c p (decrement e) env = node p (stepped Subtract) (value_at c e) env
 simple_at c p (assignment ls rs) env = node p (λ k. assigned_to k.0 k.1) (follow (lefts_at c ls) (values_at c rs)) env
@@ -184,14 +207,18 @@ abbrev pub condition_at : Context → Option Expr → Env → Checked (Option ty
 condition_at c None env = given None env
 condition_at c (Some e) env = seen Some (value_at c e) env
 
+-- a block has no constants at first
+abbrev pub begun : Context → Context
+begun c = record c { constants = [] }
+
 abbrev pub in_block : Context → Context
-in_block c = record c { falls = false }
+in_block c = record (begun c) { falls = false }
 
 abbrev pub in_loop : Context → Context
 in_loop c = record c { breaks = true; continues = true }
 
 abbrev pub in_clause : Context → Bool → Context
-in_clause c falls = record c { breaks = true; falls = falls }
+in_clause c falls = record (begun c) { breaks = true; falls = falls }
 
 abbrev pub all_empty : Stmts → Bool
 all_empty no_stmts = true
@@ -201,6 +228,13 @@ all_empty (some_stmts s ss) = false
 -- a fallthrough may stand before nothing but empty statements
 abbrev pub before_others : Context → Stmts → Context
 before_others c ss = record c { falls = c.falls && all_empty ss }
+
+-- the names of the constants that a statement declares, which the block has behind it
+abbrev pub constant_names : Stmt → List (List ℕ)
+constant_names s = elim s [ declaration p (constants q specs) ↦ flat_map (λ (s : ConstSpec). texts s.names) specs | _ ↦ [] ]
+
+abbrev pub behind : Context → Stmt → Context
+behind c s = record c { constants = c.constants ++ constant_names s }
 
 -- the last statement that isn't empty is a fallthrough
 abbrev pub leads_on : Stmts → Bool
@@ -237,10 +271,6 @@ range_names o t = elim o [ None ↦ [] | Some n ↦ (n, t) ∷ [] ]
 abbrev pub range_number : Option Name → Env → Option ℕ
 range_number o env = elim o [ None ↦ None | Some n ↦ number_of env n ]
 
--- a name that is used stands for a declaration of which nothing is known
-abbrev pub is_unknown : Scope → Used → Bool
-is_unknown s u = elim (look_up u.0 s.names) [ Passed ↦ true | _ ↦ false ]
-
 -- what a range breaks isn't told where such a name, but its own variable, stands in its body
 abbrev pub is_hidden : Scope → Option Name → Option Type' → Block → Bool
 is_hidden s o t b = not (is_some t) && list_any (is_unknown s) (outside (texts (option_to_list o)) (uses.in_block b))
@@ -250,7 +280,7 @@ abbrev mutual
   statement_at c (empty p) env = given [] env
   statement_at c (declaration p d) env = seen one_block (declaration_at c d) env
   statement_at c (simple p s) env = single (simple_at c p s) env
-  statement_at c (return p es) env = node p (λ k. returned k.0 k.1) (follow (still [] c.results) (values_at c es)) env
+  statement_at c (return p es) env = node p (returned c.results) (values_at c es) env
   statement_at c (break p) env = node p (branch c.breaks) (given (typed.break ∷ [])) env
   statement_at c (continue p) env = node p (branch c.continues) (given (typed.continue ∷ [])) env
   statement_at c (fallthrough p) env = node p (branch c.falls) (given []) env
@@ -285,7 +315,7 @@ abbrev mutual
 
   pub list_at : Context → Stmts → Env → Checked (List typed.Stmt)
   list_at c no_stmts env = given [] env
-  list_at c (some_stmts s ss) env = appended (statement_at (before_others c ss) s) (list_at c ss) env
+  list_at c (some_stmts s ss) env = appended (statement_at (before_others c ss) s) (list_at (behind c s) ss) env
 
   -- behind a default or not
   pub clauses_at : Context → Option Type' → Bool → Clauses → Env → Checked (List Clause)

@@ -1,20 +1,20 @@
 //! Constants in functions. [Constant declarations](https://go.dev/ref/spec#Constant_declarations)
-ghost use Rattle.std.specs.Prelude.{◌≡◌, ◌++◌, List, [], Some, None, IfOk, OnOk, map, if◌then◌else◌};
+ghost use Rattle.std.specs.Prelude.{◌≡◌, ◌++◌, [], Some, None, IfOk, OnOk, map};
+ghost use Rattle.std.specs.List.{list_any};
 ghost use Rattle.std.specs.Option.{option_map};
-ghost use Rattle.go_text.specs.declared.place.Place.{Place};
-ghost use Rattle.go_text.specs.declared.fault.FaultKind.{FaultKind};
 ghost use Rattle.go_ast.specs.Trees as trees;
 ghost use Rattle.go_ast.specs.Trees.{no_exprs};
-ghost use Rattle.go_ast.specs.Views.{const_of};
+ghost use Rattle.go_ast.specs.Views.{const_of, exprs_in as exprs_trees, type_of as type_tree};
 ghost use Rattle.go_types.specs.Views.{type_of};
 ghost use Rattle.go_typed.specs.Views.{expr_of, stmt_of};
 ghost use Rattle.go_expr.specs.Rules.{fine, assigned};
-ghost use Rattle.go_expr.specs.Verdicts.{asked, both, operand, verdict};
-ghost use Rattle.go_expr.specs.Seen.{all_of, declared_of, scope_of, AnswersAt, Fails};
+ghost use Rattle.go_expr.specs.Verdicts.{asked, both, operand, verdict, type_verdict, type_faults};
+ghost use Rattle.go_expr.specs.Seen.{all_of, declared_of, scope_of, AnswersAt};
 ghost use Rattle.go_stmt.specs.Scopes.{nothing, paired};
 ghost use Rattle.go_stmt.specs.Rules.{all_some, constants_of};
 ghost use Rattle.go_scope.specs.Specifications.{meant, is_repeated};
-ghost use Rattle.go_stmt.specs.Statements.{each_of, operands_faults, written_at, declared_as, constant_in};
+ghost use Rattle.go_uses.specs.Uses.{in_const};
+ghost use Rattle.go_stmt.specs.Statements.{is_unknown, each_of, operands_faults, written_at, repeated_faults, spec_at, declared_as, constant_in};
 ghost use Rattle.go_stmt.specs.Statements.{declare_constants, constants_at, group_at};
 ghost use Rattle.go_stmt.specs.Seen.{context_of, env_of, spec_of, typed_in, Answered, Finds};
 
@@ -22,9 +22,11 @@ use crate::context::Context;
 use crate::control::joined;
 use crate::declaration::constants_of;
 use crate::env::Env;
+use crate::hidden::{any_unknown, names_used};
 use crate::names::{check_names, place_at};
+use crate::repeated::{known_type, repeated_fault};
 use crate::simple::located;
-use crate::values::{all_known, check_each};
+use crate::values::{all_known, check_each, known_values};
 use crate::variables::single;
 use go_ast::declaration::ConstSpec;
 use go_ast::expression::{Expr, TypeExpr};
@@ -157,8 +159,51 @@ struct Parts {
     values: Option<Vec<TypedExpr>>,
 }
 
+/// The values of constants without a type, in a scope in which iota has their value.
+fn check_untyped(alloc: Global, scope: &Scope<'_>, es: &[Expr]) -> Result<Parts, ExprError>
+    ensures faults { Finds result (operands_faults (scope_of scope.now) (exprs_trees es.now)) }
+    ensures written { IfOk result (λ p. option_map (option_map type_of) p.written ≡ Some None) }
+    ensures declared { IfOk result (λ p. map (option_map declared_of) p.declared.items ≡ each_of (constant_in (scope_of scope.now) None) (exprs_trees es.now)) }
+    ensures values { let s = scope_of scope.now in
+        IfOk result (λ p. option_map (all_of expr_of) p.values ≡ all_some (each_of (λ e. operand (verdict s e)) (exprs_trees es.now))) }
+{
+    let values = check_each(alloc, scope, es)?;
+    let declared = all_declared(alloc, &values)?;
+    let all = all_known(alloc, values)?;
+    Ok(Parts {
+        written: Some(None),
+        declared,
+        values: all,
+    })
+}
+
+/// The values of constants of a type, in a scope in which iota has their value.
+fn check_typed(
+    alloc: Global,
+    scope: &Scope<'_>,
+    of: &TypeExpr,
+    es: &[Expr],
+) -> Result<Parts, ExprError>
+    ensures faults { let s = scope_of scope.now in Finds result (type_faults s (type_tree of.now) ++ operands_faults s (exprs_trees es.now)) }
+    ensures written { let s = scope_of scope.now in
+        IfOk result (λ p. option_map (option_map type_of) p.written ≡ option_map Some (fine (type_verdict s (type_tree of.now)))) }
+    ensures declared { let s = scope_of scope.now in
+        IfOk result (λ p. map (option_map declared_of) p.declared.items ≡ each_of (constant_in s (Some (type_tree of.now))) (exprs_trees es.now)) }
+    ensures values { let s = scope_of scope.now in
+        IfOk result (λ p. option_map (all_of expr_of) p.values ≡ all_some (each_of (λ e. operand (verdict s e)) (exprs_trees es.now))) }
+{
+    let known = check_type(alloc, scope, of)?;
+    let values = check_each(alloc, scope, es)?;
+    let declared = all_declared_by(alloc, &known, &values)?;
+    let all = all_known(alloc, values)?;
+    Ok(Parts {
+        written: known.map(|of| Some(of)),
+        declared,
+        values: all,
+    })
+}
+
 /// The type and the values of constants, in a scope in which iota has their value.
-#[tactic(auto, using(crate::proofs::Several::each_mapped))]
 fn check_parts(alloc: Global, scope: &Scope<'_>, spec: Spec<'_>) -> Result<Parts, ExprError>
     ensures faults { let s = scope_of scope.now in let t = (spec_of spec.entry).type in
         Finds result ((written_at s t nothing).faults ++ operands_faults s (spec_of spec.entry).values) }
@@ -169,16 +214,33 @@ fn check_parts(alloc: Global, scope: &Scope<'_>, spec: Spec<'_>) -> Result<Parts
     ensures values { let s = scope_of scope.now in
         IfOk result (λ p. option_map (all_of expr_of) p.values ≡ all_some (each_of (λ e. operand (verdict s e)) (spec_of spec.entry).values)) }
 {
+    match spec.of {
+        Some(of) => check_typed(alloc, scope, of, spec.values),
+        None => check_untyped(alloc, scope, spec.values),
+    }
+}
+
+/// What is known of the type and the values of constants, whatever their faults are. An `Err` only where
+/// memory ran out.
+#[tactic(auto, using(crate::proofs::Several::each_mapped))]
+fn known_parts(alloc: Global, scope: &Scope<'_>, spec: Spec<'_>) -> Result<Parts, AllocError>
+    ensures written { let s = scope_of scope.now in
+        IfOk result (λ p. option_map (option_map type_of) p.written ≡ (written_at s (spec_of spec.entry).type nothing).known) }
+    ensures declared { let s = scope_of scope.now in
+        IfOk result (λ p. map (option_map declared_of) p.declared.items ≡ each_of (constant_in s (spec_of spec.entry).type) (spec_of spec.entry).values) }
+    ensures values { let s = scope_of scope.now in
+        IfOk result (λ p. option_map (all_of expr_of) p.values ≡ all_some (each_of (λ e. operand (verdict s e)) (spec_of spec.entry).values)) }
+{
     let Some(of) = spec.of else {
-        let values = check_each(alloc, scope, spec.values)?;
+        let values = known_values(alloc, scope, spec.values)?;
         return Ok(Parts {
             written: Some(None),
             declared: all_declared(alloc, &values)?,
             values: all_known(alloc, values)?,
         });
     };
-    let of = check_type(alloc, scope, of)?;
-    let values = check_each(alloc, scope, spec.values)?;
+    let of = known_type(alloc, scope, of)?;
+    let values = known_values(alloc, scope, spec.values)?;
     Ok(Parts {
         declared: all_declared_by(alloc, &of, &values)?,
         values: all_known(alloc, values)?,
@@ -186,14 +248,65 @@ fn check_parts(alloc: Global, scope: &Scope<'_>, spec: Spec<'_>) -> Result<Parts
     })
 }
 
-/// The error of what is repeated, at the place of what repeats it.
-#[tactic(auto, using(crate::proofs::Locals::retold_first))]
-fn retold(error: ExprError, repeated: bool, place: Place) -> ExprError
-    ensures { (faults : List (Place × FaultKind)) → Fails error faults → Fails result (if repeated then map (λ f. (place, f.1)) faults else faults) }
+/// The type and the values of constants that are repeated, which are one node at a place.
+fn check_repeated(
+    alloc: Global,
+    scope: &Scope<'_>,
+    place: Place,
+    spec: Spec<'_>,
+) -> Result<Parts, ExprError>
+    ensures faults { let s = scope_of scope.now in let hidden = list_any (is_unknown s) (in_const (spec_of spec.entry)) in
+        Finds result (repeated_faults hidden place s (spec_of spec.entry).type (spec_of spec.entry).values) }
+    ensures written { let s = scope_of scope.now in
+        IfOk result (λ p. option_map (option_map type_of) p.written ≡ (written_at s (spec_of spec.entry).type nothing).known) }
+    ensures declared { let s = scope_of scope.now in
+        IfOk result (λ p. map (option_map declared_of) p.declared.items ≡ each_of (constant_in s (spec_of spec.entry).type) (spec_of spec.entry).values) }
+    ensures values { let s = scope_of scope.now in
+        IfOk result (λ p. option_map (all_of expr_of) p.values ≡ all_some (each_of (λ e. operand (verdict s e)) (spec_of spec.entry).values)) }
 {
-    match error {
-        ExprError::Faulty(at, kind) => ExprError::Faulty(if repeated { place } else { at }, kind),
-        ExprError::Memory => ExprError::Memory,
+    if let Some(kind) = repeated_fault(alloc, scope, spec.of, spec.values)? {
+        if !names_unknown(alloc, scope, place, spec)? {
+            return Err(ExprError::Faulty(place, kind));
+        }
+    }
+    Ok(known_parts(alloc, scope, spec)?)
+}
+
+/// Whether a name in the type or the values of constants stands for a faulty declaration. An `Err` only
+/// where memory ran out.
+fn names_unknown(
+    alloc: Global,
+    scope: &Scope<'_>,
+    place: Place,
+    spec: Spec<'_>,
+) -> Result<bool, AllocError>
+    ensures { let s = scope_of scope.now in IfOk result (λ b. b ≡ list_any (is_unknown s) (in_const (spec_of spec.entry))) }
+{
+    let names = names_used(alloc, spec.of, spec.values)?;
+    any_unknown(scope, place, &names)
+}
+
+/// The type and the values of constants, which repeat what is written before, as one node at a place, or
+/// don't.
+fn check_spec(
+    alloc: Global,
+    scope: &Scope<'_>,
+    place: Place,
+    repeated: bool,
+    spec: Spec<'_>,
+) -> Result<Parts, ExprError>
+    ensures faults { let s = scope_of scope.now in Finds result (spec_at s place repeated (spec_of spec.entry) nothing).faults }
+    ensures written { let s = scope_of scope.now in
+        IfOk result (λ p. option_map (option_map type_of) p.written ≡ (written_at s (spec_of spec.entry).type nothing).known) }
+    ensures declared { let s = scope_of scope.now in
+        IfOk result (λ p. map (option_map declared_of) p.declared.items ≡ each_of (constant_in s (spec_of spec.entry).type) (spec_of spec.entry).values) }
+    ensures values { let s = scope_of scope.now in
+        IfOk result (λ p. option_map (all_of expr_of) p.values ≡ all_some (each_of (λ e. operand (verdict s e)) (spec_of spec.entry).values)) }
+{
+    if repeated {
+        check_repeated(alloc, scope, place, spec)
+    } else {
+        check_parts(alloc, scope, spec)
     }
 }
 
@@ -251,10 +364,13 @@ fn check_constants(
 {
     check_names(alloc, env, spec.names)?;
     let first = place_at(place, spec.names);
-    let parts = match check_parts(alloc, &env.scope(context, Some(iota)), spec) {
-        Ok(parts) => parts,
-        Err(error) => return Err(retold(error, repeated, first)),
-    };
+    let parts = check_spec(
+        alloc,
+        &env.scope(context, Some(iota)),
+        first,
+        repeated,
+        spec,
+    )?;
     declare_each(env, spec.names, parts.declared)?;
     let statement = constants_at(alloc, first, spec.names, parts.written, parts.values)?;
     Ok(single(alloc, statement)?)

@@ -1,13 +1,19 @@
 //! Where a statement stands.
-ghost use Rattle.std.specs.Prelude.{◌≡◌, None, option_map};
+ghost use Rattle.std.specs.Prelude.{◌≡◌, None, map, option_map};
+ghost use Rattle.std.specs.List.{flat_map, list_any};
+ghost use Rattle.std.specs.Str.{bytes_eq};
 ghost use Rattle.go_ast.specs.Trees.{pack_stmts};
-ghost use Rattle.go_ast.specs.Views.{stmt_of};
-ghost use Rattle.go_stmt.specs.Statements.{in_block, in_loop, in_clause, all_empty, before_others};
+ghost use Rattle.go_ast.specs.Views.{const_of, stmt_of};
+ghost use Rattle.go_ast.specs.Trees as trees;
+ghost use Rattle.go_uses.specs.Uses.{texts};
+ghost use Rattle.go_stmt.specs.Statements.{in_block, in_loop, in_clause, constant_names, all_empty, before_others};
 ghost use Rattle.go_types.specs.Views.{type_of};
-ghost use Rattle.go_expr.specs.Seen.{all_of, scope_of};
+ghost use Rattle.go_expr.specs.Seen.{scope_of};
 ghost use Rattle.go_stmt.specs.Scopes.{nothing, scope_in};
-ghost use Rattle.go_stmt.specs.Seen.{context_of, trees_in};
+ghost use Rattle.go_stmt.specs.Seen.{constants_in, context_of, trees_in};
 
+use go_ast::declaration::{ConstSpec, Decl};
+use go_ast::name::Name;
 use go_ast::statement::Stmt;
 use go_expr::known::Names;
 use go_expr::scope::{Import, Scope};
@@ -26,8 +32,10 @@ pub(crate) struct Context<'a> {
     pub(crate) imports: &'a [Import<'a>],
     /// What the package declares.
     pub(crate) declared: &'a Names,
-    /// The types of the function's results, where they are known.
-    pub(crate) results: Option<&'a [GoType]>,
+    /// The types of the function's results, each where it is known.
+    pub(crate) results: &'a [Option<GoType>],
+    /// The statements before this one in its block.
+    pub(crate) before: &'a [Stmt],
     /// Whether a break may stand here.
     pub(crate) breaks: bool,
     /// Whether a continue may stand here.
@@ -44,15 +52,18 @@ impl<'a> Context<'a> {
         Scope::new(self.path, self.edition, self.imports, self.declared, None)
     }
 
-    /// In a function with these results, where they are known.
-    pub(crate) fn returning(self, results: &'a Option<Vec<GoType>>) -> Context<'a>
-        ensures { context_of result ≡ record (context_of self.entry) { results = option_map (all_of type_of) results.now } }
+    /// In a function with results of these types, each where it is known.
+    pub(crate) fn returning(self, results: &'a [Option<GoType>]) -> Context<'a>
+        ensures { context_of result ≡ record (context_of self.entry) { results = map (option_map type_of) results.now } }
     {
-        let results = match results {
-            Some(results) => Some(results.as_slice()),
-            None => None,
-        };
         Context { results, ..self }
+    }
+
+    /// Behind some statements of a block.
+    pub(crate) fn behind(self, before: &'a [Stmt]) -> Context<'a>
+        ensures { context_of result ≡ record (context_of self.entry) { constants = constants_in before.now } }
+    {
+        Context { before, ..self }
     }
 
     /// In a block.
@@ -61,6 +72,7 @@ impl<'a> Context<'a> {
     {
         Context {
             falls: false,
+            before: &[],
             ..self
         }
     }
@@ -83,6 +95,7 @@ impl<'a> Context<'a> {
         Context {
             breaks: true,
             falls,
+            before: &[],
             ..self
         }
     }
@@ -109,4 +122,48 @@ pub(crate) fn all_empty(statements: &[Stmt]) -> bool
         };
     }
     true
+}
+
+/// Whether some statements declare a constant of a name.
+pub(crate) fn is_constant(statements: &[Stmt], name: &Name) -> bool
+    ensures { result ≡ list_any (bytes_eq name.now.text) (constants_in statements.now) }
+{
+    for s in statements {
+        if declares_constant(s, name) {
+            return true;
+        }
+    }
+    false
+}
+
+#[tactic(auto, unfolding(go_ast::specs::Views::stmt_of))]
+fn declares_constant(s: &Stmt, name: &Name) -> bool
+    ensures { result ≡ list_any (bytes_eq name.now.text) (constant_names (stmt_of s.now)) }
+{
+    match s {
+        Stmt::Declaration(_, Decl::Constants(_, specs)) => any_has(specs, name),
+        _ => false,
+    }
+}
+
+fn any_has(specs: &[ConstSpec], name: &Name) -> bool
+    ensures { result ≡ list_any (bytes_eq name.now.text) (flat_map (λ (s : trees.ConstSpec). texts s.names) (map const_of specs.now)) }
+{
+    for spec in specs {
+        if are_named(&spec.names, name) {
+            return true;
+        }
+    }
+    false
+}
+
+fn are_named(names: &[Name], name: &Name) -> bool
+    ensures { result ≡ list_any (bytes_eq name.now.text) (texts names.now) }
+{
+    for other in names {
+        if name.text() == other.text() {
+            return true;
+        }
+    }
+    false
 }

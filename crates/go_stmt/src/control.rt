@@ -15,7 +15,8 @@ ghost use Rattle.go_stmt.specs.Seen.{context_of, env_of, typed_in, values_seen, 
 
 use crate::context::Context;
 use crate::env::Env;
-use crate::values::{Values, all_due, check_values, suited};
+use crate::partly::{dues, suited_partly};
+use crate::values::{Values, check_values};
 use go_ast::expression::Expr;
 use go_ast::name::Name;
 use go_expr::error::{ExprError, RuleError};
@@ -193,29 +194,32 @@ pub(crate) fn check_condition(
     }
 }
 
-/// A return with some values, of a function with these results.
+/// A return with some values, of a function with results of these types, each where it is known.
 #[tactic(auto, unfolding(go_typed::specs::Views::stmt_of))]
-fn return_of(alloc: Global, results: &[GoType], values: Values) -> Result<Vec<TypedStmt>, RuleError>
-    ensures { Gives typed_in result (returned (map type_of results.now) (values_seen values)) }
+fn return_of(
+    alloc: Global,
+    results: &[Option<GoType>],
+    values: Values,
+) -> Result<Vec<TypedStmt>, RuleError>
+    ensures { Gives typed_in result (returned (map (option_map type_of) results.now) (values_seen values)) }
 {
-    let due = all_due(alloc, results)?;
-    let source = suited(alloc, &due, values)?;
+    let due = dues(alloc, results)?;
+    let source = suited_partly(alloc, &due, values)?;
     Ok(vec![in alloc; TypedStmt::Return(source)]?)
 }
 
-/// A return at a place, where its values and the function's results are known.
+/// A return at a place, where its values are known.
 fn returned(
     alloc: Global,
     place: Place,
-    results: Option<&[GoType]>,
+    results: &[Option<GoType>],
     values: Option<Values>,
 ) -> Result<Option<Vec<TypedStmt>>, ExprError>
-    ensures { AnswersAt typed_in result place
-        (asked (λ k. returned k.0 k.1) (both (option_map (λ ts. map type_of ts.now) results.entry) (option_map values_seen values))) }
+    ensures { AnswersAt typed_in result place (asked (returned (map (option_map type_of) results.now)) (option_map values_seen values)) }
 {
-    match (results, values) {
-        (Some(results), Some(values)) => located(place, return_of(alloc, results, values)),
-        _ => Ok(None),
+    match values {
+        Some(values) => located(place, return_of(alloc, results, values)),
+        None => Ok(None),
     }
 }
 

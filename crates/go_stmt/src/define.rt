@@ -6,21 +6,23 @@ ghost use Rattle.go_ast.specs.Views.{exprs_in as exprs_trees};
 ghost use Rattle.go_types.specs.Views.{type_of};
 ghost use Rattle.go_typed.specs.Trees as typed;
 ghost use Rattle.go_typed.specs.Views.{source_of, stmt_of};
-ghost use Rattle.go_expr.specs.Known.{Verdict};
+ghost use Rattle.go_expr.specs.Known.{Verdict, Passed};
+ghost use Rattle.go_expr.specs.Rules.{checked};
 ghost use Rattle.go_expr.specs.Verdicts.{asked};
 ghost use Rattle.go_expr.specs.Seen.{all_of, declared_of, Gives, AnswersAt};
 ghost use Rattle.go_stmt.specs.Scopes.{own, number_of, paired, declare_new};
-ghost use Rattle.go_stmt.specs.Rules.{all_some, is_new, due_for, redefined};
+ghost use Rattle.go_stmt.specs.Rules.{is_new, due_for, dues_for, redefined};
 ghost use Rattle.go_stmt.specs.Statements.{short_at};
-ghost use Rattle.go_stmt.specs.Seen.{context_of, env_of, values_seen, due_seen, Answered};
+ghost use Rattle.go_stmt.specs.Seen.{constants_in, context_of, env_of, values_seen, due_seen, Answered};
 
-use crate::context::Context;
+use crate::context::{Context, is_constant};
 use crate::env::Env;
 use crate::names::differ;
 use crate::partly::{Due, known_due, suited_partly};
 use crate::values::{Valued, Values, check_values, suited};
 use go_ast::expression::Expr;
 use go_ast::name::Name;
+use go_ast::statement::Stmt;
 use go_expr::error::{ExprError, RuleError};
 use go_expr::known::Declared;
 use go_text::fault::FaultKind;
@@ -48,25 +50,33 @@ fn any_new(env: &Env, names: &[Name]) -> bool
     false
 }
 
-/// What is due for a name, by what its block has under it. `None` of what is no variable.
-fn due_for(own: Option<&Option<Declared>>) -> Result<Option<Due>, AllocError>
-    ensures { IfOk result (λ due. option_map due_seen due ≡ due_for (option_map (option_map declared_of) (option_copied own.entry))) }
+/// What is due for a name, which is a constant's or not, by what its block has under it. `None` of what
+/// is no variable.
+fn due_for(of_constant: bool, own: Option<&Option<Declared>>) -> Result<Option<Due>, AllocError>
+    ensures { IfOk result (λ due. option_map due_seen due ≡ due_for of_constant (option_map (option_map declared_of) (option_copied own.entry))) }
 {
     match own {
         None => Ok(Some(Some(None))),
+        Some(None) if of_constant => Ok(None),
         Some(None) => Ok(Some(None)),
         Some(Some(Declared::Local(of, _))) => Ok(Some(Some(Some(of.copy()?)))),
         Some(Some(_)) => Ok(None),
     }
 }
 
-/// What is due for some names, where each may get a value.
-fn all_due_for(alloc: Global, env: &Env, names: &[Name]) -> Result<Option<Vec<Due>>, AllocError>
-    ensures { IfOk result (λ due. option_map (all_of due_seen) due ≡ all_some (map (λ n. due_for (own (env_of env.now) n)) names.now)) }
+/// What is due for some names behind the statements before them in their block, where each may get a
+/// value.
+fn all_due_for(
+    alloc: Global,
+    before: &[Stmt],
+    env: &Env,
+    names: &[Name],
+) -> Result<Option<Vec<Due>>, AllocError>
+    ensures { IfOk result (λ due. option_map (all_of due_seen) due ≡ dues_for (constants_in before.now) (own (env_of env.now)) names.now) }
 {
     let mut all = Vec::with_capacity(alloc, names.len())?;
     for name in names {
-        let Some(due) = due_for(env.own(name))? else {
+        let Some(due) = due_for(is_constant(before, name), env.own(name))? else {
             return Ok(None);
         };
         all.push(due)?;
@@ -81,21 +91,35 @@ fn all_due_for(alloc: Global, env: &Env, names: &[Name]) -> Result<Option<Vec<Du
 fn redefined(
     alloc: Global,
     place: Place,
+    before: &[Stmt],
     env: &Env,
     names: &[Name],
     values: Values,
 ) -> Result<Option<TypedSource>, ExprError>
-    ensures { AnswersAt source_of result place (redefined (own (env_of env.now)) names.now (values_seen values)) }
+    ensures { AnswersAt source_of result place (redefined (constants_in before.now) (own (env_of env.now)) names.now (values_seen values)) }
 {
     if !differ(alloc, names)? || !any_new(env, names) {
         return Err(ExprError::Faulty(place, FaultKind::Redeclared));
     }
-    let Some(due) = all_due_for(alloc, env, names)? else {
+    let Some(due) = all_due_for(alloc, before, env, names)? else {
         return Err(ExprError::Faulty(place, FaultKind::Mismatch));
     };
     match known_due(alloc, &due)? {
         Some(due) => sourced(place, suited(alloc, &due, values)),
-        None => suited_partly(alloc, place, &due, values),
+        None => passed(place, suited_partly(alloc, &due, values)),
+    }
+}
+
+/// What values break at a place of which nothing is known.
+fn passed(
+    place: Place,
+    given: Result<TypedSource, RuleError>,
+) -> Result<Option<TypedSource>, ExprError>
+    ensures { (v : Verdict typed.Source) → Gives source_of given v → AnswersAt source_of result place (checked (λ source. Passed) v) }
+{
+    match given {
+        Ok(_) => Ok(None),
+        Err(error) => Err(error.at(place)),
     }
 }
 
@@ -116,14 +140,15 @@ pub(crate) fn sourced(
 fn redefined_at(
     alloc: Global,
     place: Place,
+    before: &[Stmt],
     env: &Env,
     names: &[Name],
     values: Option<Values>,
 ) -> Result<Option<TypedSource>, ExprError>
-    ensures { AnswersAt source_of result place (asked (redefined (own (env_of env.now)) names.now) (option_map values_seen values)) }
+    ensures { AnswersAt source_of result place (asked (redefined (constants_in before.now) (own (env_of env.now)) names.now) (option_map values_seen values)) }
 {
     match values {
-        Some(values) => redefined(alloc, place, env, names, values),
+        Some(values) => redefined(alloc, place, before, env, names, values),
         None => Ok(None),
     }
 }
@@ -194,7 +219,7 @@ pub(crate) fn check_short(
     ensures after { OnOk result (env_of env.new ≡ (short_at (context_of context.entry) place names.now (exprs_trees es.now) (env_of env.old)).after) }
 {
     let Valued { types, known } = check_values(alloc, &env.scope(context, None), es)?;
-    let source = redefined_at(alloc, place, env, names, known)?;
+    let source = redefined_at(alloc, place, context.before, env, names, known)?;
     let numbers = declare_all(alloc, env, names, types)?;
     Ok(defined(numbers, source))
 }

@@ -1,16 +1,15 @@
 //! Functions. [Function declarations](https://go.dev/ref/spec#Function_declarations)
-ghost use Rattle.std.specs.Prelude.{◌≡◌, ◌++◌, ◌∷◌, [], false, None, IfOk, OnOk, drop, length, map, option_map};
+ghost use Rattle.std.specs.Prelude.{◌≡◌, [], false, None, IfOk, OnOk, drop, length, map, option_map};
+ghost use Rattle.std.specs.List.{flat_map};
 ghost use Rattle.go_ast.specs.Views.{type_of as type_tree, block_of, parameter_of, function_of as function_tree};
 ghost use Rattle.go_types.specs.Views.{type_of};
 ghost use Rattle.go_typed.specs.Views.{function_of as typed_function};
-ghost use Rattle.go_expr.specs.Known.{Verdict};
-ghost use Rattle.go_expr.specs.Rules.{fine};
-ghost use Rattle.go_expr.specs.Verdicts.{asked, both, joined, type_verdict, type_faults};
+ghost use Rattle.go_expr.specs.Verdicts.{asked, both, joined, type_faults};
 ghost use Rattle.go_expr.specs.Seen.{all_of, names_in, AnswersAt};
-ghost use Rattle.go_stmt.specs.Rules.{ended};
+ghost use Rattle.go_stmt.specs.Rules.{all_some};
 ghost use Rattle.go_stmt.specs.Scopes.{nothing, scope_in};
-ghost use Rattle.go_stmt.specs.Functions.{declare_parameters, parameter_at, parameters_at, results_at, body_at, function_of, function_at};
-ghost use Rattle.go_stmt.specs.Seen.{context_of, env_of, typed_in, inside_of, Answered};
+ghost use Rattle.go_stmt.specs.Functions.{declare_parameters, parameter_at, parameters_at, result_types, body_at, whole, function_of, function_at};
+ghost use Rattle.go_stmt.specs.Seen.{context_of, env_of, typed_in, inside_of, parts_of, Answered, Finds};
 
 use crate::context::Context;
 use crate::declaration::zeros_of;
@@ -41,6 +40,15 @@ pub(crate) struct Inside {
     results: Vec<GoType>,
     /// The statements of the body.
     statements: Vec<TypedStmt>,
+}
+
+/// The parameters of a function, and what is inside.
+#[derive(Drop)]
+pub(crate) struct Parts {
+    /// The types of the parameters.
+    parameters: Vec<GoType>,
+    /// The results and the statements.
+    inside: Inside,
 }
 
 /// Declares parameters of one type.
@@ -121,60 +129,50 @@ fn check_parameters(
     Ok(known)
 }
 
-/// The types of results, where all are known. They stand outside of the function.
+/// The type of each result, where it is known. They stand outside of the function.
 fn check_results(
     alloc: Global,
     context: Context<'_>,
     results: &[TypeExpr],
-) -> Result<Option<Vec<GoType>>, ExprError>
-    ensures { Answered (all_of type_of) result (results_at (context_of context.entry) (map type_tree results.now) nothing) }
+) -> Result<Vec<Option<GoType>>, ExprError>
+    ensures faults { Finds result (flat_map (type_faults (scope_in (context_of context.entry) None nothing)) (map type_tree results.now)) }
+    ensures types { IfOk result (λ ts. map (option_map type_of) ts.items ≡ result_types (context_of context.entry) (map type_tree results.now)) }
 {
     let scope = context.outside();
-    let mut known = Some(Vec::with_capacity(alloc, results.len())?);
+    let mut all = Vec::with_capacity(alloc, results.len())?;
     for of in results {
-        let of = check_type(alloc, &scope, of)?;
-        known = with_type(known, of)?;
+        all.push(check_type(alloc, &scope, of)?)?;
     }
-    Ok(known)
+    Ok(all)
 }
 
-/// Types and one behind them, where all are known.
-fn with_type(
-    known: Option<Vec<GoType>>,
-    more: Option<GoType>,
-) -> Result<Option<Vec<GoType>>, AllocError>
-    ensures { IfOk result (λ all. option_map (all_of type_of) all ≡
-        joined (option_map (all_of type_of) known) (option_map (λ t. t ∷ []) (option_map type_of more))) }
+/// Some types, where all are known.
+fn all_types(alloc: Global, types: Vec<Option<GoType>>) -> Result<Option<Vec<GoType>>, AllocError>
+    ensures { IfOk result (λ all. option_map (all_of type_of) all ≡ all_some (map (option_map type_of) types.items)) }
 {
-    match (known, more) {
-        (Some(mut all), Some(of)) => {
-            all.push(of)?;
-            Ok(Some(all))
-        }
-        _ => Ok(None),
+    let mut all = Vec::with_capacity(alloc, types.len())?;
+    for of in types {
+        let Some(of) = of else {
+            return Ok(None);
+        };
+        all.push(of)?;
     }
+    Ok(Some(all))
 }
 
-/// The results and the statements of a body that ends at a place, where they are known. `NoReturn`
-/// where it may run off its end and there are results.
-/// [Terminating statements](https://go.dev/ref/spec#Terminating_statements)
-fn ended(
-    end: Place,
-    results: Option<Vec<GoType>>,
+/// What is inside of a function, where it is known.
+fn known_inside(
+    alloc: Global,
+    types: Vec<Option<GoType>>,
     statements: Option<Vec<TypedStmt>>,
-) -> Result<Option<Inside>, ExprError>
-    ensures { AnswersAt inside_of result end (asked (λ k. ended k.0 k.1) (both (option_map (all_of type_of) results) (option_map typed_in statements))) }
+) -> Result<Option<Inside>, AllocError>
+    ensures { IfOk result (λ i. option_map inside_of i ≡ both (all_some (map (option_map type_of) types.items)) (option_map typed_in statements)) }
 {
-    match (results, statements) {
-        (Some(results), Some(statements)) => {
-            if results.len() != 0 && !list_terminates(&statements) {
-                return Err(ExprError::Faulty(end, FaultKind::NoReturn));
-            }
-            Ok(Some(Inside {
-                results,
-                statements,
-            }))
-        }
+    match (all_types(alloc, types)?, statements) {
+        (Some(results), Some(statements)) => Ok(Some(Inside {
+            results,
+            statements,
+        })),
         _ => Ok(None),
     }
 }
@@ -191,9 +189,30 @@ fn check_inside(
     ensures after { let inside = body_at (context_of context.entry) (map type_tree results.now) (block_of body.now) (env_of env.old) in
         OnOk result (env_of env.new ≡ inside.after) }
 {
-    let results = check_results(alloc, context, results)?;
-    let statements = check_list(alloc, context.returning(&results), env, &body.statements)?;
-    ended(body.closing, results, statements)
+    let types = check_results(alloc, context, results)?;
+    let statements = check_list(alloc, context.returning(&types), env, &body.statements)?;
+    Ok(known_inside(alloc, types, statements)?)
+}
+
+/// The parameters, the results and the statements of a function that ends at a place, where all are
+/// known. `NoReturn` where its body may run off its end and there are results.
+/// [Terminating statements](https://go.dev/ref/spec#Terminating_statements)
+fn ended(
+    end: Place,
+    parameters: Option<Vec<GoType>>,
+    inside: Option<Inside>,
+) -> Result<Option<Parts>, ExprError>
+    ensures { AnswersAt parts_of result end (asked whole (both (option_map (all_of type_of) parameters) (option_map inside_of inside))) }
+{
+    match (parameters, inside) {
+        (Some(parameters), Some(inside)) => {
+            if inside.results.len() != 0 && !list_terminates(&inside.statements) {
+                return Err(ExprError::Faulty(end, FaultKind::NoReturn));
+            }
+            Ok(Some(Parts { parameters, inside }))
+        }
+        _ => Ok(None),
+    }
 }
 
 /// The types behind the first ones.
@@ -216,27 +235,23 @@ fn locals_of(types: Vec<GoType>, parameters: &[GoType]) -> Result<Vec<GoType>, A
 fn function_of(
     alloc: Global,
     function: &Function,
-    parameters: Option<Vec<GoType>>,
-    inside: Option<Inside>,
+    parts: Option<Parts>,
     types: Vec<GoType>,
 ) -> Result<Option<TypedFunction>, AllocError>
     ensures { IfOk result (λ f. option_map typed_function f ≡
-        option_map (function_of (function_tree function.now) (map type_of types.items))
-        (both (option_map (all_of type_of) parameters) (option_map inside_of inside))) }
+        option_map (function_of (function_tree function.now) (map type_of types.items)) (option_map parts_of parts)) }
 {
-    match (parameters, inside) {
-        (Some(parameters), Some(inside)) => {
-            let locals = locals_of(types, &parameters)?;
-            Ok(Some(TypedFunction {
-                name: String::from_str(alloc, function.name.text())?,
-                parameters,
-                results: inside.results,
-                locals,
-                body: inside.statements,
-            }))
-        }
-        _ => Ok(None),
-    }
+    let Some(Parts { parameters, inside }) = parts else {
+        return Ok(None);
+    };
+    let locals = locals_of(types, &parameters)?;
+    Ok(Some(TypedFunction {
+        name: String::from_str(alloc, function.name.text())?,
+        parameters,
+        results: inside.results,
+        locals,
+        body: inside.statements,
+    }))
 }
 
 /// A function by its parameters, its results and its body, or the first fault in them. The imports of
@@ -253,7 +268,8 @@ pub fn check_body<'a>(
     ensures { Answered typed_function result (function_at (record {
       path = path.now;
       outside = λ iota. names_in edition imports.now declared.now iota;
-      results = None;
+      results = [];
+      constants = [];
       breaks = false;
       continues = false;
       falls = false;
@@ -264,7 +280,8 @@ pub fn check_body<'a>(
         edition,
         imports,
         declared,
-        results: None,
+        results: &[],
+        before: &[],
         breaks: false,
         continues: false,
         falls: false,
@@ -272,5 +289,6 @@ pub fn check_body<'a>(
     let mut env = Env::new(alloc);
     let parameters = check_parameters(alloc, context, &mut env, &function.parameters)?;
     let inside = check_inside(alloc, context, &mut env, &function.results, &function.body)?;
-    Ok(function_of(alloc, function, parameters, inside, env.into_types())?)
+    let parts = ended(function.body.closing, parameters, inside)?;
+    Ok(function_of(alloc, function, parts, env.into_types())?)
 }

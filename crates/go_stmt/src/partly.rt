@@ -1,22 +1,19 @@
-//! Values for variables of which some aren't known.
+//! Values where it isn't known of all what is due for them.
 //! [Short variable declarations](https://go.dev/ref/spec#Short_variable_declarations)
-ghost use Rattle.std.specs.Prelude.{◌≡◌, List, [], IfOk, OnOk, map, unwrap_or};
+ghost use Rattle.std.specs.Prelude.{◌≡◌, [], Some, IfOk, map, unwrap_or};
 ghost use Rattle.std.specs.List.{zip};
 ghost use Rattle.std.specs.Option.{option_map};
 ghost use Rattle.go_types.specs.Views.{type_of};
-ghost use Rattle.go_typed.specs.Trees as typed;
 ghost use Rattle.go_typed.specs.Views.{expr_of, source_of};
-ghost use Rattle.go_expr.specs.Known.{Verdict, Passed};
-ghost use Rattle.go_expr.specs.Rules.{checked, each_unless};
-ghost use Rattle.go_expr.specs.Seen.{all_of, Gives, Gathers, AnswersAt};
+ghost use Rattle.go_expr.specs.Rules.{each_unless};
+ghost use Rattle.go_expr.specs.Seen.{all_of, Gives};
 ghost use Rattle.go_stmt.specs.Rules.{all_some, suited_if, suited_partly};
 ghost use Rattle.go_stmt.specs.Seen.{values_seen, due_seen};
 
 use crate::values::{Values, suit_one, suited};
-use go_expr::error::{ExprError, RuleError};
+use go_expr::error::RuleError;
 use go_expr::gather::Gathered;
 use go_text::fault::FaultKind;
-use go_text::place::Place;
 use go_typed::expression::TypedExpr;
 use go_typed::statement::TypedSource;
 use go_types::types::GoType;
@@ -63,22 +60,32 @@ pub(crate) fn known_due(
     Ok(Some(all))
 }
 
-/// Adds a value to others, where it is known what is due for it.
-fn add_known(
-    alloc: Global,
-    all: &mut Gathered<TypedExpr>,
-    due: &Due,
-    value: TypedExpr,
-) -> Result<(), AllocError>
-    ensures { OnOk result (Gathers expr_of all.old all.new (suited_if (due_seen due.now, expr_of value))) }
+/// What is due for results, each where its type is known.
+pub(crate) fn dues(alloc: Global, types: &[Option<GoType>]) -> Result<Vec<Due>, AllocError>
+    ensures { IfOk result (λ due. map due_seen due.items ≡ map (option_map Some) (map (option_map type_of) types.now)) }
+{
+    let mut all = Vec::with_capacity(alloc, types.len())?;
+    for of in types {
+        let due = match of {
+            Some(of) => Some(Some(of.copy()?)),
+            None => None,
+        };
+        all.push(due)?;
+    }
+    Ok(all)
+}
+
+/// A value as what is due for it, where that is known.
+fn suit_if(alloc: Global, due: &Due, value: TypedExpr) -> Result<TypedExpr, RuleError>
+    ensures { Gives expr_of result (suited_if (due_seen due.now, expr_of value)) }
 {
     match due {
-        Some(of) => all.add(suit_one(alloc, of, value)),
-        None => Ok(()),
+        Some(of) => suit_one(alloc, of, value),
+        None => Ok(value),
     }
 }
 
-/// The values for which it is known what is due.
+/// Values as what is due for them, each where that is known.
 fn suit_known(
     alloc: Global,
     due: &[Due],
@@ -92,57 +99,31 @@ fn suit_known(
         let Some(one) = due.get(i) else {
             return all.finish();
         };
-        add_known(alloc, &mut all, one, value)?;
+        all.add(suit_if(alloc, one, value))?;
         i += 1;
     }
     all.finish()
-}
-
-/// What values break at a place of which nothing is known.
-fn passed_values(
-    place: Place,
-    given: Result<Vec<TypedExpr>, RuleError>,
-) -> Result<Option<TypedSource>, ExprError>
-    ensures { (v : Verdict (List typed.Expr)) → Gives (all_of expr_of) given v → AnswersAt source_of result place (checked (λ es. Passed) v) }
-{
-    match given {
-        Ok(_) => Ok(None),
-        Err(error) => Err(error.at(place)),
-    }
-}
-
-fn passed_source(
-    place: Place,
-    given: Result<TypedSource, RuleError>,
-) -> Result<Option<TypedSource>, ExprError>
-    ensures { (v : Verdict typed.Source) → Gives source_of given v → AnswersAt source_of result place (checked (λ source. Passed) v) }
-{
-    match given {
-        Ok(_) => Ok(None),
-        Err(error) => Err(error.at(place)),
-    }
 }
 
 /// Values where it isn't known of all what is due. `Count` where they aren't as many; else `Range` or
 /// `Assign` where one isn't assignable of which it is known.
 pub(crate) fn suited_partly(
     alloc: Global,
-    place: Place,
     due: &[Due],
     values: Values,
-) -> Result<Option<TypedSource>, ExprError>
-    ensures { AnswersAt source_of result place (suited_partly (map due_seen due.now) (values_seen values)) }
+) -> Result<TypedSource, RuleError>
+    ensures { Gives source_of result (suited_partly (map due_seen due.now) (values_seen values)) }
 {
     match values {
         Values::Separate(values) => {
             if due.len() != values.len() {
-                return Err(ExprError::Faulty(place, FaultKind::Count));
+                return Err(RuleError::Broken(FaultKind::Count));
             }
-            passed_values(place, suit_known(alloc, due, values))
+            Ok(TypedSource::Each(suit_known(alloc, due, values)?))
         }
         values => {
             let types = due_types(alloc, due)?;
-            passed_source(place, suited(alloc, &types, values))
+            suited(alloc, &types, values)
         }
     }
 }

@@ -9,7 +9,7 @@ ghost use Rattle.go_typed.specs.Views.{expr_of, left_of, steps_in, stmt_of};
 ghost use Rattle.go_expr.specs.Known.{Verdict, declared, value};
 ghost use Rattle.go_expr.specs.Verdicts.{asked};
 ghost use Rattle.go_expr.specs.Seen.{known_of, all_of, Gives, AnswersAt};
-ghost use Rattle.go_stmt.specs.Rules.{performed, left_to, left_side, is_left, is_array, all_some, stepped, updating};
+ghost use Rattle.go_stmt.specs.Rules.{stated, performed, left_to, left_side, is_left, is_array, all_some, stepped, updating};
 ghost use Rattle.go_ast.specs.Trees.{call_statement};
 ghost use Rattle.go_ast.specs.Views.{expr_of as expr_tree};
 ghost use Rattle.go_stmt.specs.Scopes.{node};
@@ -22,6 +22,7 @@ use crate::env::Env;
 use go_ast::expression::Expr;
 use go_const::constant::Const;
 use go_const::operator::ArithmeticOperator;
+use go_expr::due::bare_place;
 use go_expr::error::{ExprError, RuleError};
 use go_expr::expression::check_expr;
 use go_expr::known::Known;
@@ -63,6 +64,17 @@ fn run_of(alloc: Global, call: TypedExpr) -> Result<TypedStmt, RuleError>
     }
 }
 
+/// A call at a place, where it is known, that stands as a statement: one of Println is asked for what it
+/// prints.
+fn stated<'a>(place: Place, known: Option<Known<'a>>) -> Result<Option<Known<'a>>, ExprError>
+    ensures { AnswersAt known_of result place (asked stated (option_map known_of known.entry)) }
+{
+    match known {
+        Some(Known::Printed(Err(kind))) => Err(ExprError::Faulty(place, kind)),
+        known => Ok(known),
+    }
+}
+
 /// A call that stands as a statement at a place, where it is known. `Mismatch` where it is no call
 /// of a function, of panic or of Println.
 #[tactic(auto, unfolding(go_typed::specs::Views::stmt_of))]
@@ -79,7 +91,8 @@ fn performed<'a>(
         Some(Known::Results(types, symbol, arguments)) => {
             Ok(Some(TypedStmt::Run(types, symbol, arguments)))
         }
-        Some(Known::Printed(operands)) => Ok(Some(TypedStmt::Print(operands))),
+        Some(Known::Printed(Ok(operands))) => Ok(Some(TypedStmt::Print(operands))),
+        Some(Known::Printed(Err(kind))) => Err(ExprError::Faulty(place, kind)),
         Some(Known::Panicked(operand)) => Ok(Some(TypedStmt::Panic(operand))),
         Some(_) => Err(ExprError::Faulty(place, FaultKind::Mismatch)),
     }
@@ -236,6 +249,7 @@ pub(crate) fn check_call(
     ensures { Answered stmt_of result (simple_at (context_of context.entry) place (call_statement (expr_tree e.now)) (env_of env.now)) }
 {
     let known = check_expr(alloc, &env.scope(context, None), e)?;
+    let known = stated(bare_place(e), known)?;
     performed(alloc, place, known)
 }
 

@@ -4,7 +4,7 @@ ghost use Rattle.go_ast.specs.Trees.{block_statement};
 ghost use Rattle.go_ast.specs.Views.{stmt_of as stmt_tree, else_of, block_of, if_of};
 ghost use Rattle.go_types.specs.Views.{type_of};
 ghost use Rattle.go_typed.specs.Views.{clause_of as typed_clause};
-ghost use Rattle.go_stmt.specs.Statements.{statement_at, if_at, else_at, block_at, list_at, clauses_at};
+ghost use Rattle.go_stmt.specs.Statements.{begun, statement_at, if_at, else_at, block_at, list_at, clauses_at};
 ghost use Rattle.go_stmt.specs.Seen.{context_of, env_of, typed_in, trees_in, for_of as for_tree, range_of as range_tree, switch_of};
 ghost use Rattle.go_stmt.specs.Seen.{clauses_trees, clauses_of, clause_in, Answered};
 
@@ -251,7 +251,7 @@ fn check_block(
     Ok(known)
 }
 
-/// What statements are, one behind the other.
+/// What the statements of a block are, one behind the other.
 #[cycle(check)]
 pub(crate) fn check_list(
     alloc: Global,
@@ -259,13 +259,14 @@ pub(crate) fn check_list(
     env: &mut Env,
     statements: &[Stmt],
 ) -> Result<Option<Vec<TypedStmt>>, ExprError>
-    ensures answer { Answered typed_in result (list_at (context_of context.entry) (trees_in statements.now) (env_of env.old)) }
-    ensures after { OnOk result (env_of env.new ≡ (list_at (context_of context.entry) (trees_in statements.now) (env_of env.old)).after) }
+    ensures answer { Answered typed_in result (list_at (begun (context_of context.entry)) (trees_in statements.now) (env_of env.old)) }
+    ensures after { OnOk result (env_of env.new ≡ (list_at (begun (context_of context.entry)) (trees_in statements.now) (env_of env.old)).after) }
 {
     let mut known = Some(Vec::new(alloc));
     for (i, s) in statements.iter().enumerate() {
         let others = &statements[i + 1..];
-        let more = check_statement(alloc, context.before_others(others), env, s)?;
+        let here = context.behind(&statements[..i]).before_others(others);
+        let more = check_statement(alloc, here, env, s)?;
         known = joined(known, more)?;
     }
     Ok(known)

@@ -14,6 +14,7 @@ ghost use Rattle.go_stmt.specs.Rules.{separate, values_of, all_some, suited_one,
 ghost use Rattle.go_stmt.specs.Statements.{each_of, operands_faults, alone_types, values_known, values_faults, value_types};
 ghost use Rattle.go_stmt.specs.Seen.{values_seen, Finds};
 
+use crate::repeated::known_value;
 use go_ast::expression::Expr;
 use go_expr::due::bare_place;
 use go_expr::error::{ExprError, RuleError};
@@ -83,6 +84,21 @@ pub(crate) fn check_each(
     Ok(all)
 }
 
+/// Each of some values, where it is known, whatever their faults are. An `Err` only where memory ran out.
+pub(crate) fn known_values(
+    alloc: Global,
+    scope: &Scope<'_>,
+    es: &[Expr],
+) -> Result<Vec<Option<TypedExpr>>, AllocError>
+    ensures { IfOk result (λ vs. map (option_map expr_of) vs.items ≡ each_of (λ e. operand (verdict (scope_of scope.now) e)) (exprs_trees es.now)) }
+{
+    let mut all = Vec::with_capacity(alloc, es.len())?;
+    for e in es {
+        all.push(known_value(alloc, scope, e)?)?;
+    }
+    Ok(all)
+}
+
 /// Some values, where all are known.
 pub(crate) fn all_known(
     alloc: Global,
@@ -132,7 +148,7 @@ fn types_in(alloc: Global, values: &[TypedExpr]) -> Result<Vec<Option<GoType>>, 
 }
 
 /// Types that are due.
-pub(crate) fn all_due(alloc: Global, types: &[GoType]) -> Result<Vec<Option<GoType>>, AllocError>
+fn all_due(alloc: Global, types: &[GoType]) -> Result<Vec<Option<GoType>>, AllocError>
     ensures { IfOk result (λ due. map (option_map type_of) due.items ≡ map Some (map type_of types.now)) }
 {
     let mut all = Vec::with_capacity(alloc, types.len())?;

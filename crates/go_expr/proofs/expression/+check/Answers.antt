@@ -15,7 +15,7 @@ use Rattle.go_types.specs.Types.{Type'}
 use Rattle.go_typed.specs.Trees.{Expr as Typed}
 use Rattle.go_typed.specs.Views.{expr_of}
 use Rattle.go_types.specs.Views.{type_of}
-use Rattle.go_expr.specs.Rules.{fine, valued, declared_field, Due, element_due, due_type, untyped_literal, value_due, type_due, unpackaged, selectable, callable}
+use Rattle.go_expr.specs.Rules.{fine, valued, declared_field, Due, element_due, due_type, untyped_literal, value_due, type_due, unpackaged, unprinted, selectable, callable}
 use Rattle.go_expr.specs.Verdicts.{asked, bare_place, key_text, broken, elements, element_verdict, elements_faults, element_faults, joined, operand, verdict, made_verdict, operands, type_verdict, fields_known, operand_broken, faults, made_faults, operands_faults, type_faults, fields_faults}
 use Rattle.go_expr.specs.Seen.{Fails, literal_verdict, known_of, due_of, element_of, elements_in, field_of, scope_of, all_of, Answers, Behind}
 use Rattle.go_expr.proofs.Lists.{left, copied, fails_front, fault_later, known_later, joined_done}
@@ -51,6 +51,13 @@ check_operand-returns t c =
     let e = expr_tree c.args.e.now in
     of_part expr_of c.operand_at.result (bare_place e) c.bare_place.result value_due (faults s e) (fine (verdict s e)) (option_map known_of c.in_ok-known.known)
     c.in_ok-known.ensures.0 c.in_ok-known.ensures.1 (sym c.bare_place.ensures) c.operand_at.ensures
+
+pub check_unprinted-returns : goal.check_unprinted-returns
+check_unprinted-returns t c =
+    let s = scope_of c.args.scope.now in
+    let e = expr_tree c.args.e.now in
+    of_part known_of c.unprinted_at.result (bare_place e) c.bare_place.result unprinted (faults s e) (fine (verdict s e)) (option_map known_of c.in_ok-known.known)
+    c.in_ok-known.ensures.0 c.in_ok-known.ensures.1 (sym c.bare_place.ensures) c.unprinted_at.ensures
 
 pub check_type_operand-returns : goal.check_type_operand-returns
 check_type_operand-returns t c =

@@ -1,5 +1,6 @@
 use Rattle.std.proofs.Common.{sym, ap, ◌∙◌, subst}
 use Rattle.std.specs.Option.{option_map}
+use Rattle.go_text.specs.declared.place.Place.{Place}
 use Rattle.go_types.specs.Views.{type_of}
 use Rattle.go_typed.specs.Views.{expr_of, stmt_of}
 use Rattle.go_expr.specs.Known.{Scope}
@@ -8,36 +9,41 @@ use Rattle.go_expr.specs.Seen.{all_of, scope_of, Fails}
 use Rattle.go_stmt.specs.Scopes.{Faults, nothing}
 use Rattle.go_stmt.specs.Rules.{all_some}
 use Rattle.go_stmt.specs.Seen.{context_of, env_of, spec_of, typed_in}
-use Rattle.go_stmt.specs.Statements.{place_at, each_of, written_at, constants_at}
+use Rattle.go_stmt.specs.Statements.{place_at, each_of, written_at, spec_at, constants_at}
 use Rattle.go_stmt.proofs.Defining.{answers_err}
-use Rattle.go_stmt.proofs.Locals.{parts_faults, told, constants_by, constants_made, constants_fail, constants_part_fails}
+use Rattle.go_stmt.proofs.Locals.{constants_by, constants_made, constants_fail, constants_part_fails}
 use Rattle.go_stmt.proofs.constants.check_constants.Goals as goal
 
-pub returns-in-Err-clause-answer : goal.returns-in-Err-clause-answer
-returns-in-Err-clause-answer c =
+pub returns-in_err-parts-clause-answer : goal.returns-in_err-parts-clause-answer
+returns-in_err-parts-clause-answer c =
     let context = context_of c.args.context in
     let env = env_of c.args.env.now in
     let spec = spec_of c.args.spec in
     let repeated = c.args.repeated in
-    let s = scope_of c.scope.result in
-    constants_part_fails c.retold.result context c.args.place c.args.iota repeated spec env c.in_ok-check_names.ensures
-    (subst (λ (l : Faults). Fails c.retold.result l)
-    (ap (λ q. told repeated q (parts_faults s spec)) c.place_at-first.ensures ∙ ap (λ (s : Scope). told repeated (place_at c.args.place spec.names) (parts_faults s spec)) c.scope.ensures)
-    (c.retold.ensures (parts_faults s spec) c.in-Err.ensures.faults))
+    let e = c.in_err-parts.field-0.0 in
+    answers_err typed_in c.from_residual-in_err-parts.result e (constants_at context c.args.place c.args.iota repeated spec env) c.from_residual-in_err-parts.ensures.1
+    (constants_part_fails e context c.args.place c.args.iota repeated spec env c.in_ok-check_names.ensures
+    (subst (λ (l : Faults). Fails e l)
+    (ap (λ (q : Place). (spec_at (scope_of c.scope.result) q repeated spec nothing).faults) c.place_at-first.ensures
+    ∙ ap (λ (s : Scope). (spec_at s (place_at c.args.place spec.names) repeated spec nothing).faults) c.scope.ensures)
+    c.in_err-parts.ensures.faults))
 
 pub returns-in_err-statement-clause-answer : goal.returns-in_err-statement-clause-answer
 returns-in_err-statement-clause-answer c =
     let context = context_of c.args.context in
     let env = env_of c.args.env.now in
     let spec = spec_of c.args.spec in
+    let repeated = c.args.repeated in
     let e = c.in_err-statement.field-0.0 in
-    let written = option_map (option_map type_of) c.in-Ok.parts.written in
-    let values = option_map (all_of expr_of) c.in-Ok.parts.values in
-    answers_err typed_in c.from_residual-in_err-statement.result e (constants_at context c.args.place c.args.iota c.args.repeated spec env) c.from_residual-in_err-statement.ensures.1
-    (constants_fail e context c.args.place c.args.iota c.args.repeated spec env written values c.in_ok-check_names.ensures
-    (ap (λ (s : Scope). parts_faults s spec) (sym c.scope.ensures) ∙ c.in-Ok.ensures.faults)
-    (c.in-Ok.ensures.written ∙ ap (λ (s : Scope). (written_at s spec.type nothing).known) c.scope.ensures)
-    (c.in-Ok.ensures.values ∙ ap (λ (s : Scope). all_some (each_of (λ e. operand (verdict s e)) spec.values)) c.scope.ensures)
+    let parts = c.in_ok-parts.parts in
+    let written = option_map (option_map type_of) parts.written in
+    let values = option_map (all_of expr_of) parts.values in
+    answers_err typed_in c.from_residual-in_err-statement.result e (constants_at context c.args.place c.args.iota repeated spec env) c.from_residual-in_err-statement.ensures.1
+    (constants_fail e context c.args.place c.args.iota repeated spec env written values c.in_ok-check_names.ensures
+    (ap (λ (s : Scope). (spec_at s (place_at c.args.place spec.names) repeated spec nothing).faults) (sym c.scope.ensures)
+    ∙ ap (λ (q : Place). (spec_at (scope_of c.scope.result) q repeated spec nothing).faults) (sym c.place_at-first.ensures) ∙ c.in_ok-parts.ensures.faults)
+    (c.in_ok-parts.ensures.written ∙ ap (λ (s : Scope). (written_at s spec.type nothing).known) c.scope.ensures)
+    (c.in_ok-parts.ensures.values ∙ ap (λ (s : Scope). all_some (each_of (λ e. operand (verdict s e)) spec.values)) c.scope.ensures)
     (subst (λ (l : Faults). Fails e l) (ap (λ q. broken q (constants_by spec.names (both written values))) c.place_at-first.ensures) c.in_err-statement.ensures))
 
 pub returns-clause-answer : goal.returns-clause-answer
@@ -45,12 +51,15 @@ returns-clause-answer c =
     let context = context_of c.args.context in
     let env = env_of c.args.env.now in
     let spec = spec_of c.args.spec in
-    let written = option_map (option_map type_of) c.in-Ok.parts.written in
-    let values = option_map (all_of expr_of) c.in-Ok.parts.values in
+    let repeated = c.args.repeated in
+    let parts = c.in_ok-parts.parts in
+    let written = option_map (option_map type_of) parts.written in
+    let values = option_map (all_of expr_of) parts.values in
     let statement = option_map stmt_of c.in_ok-statement.statement in
-    let whole = constants_made context c.args.place c.args.iota c.args.repeated spec env written values statement c.in_ok-check_names.ensures
-    (ap (λ (s : Scope). parts_faults s spec) (sym c.scope.ensures) ∙ c.in-Ok.ensures.faults)
-    (c.in-Ok.ensures.written ∙ ap (λ (s : Scope). (written_at s spec.type nothing).known) c.scope.ensures)
-    (c.in-Ok.ensures.values ∙ ap (λ (s : Scope). all_some (each_of (λ e. operand (verdict s e)) spec.values)) c.scope.ensures)
+    let whole = constants_made context c.args.place c.args.iota repeated spec env written values statement c.in_ok-check_names.ensures
+    (ap (λ (s : Scope). (spec_at s (place_at c.args.place spec.names) repeated spec nothing).faults) (sym c.scope.ensures)
+    ∙ ap (λ (q : Place). (spec_at (scope_of c.scope.result) q repeated spec nothing).faults) (sym c.place_at-first.ensures) ∙ c.in_ok-parts.ensures.faults)
+    (c.in_ok-parts.ensures.written ∙ ap (λ (s : Scope). (written_at s spec.type nothing).known) c.scope.ensures)
+    (c.in_ok-parts.ensures.values ∙ ap (λ (s : Scope). all_some (each_of (λ e. operand (verdict s e)) spec.values)) c.scope.ensures)
     (ap (λ q. broken q (constants_by spec.names (both written values))) (sym c.place_at-first.ensures) ∙ c.in_ok-statement.ensures.0) c.in_ok-statement.ensures.1 in
     (whole.0, whole.1 ∙ sym c.in_ok-single.ensures)

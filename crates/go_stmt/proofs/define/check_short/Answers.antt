@@ -31,7 +31,7 @@ returns-in_err-source-clause-answer c =
     let known = parts_known context env es (scope_of c.scope.result) values c.scope.ensures c.in_ok-types.ensures.known in
     let change = declare_new (paired names (value_types (scope_in context None env) es)) in
     answers_err stmt_of c.from_residual-in_err-source.result c.in_err-source.field-0.0 (short_at context c.args.place names es env) c.from_residual-in_err-source.ensures.1
-    (made_fails c.in_err-source.field-0.0 c.args.place (typed.define (map (number_of (change env)) names)) (redefined (own env) names) (values_at context es) env values none known c.in_err-source.ensures)
+    (made_fails c.in_err-source.field-0.0 c.args.place (typed.define (map (number_of (change env)) names)) (redefined context.constants (own env) names) (values_at context es) env values none known c.in_err-source.ensures)
 
 pub returns-clause-answer : goal.returns-clause-answer
 returns-clause-answer c =
@@ -44,7 +44,7 @@ returns-clause-answer c =
     let none = parts_none context env es (scope_of c.scope.result) c.scope.ensures c.in_ok-types.ensures.faults in
     let known = parts_known context env es (scope_of c.scope.result) values c.scope.ensures c.in_ok-types.ensures.known in
     let change = declare_new (paired names (value_types (scope_in context None env) es)) in
-    let whole = made c.args.place (typed.define (map (number_of (change env)) names)) (redefined (own env) names) (values_at context es) env values source none known c.in_ok-source.ensures.0 c.in_ok-source.ensures.1 in
+    let whole = made c.args.place (typed.define (map (number_of (change env)) names)) (redefined context.constants (own env) names) (values_at context es) env values source none known c.in_ok-source.ensures.0 c.in_ok-source.ensures.1 in
     let after : env_of c.declare_all.new.env ≡ change env =
     c.in_ok-numbers.ensures.after
     ∙ ap (λ ts. declare_new (paired names ts) env) (c.in_ok-types.ensures.types ∙ ap (λ (s : Scope). value_types s es) c.scope.ensures) in

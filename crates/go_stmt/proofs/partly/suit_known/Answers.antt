@@ -5,7 +5,7 @@ use Rattle.go_types.specs.declared.types.GoType.{GoType}
 use Rattle.go_typed.specs.Trees as typed
 use Rattle.go_typed.specs.Views.{expr_of}
 use Rattle.go_typed.specs.declared.expression.TypedExpr.{TypedExpr}
-use Rattle.go_expr.proofs.Gathering.{Leads, takes, ends}
+use Rattle.go_expr.proofs.Gathering.{Leads, adds, ends}
 use Rattle.go_stmt.specs.Rules.{suited_if}
 use Rattle.go_stmt.specs.Seen.{due_seen}
 use Rattle.go_stmt.proofs.Sequences.{left, none_there, none_left}
@@ -25,7 +25,8 @@ loop-value-preserved c =
     let before =
     subst (λ (l : List (Option (Option GoType))). Leads expr_of all.values.items all.fault (map suited_if (zip (map due_seen l) (map expr_of (value ∷ rest)))) [] whole)
     (left due i one within c.in-Some-get.ensures.lookup.1) begun in
-    takes expr_of all c.add_known.new.all (map suited_if (zip (map due_seen (drop (i + 1) due)) (map expr_of rest))) [] whole (suited_if (due_seen one, expr_of value)) c.in_ok-add_known.ensures before
+    adds expr_of all.values.items _ all.fault _ (map suited_if (zip (map due_seen (drop (i + 1) due)) (map expr_of rest))) [] whole (suited_if (due_seen one, expr_of value)) c.suit_if.result
+    c.in_ok-add.ensures.values c.in_ok-add.ensures.fault c.suit_if.ensures c.in_ok-add.ensures.given before
 
 pub returns : goal.returns
 returns c =

@@ -17,8 +17,11 @@ use Rattle.go_typed.specs.Views.{expr_of as typed_expr, clause_of as typed_claus
 use Rattle.go_stmt.specs.Scopes.{Context, Checked, leave, follow, single}
 use Rattle.go_stmt.specs.Rules.{Clause as ClauseValue, clause_of, looped, switched}
 use Rattle.go_stmt.specs.Seen.{context_of, env_of, typed_in, trees_in, switch_of, cases_tree, clauses_trees, clauses_of, clause_in}
-use Rattle.go_stmt.specs.Statements.{statement_at, else_at, optional_at, condition_at, block_at, in_loop, in_clause, leads_on, is_last, tag_at, cases_at, list_at, clauses_at}
+use Rattle.go_stmt.specs.Statements.{statement_at, else_at, optional_at, condition_at, block_at, begun, before_others, in_loop, in_clause, leads_on, is_last, tag_at, cases_at, list_at, clauses_at}
+use Rattle.go_stmt.proofs.Blocks.{turn, list_left}
 use Rattle.go_stmt.proofs.Clauses.{clauses_left, cases_after}
+use Rattle.go_stmt.proofs.Defining.{answers_err}
+use Rattle.go_stmt.proofs.Leading.{goes_on, fails}
 use Rattle.go_stmt.proofs.Sequences.{left, later_faults, later_after, appended_known}
 use Rattle.go_stmt.proofs.Failing.{fails_front, fails_next, fails_inside, fails_upon, condition_after, tag_after}
 use Rattle.go_stmt.proofs.Shown.{answer_as, after_as, answered_inside, answered_upon, after_upon, on_ok}
@@ -167,6 +170,43 @@ check_switch-returns-clause-after t c =
     c.in_ok-before.ensures.after c.in_ok-tag.ensures.1 (tag_after k o there)
     (c.leave.ensures ∙ ap leave (c.in_ok-clauses.ensures.after ∙ ap (λ v. (clauses_at k v false cs there).after) (sym type))))
 
+-- statements of a block
+
+pub check_list-loop-i-preserved : goal.check_list-loop-i-preserved
+check_list-loop-i-preserved t c =
+    let k = context_of c.args.context in
+    let ss = c.args.statements.now in
+    let i = c.loop-i.i in
+    let s = c.index-statements-i.result in
+    let env = env_of c.loop-i.env in
+    let rest = drop (i + 1) ss in
+    let here : context_of c.before_others-here.result ≡ before_others (turn k ss i) (trees_in rest) =
+    c.before_others-here.ensures ∙ ap (λ (l : List Stmt). before_others (context_of c.behind.result) (trees_in l)) (take_rest ss (i + 1))
+    ∙ ap (λ (x : Context). before_others x (trees_in rest)) c.behind.ensures in
+    goes_on (statement_at (context_of c.before_others-here.result) (stmt_of s)) (list_at (turn k ss (i + 1)) (trees_in rest)) env (env_of c.check_statement.new.env)
+    (list_at (begun k) (trees_in ss) (env_of c.args.env.now)) (list_at (turn k ss i) (trees_in (drop i ss)) env)
+    (option_map typed_in c.loop-i.known) (option_map typed_in c.in_ok-known.known) (option_map typed_in c.in_ok-more.more)
+    (list_left k (context_of c.before_others-here.result) ss i s env (omega arith) c.index-statements-i.is here)
+    c.loop-i.invariant c.in_ok-more.ensures.answer.0 c.in_ok-more.ensures.answer.1 c.in_ok-more.ensures.after c.in_ok-known.ensures
+
+pub check_list-returns-in_err-more-clause-answer : goal.check_list-returns-in_err-more-clause-answer
+check_list-returns-in_err-more-clause-answer t c =
+    let k = context_of c.args.context in
+    let ss = c.args.statements.now in
+    let i = c.loop-i.i in
+    let s = c.index-statements-i.result in
+    let env = env_of c.loop-i.env in
+    let rest = drop (i + 1) ss in
+    let e = c.in_err-more.field-0.0 in
+    let all = list_at (begun k) (trees_in ss) (env_of c.args.env.now) in
+    let here : context_of c.before_others-here.result ≡ before_others (turn k ss i) (trees_in rest) =
+    c.before_others-here.ensures ∙ ap (λ (l : List Stmt). before_others (context_of c.behind.result) (trees_in l)) (take_rest ss (i + 1))
+    ∙ ap (λ (x : Context). before_others x (trees_in rest)) c.behind.ensures in
+    answers_err typed_in c.from_residual.result e all c.from_residual.ensures.1
+    (fails e (statement_at (context_of c.before_others-here.result) (stmt_of s)) (list_at (turn k ss (i + 1)) (trees_in rest)) env all (list_at (turn k ss i) (trees_in (drop i ss)) env)
+    (option_map typed_in c.loop-i.known) (list_left k (context_of c.before_others-here.result) ss i s env (omega arith) c.index-statements-i.is here)
+    c.loop-i.invariant c.in_err-more.ensures.answer)
+
 -- clauses
 
 pub check_clause-returns-clause-answer : goal.check_clause-returns-clause-answer
@@ -181,8 +221,8 @@ check_clause-returns-clause-answer t c =
     let body = list_at (in_clause k (not last)) ss in
     let a = option_map (option_map (all_of typed_expr)) c.in_ok-values.values in
     let b = option_map typed_in c.in_ok-body.body in
-    let same : list_at (context_of c.in_clause.result) (trees_in c.deref.result.now) there ≡ body there =
-    ap (λ (x : Context). list_at x (trees_in c.deref.result.now) there) c.in_clause.ensures ∙ ap (λ (l : List Stmt). list_at (in_clause k (not last)) (trees_in l) there) c.deref.ensures.value in
+    let same : list_at (begun (context_of c.in_clause.result)) (trees_in c.deref.result.now) there ≡ body there =
+    ap (λ (x : Context). list_at (begun x) (trees_in c.deref.result.now) there) c.in_clause.ensures ∙ ap (λ (l : List Stmt). list_at (in_clause k (not last)) (trees_in l) there) c.deref.ensures.value in
     let falls : c.falls_through-falls.result ≡ (leads_on ss && not last) =
     c.falls_through-falls.ensures ∙ ap (λ (l : List Stmt). leads_on (trees_in l) && not last) c.deref-2.ensures.value in
     let rule = λ (f : Bool) (x : Option (List typed.Expr) × List typed.Stmt). clause_of v c.args.again f x.0 x.1 in
