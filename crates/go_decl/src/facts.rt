@@ -1,9 +1,8 @@
 //! What is known of a package whose declarations are checked.
-ghost use Rattle.std.specs.Prelude.{◌≡◌, ◌<◌, ◌↔◌, ℕ, IsTrue, IfOk, length};
+ghost use Rattle.std.specs.Prelude.{◌≡◌, ◌↔◌, ℕ, IsTrue, IfOk};
 ghost use Rattle.std.specs.List.{Contains};
-ghost use Rattle.ws_reach.specs.Reach.{EdgesStayWithin, rows_of};
+ghost use Rattle.ws_reach.specs.Reach.{Edge, EdgesStayWithin, rows_of};
 ghost use Rattle.ws_reach.specs.Worklist.{is_marked};
-ghost use Rattle.go_scope.specs.Order.{DependsOnItself};
 ghost use Rattle.go_expr.specs.Seen.{names_of};
 ghost use Rattle.go_objects.specs.Table.{rows as rows_in};
 ghost use Rattle.go_objects.specs.Packages.{package_of};
@@ -12,8 +11,8 @@ ghost use Rattle.go_decl.specs.Seen.{facts_of};
 
 use go_expr::known::Names;
 use go_objects::package::{Package, rows};
-use go_scope::order::{depends_on_itself, order_of};
 use std::alloc::{AllocError, Global};
+use ws_reach::closing_edges;
 
 /// A package, what is known of its objects, and which of them depend on themselves.
 #[derive(Drop)]
@@ -24,8 +23,8 @@ pub struct Facts<'a> {
 }
 
 impl<'a> Facts<'a> {
-    /// A package with what is known of its objects. Those that depend on themselves are looked for
-    /// among the ones that have no order. An `Err` only where memory ran out.
+    /// A package with what is known of its objects, of which those that depend on themselves are
+    /// marked. An `Err` only where memory ran out.
     /// [Declarations and scope](https://go.dev/ref/spec#Declarations_and_scope)
     #[tactic(auto, unfolding(crate::specs::Seen::facts_of))]
     pub fn new(
@@ -80,47 +79,31 @@ fn has_mark(marks: &[bool], number: usize) -> bool
     }
 }
 
-// Of each declaration whether it depends on itself. Those in the order don't.
+// Of each declaration whether it depends on itself: an edge to it closes a cycle.
 fn recursive_in(alloc: Global, rows: &[Vec<usize>]) -> Result<Vec<bool>, AllocError>
     requires { EdgesStayWithin (rows_of rows.now) }
     ensures { IfOk result (λ marks. AreRecursive (rows_of rows.now) marks.items) }
 {
-    let order = order_of(alloc, rows)?;
-    let ordered = marked(alloc, &order, rows.len())?;
+    let closing = closing_edges(alloc, rows)?;
     let mut recursive = Vec::new(alloc);
     for number in 0..rows.len() {
-        recursive.push(is_recursive(alloc, rows, &ordered, number)?)?;
+        recursive.push(has_edges(closing.as_slice(), number))?;
     }
     Ok(recursive)
 }
 
-// Whether a declaration depends on itself, where those with a mark don't.
-fn is_recursive(
-    alloc: Global,
-    rows: &[Vec<usize>],
-    ordered: &[bool],
-    number: usize,
-) -> Result<bool, AllocError>
-    requires inside { number < length rows.now }
-    requires within { EdgesStayWithin (rows_of rows.now) }
-    requires ordered { IsTrue (is_marked ordered.now number) → ¬ DependsOnItself (rows_of rows.now) number }
-    ensures { IfOk result (λ b. IsTrue b ↔ DependsOnItself (rows_of rows.now) number) }
+// Whether edges lead from a node.
+fn has_edges(rows: &[Vec<usize>], node: usize) -> bool
+    ensures { IsTrue result ↔ ((q : ℕ) × Edge (rows_of rows.now) node q) }
 {
-    if has_mark(ordered, number) {
-        return Ok(false);
+    match rows.get(node) {
+        Some(row) => has_some(row.as_slice()),
+        None => false,
     }
-    depends_on_itself(alloc, rows, number)
 }
 
-// Marks of some numbers: what is marked is one of them.
-fn marked(alloc: Global, numbers: &[usize], size: usize) -> Result<Vec<bool>, AllocError>
-    ensures { IfOk result (λ marks. (k : ℕ) → IsTrue (is_marked marks.items k) → Contains numbers.now k) }
+fn has_some(row: &[usize]) -> bool
+    ensures { IsTrue result ↔ ((q : ℕ) × Contains row.now q) }
 {
-    let mut marks = vec![in alloc; false; size]?;
-    for number in numbers {
-        if *number < size {
-            marks[*number] = true;
-        }
-    }
-    Ok(marks)
+    !row.is_empty()
 }
