@@ -5,6 +5,7 @@ pub mod Emitted
 pub mod Found
 pub mod Listed
 pub mod Made
+pub mod Offsets
 pub mod Reversed
 pub mod Sliced
 pub mod Totals

@@ -1,5 +1,5 @@
 -- The code of each typed tree. `R` is what code refers to functions by: a symbol in an object, and in an image the function's number.
-use Rattle.std.specs.Prelude.{ℕ, zero, suc, ◌+◌, ◌*◌, Bool, true, false, List, [], ◌∷◌, ◌++◌, length, map, pos, Option, Some, None, slice_index, sum}
+use Rattle.std.specs.Prelude.{◌≡◌, ℕ, zero, suc, ◌+◌, ◌*◌, ◌<◌, Bool, true, false, List, [], ◌∷◌, ◌++◌, length, map, pos, Option, Some, None, slice_index, sum}
 use Rattle.std.specs.List.{flat_map}
 use Rattle.go_const.specs.declared.operator.ArithmeticOperator.TheVariants.{Add}
 use Rattle.go_const.specs.declared.operator.ComparisonOperator.TheVariants.{Equal as Is_equal, Less}
@@ -56,6 +56,10 @@ abbrev pub offset : Type' → ℕ → ℕ
 offset (struct fs) n = field_offset fs n
 offset (array m t) n = n * cells t
 offset s n = 0
+
+-- how many cells lie before each of the first parts, as many as the list has numbers
+abbrev pub AreOffsets : Type' → List ℕ → Type 0
+AreOffsets s offsets = (n : ℕ) → n < length offsets → slice_index offsets n ≡ offset s n
 
 -- ---- how many cells the temporaries take; each has its own
 

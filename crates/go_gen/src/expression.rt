@@ -22,7 +22,7 @@ use crate::code::Code;
 use crate::instr::{call, constant_cell, load, no_slice, store, zero_cell};
 use crate::layout::Layout;
 use crate::operator::{put_binary, put_conversion, put_operator, put_unary};
-use crate::size::{cells, difference, element_cells, offset, sum};
+use crate::size::{cells, difference, element_cells, offset, offset_by, offsets_of, sum};
 use crate::temps::{expr_temps, exprs_temps, parts_temps};
 use go_code::cell::Cell;
 use go_code::instr::{AccessInstr, FrameInstr, Instr, JumpInstr, PartInstr, RowInstr};
@@ -214,11 +214,12 @@ fn emit_parts(
 ) -> Result<(), AllocError>
     ensures { OnOk result (code.new ≡ parts_code (places_of layout.now) (type_of of.now) at k (parts_in parts.now) ++ code.old) }
 {
+    let offsets = offsets_of(alloc, of)?;
     let mut behind = sum(k, parts_temps(parts)?)?;
     for i in (0..parts.len()).rev() {
         let part = &parts[i];
         behind = difference(behind, expr_temps(&part.value)?)?;
-        let first = sum(at, offset(of, part.number)?)?;
+        let first = sum(at, offset_by(offsets.as_slice(), of, part.number)?)?;
         code.put(store(first, cells(&part.value.of)?))?;
         emit_expr(alloc, code, layout, behind, &part.value)?;
     }

@@ -4,7 +4,8 @@ ghost use Rattle.std.specs.Prelude.{◌≡◌, ◌+◌, ◌*◌, ◌++◌, IfOk,
 ghost use Rattle.go_types.specs.Views.{type_of, fields_in};
 ghost use Rattle.go_types.specs.Sizes as sizes;
 ghost use Rattle.go_types.specs.Relations.{underlying};
-ghost use Rattle.go_gen.specs.Translation.{total, field_offset, element_cells, offset, slots};
+ghost use Rattle.go_types.specs.Types.{struct};
+ghost use Rattle.go_gen.specs.Translation.{AreOffsets, total, field_offset, element_cells, offset, slots};
 
 use go_types::relations::underlying;
 use go_types::types::{Field, GoType};
@@ -104,5 +105,40 @@ pub(crate) fn offset(of: &GoType, number: usize) -> Result<usize, AllocError>
         GoType::Struct(fields) => field_offset(&fields.list, number),
         GoType::Array(_, element) => product(number, cells(&element.of)?),
         _ => Ok(0),
+    }
+}
+
+/// How many cells of a struct lie before each field. Of another value no part is told.
+pub(crate) fn offsets_of(alloc: Global, of: &GoType) -> Result<Vec<usize>, AllocError>
+    ensures { IfOk result (λ offsets. AreOffsets (type_of of.now) offsets.items) }
+{
+    match of {
+        GoType::Struct(fields) => field_offsets(alloc, &fields.list),
+        _ => Ok(Vec::new(alloc)),
+    }
+}
+
+/// How many cells of a struct lie before each of its fields.
+fn field_offsets(alloc: Global, fields: &[Field]) -> Result<Vec<usize>, AllocError>
+    ensures { IfOk result (λ offsets. AreOffsets (struct (fields_in fields.now)) offsets.items) }
+{
+    let mut offsets = Vec::new(alloc);
+    let mut before = 0;
+    for field in fields {
+        offsets.push(before)?;
+        before = sum(before, cells(&field.of)?)?;
+    }
+    Ok(offsets)
+}
+
+/// How many cells of an array or a struct lie before the part of a number, where those before some
+/// are known. Of another value none.
+pub(crate) fn offset_by(offsets: &[usize], of: &GoType, number: usize) -> Result<usize, AllocError>
+    requires { AreOffsets (type_of of.now) offsets.now }
+    ensures { IfOk result (λ n. n ≡ offset (type_of of.now) number) }
+{
+    match offsets.get(number) {
+        Some(before) => Ok(*before),
+        None => offset(of, number),
     }
 }

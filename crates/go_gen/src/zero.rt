@@ -1,12 +1,13 @@
 //! The cells of zero values. [The zero value](https://go.dev/ref/spec#The_zero_value)
-ghost use Rattle.std.specs.Prelude.{◌≡◌, ◌++◌, OnOk, replicate};
+ghost use Rattle.std.specs.Prelude.{◌≡◌, ◌++◌, ◌∷◌, [], OnOk, replicate};
+ghost use Rattle.go_code.specs.declared.cell.Cell.TheVariants.{Slice};
 ghost use Rattle.go_types.specs.Views.{type_of, fields_in};
-ghost use Rattle.go_meaning.specs.Values.{Value, flat, flat_all, pack, zero_of, zeros_of};
+ghost use Rattle.go_meaning.specs.Values.{Value, flat, flat_all, pack, zero_cell as zero_of_basic, zero_of, zeros_of};
 
 use crate::instr::{no_slice, zero_cell};
 use crate::size::cells;
 use go_code::cell::{Cell, push_copies};
-use go_types::types::{Element, Field, GoType};
+use go_types::types::{Basic, Element, Field, GoType};
 use std::alloc::{AllocError, Global};
 
 /// The cells of a value so many times, behind others.
@@ -19,6 +20,25 @@ fn push_repeated(found: &mut Vec<Cell>, one: &[Cell], times: u32) -> Result<(), 
     Ok(())
 }
 
+/// The cell of a basic type's zero value, behind others. What is about one node alone stands in
+/// calls of its own, so that each level of a type takes little of the stack.
+#[inline(never)]
+fn push_basic(alloc: Global, found: &mut Vec<Cell>, of: Basic) -> Result<(), AllocError>
+    ensures { OnOk result (found.new.items ≡ found.old.items ++ zero_of_basic of ∷ []) }
+{
+    found.push(zero_cell(alloc, of)?)?;
+    Ok(())
+}
+
+/// The cell of the slice without elements, behind others.
+#[inline(never)]
+fn push_no_slice(found: &mut Vec<Cell>) -> Result<(), AllocError>
+    ensures { OnOk result (found.new.items ≡ found.old.items ++ Slice 0 0 0 0 ∷ []) }
+{
+    found.push(no_slice())?;
+    Ok(())
+}
+
 /// The cells of a type's zero value, behind others. Those of an array's element are made once, so
 /// that the walk takes as long as the type has nodes and cells.
 #[cycle(cells)]
@@ -26,10 +46,7 @@ pub(crate) fn push_zero(alloc: Global, found: &mut Vec<Cell>, of: &GoType) -> Re
     ensures { OnOk result (found.new.items ≡ found.old.items ++ flat (zero_of (type_of of.now))) }
 {
     match of {
-        GoType::Basic(basic) => {
-            found.push(zero_cell(alloc, *basic)?)?;
-            Ok(())
-        }
+        GoType::Basic(basic) => push_basic(alloc, found, *basic),
         GoType::Array(length, element) => {
             if *length == 0 {
                 return Ok(());
@@ -39,10 +56,7 @@ pub(crate) fn push_zero(alloc: Global, found: &mut Vec<Cell>, of: &GoType) -> Re
             }
             push_elements(alloc, found, *length, element)
         }
-        GoType::Slice(_) => {
-            found.push(no_slice())?;
-            Ok(())
-        }
+        GoType::Slice(_) => push_no_slice(found),
         GoType::Struct(fields) => push_zeros(alloc, found, &fields.list),
         GoType::Named(named) => push_zero(alloc, found, &named.underlying),
     }
