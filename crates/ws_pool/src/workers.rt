@@ -9,8 +9,11 @@ use std::alloc::{AllocError, Global};
 use std::marker::Brand;
 use std::sync::Wait;
 use std::thread;
-use std::thread::Threads;
+use std::thread::{Builder, Threads};
 use ws_shared::{Blanks, Built, Cache, Desk, Entry, Job, SharedBoard, SharedHand, Task};
+
+/// How many bytes of stack a worker's thread has, whatever the system's limits are.
+const STACK: usize = 16 << 20;
 
 // What the gate compiles the task to. None: memory ran out.
 fn compiled<G: Gate>(gate: &G, task: &Task) -> Option<Entry>
@@ -73,7 +76,8 @@ fn work<L: Desk, G: Gate, R: Wait>(
     unreachable!()
 }
 
-// All hands at once, each in a thread of its own where one can be had.
+// All hands at once: the first on the calling thread, each other one in a thread of its own where
+// one can be had. A hand whose thread can't be made takes no job; the others take them all.
 fn work_all<L: Desk + Send + Sync, G: Gate, R: Threads + Wait + Sync>(
     rt: &R,
     board: &SharedBoard<L>,
@@ -81,17 +85,27 @@ fn work_all<L: Desk + Send + Sync, G: Gate, R: Threads + Wait + Sync>(
     gate: &G,
 )
     requires rest { All (λ hand. hand.runs ≡ None) hands.old }
-    requires some { 0 < length hands.old }
 {
-    let threads = hands.len();
-    thread::for_each_mut(
+    thread::scope(
+        thread::scope_env(),
         rt,
-        hands,
-        threads,
-        &|_, hand: &mut SharedHand<L>|
-            requires { hand.old.runs ≡ None }
-        { work(rt, board, hand, gate) },
-    );
+        |scope|
+            requires { All (λ hand. hand.runs ≡ None) hands.old }
+        {
+            let Some((first, others)) = hands.split_first_mut() else {
+                return;
+            };
+            for hand in others.iter_mut() {
+                let _ = Builder::new().stack_size(STACK).spawn_scoped(
+                    scope,
+                    move ||
+                        requires { hand.old.runs ≡ None }
+                    { work(rt, board, hand, gate) },
+                );
+            }
+            work(rt, board, first, gate);
+        },
+    )
 }
 
 // So many of the hands at once. The others make nothing.
