@@ -29,8 +29,15 @@ def field(data):
     return numeral(len(data)) + data
 
 
+# the texts that were hashed, by their digests
+HASHED = {}
+
+
 def digest(text):
-    return hashlib.sha256(text).digest()
+    """The digest of a text, which no other text has: so each script that the model runs is clear."""
+    its = hashlib.sha256(text).digest()
+    assert HASHED.setdefault(its, text) == text, "two texts clash"
+    return its
 
 
 def spelled(value):
@@ -193,7 +200,7 @@ def id_of(action):
     edition, at, *parts = action
     text = field(b"goset action") + field(b"%d" % edition) + field(at)
     text += b"".join(numeral(len(part)) + b"".join(field(name) + field(digest(it)) for name, it in part) for part in parts)
-    return hashlib.sha256(text).hexdigest().encode()
+    return digest(text).hex().encode()
 
 
 def kept(method):

@@ -27,4 +27,5 @@ pub mod Statements
 pub mod Steps
 pub mod Told
 pub mod Turns
+pub mod TypedForms
 pub mod Wholes

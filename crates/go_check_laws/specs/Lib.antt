@@ -1,3 +1,4 @@
 pub mod Finds
 pub mod Locals
 pub mod Whole
+pub mod TypedStatements

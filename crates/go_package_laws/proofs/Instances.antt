@@ -7,6 +7,7 @@ use Rattle.std.specs.Str.{chars}
 use Rattle.ucd_category.specs.GeneralCategory.{general_category}
 use Rattle.ucd_category.specs.GeneralCategoryRows.{general_category_rows}
 use Rattle.ucd_table.specs.Rows.{value_in}
+use Rattle.go_text.specs.declared.edition.Edition.{Edition}
 use Rattle.go_text.specs.declared.edition.Edition.TheVariants.{One}
 use Rattle.go_text.specs.declared.place.Place.{Place}
 use Rattle.go_ast.specs.Trees.{Name, named as type_named, name as name_expr, integer, selector, call, call_statement, simple, no_exprs, some_exprs, variables, Block, block, no_stmts, some_stmts, ImportSpec, TopLevel, declared, function, File}
@@ -80,9 +81,9 @@ files_of ds = files_with (codes "main") [] ds
 abbrev pub file_names : List (List ℕ)
 file_names = codes "a.go" ∷ []
 
-module _ (path : List ℕ) (files : List File) (ps : List Importable) where
+module _ (edition : Edition) (path : List ℕ) (files : List File) (ps : List Importable) where
   abbrev pub whole : objects.Package
-  whole = package_in One path files ps
+  whole = package_in edition path files ps
 
   abbrev entry : Names → Object → List ℕ × Option Declared
   entry known o = (o.name.text, declared_in (fine (object_verdict whole known o)))
@@ -102,10 +103,10 @@ module _ (path : List ℕ) (files : List File) (ps : List Importable) where
   }
 
   abbrev pub typed : Names → Package
-  typed known = typed_package One (facts_of known) file_names files
+  typed known = typed_package edition (facts_of known) file_names files
 
   pub typed_in : (known : Names) → known ≡ map (entry known) whole.objects → map (λ n. n.0) known ≡ map (λ (o : Object). o.name.text) whole.objects → AllEmpty (rows whole) → package_faults ps (facts_of known) files ≡ []
-      → IsTypedIn One whole files ps file_names (typed known)
+      → IsTypedIn edition whole files ps file_names (typed known)
   typed_in known is named empty none = record { facts = facts_of known; are = are_facts known is named empty; none = none; is = refl }
 
 -- ---- packages
@@ -130,33 +131,33 @@ module _ (path : List ℕ) where
   valued_known = (codes "x", Some (value (global int (record { path = path; name = codes "x" })))) ∷ main_known
 
   abbrev pub a_valued : Package
-  a_valued = typed path (files_of valued_tops) [] valued_known
+  a_valued = typed One path (files_of valued_tops) [] valued_known
 
   pub valued_typed : IsTypedIn One (package_in One path (files_of valued_tops) []) (files_of valued_tops) [] file_names a_valued
   unfolding function_at
-  valued_typed = typed_in path (files_of valued_tops) [] valued_known refl refl tt refl
+  valued_typed = typed_in One path (files_of valued_tops) [] valued_known refl refl tt refl
 
   pub valued_is : (i : Initialization) × (variable_order a_valued ≡ (i ∷ [], []))
   unfolding function_at
   valued_is = (_, refl)
 
   abbrev pub a_circular : Package
-  a_circular = typed path (files_of circular_tops) [] valued_known
+  a_circular = typed One path (files_of circular_tops) [] valued_known
 
   pub circular_typed : IsTypedIn One (package_in One path (files_of circular_tops) []) (files_of circular_tops) [] file_names a_circular
   unfolding function_at universe
-  circular_typed = typed_in path (files_of circular_tops) [] valued_known refl refl tt refl
+  circular_typed = typed_in One path (files_of circular_tops) [] valued_known refl refl tt refl
 
   pub circular_is : (i : Initialization) × (variable_order a_circular ≡ ([], i ∷ []))
   unfolding function_at universe
   circular_is = (_, refl)
 
   abbrev pub an_init : Package
-  an_init = typed path (files_of init_tops) [] main_known
+  an_init = typed One path (files_of init_tops) [] main_known
 
   pub init_typed : IsTypedIn One (package_in One path (files_of init_tops) []) (files_of init_tops) [] file_names an_init
   unfolding function_at
-  init_typed = typed_in path (files_of init_tops) [] main_known refl refl tt refl
+  init_typed = typed_in One path (files_of init_tops) [] main_known refl refl tt refl
 
   pub init_is : package_steps an_init ≡ calls (symbol_of an_init (codes "init." ++ decimal 1)) ∷ []
   unfolding function_at
@@ -175,11 +176,11 @@ abbrev pub library_known : Names
 library_known = (codes "F", Some (known_function (record { path = library_path; name = codes "F" }) [] [])) ∷ []
 
 abbrev pub a_library : Package
-a_library = typed library_path library_files [] library_known
+a_library = typed One library_path library_files [] library_known
 
 pub library_typed : IsTypedIn One (package_in One library_path library_files []) library_files [] file_names a_library
 unfolding function_at
-library_typed = typed_in library_path library_files [] library_known refl refl tt refl
+library_typed = typed_in One library_path library_files [] library_known refl refl tt refl
 
 abbrev imports_library : ImportSpec
 imports_library = record { place = here; name = None; path = library_path; path_place = here }
@@ -191,11 +192,11 @@ caller_files = files_with (codes "main") (imports_library ∷ []) (function_with
 
 module _ (path : List ℕ) where
   abbrev pub a_caller : Package
-  a_caller = typed path caller_files (importable_of a_library ∷ []) (main_known path)
+  a_caller = typed One path caller_files (importable_of a_library ∷ []) (main_known path)
 
   pub caller_typed : IsTypedIn One (package_in One path caller_files (importable_of a_library ∷ [])) caller_files (importable_of a_library ∷ []) file_names a_caller
   unfolding function_at exports_of chars general_category value_in general_category_rows
-  caller_typed = typed_in path caller_files (importable_of a_library ∷ []) (main_known path) refl refl tt refl
+  caller_typed = typed_in One path caller_files (importable_of a_library ∷ []) (main_known path) refl refl tt refl
 
   pub caller_calls : map (λ (f : TypedFunction). f.body) a_caller.functions ≡ typed_trees.some_stmts (typed_trees.run [] (symbol_of a_library (codes "F")) typed_trees.no_exprs) typed_trees.no_stmts ∷ []
   unfolding function_at exports_of chars general_category value_in general_category_rows

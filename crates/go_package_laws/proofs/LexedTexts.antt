@@ -21,7 +21,7 @@ pieces_with None text more = []
 pieces_with (Some (shape, size)) text more = record { shape = shape; bytes = take size text } ∷ more (drop size text)
 
 -- at most so many
-abbrev pieces_in : ℕ → List ℕ → List Piece
+abbrev pub pieces_in : ℕ → List ℕ → List Piece
 pieces_in zero text = []
 pieces_in (suc n) text = pieces_with (front text) text (pieces_in n)
 
@@ -50,7 +50,7 @@ row_with more test h begun text (Some (shape, size)) found e =
     let sound = both (shape_fault begun shape (take size text)) (test (has_begun begun shape) (drop size text)) e in
     (drop size text, piece_begins text shape size found, sound.0, h (has_begun begun shape) (drop size text) sound.1)
 
-row_by : (n : ℕ) (begun : Bool) (text : List ℕ) → is_row n begun text ≡ true → IsRow begun (pieces_in n text) text []
+pub row_by : (n : ℕ) (begun : Bool) (text : List ℕ) → is_row n begun text ≡ true → IsRow begun (pieces_in n text) text []
 row_by zero begun [] e = refl
 row_by zero begun (b ∷ bs) e = cc (e)
 row_by (suc n) begun text e = row_with (pieces_in n) (is_row n) (row_by n) begun text (front text) refl e

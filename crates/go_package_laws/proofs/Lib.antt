@@ -25,6 +25,7 @@ pub mod Initial
 pub mod Inits
 pub mod Instances
 pub mod Known
+pub mod LaterEdition
 pub mod Leaves
 pub mod Lefts
 pub mod LexedTexts
@@ -54,6 +55,8 @@ pub mod Shorts
 pub mod Shown
 pub mod Signed
 pub mod Simples
+pub mod SlicedInstance
+pub mod SlicedText
 pub mod Slices
 pub mod Sound
 pub mod Soundness

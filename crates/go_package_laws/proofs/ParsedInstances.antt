@@ -27,7 +27,7 @@ use Rattle.go_package_laws.proofs.Instances.{file_names, library_path, library_k
 use Rattle.go_package_laws.proofs.LexedTexts.{library_text, caller_text}
 use Rattle.go_package_laws.proofs.ParsedTexts.{library_file, library_parses, caller_file, caller_parses}
 
-short_text : (text : List ℕ) → list_all (λ b. nat_lt b 256) text ≡ true → length text ≤ 100 → is_text text ≡ true
+pub short_text : (text : List ℕ) → list_all (λ b. nat_lt b 256) text ≡ true → length text ≤ 100 → is_text text ≡ true
 short_text text bytes short =
     and_from (list_all (λ b. nat_lt b 256) text) (fits (Some integers.Int) (pos (length text))) bytes (lt-ltb (length text) 9223372036854775808 (omega (arith, short)))
 
@@ -37,14 +37,14 @@ abbrev library_files : List File
 library_files = library_file ∷ []
 
 abbrev pub parsed_library : Package
-parsed_library = typed library_path library_files [] library_known
+parsed_library = typed One library_path library_files [] library_known
 
 library_texts : AreOfTexts One library_files
 library_texts = ((library_text, library_parses, short_text library_text refl (let le : 22 ≤ 100 = omega arith in le)), tt)
 
 library_typed : IsTypedIn One (package_in One library_path library_files []) library_files [] file_names parsed_library
 unfolding function_at
-library_typed = typed_in library_path library_files [] library_known refl refl tt refl
+library_typed = typed_in One library_path library_files [] library_known refl refl tt refl
 
 library_ordered : (variable_order parsed_library).1 ≡ []
 unfolding function_at
@@ -75,14 +75,14 @@ abbrev caller_files : List File
 caller_files = caller_file ∷ []
 
 abbrev pub parsed_caller : Package
-parsed_caller = typed caller_path caller_files (importable_of parsed_library ∷ []) (main_known caller_path)
+parsed_caller = typed One caller_path caller_files (importable_of parsed_library ∷ []) (main_known caller_path)
 
 caller_texts : AreOfTexts One caller_files
 caller_texts = ((caller_text, caller_parses, short_text caller_text refl (let le : 46 ≤ 100 = omega arith in le)), tt)
 
 caller_typed : IsTypedIn One (package_in One caller_path caller_files (importable_of parsed_library ∷ [])) caller_files (importable_of parsed_library ∷ []) file_names parsed_caller
 unfolding function_at exports_of chars general_category value_in general_category_rows
-caller_typed = typed_in caller_path caller_files (importable_of parsed_library ∷ []) (main_known caller_path) refl refl tt refl
+caller_typed = typed_in One caller_path caller_files (importable_of parsed_library ∷ []) (main_known caller_path) refl refl tt refl
 
 caller_ordered : (variable_order parsed_caller).1 ≡ []
 unfolding function_at exports_of chars general_category value_in general_category_rows

@@ -20,10 +20,10 @@ at n = record { line = 1; column = suc n }
 abbrev pub name_at : List ℕ → ℕ → Name
 name_at x n = record { text = x; place = at n }
 
-abbrev lexeme_at : TokenKind → List ℕ → ℕ → Lexeme
+abbrev pub lexeme_at : TokenKind → List ℕ → ℕ → Lexeme
 lexeme_at kind text n = record { kind = kind; text = text; place = at n }
 
-differ : (x y : List ℕ) → bytes_eq x y ≡ false → x ≢ y
+pub differ : (x y : List ℕ) → bytes_eq x y ≡ false → x ≢ y
 differ x y other same =
     let no : false ≡ true = sym other ∙ (bytes_eq-Decides x y).1 same in
     cc (no)

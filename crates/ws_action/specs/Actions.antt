@@ -177,6 +177,14 @@ pub record IsSized (a : Action) : Type 0 where
 abbrev pub named_cmp : Named → Named → Ordering
 named_cmp m n = ordering_then (bytes_cmp m.0 n.0) (bytes_cmp m.1 n.1)
 
--- by contents: the edition's number, then the path, then the files and the imports by name and text
+-- imports by the text of the summary, which has the path in it, then by path
+abbrev pub import_cmp : Named → Named → Ordering
+import_cmp m n = ordering_then (bytes_cmp m.1 n.1) (bytes_cmp m.0 n.0)
+
+-- by the files, each by name and text, then by the imports
+abbrev pub contents_cmp : List Named × List Named → List Named × List Named → Ordering
+contents_cmp a b = ordering_then (slice_cmp named_cmp a.0 b.0) (slice_cmp import_cmp a.1 b.1)
+
+-- by contents: the edition's number, then the path, then the files and the imports
 abbrev pub action_cmp : Action → Action → Ordering
-action_cmp a b = ordering_then (nat_cmp (edition_number a.edition) (edition_number b.edition)) (ordering_then (bytes_cmp a.path b.path) (ordering_then (slice_cmp named_cmp a.files b.files) (slice_cmp named_cmp a.imports b.imports)))
+action_cmp a b = ordering_then (nat_cmp (edition_number a.edition) (edition_number b.edition)) (ordering_then (bytes_cmp a.path b.path) (contents_cmp (a.files, a.imports) (b.files, b.imports)))

@@ -238,8 +238,8 @@ impl Action {
         }
     }
 
-    /// By edition, then directory, then the files by name and text, then the imports by path and
-    /// summary text.
+    /// By edition, then directory, then the files by name and text, then the imports by the texts of
+    /// their summaries.
     pub fn cmp_action(&self, other: &Action) -> Ordering
         ensures { result ≡ action_cmp self.now other.now }
     {

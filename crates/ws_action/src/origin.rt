@@ -81,8 +81,8 @@ impl Origin {
         self.imports.as_slice()
     }
 
-    /// By edition, then directory, then the files by name and text, then the imports by path and
-    /// summary text.
+    /// By edition, then directory, then the files by name and text, then the imports by the texts of
+    /// their summaries.
     pub fn cmp_origin(&self, other: &Origin) -> Ordering
         ensures { result ≡ action_cmp self.now other.now }
     {

@@ -5,7 +5,8 @@ ghost use Rattle.std.specs.Ordering.{ordering_then};
 ghost use Rattle.std.specs.List.{All, flat_map};
 ghost use Rattle.std.specs.Cmp.Lexicographic.{slice_cmp};
 ghost use Rattle.sha2.specs.Sha256.{sha256};
-ghost use Rattle.ws_action.specs.Actions.{Named, import_of, ascends, list_text, AreSized, named_cmp};
+ghost use Rattle.std.specs.declared.cmp.Ordering.{Ordering as AnOrdering};
+ghost use Rattle.ws_action.specs.Actions.{Named, import_of, ascends, list_text, AreSized, named_cmp, import_cmp};
 
 use go_ast::parsed::Parsed;
 use go_export::field::{digest, push_field, push_number};
@@ -19,6 +20,9 @@ use std::sync::Arc;
 pub(crate) trait Part {
     ghost named: { Self → Named };
 
+    /// How parts are ordered.
+    ghost order: { Named → Named → AnOrdering };
+
     /// Its name, or its path.
     fn part_name(&self) -> &str
         ensures { result.now ≡ (named self.now).0 };
@@ -30,12 +34,18 @@ pub(crate) trait Part {
     /// The digest of its text.
     fn part_digest(&self) -> [u8; 32]
         ensures { result ≡ sha256 (named self.now).1 };
+
+    /// How it compares with another one: a source by name, then text; a summary by text, then path.
+    fn part_cmp(&self, other: &Self) -> Ordering
+        ensures { result ≡ order (named self.now) (named other.now) };
 }
 
 impl Part for Parsed {
-    ghost use Rattle.ws_action.specs.Actions.{source_of};
+    ghost use Rattle.ws_action.specs.Actions.{source_of, named_cmp};
 
     ghost named = { source_of };
+
+    ghost order = { named_cmp };
 
     fn part_name(&self) -> &str {
         self.name()
@@ -47,14 +57,23 @@ impl Part for Parsed {
 
     fn part_digest(&self) -> [u8; 32] {
         digest(self.text().as_str().as_bytes())
+    }
+
+    fn part_cmp(&self, other: &Self) -> Ordering {
+        match self.part_name().cmp(other.part_name()) {
+            Ordering::Equal => self.part_text().cmp(other.part_text()),
+            unequal => unequal,
+        }
     }
 }
 
 impl Part for Arc<Source> {
     ghost use Rattle.std.specs.Arc.{arc_value};
-    ghost use Rattle.ws_action.specs.Actions.{named_source};
+    ghost use Rattle.ws_action.specs.Actions.{named_source, named_cmp};
 
     ghost named = { λ s. named_source (arc_value s) };
+
+    ghost order = { named_cmp };
 
     fn part_name(&self) -> &str {
         self.name()
@@ -67,13 +86,22 @@ impl Part for Arc<Source> {
     fn part_digest(&self) -> [u8; 32] {
         digest(self.text().as_str().as_bytes())
     }
+
+    fn part_cmp(&self, other: &Self) -> Ordering {
+        match self.part_name().cmp(other.part_name()) {
+            Ordering::Equal => self.part_text().cmp(other.part_text()),
+            unequal => unequal,
+        }
+    }
 }
 
 impl Part for Arc<Summary> {
     ghost use Rattle.std.specs.Arc.{arc_value};
-    ghost use Rattle.ws_action.specs.Actions.{import_of};
+    ghost use Rattle.ws_action.specs.Actions.{import_of, import_cmp};
 
     ghost named = { λ s. import_of (arc_value s) };
+
+    ghost order = { import_cmp };
 
     fn part_name(&self) -> &str {
         self.path()
@@ -85,6 +113,13 @@ impl Part for Arc<Summary> {
 
     fn part_digest(&self) -> [u8; 32] {
         self.digest()
+    }
+
+    fn part_cmp(&self, other: &Self) -> Ordering {
+        match self.part_text().cmp(other.part_text()) {
+            Ordering::Equal => self.part_name().cmp(other.part_name()),
+            unequal => unequal,
+        }
     }
 }
 
@@ -127,25 +162,15 @@ pub(crate) fn push_parts<P: Part>(text: &mut Vec<u8>, parts: &[P]) -> Result<(),
     Ok(())
 }
 
-/// By name, then text.
-fn cmp_part<P: Part>(part: &P, other: &P) -> Ordering
-    ensures { result ≡ named_cmp (P.named part.now) (P.named other.now) }
-{
-    match part.part_name().cmp(other.part_name()) {
-        Ordering::Equal => part.part_text().cmp(other.part_text()),
-        unequal => unequal,
-    }
-}
-
-/// As lists, each by name and text.
+/// As lists of parts.
 pub(crate) fn cmp_parts<P: Part>(parts: &[P], others: &[P]) -> Ordering
-    ensures { result ≡ slice_cmp named_cmp (map P.named parts.now) (map P.named others.now) }
+    ensures { result ≡ slice_cmp P.order (map P.named parts.now) (map P.named others.now) }
 {
     for (i, part) in parts.iter().enumerate() {
         let Some(other) = others.get(i) else {
             return Ordering::Greater;
         };
-        match cmp_part(part, other) {
+        match part.part_cmp(other) {
             Ordering::Equal => {}
             unequal => return unequal,
         }
@@ -164,7 +189,7 @@ pub(crate) fn cmp_lists<P: Part>(
     imports: &[Arc<Summary>],
     other_imports: &[Arc<Summary>],
 ) -> Ordering
-    ensures { result ≡ ordering_then (slice_cmp named_cmp (map P.named files.now) (map P.named other_files.now)) (slice_cmp named_cmp (map import_of (map arc_value imports.now)) (map import_of (map arc_value other_imports.now))) }
+    ensures { result ≡ ordering_then (slice_cmp P.order (map P.named files.now) (map P.named other_files.now)) (slice_cmp import_cmp (map import_of (map arc_value imports.now)) (map import_of (map arc_value other_imports.now))) }
 {
     match cmp_parts(files, other_files) {
         Ordering::Equal => cmp_parts(imports, other_imports),

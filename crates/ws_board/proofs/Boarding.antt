@@ -9,8 +9,8 @@ use Rattle.ws_board.specs.declared.work.Event.{Event}
 use Rattle.ws_board.specs.declared.work.Status.TheVariants.{Running}
 use Rattle.ws_board.specs.declared.table.Row.{Row}
 use Rattle.ws_board.specs.declared.rows.Rows.{Rows}
-use Rattle.ws_board.specs.declared.moves.Change.{Change}
-use Rattle.ws_board.specs.declared.moves.Moves.{Moves}
+use Rattle.ws_board.specs.declared.rows.moves.Change.{Change}
+use Rattle.ws_board.specs.declared.rows.moves.Moves.{Moves}
 use Rattle.ws_board.specs.Work.{Job, Entries, Standings, Seen}
 use Rattle.ws_board.specs.Machine.{is_running, status_at, is_back_of, IsRunBy, IsHistory}
 use Rattle.ws_board.specs.Rows.{owed, is_back, import_count, undone, AreWritten, IsUndone, AreCarriedBy, Waits, KnowsBacks, IsPaid, IsBounded}

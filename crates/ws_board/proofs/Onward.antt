@@ -11,7 +11,7 @@ use Rattle.ws_action.specs.Actions.{Action}
 use Rattle.ws_board.specs.declared.work.Status.TheVariants.{Waiting}
 use Rattle.ws_board.specs.declared.table.Row.{Row}
 use Rattle.ws_board.specs.declared.rows.Rows.{Rows}
-use Rattle.ws_board.specs.declared.moves.Moves.{Moves}
+use Rattle.ws_board.specs.declared.rows.moves.Moves.{Moves}
 use Rattle.ws_board.specs.Work.{Work, Job, Standings}
 use Rattle.ws_board.specs.Machine.{Held, Carried, is_open, is_waiting, is_ready, is_running, status_at, action_at, has_action_id, any_open, Stands, Wait, IsVerdict}
 use Rattle.ws_board.specs.Carrying.{IsUnder}

@@ -4,7 +4,7 @@ use Rattle.std.proofs.lemmas.List.{set-get_or}
 use Rattle.std.proofs.lemmas.List.Elements.{All-pop}
 use Rattle.std.proofs.Math.ListN.{set}
 use Rattle.ws_board.specs.declared.table.Row.{Row}
-use Rattle.ws_board.specs.declared.moves.Change.{Change}
+use Rattle.ws_board.specs.declared.rows.moves.Change.{Change}
 use Rattle.ws_board.specs.Rows.{undone, AreWritten}
 use Rattle.ws_board.specs.Table.{blank, row_at}
 

@@ -12,8 +12,8 @@ use Rattle.ws_board.specs.declared.table.Row.{Row}
 use Rattle.ws_board.specs.declared.rows.Rows.{Rows}
 use Rattle.ws_board.specs.declared.ending.Parts.{Parts}
 use Rattle.ws_board.specs.declared.index.Ready.{Ready as AReady}
-use Rattle.ws_board.specs.declared.moves.Change.{Change}
-use Rattle.ws_board.specs.declared.moves.Moves.{Moves}
+use Rattle.ws_board.specs.declared.rows.moves.Change.{Change}
+use Rattle.ws_board.specs.declared.rows.moves.Moves.{Moves}
 use Rattle.ws_board.specs.Work.{Work, Job, Standings, Entries, Seen}
 use Rattle.ws_board.specs.Machine.{Held, HasSummary, MayForm, IsFormed, Stands, is_waiting, is_open, is_running, is_ready, is_active, has_action_id, is_back_of, IsHistory}
 use Rattle.ws_board.specs.Carrying.{IsUnder}

@@ -22,8 +22,7 @@ ghost use Rattle.ws_board.specs.Rows.{times, is_active_of, due, charged_for, cha
 ghost use Rattle.ws_board.specs.Table.{row_at, standings_of};
 
 use crate::index::Ready;
-use crate::moves::Moves;
-use crate::rows::Rows;
+use crate::rows::{Moves, Rows};
 use crate::table::Row;
 use crate::work::{Identified, Status, Work};
 use go_export::summary::Summary;

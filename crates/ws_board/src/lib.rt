@@ -20,8 +20,7 @@ use carrying::{Holds, carry_all, is_good};
 use ending::Parts;
 pub use ending::{Built, Stopped};
 use index::Index;
-use moves::Moves;
-use rows::Rows;
+use rows::{Moves, Rows};
 use std::alloc::{AllocError, Global};
 use std::marker::Model;
 use steps::{finish_rows, given};
@@ -32,7 +31,6 @@ mod carrying;
 mod ending;
 mod flags;
 mod index;
-mod moves;
 mod rows;
 mod steps;
 mod table;
@@ -223,6 +221,7 @@ impl Board {
     /// The task is given back, if the hand runs it, and the answer is whether it does. Where it
     /// doesn't, the task is spent and nothing changes.
     pub fn try_back(&mut self, hand: &Hand, task: Task) -> bool
+        ensures is { IsTrue result ↔ IsRunWith self.old.state.standings hand.now task.job (action_id task.action) }
         ensures back { OnTrue result (Happens self.old (event.Back hand.now task.job) self.new) }
         ensures still { OnFalse result (self.new ≡ self.old) }
     {

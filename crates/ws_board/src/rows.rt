@@ -8,8 +8,11 @@ ghost use Rattle.ws_board.specs.Table.{row_at, standings_of, given_to, given_bac
 
 use crate::table::{Row, Table};
 use crate::work::{Job, Status, Work};
+pub(super) use moves::Moves;
 use std::alloc::{AllocError, Global};
 use std::marker::Model;
+
+mod moves;
 
 /// Numbers of jobs.
 #[derive(Drop)]
@@ -250,8 +253,9 @@ impl Rows {
         self.rows.open()
     }
 
-    /// Writes the row of a job. What stood there goes to whoever puts it back, and is read by nobody.
-    pub(super) fn put(&mut self, k: usize, row: Row) -> Row
+    // Writes the row of a job. Only `Moves` can call it, and keeps what stood there until that is put
+    // back: nobody reads a row without a count.
+    fn put(&mut self, k: usize, row: Row) -> Row
         requires { k < length self.old.rows }
         ensures rows { self.new.rows ≡ slice_set self.old.rows k row }
         ensures was { result ≡ row_at self.old.rows k }

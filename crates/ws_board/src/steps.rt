@@ -8,8 +8,7 @@ ghost use Rattle.ws_board.specs.Indexes.{jobs_in, IsSameBut};
 
 use crate::carrying::{Holds, carry, mark};
 use crate::index::Index;
-use crate::moves::Moves;
-use crate::rows::Rows;
+use crate::rows::{Moves, Rows};
 use crate::work::Task;
 use std::alloc::{AllocError, Global};
 

@@ -261,7 +261,7 @@ module _ (edition : Edition) (W : List Write) (paths : HasFiles W) (target : Lis
     pub some_image : (image : Image) → link_refusal (in_order objects (package_order rows)) ≡ None → image ≡ linked (in_order objects (package_order rows)) → IsImageOf edition E build (Some image)
     some_image image allowed is =
         let ps = ordered in
-        (ps.0, record { good = all_good; compiled = all_compiled; in_order = ps.1; program = linked_program ps.0 (ap link_refusal (sym ps.2) ∙ allowed) }, is ∙ ap linked ps.2)
+        (ps.0, record { good = all_good; compiled = all_compiled; in_order = ps.1; program = linked_program ps.0 (ap link_refusal (sym ps.2) ∙ allowed) }, (objects, package_order rows, ps.2, (allowed, is)))
 
     pub refused_image : (e : LinkError) → link_refusal (in_order objects (package_order rows)) ≡ Some e → IsImageOf edition E build None
     refused_image e refused packages h =

@@ -9,3 +9,4 @@ pub mod Parts
 pub mod Opened
 pub mod Targets
 pub mod Plans
+pub mod GoodPackages

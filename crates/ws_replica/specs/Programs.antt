@@ -6,9 +6,9 @@ use Rattle.go_code.specs.Images.{Image}
 use Rattle.go_typed.specs.Trees.{Package}
 use Rattle.go_meaning.specs.Programs.{IsProgram}
 use Rattle.go_init.specs.Packages.{package_order}
-use Rattle.go_gen.specs.Translation.{object_of}
-use Rattle.go_link.specs.Links.{linked}
+use Rattle.go_translation_laws.specs.Programs.{IsLinked}
 use Rattle.ws_version.specs.Writes.{Write}
+use Rattle.ws_register.specs.Sources.{IsSources}
 use Rattle.ws_action.specs.Actions.{Action}
 use Rattle.ws_action.specs.Clash.{NoClash, hashed_actions}
 use Rattle.ws_replica.specs.Reports.{Fate, Good, ArePackages, actions_of, TargetBuild, IsTargetBuild}
@@ -32,14 +32,22 @@ abbrev pub IsPlannedProgram : Edition → List Action → Option TargetBuild →
 IsPlannedProgram edition held None packages = ⊥
 IsPlannedProgram edition held (Some build) packages = IsHeldProgram edition held build packages
 
--- the linked objects of the program's packages, and none where there is no program
+-- the image that the objects of the program's packages are linked to, and none where there is no program
 abbrev pub IsImageOf : Edition → List Action → TargetBuild → Option Image → Type 0
 IsImageOf edition held build None = (packages : List Package) → ¬ (IsHeldProgram edition held build packages)
 IsImageOf edition held build (Some image) =
-    (packages : List Package) × IsHeldProgram edition held build packages × (image ≡ linked (map object_of packages))
+    (packages : List Package) × IsHeldProgram edition held build packages × IsLinked packages image
 
 -- What is known of the image of a target: what becomes of its directories, and, where no two hashed texts clash, that this is the image.
 pub record IsImage (edition : Edition) (W : List Write) (E : List Action) (target : List ℕ) (image : Option Image) : Type 0 where
   pub build : TargetBuild
   pub are : IsTargetBuild edition W target (Some build)
   pub right : NoClash (hashed_actions (E ++ actions_of edition build)) → IsImageOf edition E build image
+
+-- what a replica with these sources gives as the image of a target, where no two hashed texts clash
+pub record IsImageOfSources (edition : Edition) (sources : List (List ℕ × List ℕ)) (target : List ℕ) (image : Image) : Type 0 where
+  pub writes : List Write
+  pub held : List Action
+  pub of_writes : IsSources writes sources
+  pub given : IsImage edition writes held target (Some image)
+  pub clear : NoClash (hashed_actions (held ++ actions_of edition given.build))

@@ -62,6 +62,7 @@ use ws_version_vector::News;
 mod acted;
 mod building;
 pub mod join;
+pub mod law;
 mod linking;
 mod opened;
 mod openings;

@@ -2,9 +2,9 @@
 use Rattle.std.proofs.Common.{◌≡◌, ℕ, true, false, List, [], ◌∷◌, ◌++◌, map, length, get_or, None, Some, refl, sym, ap, subst, ◌∙◌, inl, inr, arith}
 use Rattle.std.specs.List.{slice_get}
 use Rattle.std.proofs.lemmas.List.{append-nil}
+use Rattle.std.proofs.lemmas.List.Elements.{Contains-push_cases}
 use Rattle.go_text.specs.declared.edition.Edition.{Edition}
 use Rattle.ws_action.specs.Actions.{Action}
-use Rattle.ws_action.proofs.Members.{none_in_empty, head_or_later}
 use Rattle.ws_action.specs.Clash.{NoClash, AllSized, hashed_actions}
 use Rattle.ws_report.specs.Reports.{Verdict, rows}
 use Rattle.ws_report.specs.declared.Report.{Report}
@@ -28,9 +28,9 @@ sole edition files directory (b ∷ c ∷ bs) are = absurd are.1
 
 -- what lacks package files is the only target
 pub no_files : (edition : Edition) (files : Files) (directory : List ℕ) → LacksPackage edition (took_of files) (target_at directory) → HasNoFiles edition files directory
-no_files edition files directory (k, d, among, none) = elim (head_or_later {A = ℕ × List ℕ} (0, directory) [] (k, d) among) [
-  | inl same ↦ subst (λ (t : ℕ × List ℕ). IsTargetBuild edition (took_at (took_of files) t.0).writes t.1 None) (sym same) none
-  | inr rest ↦ absurd (none_in_empty {A = ℕ × List ℕ} (k, d) rest)
+no_files edition files directory (k, d, among, none) = elim (Contains-push_cases {X = ℕ × List ℕ} [] (0, directory) (k, d) among) [
+  | inl lost ↦ absurd (omega (arith, lost.1))
+  | inr same ↦ subst (λ (t : ℕ × List ℕ). IsTargetBuild edition (took_at (took_of files) t.0).writes t.1 None) (sym same) none
 ]
 
 sole_report : (reports : List Report) (its : Rows) → map rows_in reports ≡ its ∷ [] → (report : Report) × (reports ≡ report ∷ []) × (rows_in report ≡ its)

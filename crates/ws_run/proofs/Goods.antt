@@ -5,13 +5,20 @@ use Rattle.std.specs.Global.{Global}
 use Rattle.std.specs.List.{All, AllZip, list_all}
 use Rattle.std.proofs.lemmas.List.Elements.{All-nil, All-cons, All-head, All-tail}
 use Rattle.std.proofs.lemmas.Bool.{and_from}
-use Rattle.ws_replica.proofs.Numbered.{and_left, and_right}
 use Rattle.ws_graph.specs.BuildPlan.{Directory}
 use Rattle.ws_report.specs.Reports.{Verdict, seen, is_good, row, rows}
 use Rattle.ws_report.specs.declared.Verdict.{Verdict as RustVerdict}
 use Rattle.ws_report.specs.declared.Verdict.TheVariants as rust
 use Rattle.ws_replica.specs.Programs.{IsGood}
 use Rattle.ws_replica.specs.Reports.{Fate, Stopped, Blocked, Wrong, Good, IsFate, told_of}
+
+first_of_both : (a b : Bool) → (a && b) ≡ true → a ≡ true
+first_of_both true b e = refl
+first_of_both false b e = cc (e)
+
+second_of_both : (a b : Bool) → (a && b) ≡ true → b ≡ true
+second_of_both true b e = e
+second_of_both false b e = cc (e)
 
 abbrev pub Row : Type 0
 Row = String Global × RustVerdict
@@ -56,7 +63,7 @@ module _ (fs : List Fate) where
   good_fates (d ∷ ds) (f ∷ fates) (r ∷ rs) are e g =
       let here : seen r.1 ≡ told_of f = verdict_is r d f (rows rs) (map told_row (zip ds fates)) e in
       let rest : rows rs ≡ map told_row (zip ds fates) = tail_is (row r) (told_row (d, f)) (rows rs) (map told_row (zip ds fates)) e in
-      All-cons IsGood f fates (good_fate r.1 f here (and_left (good_row r) (list_all good_row rs) g)) (good_fates ds fates rs are.1 rest (and_right (good_row r) (list_all good_row rs) g))
+      All-cons IsGood f fates (good_fate r.1 f here (first_of_both (good_row r) (list_all good_row rs) g)) (good_fates ds fates rs are.1 rest (second_of_both (good_row r) (list_all good_row rs) g))
 
   pub good_rows : (ds : List Directory) (fates : List Fate) (rs : List Row) → AllZip (IsFate fs) ds fates → rows rs ≡ map told_row (zip ds fates) → All IsGood fates → list_all good_row rs ≡ true
   good_rows ds fates [] are e g = refl

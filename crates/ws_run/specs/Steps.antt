@@ -1,13 +1,11 @@
 -- The steps from files to an answer.
-use Rattle.std.specs.Prelude.{Vec, ◌≡◌, ℕ, Bool, List, [], ◌∷◌, ◌++◌, map, Option, Some, None}
+use Rattle.std.specs.Prelude.{Vec, ◌≡◌, ℕ, Bool, List, [], ◌∷◌, ◌++◌, Option, Some, None}
 use Rattle.std.specs.List.{All, list_all}
 use Rattle.std.specs.Global.{Global}
 use Rattle.go_text.specs.declared.edition.Edition.{Edition}
 use Rattle.go_code.specs.Images.{Image}
 use Rattle.go_typed.specs.Trees.{Package}
-use Rattle.go_gen.specs.Translation.{object_of}
-use Rattle.go_link.specs.Links.{linked}
-use Rattle.go_meaning.specs.Programs.{IsProgram}
+use Rattle.go_translation_laws.specs.Programs.{IsLinked}
 use Rattle.go_vm.specs.Outcomes.{Outcome}
 use Rattle.ws_register.specs.Sources.{HasFiles}
 use Rattle.ws_action.specs.Clash.{NoClash, AllSized, hashed_actions}
@@ -57,8 +55,7 @@ pub record IsProgramImage (edition : Edition) (files : Files) (directory : List 
   pub good : All IsGood build.fates
   pub packages : List Package
   pub in_order : IsPackageOrder build packages
-  pub program : IsProgram packages
-  pub image_is : image ≡ linked (map object_of packages)
+  pub linked : IsLinked packages image
 
 -- or they are none
 abbrev pub HasImage : Edition → Files → List ℕ → Option Image → Type 0

@@ -17,7 +17,8 @@ use std::alloc::{AllocError, Global};
 use std::sync::Wait;
 use std::thread::Threads;
 use ws_path::FilePath;
-use ws_replica::{BuildError, Plain, Replica, Target, build, image};
+use ws_replica::law::law_held_program_means_its_sources;
+use ws_replica::{BuildError, Plain, Replica, Target, build, image, law_one_build};
 use ws_report::{Report, Verdict};
 use ws_version::{Held, Version, Write};
 
@@ -100,6 +101,7 @@ fn image_of<R: Threads + Sync>(
     ensures { (files : Files) → HoldsProgram edition files directory.now replica.now → IfOk result (λ image. HasImage edition files directory.now image) }
 {
     replica.see_files();
+    law_one_build();
     match image(rt, alloc, replica, directory, edition) {
         Ok(image) => Ok(image),
         // Nothing is built of a directory without files.
@@ -112,6 +114,7 @@ fn image_of<R: Threads + Sync>(
 fn ran(alloc: Global, image: &Image, ticks: u64) -> Result<Option<Outcome>, AllocError>
     ensures { (edition : AnEdition) (files : Files) (directory : List ℕ) → IsProgramImage edition files directory image.now → IfOk result (λ outcome. ComesTo edition files directory ticks outcome) }
 {
+    law_held_program_means_its_sources();
     match run(alloc, image, ticks) {
         Ok(outcome) => Ok(Some(outcome)),
         // A program's code makes sense, but where texts clash it is no program's.

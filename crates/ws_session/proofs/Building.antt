@@ -1,7 +1,7 @@
 -- What builds make of the replicas of a session, and what of those of the world.
 use Rattle.std.proofs.Common.{◌≡◌, ◌<◌, ℕ, zero, suc, List, [], ◌∷◌, ◌++◌, map, length, get_or, Option, None, Some, true, false, Bool, ◌||◌, refl, sym, ap, ◌∙◌, cond, subst, append-nil, inl, inr, arith}
 use Rattle.std.specs.Prelude.{◌==◌, if◌then◌else◌}
-use Rattle.std.specs.Option.{option_map, option_to_list}
+use Rattle.std.specs.Option.{option_map}
 use Rattle.std.specs.List.{All, AllZip, Contains, flat_map, list_any, slice_get}
 use Rattle.std.specs.Str.{bytes_eq}
 use Rattle.std.proofs.lemmas.Bool.{eq-eqb, eqb-true}
@@ -227,12 +227,7 @@ all_held_in world (a ∷ asked) s c =
 
 grown_more : (b : Bool) (r : Replica) (actions : List Action) (s : List ℕ) → Contains (texts_of_replica r) s → Contains (texts_of_replica (if b then grown r [] actions else r)) s
 grown_more false r actions s c = c
-grown_more true r actions s c =
-    let files : List (List ℕ) = flat_map (λ w. option_to_list w.1.text) (r.writes ++ []) in
-    elim (Contains-append_cases (flat_map (λ w. option_to_list w.1.text) r.writes) (hashed_actions r.actions) s c) [
-      | inl l ↦ Contains-append_left files (hashed_actions (r.actions ++ actions)) s (subst (λ W. Contains (flat_map (λ w. option_to_list w.1.text) W) s) (sym (append-nil r.writes)) l)
-      | inr rest ↦ Contains-append_right files (hashed_actions (r.actions ++ actions)) s (hashed_more r.actions actions s rest)
-    ]
+grown_more true r actions s c = hashed_more r.actions actions s c
 
 shared_more : (test : Replica → Bool) (actions : List Action) (rs : List Replica) (s : List ℕ) → Contains (flat_map texts_of_replica rs) s → Contains (flat_map texts_of_replica (map (λ r. if test r then grown r [] actions else r) rs)) s
 shared_more test actions [] s c = c

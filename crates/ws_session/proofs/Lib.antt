@@ -17,6 +17,7 @@ pub mod Paths
 pub mod Programs
 pub mod RunTelling
 pub mod Runs
+pub mod SameAnswers
 pub mod Settled
 pub mod Settling
 pub mod Showing
@@ -25,5 +26,6 @@ pub mod Standings
 pub mod Taken
 pub mod Telling
 pub mod Tested
+pub mod Unbuilt
 pub mod Utf8
 pub mod Writing

@@ -87,7 +87,7 @@ one_listed world name directory None a b is g h = g ∙ sym h
 one_listed world name directory (Some build) a b is g h =
     g.2 ∙ ap (ids_text name directory) (one_id_rows world.edition (writes_of name world) directory (actions_held name world) build g.0 h.0 is g.1 h.1) ∙ sym h.2
 
-one_answer : (command : Command) (world : World) (a b : List ℕ) → Answers command world a → Answers command world b → a ≡ b
+pub one_answer : (command : Command) (world : World) (a b : List ℕ) → Answers command world a → Answers command world b → a ≡ b
 one_answer (Build targets) world a b g h = g.2 ∙ ap (builds_text world targets) (one_builds world targets g.0 h.0 g.1 h.1) ∙ sym h.2
 one_answer (Run name directory ticks) world a b g h =
     let same : h.0 ≡ g.0 = one_build world.edition (writes_of name world) directory h.0 g.0 h.1 g.1 in

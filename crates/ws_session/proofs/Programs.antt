@@ -1,17 +1,13 @@
 -- Whether what a target reaches is a program that is held compiled is decided, and it is one, which means something.
-use Rattle.std.proofs.Common.{◌≡◌, ◌⊎◌, ℕ, List, [], ◌∷◌, map, Option, None, Some, Bool, true, false, refl, sym, ap, ◌∙◌, inl, inr}
+use Rattle.std.proofs.Common.{◌≡◌, ◌⊎◌, ℕ, List, [], ◌∷◌, map, Option, None, Some, Bool, true, false, refl, sym, subst, ◌∙◌, inl, inr}
+use Rattle.std.specs.Prelude.{codes, is_some}
 use Rattle.std.specs.List.{All, Contains}
+use Rattle.std.specs.Str.{bytes_eq}
 use Rattle.std.proofs.lemmas.List.Elements.{All-nil, All-cons, All-head, All-tail}
+use Rattle.std.proofs.lemmas.Slice.Eq.{bytes_eq-Decides}
 use Rattle.go_text.specs.declared.edition.Edition.{Edition}
-use Rattle.go_code.specs.declared.ending.Ending.{Ending}
-use Rattle.go_gen.specs.Translation.{object_of}
 use Rattle.go_init.specs.Packages.{package_order}
-use Rattle.go_link.specs.Links.{link_refusal}
-use Rattle.go_link.specs.declared.link.LinkError.{LinkError}
-use Rattle.go_meaning.specs.Programs.{SourceMeaning}
-use Rattle.go_translation_laws.proofs.Refusals.{linked_program}
-use Rattle.go_meaning_laws.proofs.Programs.{means}
-use Rattle.go_meaning_laws.specs.WellTyped.{IsWellTyped}
+use Rattle.go_meaning.specs.Programs.{HasMain, IsProgram, function_named, last_package}
 use Rattle.go_typed.specs.Trees.{Package}
 use Rattle.ws_version.specs.Writes.{Write}
 use Rattle.ws_register.specs.Sources.{HasFiles}
@@ -19,10 +15,10 @@ use Rattle.ws_action.specs.Actions.{Action}
 use Rattle.ws_action.proofs.Members.{none_in_empty, head_or_later, later, at_head}
 use Rattle.ws_cache.proofs.Laws.{same_action, same_action-Decides}
 use Rattle.ws_replica.specs.Reports.{Fate, ArePackages, actions_of, TargetBuild, IsTargetBuild}
+use Rattle.ws_replica.specs.GoodPackages.{AreGoodPackages}
 use Rattle.ws_replica.specs.Programs.{IsGood, IsHeldProgram}
 use Rattle.ws_replica.proofs.OneBuild.{one_packages, agree_refl}
 use Rattle.ws_replica.proofs.SomeBuild.{good_or_not, some_packages}
-use Rattle.ws_replica.proofs.WellTyped.{always_linked, well_typed}
 
 -- ---- what holds of all of a list, or not
 
@@ -55,16 +51,28 @@ one_program edition held build a b g h =
     let order = package_order (map (λ d. d.imports) build.directories) in
     one_packages build.fates build.fates order a b (agree_refl build.fates order) g.in_order h.in_order
 
+-- whether packages are a program is decided
+named_by : (p : Package) (named has_main : Bool) → bytes_eq p.name (codes "main") ≡ named → is_some (function_named (codes "main") p.functions) ≡ has_main → HasMain (Some p) ⊎ (HasMain (Some p) → ⊥)
+named_by p true true named has = inl ((bytes_eq-Decides p.name (codes "main")).0 named, has)
+named_by p true false named has = inr (λ h. (let wrong : true ≡ false = sym h.1 ∙ has in cc (wrong)))
+named_by p false has_main named has = inr (λ h. (let wrong : true ≡ false = sym ((bytes_eq-Decides p.name (codes "main")).1 h.0) ∙ named in cc (wrong)))
+
+main_decided : (o : Option Package) → HasMain o ⊎ (HasMain o → ⊥)
+main_decided None = inr (λ h. h)
+main_decided (Some p) = named_by p (bytes_eq p.name (codes "main")) (is_some (function_named (codes "main") p.functions)) refl refl
+
 module _ (edition : Edition) (W : List Write) (files : HasFiles W) (target : List ℕ) (held : List Action) (build : TargetBuild) (are : IsTargetBuild edition W target (Some build)) where
-  pub program_well : (packages : List Package) → IsHeldProgram edition held build packages → IsWellTyped packages
-  program_well packages h = well_typed edition W files target build are.0 are.1 h.good packages h.in_order h.program
-
-  pub program_linked : (packages : List Package) → IsHeldProgram edition held build packages → link_refusal (map object_of packages) ≡ None
-  program_linked packages h = always_linked edition W files target build are.0 are.1 packages h.in_order h.program
-
-  -- a program has a meaning
-  pub some_meaning : (packages : List Package) → IsHeldProgram edition held build packages → (ticks : ℕ) → (ending : Ending) × (output : List ℕ) × SourceMeaning packages ticks ending output
-  some_meaning packages h ticks = means packages (program_well packages h) ticks h.program
+  pub held_good : (packages : List Package) → IsHeldProgram edition held build packages → AreGoodPackages packages
+  held_good packages h = record {
+    edition = edition;
+    writes = W;
+    files = files;
+    target = target;
+    build = build;
+    are = are;
+    good = h.good;
+    in_order = h.in_order;
+  }
 
   abbrev pub Decided : Type 0
   Decided = ((packages : List Package) × IsHeldProgram edition held build packages) ⊎ ((packages : List Package) → IsHeldProgram edition held build packages → ⊥)
@@ -72,13 +80,11 @@ module _ (edition : Edition) (W : List Write) (files : HasFiles W) (target : Lis
   abbrev order : List ℕ
   order = package_order (map (λ d. d.imports) build.directories)
 
-  by_link : All IsGood build.fates → All (Contains held) (actions_of edition build) → (packages : List Package) → ArePackages build.fates order packages → (o : Option LinkError) → link_refusal (map object_of packages) ≡ o → Decided
-  by_link all compiled packages in_order None e = inl (packages, record { good = all; compiled = compiled; in_order = in_order; program = linked_program packages e })
-  by_link all compiled packages in_order (Some error) e = inr (λ others h.
+  by_main : All IsGood build.fates → All (Contains held) (actions_of edition build) → (packages : List Package) → ArePackages build.fates order packages → IsProgram packages ⊎ (IsProgram packages → ⊥) → Decided
+  by_main all compiled packages in_order (inl program) = inl (packages, record { good = all; compiled = compiled; in_order = in_order; program = program })
+  by_main all compiled packages in_order (inr no_program) = inr (λ others h.
       let same : others ≡ packages = one_packages build.fates build.fates order others packages (agree_refl build.fates order) h.in_order in_order in
-      let linked : link_refusal (map object_of others) ≡ None = program_linked others h in
-      let wrong : None ≡ Some error = sym linked ∙ ap (λ (ps : List Package). link_refusal (map object_of ps)) same ∙ e in
-      absurd (cc (wrong)))
+      no_program (subst IsProgram same h.program))
 
   pub program_decided : Decided
   program_decided = elim (each IsGood good build.fates) [
@@ -87,7 +93,7 @@ module _ (edition : Edition) (W : List Write) (files : HasFiles W) (target : Lis
       | inr lacks ↦ inr (λ packages h. lacks h.compiled)
       | inl compiled ↦ elim (some_packages build.fates order) [
         | inr none ↦ inr (λ packages h. none packages h.in_order)
-        | inl (packages, in_order) ↦ by_link all compiled packages in_order (link_refusal (map object_of packages)) refl
+        | inl (packages, in_order) ↦ by_main all compiled packages in_order (main_decided (last_package packages))
       ]
     ]
   ]

@@ -1,7 +1,6 @@
 -- What a run tells of the replicas of a session, and of those of the world.
 use Rattle.std.proofs.Common.{◌≡◌, ℕ, List, [], ◌∷◌, Option, None, Some, true, false, Bool, cond, refl, sym, ap, subst, inl, inr}
 use Rattle.std.specs.List.{flat_map, Contains}
-use Rattle.std.specs.Option.{option_to_list}
 use Rattle.std.specs.Str.{bytes_eq, is_utf8}
 use Rattle.std.proofs.lemmas.List.Elements.{Contains-append_left, Contains-append_right}
 use Rattle.go_text.specs.declared.edition.Edition.{Edition}
@@ -40,7 +39,7 @@ among name [] r e = cc
 among name (q ∷ rs) r e = among_by name q rs r (bytes_eq q.name name) e (among name rs r)
 
 pub held_among : (name : List ℕ) (rs : List Replica) (r : Replica) → replica_at name rs ≡ Some r → (s : List ℕ) → Contains (hashed_actions r.actions) s → Contains (flat_map texts_of_replica rs) s
-held_among name rs r e s c = among name rs r e s (Contains-append_right (flat_map (λ w. option_to_list w.1.text) r.writes) (hashed_actions r.actions) s c)
+held_among name rs r e s c = among name rs r e s c
 
 ran_of : (world : World) (name directory : List ℕ) (ticks : ℕ) (build : TargetBuild) (outcome : Option Outcome) (told : List ℕ) → IsOutcome world.edition ticks (actions_held name world) build outcome → told ≡ printed name directory outcome
     → Ran name directory ticks world (Some build) told

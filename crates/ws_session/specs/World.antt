@@ -1,7 +1,7 @@
 -- The world of a session: replicas, each a set of writes and a set of actions.
 use Rattle.std.specs.Prelude.{◌≡◌, ℕ, ◌⊎◌, ◌+◌, ◌==◌, ◌&&◌, ◌||◌, not, nat_lt, Bool, true, false, cond, if◌then◌else◌, List, [], ◌∷◌, ◌++◌, length, map, zip, Option, None, Some, is_some, is_none}
 use Rattle.std.specs.List.{AllZip, Contains, flat_map, list_all, list_any}
-use Rattle.std.specs.Option.{option_map, option_to_list, unwrap_or}
+use Rattle.std.specs.Option.{option_map, unwrap_or}
 use Rattle.std.specs.Str.{bytes_eq, is_utf8}
 use Rattle.go_text.specs.declared.edition.Edition.{Edition}
 use Rattle.go_text.specs.Texts.{text_error}
@@ -221,8 +221,9 @@ unfoldable pub Prints : Command → Option (List ℕ) → World → List ℕ →
 Prints command text world told = PrintsBy (first_of (refusals command text world)) command world told
 
 abbrev pub texts_of_replica : Replica → List (List ℕ)
-texts_of_replica r = flat_map (λ w. option_to_list w.1.text) r.writes ++ hashed_actions r.actions
+texts_of_replica r = hashed_actions r.actions
 
--- The texts that are hashed: of the files written and compiled, and of the actions, also of those that builds, runs and ids looked for.
+-- The texts that are hashed: of actions, of their files and of their imports' summaries, for the actions that are held and those that
+-- builds, runs and ids looked for.
 unfoldable pub hashed : World → List (List ℕ)
 hashed world = flat_map texts_of_replica world.replicas ++ hashed_actions world.sought

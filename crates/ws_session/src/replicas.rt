@@ -31,6 +31,7 @@ use ws_command::printing::{ids_lines, report_lines, run_lines, show_lines};
 use ws_command::refusal::{Refusal, refused};
 use ws_path::{FilePath, file_name, is_path};
 use ws_register::EditError;
+use ws_replica::law::law_held_program_means_its_sources;
 use ws_replica::{BuildError, Gate, Replica, Target, build_over, ids, image};
 use ws_report::{IdLine, Report};
 use ws_version::{Held, Version};
@@ -446,6 +447,7 @@ fn run_at<R: Threads + Sync>(
 {
     let replica = &named[index].replica;
     replica.see_files();
+    law_held_program_means_its_sources();
     let Some(image) = image(rt, alloc, replica, directory, edition)? else {
         return Ok(None);
     };

@@ -1,7 +1,7 @@
 use Rattle.std.proofs.Common.{◌≡◌, ◌+◌, [], length, refl, ap, ◌∙◌, arith}
 use Rattle.std.specs.List.{slice_index_or}
 use Rattle.std.proofs.lemmas.List.{length_push}
-use Rattle.ws_board.specs.declared.moves.Moves.{Moves}
+use Rattle.ws_board.specs.declared.rows.moves.Moves.{Moves}
 use Rattle.ws_board.specs.Carrying.{held_by}
 use Rattle.ws_board.specs.Rows.{telling}
 use Rattle.ws_board.proofs.Onward.{carries_none, carries_then, carries_popped, popped_waits, popped_undone, popped_untold, undone_none, undone_then}

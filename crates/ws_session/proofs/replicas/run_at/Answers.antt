@@ -23,8 +23,9 @@ returns-in-Ok-clause-ok g c n W E e h sized =
     let same : n ≡ c.index.result.now = one_element c.args.named.now.items c.args.index n c.index.result.now inside e c.index.ensures in
     let holds = subst (λ (m : Named). ReplicaStandsFor m.replica W E) same h in
     let is : IsImage c.args.edition W E c.args.directory.now c.in_ok-image.field-0 = c.in_ok-image.ensures.ok W E holds sized in
-    image_runs c.args.edition c.args.directory.now c.args.ticks W (c.see_files.ensures W E holds) E c.in-Some.image c.in-Ok.outcome
-    (subst (λ (o : Option Image). IsImage c.args.edition W E c.args.directory.now o) c.in-Some.is is) c.in-Ok.ensures
+    image_runs c.args.edition c.args.directory.now c.args.ticks W (c.see_files.ensures W E holds) E c.in-Some.image
+    (subst (λ (o : Option Image). IsImage c.args.edition W E c.args.directory.now o) c.in-Some.is is)
+    c.law_held_program_means_its_sources.ensures.means c.in-Ok.outcome c.in-Ok.ensures
 
 pub returns-clause-ok : goal.returns-clause-ok
 returns-clause-ok g c n W E e h sized =
@@ -34,4 +35,5 @@ returns-clause-ok g c n W E e h sized =
     let is : IsImage c.args.edition W E c.args.directory.now c.in_ok-image.field-0 = c.in_ok-image.ensures.ok W E holds sized in
     nonsense_runs c.args.edition c.args.directory.now c.args.ticks W (c.see_files.ensures W E holds) E c.in-Some.image
     (subst (λ (o : Option Image). IsImage c.args.edition W E c.args.directory.now o) c.in-Some.is is)
+    c.law_held_program_means_its_sources.ensures.sense
     (subst (λ error. Answers c.in-Some.image c.args.ticks (Err error)) c.in-Err-BadCode.field-0-is c.in-Err-BadCode.ensures)

@@ -1,6 +1,6 @@
 use Rattle.std.proofs.Common.{◌≡◌, length}
 use Rattle.ws_board.specs.Rows.{undone, AreWritten}
-use Rattle.ws_board.proofs.moves.Moves.undo.Given as goal
+use Rattle.ws_board.proofs.rows.moves.Moves.undo.Given as goal
 
 abbrev pub invariant-log : goal.invariant-log
 invariant-log l = record {

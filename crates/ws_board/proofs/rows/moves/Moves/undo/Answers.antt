@@ -2,7 +2,7 @@ use Rattle.std.proofs.Common.{length, sym, ap, ◌∙◌, subst}
 use Rattle.std.proofs.Math.ListN.{length-set}
 use Rattle.ws_board.specs.Rows.{AreWritten}
 use Rattle.ws_board.proofs.Undoing.{undone_popped, written_last, written_rest}
-use Rattle.ws_board.proofs.moves.Moves.undo.Goals as goal
+use Rattle.ws_board.proofs.rows.moves.Moves.undo.Goals as goal
 
 pub put-requires : goal.put-requires
 put-requires c = written_last (length c.log.rows.rows) c.log.log.items c.pop.new.self.items c.in-Some.change c.in-Some.ensures.items c.log.invariant.inside

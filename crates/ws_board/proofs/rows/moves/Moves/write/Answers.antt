@@ -1,10 +1,10 @@
 use Rattle.std.proofs.Common.{◌≡◌, ◌<◌, ◌∷◌, ◌++◌, [], length, sym, ap, ◌∙◌, subst}
 use Rattle.std.proofs.lemmas.List.Elements.{All-push}
 use Rattle.std.proofs.Math.ListN.{set, length-set}
-use Rattle.ws_board.specs.declared.moves.Change.{Change}
+use Rattle.ws_board.specs.declared.rows.moves.Change.{Change}
 use Rattle.ws_board.specs.Rows.{undone, AreWritten}
 use Rattle.ws_board.proofs.Undoing.{undone_more, put_back}
-use Rattle.ws_board.proofs.moves.Moves.write.Goals as goal
+use Rattle.ws_board.proofs.rows.moves.Moves.write.Goals as goal
 
 pub returns-clause-undone : goal.returns-clause-undone
 returns-clause-undone c =

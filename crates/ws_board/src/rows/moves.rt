@@ -17,14 +17,14 @@ pub(super) struct Change {
 /// What carrying jobs on came to so far: the rows that were written, as they were; the jobs that are
 /// done or blocked and of which no importer was told; and those that became ready.
 #[derive(Drop)]
-pub(super) struct Moves {
+pub(crate) struct Moves {
     log: Vec<Change>,
-    pub(super) settled: Vec<usize>,
-    pub(super) ready: Vec<Ready>,
+    pub(crate) settled: Vec<usize>,
+    pub(crate) ready: Vec<Ready>,
 }
 
 impl Moves {
-    pub(super) fn new(alloc: Global) -> Moves
+    pub(crate) fn new(alloc: Global) -> Moves
         ensures { (result.log.items ≡ []) × (result.settled.items ≡ []) × (result.ready.items ≡ []) }
     {
         Moves {
@@ -35,14 +35,14 @@ impl Moves {
     }
 
     /// The jobs that became ready.
-    pub(super) fn ready(&self) -> &[Ready]
+    pub(crate) fn ready(&self) -> &[Ready]
         ensures { result.now ≡ self.now.ready.items }
     {
         self.ready.as_slice()
     }
 
     /// Puts all rows back that were written.
-    pub(super) fn undo(self, rows: &mut Rows)
+    pub(crate) fn undo(self, rows: &mut Rows)
         requires { AreWritten (length rows.old.rows) self.log.items }
         ensures rows { rows.new.rows ≡ undone self.log.items rows.old.rows }
         ensures jobs { rows.new.jobs.items ≡ rows.old.jobs.items }
@@ -56,7 +56,7 @@ impl Moves {
     }
 
     /// Writes a job's row, and keeps what stood there. An `Err`, for want of memory, changes nothing.
-    pub(super) fn write(&mut self, rows: &mut Rows, job: usize, row: Row) -> Result<(), AllocError>
+    pub(crate) fn write(&mut self, rows: &mut Rows, job: usize, row: Row) -> Result<(), AllocError>
         requires { job < length rows.old.rows }
         ensures rows { OnOk result (rows.new.rows ≡ slice_set rows.old.rows job row) }
         ensures undone { IsUndone rows.old rows.new self.old self.new }
