@@ -1,0 +1,4 @@
+mod Nearer
+mod Packages
+mod Slashes
+mod Suggestions

@@ -1,6 +1,12 @@
 pub mod Diagnoses
 pub mod Excerpts
 pub mod Forms
+pub mod Literals
 pub mod Messages
 pub mod Names
+pub mod Nearest
+pub mod Packages
 pub mod Patterns
+pub mod Sentences
+pub mod Tokens
+pub mod Unknown

@@ -100,3 +100,6 @@ message_text messages.AppendOperand = texts.APPEND_OPERAND.now
 message_text messages.FmtNames = texts.FMT_NAMES.now
 message_text messages.PrintlnOperand = texts.PRINTLN_OPERAND.now
 message_text messages.RangeOperand = texts.RANGE_OPERAND.now
+message_text messages.NumberValue = texts.NUMBER_VALUE.now
+message_text messages.StringAndNumber = texts.STRING_AND_NUMBER.now
+message_text messages.StringValue = texts.STRING_VALUE.now

@@ -1,25 +1,14 @@
 -- What is said of a place by the names and the tokens that stand there.
-use Rattle.std.specs.Prelude.{ℕ, nat_le, List, [], ◌∷◌, length, codes, bytes_eq, Option, Some, None, if◌then◌else◌}
-use Rattle.std.specs.List.{slice_range}
+use Rattle.std.specs.Prelude.{ℕ, List, [], ◌∷◌, codes, bytes_eq, Option, Some, None, if◌then◌else◌}
 use Rattle.go_text.specs.declared.edition.Edition.{Edition}
 use Rattle.go_text.specs.declared.fault.FaultKind.{FaultKind}
 use Rattle.go_text.specs.declared.fault.FaultKind.TheVariants as faults
-use Rattle.go_scan.specs.Kinds.{kind_eq}
 use Rattle.go_scan.specs.declared.token.Token.{Token}
-use Rattle.go_scan.specs.declared.token.TokenKind.TheVariants as kinds
 use Rattle.go_diagnostics.specs.declared.message.Message.{Message}
 use Rattle.go_diagnostics.specs.declared.message.Message.TheVariants as messages
 use Rattle.go_diagnostics.specs.Forms.{rows_of, rows_of_edition, first_of}
-
--- the bytes of a token in a text
-abbrev pub token_bytes : List ℕ → Token → List ℕ
-token_bytes text t =
-    if nat_le t.start t.end then (if nat_le t.end (length text) then slice_range text t.start t.end else []) else []
-
--- the name that tokens begin with, if they do
-abbrev pub name_here : List ℕ → List Token → Option (List ℕ)
-name_here text [] = None
-name_here text (t ∷ ts) = if kind_eq t.kind kinds.Name then Some (token_bytes text t) else None
+use Rattle.go_diagnostics.specs.Literals.{literal_message}
+use Rattle.go_diagnostics.specs.Tokens.{name_here}
 
 -- names with what is said of them
 abbrev pub Names : Type 0
@@ -59,4 +48,5 @@ either (Some m) second = Some m
 -- what is said of a place at which a fault of a kind stands
 abbrev pub message_at : Edition → FaultKind → List ℕ → List Token → List Token → Option Message
 message_at edition kind text before from =
-    either (message_here (names_of kind) text from) (either (first_of (rows_of_edition edition kind) before from) (first_of (rows_of kind) before from))
+    let formed = either (first_of (rows_of_edition edition kind) before from) (first_of (rows_of kind) before from) in
+    either (message_here (names_of kind) text from) (either formed (literal_message kind from))

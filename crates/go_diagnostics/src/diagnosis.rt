@@ -1,18 +1,23 @@
 //! What people are told of a fault.
-ghost use Rattle.std.specs.Prelude.{◌≡◌, ◌++◌, ◌≤◌, IfOk, OnOk, length, reverse, option_map};
+ghost use Rattle.std.specs.Prelude.{◌≡◌, ◌++◌, ◌≤◌, IfOk, OnOk, length, reverse};
 ghost use Rattle.std.specs.Fmt.{decimal};
-ghost use Rattle.go_diagnostics.specs.Diagnoses.{index_at, said, SaidOfTokens, refused_message, SaidOfText, told_line, ToldOf, source_named, Diagnosed};
+ghost use Rattle.go_diagnostics.specs.Diagnoses.{Diagnosed, IsDiagnosisIn, IsSentence, IsSentenceOfNames, IsSentenceOfTokens};
+ghost use Rattle.go_diagnostics.specs.Diagnoses.{fault_line, index_at, refused_message, refused_text};
+ghost use Rattle.go_diagnostics.specs.Sentences.{sentence_text};
 
 use crate::excerpt::{line_at, push, push_excerpt};
+use crate::literals::declared;
 use crate::message::{Message, kind_text};
-use crate::names::message_at;
+use crate::names::{message_at, token_bytes};
+use crate::package::{PackageFile, file_named};
+use crate::sentence::{Sentence, push_sentence};
+use crate::unknown::suggestion;
 use go_scan::fault::{ScanError, ScanFault};
 use go_scan::scanner::scan;
 use go_scan::token::Token;
 use go_text::edition::Edition;
 use go_text::fault::{Fault, FaultKind};
 use go_text::place::Place;
-use go_text::source::Source;
 use std::alloc::{AllocError, Global};
 
 /// How many tokens stand before the one at a place, or how many there are.
@@ -37,30 +42,50 @@ fn reversed<T: Copy + Drop>(alloc: Global, items: &[T]) -> Result<Vec<T>, AllocE
     items.iter().rev().copied().collect(alloc)
 }
 
-/// The sentence of a message, or that of the kind of fault where there is none.
-fn said(kind: FaultKind, message: Option<Message>) -> &'static str
-    ensures { result.now ≡ said kind message }
+/// What the names and literals at a fault's place tell of it, where no message does.
+fn sentence_of_names<'a>(
+    alloc: Global,
+    files: &'a [PackageFile],
+    file: &'a PackageFile,
+    kind: FaultKind,
+    tokens: &[Token],
+    from: &[Token],
+) -> Result<Sentence<'a>, AllocError>
+    ensures { IfOk result (λ sentence.
+        IsSentenceOfNames kind file.now files.now tokens.now from.now (sentence_text sentence)) }
 {
-    match message {
-        Some(message) => message.text(),
-        None => kind_text(kind),
+    match kind {
+        FaultKind::Undeclared => match suggestion(alloc, files, file, tokens, from)? {
+            Some(suggestion) => Ok(Sentence::Unknown(suggestion)),
+            None => Ok(Sentence::Fixed(kind_text(kind))),
+        },
+        FaultKind::Assign => match declared(from) {
+            Some((of, literal)) => Ok(Sentence::Unfit(literal, token_bytes(file.bytes(), of))),
+            None => Ok(Sentence::Fixed(kind_text(kind))),
+        },
+        _ => Ok(Sentence::Fixed(kind_text(kind))),
     }
 }
 
 /// What is said of a fault by the tokens around its place.
-fn said_of_tokens(
+fn sentence_of_tokens<'a>(
     alloc: Global,
     edition: Edition,
+    files: &'a [PackageFile],
+    file: &'a PackageFile,
     fault: &Fault,
-    text: &[u8],
     tokens: &[Token],
-) -> Result<&'static str, AllocError>
-    ensures { IfOk result (λ sentence. SaidOfTokens edition fault.now text.now tokens.now sentence.now) }
+) -> Result<Sentence<'a>, AllocError>
+    ensures { IfOk result (λ sentence.
+        IsSentenceOfTokens edition fault.now file.now files.now tokens.now (sentence_text sentence)) }
 {
     let at = index_at(tokens, fault.place());
     let before = reversed(alloc, &tokens[..at])?;
-    let message = message_at(edition, fault.kind(), text, &before, &tokens[at..]);
-    Ok(said(fault.kind(), message))
+    let from = &tokens[at..];
+    match message_at(edition, fault.kind(), file.bytes(), &before, from) {
+        Some(message) => Ok(Sentence::Fixed(message.text())),
+        None => sentence_of_names(alloc, files, file, fault.kind(), tokens, from),
+    }
 }
 
 /// What is left out at a place of a text that isn't a row of tokens: a build constraint, which begins
@@ -82,91 +107,101 @@ fn refused_message(why: ScanFault, text: &[u8], place: Place) -> Option<Message>
     }
 }
 
+/// The sentence of a text that isn't a row of tokens.
+fn refused_text(kind: FaultKind, message: Option<Message>) -> &'static str
+    ensures { result.now ≡ refused_text kind message }
+{
+    match message {
+        Some(message) => message.text(),
+        None => kind_text(kind),
+    }
+}
+
 /// What is said of a fault in a file.
-fn said_of(
+fn sentence_of<'a>(
     alloc: Global,
     edition: Edition,
+    files: &'a [PackageFile],
+    file: &'a PackageFile,
     fault: &Fault,
-    source: &Source,
-) -> Result<&'static str, AllocError>
-    ensures { IfOk result (λ sentence. SaidOfText edition fault.now source.now.text sentence.now) }
+) -> Result<Sentence<'a>, AllocError>
+    ensures { IfOk result (λ sentence. IsSentence edition fault.now file.now files.now (sentence_text sentence)) }
 {
-    let text = source.text().as_str().as_bytes();
-    match scan(alloc, source) {
-        Ok(tokens) => said_of_tokens(alloc, edition, fault, text, &tokens),
+    match scan(alloc, &file.source) {
+        Ok(tokens) => sentence_of_tokens(alloc, edition, files, file, fault, &tokens),
         Err(ScanError::Memory) => Err(AllocError),
         Err(ScanError::Fault(why, place)) => {
-            Ok(said(fault.kind(), refused_message(why, text, place)))
+            let message = refused_message(why, file.bytes(), place);
+            Ok(Sentence::Fixed(refused_text(fault.kind(), message)))
         }
     }
 }
 
-/// The file of that name.
-fn source_named<'a>(files: &'a [Source], name: &str) -> Option<&'a Source>
-    ensures { option_map (λ source. source.now) result ≡ source_named name.now files.now }
-{
-    for source in files {
-        if source.name() == name {
-            return Some(source);
-        }
-    }
-    None
-}
-
-fn push_number(alloc: Global, told: &mut Vec<u8>, number: u32) -> Result<(), AllocError>
-    ensures { OnOk result (told.new.items ≡ told.old.items ++ decimal number) }
+fn push_number(alloc: Global, text: &mut Vec<u8>, number: u32) -> Result<(), AllocError>
+    ensures { OnOk result (text.new.items ≡ text.old.items ++ decimal number) }
 {
     let digits = number.to_string(alloc)?;
-    push(told, digits.as_bytes())
+    push(text, digits.as_bytes())
 }
 
 /// The line of a fault: its place and a sentence.
-fn told_line(alloc: Global, path: &str, place: Place, sentence: &str) -> Result<Vec<u8>, AllocError>
-    ensures { IfOk result (λ told. told.items ≡ told_line path.now place sentence.now) }
+fn fault_line(
+    alloc: Global,
+    path: &str,
+    place: Place,
+    sentence: Sentence<'_>,
+) -> Result<Vec<u8>, AllocError>
+    ensures { IfOk result (λ line. line.items ≡ fault_line path.now place (sentence_text sentence.entry)) }
 {
-    let mut told = Vec::from_slice(alloc, path.as_bytes())?;
-    push(&mut told, b":")?;
-    push_number(alloc, &mut told, place.line)?;
-    push(&mut told, b":")?;
-    push_number(alloc, &mut told, place.column)?;
-    push(&mut told, b": ")?;
-    push(&mut told, sentence.as_bytes())?;
-    push(&mut told, b"\n")?;
-    Ok(told)
+    let mut text = Vec::from_slice(alloc, path.as_bytes())?;
+    push(&mut text, b":")?;
+    push_number(alloc, &mut text, place.line)?;
+    push(&mut text, b":")?;
+    push_number(alloc, &mut text, place.column)?;
+    push(&mut text, b": ")?;
+    push_sentence(&mut text, sentence)?;
+    push(&mut text, b"\n")?;
+    Ok(text)
 }
 
-/// What people are told of a fault of a file.
-fn told_of(
+/// The text about a fault of a file that is at hand.
+fn diagnosis_in(
     alloc: Global,
     edition: Edition,
     path: &str,
     fault: &Fault,
-    source: &Source,
+    files: &[PackageFile],
+    file: &PackageFile,
 ) -> Result<Vec<u8>, AllocError>
-    ensures { IfOk result (λ told. ToldOf edition path.now fault.now source.now told.items) }
+    ensures { IfOk result (λ text. IsDiagnosisIn edition path.now fault.now files.now file.now text.items) }
 {
-    let sentence = said_of(alloc, edition, fault, source)?;
-    let mut told = told_line(alloc, path, fault.place(), sentence)?;
-    let text = source.text().as_str().as_bytes();
-    push_excerpt(alloc, &mut told, text, fault.place())?;
-    Ok(told)
+    let sentence = sentence_of(alloc, edition, files, file, fault)?;
+    let mut text = fault_line(alloc, path, fault.place(), sentence)?;
+    push_excerpt(alloc, &mut text, file.bytes(), fault.place())?;
+    Ok(text)
 }
 
-/// What people are told of a fault: its place, by a path for the file, and a sentence; below them the
-/// line of the place, and a caret below the place. Of a file that isn't among these, whose names are
-/// without their folder, there is the sentence of the fault's kind alone. Each line ends with a newline.
-/// An `Err` only where memory ran out.
+/// The text about a fault in a directory: its place, by a path for the file, and a sentence; below
+/// them the line of the place, and a caret below the place. Where the fault's file isn't among the
+/// files, there is the sentence of the fault's kind alone. Each line ends with a newline.
+///
+/// The files are those of the directory, and of the packages that it imports, in any order. An
+/// `Err` only where memory ran out.
 pub fn diagnose(
     alloc: Global,
     edition: Edition,
     path: &str,
+    directory: &str,
     fault: &Fault,
-    files: &[Source],
+    files: &[PackageFile],
 ) -> Result<Vec<u8>, AllocError>
-    ensures { IfOk result (λ told. Diagnosed edition path.now fault.now files.now told.items) }
+    ensures { IfOk result (λ text. Diagnosed edition path.now directory.now fault.now files.now text.items) }
 {
-    match source_named(files, fault.file()) {
-        Some(source) => told_of(alloc, edition, path, fault, source),
-        None => told_line(alloc, path, fault.place(), kind_text(fault.kind())),
+    match file_named(files, directory, fault.file()) {
+        Some(file) => diagnosis_in(alloc, edition, path, fault, files, file),
+        None => {
+            let sentence = Sentence::Fixed(kind_text(fault.kind()));
+            fault_line(alloc, path, fault.place(), sentence)
+        }
     }
 }

@@ -47,10 +47,10 @@ pub fn line_at(text: &[u8], number: u32) -> &[u8]
 }
 
 /// Adds bytes.
-pub fn push(told: &mut Vec<u8>, text: &[u8]) -> Result<(), AllocError>
-    ensures { OnOk result (told.new.items ≡ told.old.items ++ text.now) }
+pub fn push(out: &mut Vec<u8>, text: &[u8]) -> Result<(), AllocError>
+    ensures { OnOk result (out.new.items ≡ out.old.items ++ text.now) }
 {
-    told.extend_from_slice(text)
+    out.extend_from_slice(text)
 }
 
 /// What stands below a byte: a tab below a tab, and a blank below each other character.
@@ -67,11 +67,11 @@ fn pad_of(byte: u8) -> &'static [u8]
 }
 
 /// What stands below bytes.
-fn push_padding(told: &mut Vec<u8>, bytes: &[u8]) -> Result<(), AllocError>
-    ensures { OnOk result (told.new.items ≡ told.old.items ++ padding bytes.now) }
+fn push_padding(out: &mut Vec<u8>, bytes: &[u8]) -> Result<(), AllocError>
+    ensures { OnOk result (out.new.items ≡ out.old.items ++ padding bytes.now) }
 {
     for byte in bytes {
-        push(told, pad_of(*byte))?;
+        push(out, pad_of(*byte))?;
     }
     Ok(())
 }
@@ -85,7 +85,7 @@ fn dots(is_cut: bool) -> &'static [u8]
 
 /// What is shown of a line, behind its number.
 fn push_source_line(
-    told: &mut Vec<u8>,
+    out: &mut Vec<u8>,
     number: &[u8],
     line: &[u8],
     start: usize,
@@ -93,39 +93,39 @@ fn push_source_line(
 ) -> Result<(), AllocError>
     requires order { start ≤ end }
     requires within { end ≤ length line.now }
-    ensures { OnOk result (told.new.items ≡ told.old.items ++ source_line number.now line.now start end) }
+    ensures { OnOk result (out.new.items ≡ out.old.items ++ source_line number.now line.now start end) }
 {
-    push(told, b"    ")?;
-    push(told, number)?;
-    push(told, b" | ")?;
-    push(told, dots(0 < start))?;
-    push(told, &line[start..end])?;
-    push(told, dots(end < line.len()))?;
-    push(told, b"\n")
+    push(out, b"    ")?;
+    push(out, number)?;
+    push(out, b" | ")?;
+    push(out, dots(0 < start))?;
+    push(out, &line[start..end])?;
+    push(out, dots(end < line.len()))?;
+    push(out, b"\n")
 }
 
 /// The line below it, with a caret below the place.
 fn push_caret_line(
-    told: &mut Vec<u8>,
+    out: &mut Vec<u8>,
     number: &[u8],
     start: usize,
     before: &[u8],
 ) -> Result<(), AllocError>
-    ensures { OnOk result (told.new.items ≡ told.old.items ++ caret_line number.now start before.now) }
+    ensures { OnOk result (out.new.items ≡ out.old.items ++ caret_line number.now start before.now) }
 {
-    push(told, b"    ")?;
-    push_padding(told, number)?;
-    push(told, b" | ")?;
-    push_padding(told, dots(0 < start))?;
-    push_padding(told, before)?;
-    push(told, b"^\n")
+    push(out, b"    ")?;
+    push_padding(out, number)?;
+    push(out, b" | ")?;
+    push_padding(out, dots(0 < start))?;
+    push_padding(out, before)?;
+    push(out, b"^\n")
 }
 
 /// A line with its number, and a caret below one of its bytes, or behind the last. Of a line of more
 /// than 100 bytes so many are shown, 50 of them before the place.
-fn push_pointed(told: &mut Vec<u8>, number: &[u8], line: &[u8], at: usize) -> Result<(), AllocError>
+fn push_pointed(out: &mut Vec<u8>, number: &[u8], line: &[u8], at: usize) -> Result<(), AllocError>
     requires { at ≤ length line.now }
-    ensures { OnOk result (told.new.items ≡ told.old.items ++ pointed number.now line.now at) }
+    ensures { OnOk result (out.new.items ≡ out.old.items ++ pointed number.now line.now at) }
 {
     let start = if line.len() <= 100 {
         0
@@ -137,21 +137,21 @@ fn push_pointed(told: &mut Vec<u8>, number: &[u8], line: &[u8], at: usize) -> Re
     } else {
         start + 100
     };
-    push_source_line(told, number, line, start, end)?;
-    push_caret_line(told, number, start, &line[start..at])
+    push_source_line(out, number, line, start, end)?;
+    push_caret_line(out, number, start, &line[start..at])
 }
 
 /// The line of a place in a text, and a caret below the place.
 pub fn push_excerpt(
     alloc: Global,
-    told: &mut Vec<u8>,
+    out: &mut Vec<u8>,
     text: &[u8],
     place: Place,
 ) -> Result<(), AllocError>
-    ensures { OnOk result (told.new.items ≡ told.old.items ++ excerpt text.now place) }
+    ensures { OnOk result (out.new.items ≡ out.old.items ++ excerpt text.now place) }
 {
     let line = line_at(text, place.line);
     let at = (place.column.saturating_sub(1) as usize).min(line.len());
     let number = place.line.to_string(alloc)?;
-    push_pointed(told, number.as_bytes(), line, at)
+    push_pointed(out, number.as_bytes(), line, at)
 }

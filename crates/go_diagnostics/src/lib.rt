@@ -3,7 +3,12 @@
 
 pub mod diagnosis;
 mod excerpt;
+pub mod literals;
 pub mod message;
 mod names;
+mod nearest;
+pub mod package;
 pub mod pattern;
+pub mod sentence;
 pub mod table;
+pub mod unknown;

@@ -73,6 +73,9 @@ pub enum Message {
     FmtNames,
     PrintlnOperand,
     RangeOperand,
+    NumberValue,
+    StringAndNumber,
+    StringValue,
 }
 
 const SCAN_FAULT: &str =
@@ -303,6 +306,29 @@ const PRINTLN_OPERAND: &str = "fmt.Println prints integers, bools and strings, a
 const RANGE_OPERAND: &str =
     "range takes an integer in this subset: of a slice write for i := range len(xs)";
 
+const NUMBER_VALUE: &str =
+    "a number can't be assigned there: convert it, or change the type that is declared";
+
+const STRING_AND_NUMBER: &str = "a string and a number don't go together";
+
+const STRING_VALUE: &str =
+    "a string can't be assigned there: convert it, or change the type that is declared";
+
+/// What is said of a name that nothing declares: before it, between it and the nearest name, and
+/// behind that.
+pub const UNKNOWN: (&str, &str, &str) = ("nothing declares ", " here; did you mean ", "?");
+
+/// What is said of a literal that a declaration doesn't take, before the type and behind it.
+pub const UNFIT_NUMBER: (&str, &str) = (
+    "a number is no value of type ",
+    ": convert it, or change the type",
+);
+
+pub const UNFIT_STRING: (&str, &str) = (
+    "a string is no value of type ",
+    ": convert it, or change the type",
+);
+
 /// The sentence of a kind of fault.
 pub fn kind_text(kind: FaultKind) -> &'static str
     ensures { result.now ≡ kind_text kind }
@@ -406,6 +432,9 @@ impl Message {
             Message::FmtNames => FMT_NAMES,
             Message::PrintlnOperand => PRINTLN_OPERAND,
             Message::RangeOperand => RANGE_OPERAND,
+            Message::NumberValue => NUMBER_VALUE,
+            Message::StringAndNumber => STRING_AND_NUMBER,
+            Message::StringValue => STRING_VALUE,
         }
     }
 }

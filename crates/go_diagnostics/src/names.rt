@@ -1,7 +1,9 @@
 //! Names that tell what stands at a place.
 ghost use Rattle.std.specs.Prelude.{◌≡◌, map, option_map};
-ghost use Rattle.go_diagnostics.specs.Names.{token_bytes, name_here, names_of, message_named, either, message_here, message_at};
+ghost use Rattle.go_diagnostics.specs.Tokens.{token_bytes, name_here};
+ghost use Rattle.go_diagnostics.specs.Names.{names_of, message_named, either, message_here, message_at};
 
+use crate::literals::literal_message;
 use crate::message::Message;
 use crate::table::{first_of, rows_of, rows_of_edition};
 use go_scan::token::{Token, TokenKind};
@@ -128,5 +130,6 @@ pub fn message_at(
 {
     let named = message_here(names_of(kind), text, from);
     let newer = first_of(rows_of_edition(edition, kind), before, from);
-    either(named, either(newer, first_of(rows_of(kind), before, from)))
+    let formed = either(newer, first_of(rows_of(kind), before, from));
+    either(named, either(formed, literal_message(kind, from)))
 }

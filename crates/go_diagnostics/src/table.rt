@@ -1,6 +1,8 @@
 //! The table of forms: which tokens stand around a place where a message is said of it.
 ghost use Rattle.std.specs.Prelude.{◌≡◌};
+ghost use Rattle.std.specs.List.{list_any};
 ghost use Rattle.go_diagnostics.specs.Forms.{rows_of, rows_of_edition, first_of};
+ghost use Rattle.go_diagnostics.specs.Patterns.{holds};
 
 use crate::message::Message;
 use crate::pattern::{Condition, Conditions, Pattern, Position, holds};
@@ -9,8 +11,8 @@ use Pattern::{Any, Integer, Mark, Name, Nothing, Rune, Word};
 use Position::*;
 use go_scan::keyword::Keyword;
 use go_scan::keyword::Keyword::{
-    Break, Case, Chan, Continue, Else, For, Func, Go, If, Import, Interface, Map, Range, Struct,
-    Type,
+    Break, Case, Chan, Const, Continue, Else, For, Func, Go, If, Import, Interface, Map, Range,
+    Struct, Type, Var,
 };
 use go_scan::punctuation::Punctuation::{
     Ampersand, Arrow, Assign, Caret, CloseBrace, CloseBracket, CloseParenthesis, Colon, Comma,
@@ -296,6 +298,55 @@ pub const OPERANDS: &[Row] = &[
     Row(CaseType, ((Here, Word(Case)), FREE, FREE)),
 ];
 
+/// What stands around a name where it is declared, or assigned. Each form of Go's declarations is here,
+/// but for lists of more than two names.
+pub const DECLARATIONS: &[Conditions] = &[
+    ((Before, Word(Func)), FREE, FREE),
+    ((Before, Word(Type)), FREE, FREE),
+    ((Before, Word(Var)), FREE, FREE),
+    ((Before, Word(Const)), FREE, FREE),
+    ((Behind, Name), FREE, FREE),
+    (
+        (Behind, Mark(Comma)),
+        (SecondBehind, Name),
+        (ThirdBehind, Name),
+    ),
+    (
+        (Behind, Mark(OpenBracket)),
+        (SecondBehind, Mark(CloseBracket)),
+        FREE,
+    ),
+    (
+        (Behind, Mark(OpenBracket)),
+        (ThirdBehind, Mark(CloseBracket)),
+        (FourthBehind, Name),
+    ),
+    ((Behind, Mark(Define)), FREE, FREE),
+    (
+        (Behind, Mark(Comma)),
+        (SecondBehind, Name),
+        (ThirdBehind, Mark(Define)),
+    ),
+    (
+        (Before, Mark(OpenParenthesis)),
+        (Behind, Mark(Assign)),
+        FREE,
+    ),
+    ((Before, Mark(Semicolon)), (Behind, Mark(Assign)), FREE),
+    ((Before, Mark(Semicolon)), (Behind, Mark(Semicolon)), FREE),
+];
+
+/// What stands around the path of an import.
+pub const IMPORTS: &[Conditions] = &[
+    ((Before, Word(Import)), FREE, FREE),
+    (
+        (Before, Mark(OpenParenthesis)),
+        (Behind, Mark(Semicolon)),
+        FREE,
+    ),
+    ((Before, Mark(Semicolon)), (Behind, Mark(Semicolon)), FREE),
+];
+
 /// The rows that say of which form a fault of a kind is, in both editions.
 pub fn rows_of(kind: FaultKind) -> &'static [Row]
     ensures { result.now ≡ rows_of kind }
@@ -331,4 +382,16 @@ pub fn first_of(rows: &[Row], before: &[Token], from: &[Token]) -> Option<Messag
         }
     }
     None
+}
+
+/// Whether one of the conditions holds around a place.
+pub fn is_any(rows: &[Conditions], before: &[Token], from: &[Token]) -> bool
+    ensures { result ≡ list_any (λ r. holds r before.now from.now) rows.now }
+{
+    for row in rows {
+        if holds(*row, before, from) {
+            return true;
+        }
+    }
+    false
 }

@@ -1,9 +1,9 @@
 mod AnswersOfFiles
-mod Comments
 mod Growth
 mod Numbers
 mod Outcomes
 mod Reaches
 mod Refused
+mod Rows
 mod Runs
 mod Texts

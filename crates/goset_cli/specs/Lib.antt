@@ -5,8 +5,7 @@ pub mod Ends
 pub mod Failures
 pub mod Answers
 pub mod CommandLine
+pub mod Diagnostics
 pub mod Statuses
 pub mod Refusals
-pub mod Places
-pub mod Modules
 pub mod Runs

@@ -1,24 +1,16 @@
 -- Why files aren't run, and what is said of it.
-use Rattle.std.specs.Prelude.{◌≡◌, ◌⊎◌, ◌<◌, ◌≤◌, ℕ, List, ◌++◌, length, Some, codes, true, is_some, string_bytes}
-use Rattle.std.specs.Str.{IsUtf8}
-use Rattle.go_text.specs.Editions.{text_limit}
-use Rattle.go_text.specs.Texts.{text_error}
-use Rattle.go_text.specs.declared.edition.Edition.{Edition}
-use Rattle.go_text.specs.declared.edition.Edition.TheVariants.{One, Two}
+use Rattle.std.specs.Prelude.{ℕ, List, ◌++◌, codes, string_bytes}
 use Rattle.goset_cli.specs.declared.failure.Failure.{Failure}
 use Rattle.goset_cli.specs.declared.failure.Failure.TheVariants as failures
-use Rattle.goset_cli.specs.declared.failure.Unread.{Unread}
-use Rattle.goset_cli.specs.declared.failure.Unread.TheVariants.{Missing, Folder, Long, NoText, NoPath, NoModule, Other}
+use Rattle.ws_module.specs.Reasons.{reason_of}
+use Rattle.ws_module.specs.declared.unread.FilesError.{FilesError}
+use Rattle.ws_module.specs.declared.unread.FilesError.TheVariants as errors
+use Rattle.ws_module.specs.declared.unread.Unread.{Unread}
 
-abbrev pub reason_of : Unread → List ℕ
-reason_of Missing = codes "no such file"
-reason_of Folder = codes "a folder, not a file"
-reason_of (Long One) = codes "longer than 1048576 bytes"
-reason_of (Long Two) = codes "longer than 4194304 bytes"
-reason_of NoText = codes "not a text: it is UTF-8 without NUL, with a byte order mark at its start alone"
-reason_of NoPath = codes "not a path of a Go file, as docs/SCRIPT.md has them"
-reason_of NoModule = codes "it names no module: a line of it is module PATH"
-reason_of Other = codes "can't be read"
+-- files that aren't had aren't run
+abbrev pub failure_of : FilesError → Failure
+failure_of (errors.Unread file why) = failures.Unread file why
+failure_of errors.Memory = failures.Memory
 
 -- the line of standard error for a file
 abbrev pub unread_line : List ℕ → Unread → List ℕ
@@ -29,9 +21,3 @@ abbrev pub line_of : Failure → List ℕ
 line_of (failures.Unread file why) = unread_line (string_bytes file) why
 line_of failures.Memory = codes "goset: memory\n"
 line_of failures.Write = codes "goset: write\n"
-
--- bytes are no text of an edition: they are more than it allows, or no text of a source
-abbrev pub WhyNoText : Edition → List ℕ → Unread → Type 0
-WhyNoText edition bytes why =
-    ((why ≡ Long edition) × (text_limit edition < length bytes))
-    ⊎ ((why ≡ NoText) × (length bytes ≤ text_limit edition) × ((¬ (IsUtf8 bytes)) ⊎ (is_some (text_error edition bytes) ≡ true)))

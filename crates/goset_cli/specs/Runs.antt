@@ -1,5 +1,5 @@
 -- How files that are run end: the status, and what standard output and standard error have.
-use Rattle.std.specs.Prelude.{◌≡◌, ◌⊎◌, ◌<◌, ◌≤◌, ℕ, Bool, true, List, length, Option}
+use Rattle.std.specs.Prelude.{◌≡◌, ◌⊎◌, ◌<◌, ◌≤◌, ℕ, Bool, true, false, List, length, Option}
 use Rattle.go_text.specs.declared.edition.Edition.{Edition}
 use Rattle.ws_run.specs.Files.{Files}
 use Rattle.ws_run.specs.Steps as steps
@@ -7,6 +7,7 @@ use Rattle.ws_run.specs.Told.{Folders, complaint_of, output_of, status_of}
 use Rattle.ws_run.specs.declared.answer.Answer.{Answer}
 use Rattle.clap.specs.Walk.{Text}
 use Rattle.goset_cli.specs.CommandLine.{run_edition_of, ticks_of, wants_plain}
+use Rattle.goset_cli.specs.Diagnostics.{Explains}
 use Rattle.goset_cli.specs.Refusals.{line_of}
 use Rattle.goset_cli.specs.Statuses.{Tells, complaint, not_utf8_file}
 use Rattle.goset_cli.specs.Told.{Grows}
@@ -29,13 +30,14 @@ abbrev pub TellsOf : Failure → ℕ → ℕ → Option (List ℕ) → Option (L
 TellsOf failure failed failed' written written' =
     Tells (line_of failure) failed failed' written written' ⊎ Tells (complaint Memory) failed failed' written written'
 
--- an account has the answer of some files, and where it is to be plain the answer's complaint
+-- an account has the answer of some files, and its text: where it is to be plain one line for each fault, and else their diagnoses
 pub record IsAccount (edition : Edition) (ticks : ℕ) (is_plain : Bool) (account : Account) : Type 0 where
   pub files : Files
   pub directory : List ℕ
   pub folders : Folders
   pub comes : steps.Told edition files directory ticks account.answer
   pub says : is_plain ≡ true → account.text.items ≡ complaint_of folders account.answer
+  pub explains : is_plain ≡ false → Explains edition folders files account.answer account.text.items
 
 -- some files were run, standard output took what the program printed, and the status is that of their answer
 pub record Ran (edition : Edition) (ticks : ℕ) (is_plain : Bool) (written written' : Option (List ℕ)) (status : ℕ) : Type 0 where

@@ -1,12 +1,8 @@
 //! The program's command line: sessions that scripts ask for, and Go programs that are run at once.
 #![tactic(auto)]
 
-pub mod bytes;
 pub mod ends;
 pub mod failure;
-pub mod files;
-pub mod module;
-pub mod places;
 pub mod program;
 pub mod reading;
 pub mod run;

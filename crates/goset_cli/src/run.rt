@@ -1,8 +1,9 @@
 //! Go programs that are run at once: from the words behind `run` to the status.
-ghost use Rattle.std.specs.Prelude.{◌≡◌, ◌≢◌, ◌⊎◌, ◌+◌, ◌<◌, ◌≤◌, ◌^◌, [], IfOk, map, string_bytes, true};
+ghost use Rattle.std.specs.Prelude.{◌≡◌, ◌≢◌, ◌⊎◌, ◌+◌, ◌<◌, ◌≤◌, ◌^◌, [], IfOk, false, map, string_bytes, true};
 ghost use Rattle.ws_run.specs.Steps.{Told};
 ghost use Rattle.ws_run.specs.Told.{complaint_of, folders_of, output_of, status_of};
 ghost use Rattle.goset_cli.specs.CommandLine.{run_faults};
+ghost use Rattle.goset_cli.specs.Diagnostics.{Explains};
 ghost use Rattle.goset_cli.specs.Runs.{IsAccount, IsRunStatus, Ran, RanBy, TellsName, TellsOf, run_code_of};
 ghost use Rattle.goset_cli.specs.Statuses.{Complains, Shows, Tells, asks_text, is_wrong};
 ghost use Rattle.goset_cli.specs.Told.{Grows};
@@ -10,10 +11,9 @@ ghost use Rattle.goset_cli.specs.declared.failure.Failure.{Failure};
 ghost use Rattle.goset_cli.specs.declared.failure.Failure.TheVariants as failures;
 
 use crate::failure::Failure;
-use crate::files::{Workspace, read_workspace};
 use crate::program::explain;
 use crate::status::Status;
-use crate::told::{sources_of, told};
+use crate::told::{diagnostics, package_files};
 use crate::words::{RunOptions, read_run_options};
 use crate::writing::{ScriptOut, tell, write_whole};
 use go_text::edition::Edition;
@@ -22,6 +22,7 @@ use std::convert::AsStr;
 use std::io;
 use std::sync::Wait;
 use std::thread::Threads;
+use ws_module::files::{Workspace, read_workspace};
 use ws_run::answer::Answer;
 use ws_run::run::run_files;
 
@@ -65,13 +66,15 @@ fn run_workspace<R: Threads + Wait + Sync>(
         Told edition workspace.files.items (string_bytes workspace.directory) ticks account.answer) }
     ensures says { is_plain ≡ true → IfOk result (λ account.
         account.text.items ≡ complaint_of (folders_of workspace.folders.items) account.answer) }
+    ensures explains { is_plain ≡ false → IfOk result (λ account.
+        Explains edition (folders_of workspace.folders.items) workspace.files.items account.answer account.text.items) }
 {
     let Workspace {
         files,
         directory,
         folders,
     } = workspace;
-    let sources = sources_of(alloc, &files)?;
+    let sources = package_files(alloc, &files)?;
     let answer = run_files(
         rt,
         alloc,
@@ -81,7 +84,7 @@ fn run_workspace<R: Threads + Wait + Sync>(
         ticks,
         WORKERS,
     )?;
-    let text = told(alloc, edition, is_plain, &folders, &sources, &answer)?;
+    let text = diagnostics(alloc, edition, is_plain, &folders, &sources, &answer)?;
     Ok(Account { answer, text })
 }
 

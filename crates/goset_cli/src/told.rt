@@ -1,8 +1,12 @@
-//! How people are told what came of files that were run.
-ghost use Rattle.std.specs.Prelude.{◌≡◌, IfOk, true};
-ghost use Rattle.ws_run.specs.Told.{complaint_of, folder_of, folders_of};
+//! What people are told of the files that were run.
+ghost use Rattle.std.specs.Prelude.{◌≡◌, ◌++◌, IfOk, false, string_bytes, true};
+ghost use Rattle.go_diagnostics.specs.Diagnoses.{Diagnosed};
+ghost use Rattle.goset_cli.specs.Diagnostics.{AreFiles, AreRowTexts, IsExplanation, path_of};
+ghost use Rattle.ws_report.specs.Reports.{rows};
+ghost use Rattle.ws_run.specs.Told.{complaint_of, folder_of, folders_of, in_folder};
 
 use go_diagnostics::diagnosis::diagnose;
+use go_diagnostics::package::PackageFile;
 use go_text::edition::Edition;
 use go_text::fault::Fault;
 use go_text::source::Source;
@@ -12,31 +16,19 @@ use ws_path::{FilePath, directory, file_name};
 use ws_report::{Report, Verdict};
 use ws_run::answer::{Answer, Folder};
 
-/// A file that is run, and the directory that it is in.
-pub type Filed = (String, Source);
-
-/// Each file with its directory. They share the texts.
-pub fn sources_of(alloc: Global, files: &[(FilePath, Text)]) -> Result<Vec<Filed>, AllocError> {
-    let mut sources = Vec::new(alloc);
+/// Each file by its directory and its name. They share the texts. An `Err` is want of memory.
+pub fn package_files(
+    alloc: Global,
+    files: &[(FilePath, Text)],
+) -> Result<Vec<PackageFile>, AllocError>
+    ensures { IfOk result (λ sources. AreFiles files.now sources.items) }
+{
+    let mut found = Vec::new(alloc);
     for (path, text) in files {
         let name = String::from_str(alloc, file_name(path.as_str()))?;
-        let its = String::from_str(alloc, directory(path.as_str()))?;
-        sources.push((its, Source::of(name, text.copy()?)))?;
-    }
-    Ok(sources)
-}
-
-/// The files of a directory.
-fn sources_in(
-    alloc: Global,
-    sources: &[Filed],
-    directory: &str,
-) -> Result<Vec<Source>, AllocError> {
-    let mut found = Vec::new(alloc);
-    for (its, source) in sources {
-        if its.as_str() == directory {
-            found.push(source.copy()?)?;
-        }
+        let directory = String::from_str(alloc, directory(path.as_str()))?;
+        let source = Source::of(name, text.copy()?);
+        found.push(PackageFile { directory, source })?;
     }
     Ok(found)
 }
@@ -53,8 +45,10 @@ fn folder_of<'a>(folders: &'a [Folder], directory: &'a str) -> &'a str
     directory
 }
 
-/// How a file is told: its name behind its folder, where that isn't empty.
-fn told_path(alloc: Global, folder: &str, file: &str) -> Result<String, AllocError> {
+/// How a file is called: its name behind its folder and a slash, or alone where the folder is empty.
+fn path_in(alloc: Global, folder: &str, file: &str) -> Result<String, AllocError>
+    ensures { IfOk result (λ path. string_bytes path ≡ in_folder folder.now ++ file.now) }
+{
     let mut path = String::from_str(alloc, folder)?;
     if !folder.is_empty() {
         path.push_str("/")?;
@@ -63,54 +57,64 @@ fn told_path(alloc: Global, folder: &str, file: &str) -> Result<String, AllocErr
     Ok(path)
 }
 
-/// What people are told of a directory's fault.
-fn told_fault(
-    alloc: Global,
-    edition: Edition,
-    folder: &str,
-    sources: &[Source],
-    fault: &Fault,
-) -> Result<Vec<u8>, AllocError> {
-    let path = told_path(alloc, folder, fault.file())?;
-    diagnose(alloc, edition, path.as_str(), fault, sources)
-}
-
-/// What people are told of a report: of each directory with a fault, in the order of their paths.
-fn told_faults(
+/// The diagnosis of a directory's fault.
+fn diagnosis(
     alloc: Global,
     edition: Edition,
     folders: &[Folder],
-    sources: &[Filed],
+    files: &[PackageFile],
+    directory: &str,
+    fault: &Fault,
+) -> Result<Vec<u8>, AllocError>
+    ensures { IfOk result (λ text. Diagnosed edition (path_of (folders_of folders.now) directory.now fault.now.file)
+        directory.now fault.now files.now text.items) }
+{
+    let path = path_in(alloc, folder_of(folders, directory), fault.file())?;
+    diagnose(alloc, edition, path.as_str(), directory, fault, files)
+}
+
+/// The diagnoses of a report: of each directory with a fault one, in the order of their paths.
+fn diagnoses(
+    alloc: Global,
+    edition: Edition,
+    folders: &[Folder],
+    files: &[PackageFile],
     report: &Report,
-) -> Result<Vec<u8>, AllocError> {
-    let mut told = Vec::new(alloc);
+) -> Result<Vec<u8>, AllocError>
+    ensures { IfOk result (λ text.
+        AreRowTexts edition (folders_of folders.now) files.now (rows report.now.directories.items) text.items) }
+{
+    let mut text = Vec::new(alloc);
     for (directory, verdict) in &report.directories {
         if let Verdict::Faulty(fault) = verdict {
-            let its = sources_in(alloc, sources, directory.as_str())?;
-            let folder = folder_of(folders, directory.as_str());
-            let text = told_fault(alloc, edition, folder, &its, fault)?;
-            told.extend_from_slice(&text)?;
+            let more = diagnosis(alloc, edition, folders, files, directory.as_str(), fault)?;
+            text.extend_from_slice(&more)?;
         }
     }
-    Ok(told)
+    Ok(text)
 }
 
 /// What standard error gets of an answer, with directories told as these folders: each fault with a
 /// sentence, its line and a caret, or where it is to be plain with its number and word. An `Err` is
 /// want of memory.
-pub fn told(
+pub fn diagnostics(
     alloc: Global,
     edition: Edition,
     is_plain: bool,
     folders: &[Folder],
-    sources: &[Filed],
+    files: &[PackageFile],
     answer: &Answer,
 ) -> Result<Vec<u8>, AllocError>
     ensures plain { is_plain ≡ true → IfOk result (λ text.
         text.items ≡ complaint_of (folders_of folders.now) answer.now) }
+    ensures full { is_plain ≡ false → IfOk result (λ text.
+        IsExplanation edition (folders_of folders.now) files.now answer.now text.items) }
 {
-    if !is_plain && let Answer::Faulty(report) = answer {
-        return told_faults(alloc, edition, folders, sources, report);
+    if is_plain {
+        return answer.complaint(alloc, folders);
     }
-    answer.complaint(alloc, folders)
+    match answer {
+        Answer::Faulty(report) => diagnoses(alloc, edition, folders, files, report),
+        Answer::Ran(_) | Answer::NoPackage | Answer::NoMain => answer.complaint(alloc, folders),
+    }
 }
