@@ -704,9 +704,9 @@ function_has c f t e =
     let Body : Parts → Type 0 = λ k. IsTypedBlock f.body (k.1).1 in
     let parts = follow (parameters_at c f.parameters) (body_at c f.results f.body) in
     let has = has_node Body Body (closing f.body) whole parts nothing
-        (λ k q y w.
-        let inside = checked_is (λ inside. Fine (k.0, inside)) (ended (k.1).0 (k.1).1) y w in
-        let done = function_typed [] [] (statements_of f.body) k.1 inside.0 (block_typed f.body (k.1).1 q) inside.1 in
-        subst Body (fine_same {A = Parts} (k.0, inside.0) y inside.2) (typed_block f.body (inside.0).1 done))
-        (λ y w. (has_follow (λ (ts : List Type'). Unit {0}) (λ (k : List Type' × List typed.Stmt). IsTypedBlock f.body k.1) (parameters_at c f.parameters) (body_at c f.results f.body) nothing (any (parameters_at c f.parameters nothing)) (body_has c f.results f.body (parameters_at c f.parameters nothing).after) y w).1) in
+    (λ k q y w.
+    let inside = checked_is (λ inside. Fine (k.0, inside)) (ended (k.1).0 (k.1).1) y w in
+    let done = function_typed [] [] (statements_of f.body) k.1 inside.0 (block_typed f.body (k.1).1 q) inside.1 in
+    subst Body (fine_same {A = Parts} (k.0, inside.0) y inside.2) (typed_block f.body (inside.0).1 done))
+    (λ y w. (has_follow (λ (ts : List Type'). Unit {0}) (λ (k : List Type' × List typed.Stmt). IsTypedBlock f.body k.1) (parameters_at c f.parameters) (body_at c f.results f.body) nothing (any (parameters_at c f.parameters nothing)) (body_has c f.results f.body (parameters_at c f.parameters nothing).after) y w).1) in
     (((m.0).1).1, sym (ap (λ (g : typed.Function). g.body) m.2), has m.0 m.1)

@@ -52,7 +52,7 @@ pub faulty_row : (edition : Edition) (folders : Folders) (sources : List Package
     → IsRowText edition folders sources (row e) text
 faulty_row edition folders sources e fault given text is same told =
     let its : Diagnosed edition (path_of folders (string_bytes e.0) fault.file) (string_bytes e.0) fault sources text =
-        subst (λ (directory : List ℕ). Diagnosed edition (path_of folders directory fault.file) directory fault sources text) same told in
+    subst (λ (directory : List ℕ). Diagnosed edition (path_of folders directory fault.file) directory fault sources text) same told in
     subst (λ (v : Verdict). IsRowText edition folders sources (string_bytes e.0, seen v) text) (sym is) its
 
 plain : (edition : Edition) (folders : Folders) (sources : List PackageFile) (directory : List ℕ) (v : Verdict) → ((fault : Fault) → v ≡ verdicts.Faulty fault → ⊥)

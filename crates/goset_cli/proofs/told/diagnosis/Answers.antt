@@ -9,7 +9,7 @@ pub returns : goal.returns
 returns c =
     let folder = folder_of (folders_of c.args.folders.now) c.args.directory.now in
     let same : c.as_str.result.now ≡ path_of (folders_of c.args.folders.now) c.args.directory.now c.args.fault.now.file =
-        (c.as_str.ensures.value ∙ c.in_ok-path.ensures)
-        ∙ (ap (λ (it : List ℕ). in_folder it ++ c.file.result.now) c.folder_of.ensures ∙ ap (λ (name : List ℕ). in_folder folder ++ name) c.file.ensures) in
+    (c.as_str.ensures.value ∙ c.in_ok-path.ensures)
+    ∙ (ap (λ (it : List ℕ). in_folder it ++ c.file.result.now) c.folder_of.ensures ∙ ap (λ (name : List ℕ). in_folder folder ++ name) c.file.ensures) in
     subst (λ (path : List ℕ). IfOk c.diagnose.result (λ text. Diagnosed c.args.edition path c.args.directory.now c.args.fault.now c.args.files.now text.items)) same
-        c.diagnose.ensures
+    c.diagnose.ensures
