@@ -46,10 +46,10 @@ returns-in-Err c =
     let spec = c.args.spec in
     let whole_spec = spec_of spec in
     let s = scope_of c.scope_in-scope.result in
-    let p = c.place.result in
+    let p = c.place-in-Err.result in
     let stands : s ≡ scope_at t.package t.known c.args.file (Some c.args.iota) =
     c.scope_in-scope.ensures
     ∙ ap (λ (x : Package). scope_at x (names_of c.known.result.now) c.args.file (Some c.args.iota)) c.package.ensures
     ∙ ap (λ (k : Names). scope_at t.package k c.args.file (Some c.args.iota)) c.known.ensures in
-    checked_spec c.check_faulty.result t c.args.file c.args.iota c.args.repeated whole_spec.names whole_spec.type whole_spec.values s c.in-Some.first.now p (sym c.in-Some.ensures.value) c.place.ensures stands
+    checked_spec c.check_faulty.result t c.args.file c.args.iota c.args.repeated whole_spec.names whole_spec.type whole_spec.values s c.in-Some.first.now p (sym c.in-Some.ensures.value) c.place-in-Err.ensures stands
     c.in_ok-check_names.ensures (c.check_faulty.ensures c.args.iota c.in-Err.ensures.faults)
