@@ -6,10 +6,10 @@ use Rattle.go_typed.specs.Views.{expr_of, stmt_of}
 use Rattle.go_expr.specs.Known.{Scope}
 use Rattle.go_expr.specs.Verdicts.{both, broken, operand, verdict}
 use Rattle.go_expr.specs.Seen.{all_of, scope_of, Fails}
-use Rattle.go_stmt.specs.Scopes.{Faults, nothing}
+use Rattle.go_stmt.specs.Scopes.{Faults, nothing, paired}
 use Rattle.go_stmt.specs.Rules.{all_some}
 use Rattle.go_stmt.specs.Seen.{context_of, env_of, spec_of, typed_in}
-use Rattle.go_stmt.specs.Statements.{place_at, each_of, written_at, spec_at, constants_at}
+use Rattle.go_stmt.specs.Statements.{place_at, each_of, written_at, spec_at, constant_in, declare_constants, constants_at}
 use Rattle.go_stmt.proofs.Defining.{answers_err}
 use Rattle.go_stmt.proofs.Locals.{constants_by, constants_made, constants_fail, constants_part_fails}
 use Rattle.go_stmt.proofs.constants.check_constants.Goals as goal
@@ -63,3 +63,9 @@ returns-clause-answer c =
     (c.in_ok-parts.ensures.values ∙ ap (λ (s : Scope). all_some (each_of (λ e. operand (verdict s e)) spec.values)) c.scope.ensures)
     (ap (λ q. broken q (constants_by spec.names (both written values))) (sym c.place_at-first.ensures) ∙ c.in_ok-statement.ensures.0) c.in_ok-statement.ensures.1 in
     (whole.0, whole.1 ∙ sym c.in_ok-single.ensures)
+
+pub returns-clause-after : goal.returns-clause-after
+returns-clause-after c =
+    let spec = spec_of c.args.spec in
+    let declared = c.in_ok-parts.ensures.declared ∙ ap (λ (s : Scope). each_of (constant_in s spec.type) spec.values) c.scope.ensures in
+    c.in_ok-declare_each.ensures ∙ ap (λ l. declare_constants (paired spec.names l) (env_of c.args.env.now)) declared
