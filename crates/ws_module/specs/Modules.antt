@@ -1,6 +1,6 @@
 -- The path of a module, which its go.mod names: https://go.dev/ref/mod#go-mod-file-module
 -- The first line that begins with the word `module` has the path behind that word, or opens a block, whose one line has it.
-use Rattle.std.specs.Prelude.{ℕ, Bool, true, false, ◌&&◌, ◌||◌, ◌==◌, ◌-◌, nat_eq, nat_le, slice_index, slice_range, if◌then◌else◌, List, [], ◌∷◌, length, map, Option, None, Some, codes, option_map}
+use Rattle.std.specs.Prelude.{ℕ, Bool, false, ◌&&◌, ◌||◌, ◌==◌, ◌-◌, nat_eq, nat_le, slice_index, slice_range, if◌then◌else◌, List, [], ◌∷◌, length, map, Option, None, Some, codes, option_map}
 use Rattle.std.specs.List.{starts_with}
 use Rattle.std.specs.Option.{option_map_or}
 use Rattle.std.specs.Str.{bytes_eq}

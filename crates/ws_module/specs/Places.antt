@@ -1,12 +1,12 @@
 -- Where the files that words name stand in a workspace.
-use Rattle.std.specs.Prelude.{ℕ, Bool, true, false, not, ◌&&◌, ◌||◌, ◌==◌, eqb, nat_eq, if◌then◌else◌, List, [], ◌∷◌, ◌++◌, drop, length, codes}
+use Rattle.std.specs.Prelude.{◌≡◌, ℕ, Option, MatchOption, Bool, true, false, not, ◌&&◌, ◌||◌, ◌==◌, eqb, nat_eq, if◌then◌else◌, List, [], ◌∷◌, ◌++◌, drop, length, codes}
 use Rattle.std.specs.Borrow.{Bor}
 use Rattle.std.specs.List.{ends_with, list_all, starts_with}
 use Rattle.std.specs.List.Sorted.{IsPermutation, IsSorted}
 use Rattle.std.specs.Ordering.{nat_cmp}
 use Rattle.std.specs.Cmp.Lexicographic.{slice_cmp}
 use Rattle.std.specs.Str.{bytes_eq}
-use Rattle.ws_path.specs.Paths.{directory, file_name}
+use Rattle.ws_path.specs.Paths.{directory, file_name, is_path}
 
 -- the directory of files that all lie in one folder
 abbrev pub alone : List ℕ
@@ -39,6 +39,11 @@ AreSorted files sorted = IsPermutation files sorted × IsSorted (λ a b. slice_c
 -- the name of what a folder holds
 abbrev pub beneath : List ℕ → List ℕ → List ℕ
 beneath folder name = folder ++ codes "/" ++ name
+
+-- the path of a file in a directory; none where that is no path
+abbrev pub IsPathIn : List ℕ → List ℕ → Option (List ℕ) → Type 0
+IsPathIn directory file path =
+    MatchOption path (is_path (beneath directory (file_name file)) ≡ false) (λ path. path ≡ beneath directory (file_name file))
 
 abbrev pub is_here : List ℕ → Bool
 is_here name = (length name == 0) || (bytes_eq name (codes ".") || bytes_eq name (codes ".."))

@@ -1,8 +1,7 @@
 //! Where the files that words name stand in a workspace.
-ghost use Rattle.std.specs.Prelude.{◌≡◌, ◌++◌, ◌∷◌, IfOk, MatchOption, false, map, string_bytes};
+ghost use Rattle.std.specs.Prelude.{◌≡◌, IfOk, map, string_bytes};
 ghost use Rattle.std.specs.List.{list_all};
-ghost use Rattle.ws_path.specs.Paths.{file_name, is_path};
-ghost use Rattle.ws_module.specs.Places.{AreSorted, are_alone, beneath, directory_in, directory_of, is_go, is_here, is_hidden, is_in};
+ghost use Rattle.ws_module.specs.Places.{AreSorted, IsPathIn, are_alone, beneath, directory_in, directory_of, is_go, is_here, is_hidden, is_in};
 ghost use Rattle.ws_module.specs.Places.{is_looked_into, is_read, is_test, top_of};
 
 use std::alloc::{AllocError, Global};
@@ -78,9 +77,7 @@ pub fn beneath(alloc: Global, folder: &str, name: &str) -> Result<String, AllocE
 
 /// The path of a file in a directory; none where that is no path. An `Err` is want of memory.
 pub fn path_in(alloc: Global, directory: &str, file: &str) -> Result<Option<FilePath>, AllocError>
-    ensures { IfOk result (λ path. MatchOption path
-        (is_path (beneath directory.now (file_name file.now)) ≡ false)
-        (λ path. path ≡ beneath directory.now (file_name file.now))) }
+    ensures { IfOk result (λ path. IsPathIn directory.now file.now path) }
 {
     Ok(FilePath::new(beneath(alloc, directory, file_name(file))?))
 }

@@ -1,4 +1,4 @@
-use Rattle.std.proofs.Common.{rules, arith, ap, ◌∙◌, ◌≡◌, false, drop, sym, codes}
+use Rattle.std.proofs.Common.{rules, arith, ◌∙◌, ◌≡◌, false, drop, codes}
 use Rattle.std.specs.Prelude.{nat_eq}
 use Rattle.std.specs.List.{starts_with}
 use Rattle.ws_module.proofs.Comments.{kept}
