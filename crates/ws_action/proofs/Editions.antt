@@ -1,5 +1,5 @@
 -- Editions and their numbers.
-use Rattle.std.specs.Prelude.{◌≡◌, ℕ, ◌<◌, ◌^◌, refl}
+use Rattle.std.specs.Prelude.{◌≡◌, ◌<◌, ◌^◌, refl}
 use Rattle.std.proofs.Common.{lit<}
 use Rattle.go_text.specs.declared.edition.Edition.{Edition}
 use Rattle.go_text.specs.declared.edition.Edition.TheVariants.{One, Two}

@@ -1,4 +1,4 @@
-use Rattle.std.proofs.Common.{rules, ◌≡◌, ◌≢◌, ◌+◌, ◌<◌, ◌≤◌, ◌∷◌, [], ◌++◌, List, ℕ, codes, length, map, take, refl, sym, ap, subst, ◌∙◌, arith}
+use Rattle.std.proofs.Common.{rules, ◌≡◌, ◌≢◌, ◌+◌, ◌<◌, ◌≤◌, ◌∷◌, [], ◌++◌, codes, length, map, take, refl, subst, arith}
 use Rattle.std.specs.List.{Contains}
 use Rattle.ws_action.proofs.Imported.{AddsSpecs, imports_it, library_passed, path_added, specs_added}
 use Rattle.ws_action.proofs.Mapped.{mapped_more}

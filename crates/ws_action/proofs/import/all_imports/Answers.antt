@@ -1,4 +1,4 @@
-use Rattle.std.proofs.Common.{rules, ◌≡◌, ◌<◌, ◌≤◌, [], length, map, ap, arith}
+use Rattle.std.proofs.Common.{rules, ◌<◌, ◌≤◌, length, map, ap, arith}
 use Rattle.std.specs.List.{Contains}
 use Rattle.ws_action.proofs.Imported.{from_none, from_more, from_all}
 use Rattle.ws_action.proofs.import.all_imports.Goals as goal

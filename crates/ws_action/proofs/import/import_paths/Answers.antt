@@ -1,4 +1,4 @@
-use Rattle.std.proofs.Common.{◌≡◌, map, ap, ◌∙◌}
+use Rattle.std.proofs.Common.{map, ap, ◌∙◌}
 use Rattle.std.proofs.lemmas.List.Filters.{dedup_is}
 use Rattle.ws_action.proofs.ImportPaths.{paths_sorted}
 use Rattle.ws_action.proofs.import.import_paths.Goals as goal
