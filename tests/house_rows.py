@@ -45,7 +45,7 @@ def house(room, names="Whole b.alone " * 12, lines=41, functions=119, long=801):
     written(room, {f"crates/go_text/specs/{name}.antt": text for name, text in SPECS.items()})
     body = ROOT.replace("NAMES", names.strip()).replace("BODY", "\n".join(["    c;"] * (lines - 1)))
     written(room, {"crates/go_text/src/lib.rt": body + "fn more() {}\n" * (functions)})
-    written(room, {"crates.txt": "go_text:\n", "docs/GATE.md": "", "tests/rows": "\n" * long})
+    written(room, {"crates.txt": "go_text:\n", "docs/GATE.md": "", "docs/CRATES.md": "# Crates\n| **Basics** | |\n| go_text | Texts. |\n", "tests/rows": "\n" * long})
     written(room, {"docs/PROOFS.md": "Of `first`: `Whole`.\n```\nalone\n```\n"})
     return lambda *words: ran(sys.executable, "tools/crates", *words, folder=room)
 

@@ -54,7 +54,7 @@ def checkout(room):
     os.chmod(os.path.join(room, "bin", "rt"), 0o755)
     written(top, {"crates.txt": "low: std\nmid: low\ntop: mid\n", "docs/GATE.md": "", **{f"crates/{it}/src/lib.rt": f"{it}\n" for it in ("low", "mid", "top")}})
     os.makedirs(os.path.join(top, "tools"))
-    for file in ("prove", "proof.py", "kit.py"):
+    for file in ("prove", "kit.py"):
         shutil.copy(os.path.join(TOP, "tools", file), os.path.join(top, "tools", file))
     return lambda *words: ran(sys.executable, "tools/prove", *words, folder=top, path=os.path.join(room, "bin")), lambda files: written(top, files)
 

@@ -2,13 +2,15 @@
 
 Nothing here knows what a build finds or a program prints.
 """
-import os
 import re
-import sys
 
-sys.path.insert(0, os.path.join(os.path.dirname(os.path.dirname(os.path.abspath(__file__))), "tools"))
-from script import LONGEST_SCRIPT, MOST_TARGETS, Lines, is_counted
-
+LONGEST_SCRIPT = 16_777_216
+# How many words stand behind each command; a build has two for each of at most 64 targets.
+COUNTS = {
+    **{b"replica": 1, b"write": 3, b"remove": 2, b"apply": 5, b"merge": 2, b"settle": 0},
+    **{b"show": 1, b"run": 3, b"ids": 2, b"edition": 1},
+}
+MOST_TARGETS = 64
 GREATEST = 2**64 - 1
 MOST_REPLICAS = 64
 LONGEST_PATH = 200
@@ -26,6 +28,43 @@ REFUSALS = {
     8: ("nopackage", "the directory has no files of a package"),
     9: ("notbuilt", "no compiled program is held of the directory as it is: not built, with a fault, or not main"),
 }
+
+
+def is_counted(command, words):
+    """Whether so many words may stand behind a command."""
+    if command == b"build":
+        return len(words) in range(2, 2 * MOST_TARGETS + 1, 2)
+    return COUNTS.get(command) == len(words)
+
+
+class Lines:
+    """The lines of a script that aren't read yet."""
+
+    def __init__(self, script):
+        self.lines = script.split(b"\n")
+        # where nothing follows the last newline no line begins
+        if self.lines[-1] == b"":
+            self.lines.pop()
+        self.at = 0
+
+    def __bool__(self):
+        return self.at < len(self.lines)
+
+    def line(self):
+        self.at += 1
+        return self.lines[self.at - 1]
+
+    def words(self):
+        """The words of the next line, and its number from 1."""
+        line = self.line()
+        return [it for it in line.removesuffix(b"\r").split(b" ") if it], self.at
+
+    def text(self, count):
+        """The text of the next lines, or nothing where there are fewer."""
+        end = min(self.at + count, len(self.lines))
+        taken, lacks = self.lines[self.at : end], end < self.at + count
+        self.at = end
+        return None if lacks else b"".join(line + b"\n" for line in taken)
 
 
 class Refused(Exception):

@@ -7,8 +7,6 @@ import glob
 import os
 import re
 from collections import Counter, defaultdict
-from dataclasses import dataclass
-from functools import cached_property
 
 from kit import PARTS, TOP
 from sources import Definition, Tree, read, rust_lines
@@ -19,52 +17,28 @@ SCRIPTS = ("tools/*", "bench/*", "tests/*", "tests/*/*.py", "tests/*/try")
 WIDE, LONG_BODY, LONG_FILE, LARGE = 160, 40, 800, 120
 QUOTED = r'"(?:\\.|[^"\\])*"'
 # Comments, and what stands in quotes.
-UNREAD = {
-    "antt": re.compile(rf"--[^\n]*|{QUOTED}", re.S),
-    "rt": re.compile(rf"//[^\n]*|{QUOTED}|'(?:\\.[^']*|[^'\\])'", re.S),
-}
+UNREAD = {"antt": re.compile(rf"--[^\n]*|{QUOTED}", re.S), "rt": re.compile(rf"//[^\n]*|{QUOTED}|'(?:\\.[^']*|[^'\\])'", re.S)}
+# An import: whether it is public, its module, the names that it brings, and that of the module.
 USE = {
     "antt": re.compile(r"^(pub )?use\s+Rattle\.(\S+?)(?:\.\{([^}]*)\})?(?:[ ]+as[ ]+(\S+))?[ ]*$", re.M),
     "rt": re.compile(r"^[ ]*(pub[^\n]*?)?ghost use\s+Rattle\.([^\s;{]+?)(?:\.\{([^}]*)\})?(?:[ ]+as[ ]+(\w+))?[ ]*;[ ]*$", re.M),
 }
 NAME = re.compile(r"[A-Za-z0-9_'?\-]+")
-CLAUSE = re.compile(r"\b(?:requires|ensures|invariant|decreases)\b\*?\s*(?:[A-Za-z_][\w-]*)?\s*\{")
+CLAUSE = re.compile(r"\b(?:requires|ensures|invariant|decreases)\b\*?\s*(?:[A-Za-z_][\w-]*)?\s*(?=\{)")
 FUNCTION = re.compile(r"( *)(?:pub(?:\([a-z: ]+\))? )?(?:const )?fn (\w+)")
 HEADER = re.compile(r"(?:  )?(?:abbrev |unfoldable |opaque )?pub (?:record |data )?([^\s:(){}]+)(?=[\s({:])")
 
 
-@dataclass
-class Use:
-    """An import: its module, and the names that it brings in as (its own, the one that is used), or that of the module alone."""
-
-    at: int
-    is_public: bool
-    module: str
-    names: list
-    alone: str
-
-
 class Source:
-    """A file of a crate."""
+    """A file of a crate: its text, and that without comments and what stands in quotes, which is as long line by line."""
 
     def __init__(self, path):
-        self.path, self.ext = os.path.relpath(path, TOP), path.rsplit(".", 1)[1]
+        self.path, self.ext, self.text = os.path.relpath(path, TOP), path.rsplit(".", 1)[1], read(path)
         _, self.crate, self.part, *_ = self.path.split("/")
-        self.text = read(path)
-        # (as long as the text, line by line)
         self.read = UNREAD[self.ext].sub(lambda it: re.sub(r"[^\n]", " ", it[0]), self.text)
 
     def line(self, at):
         return f"{self.path}:{self.text.count(chr(10), 0, at) + 1}"
-
-    @cached_property
-    def uses(self):
-        found = []
-        for m in USE[self.ext].finditer(self.read):
-            names = [it.split() for it in (m[3] or "").split(",") if it.strip()]
-            alone = None if m[3] is not None else m[4] or m[2].split(".")[-1]
-            found.append(Use(m.start(), bool(m[1]), m[2], [(it[0], it[-1]) for it in names], alone))
-        return found
 
 
 def says(name, names, text):
@@ -80,10 +54,9 @@ def unused(sources):
     for it in sources:
         text = USE[it.ext].sub("", it.read)
         names = set(NAME.findall(text))
-        for use in it.uses:
-            shown = use.names or [(use.alone, use.alone)]
-            lost = [] if use.is_public else [name for _, name in shown if not says(name, names, text)]
-            yield from (f"{it.line(use.at)}: {name}" for name in lost)
+        for use in USE[it.ext].finditer(it.read):
+            brought = [name.split()[-1] for name in (use[3] or "").split(",") if name.strip()] or [use[4] or use[2].split(".")[-1]]
+            yield from (f"{it.line(use.start())}: {name}" for name in brought if not use[1] and not says(name, names, text))
 
 
 def uncited(sources):
@@ -92,55 +65,41 @@ def uncited(sources):
     modules = [it for files in tree.code.values() for it in files]
     left = [found for it in modules for found in tree.cited(Definition(it, [], rust_lines(text_of(it.file))))]
     left += [found for it in modules for definition in it.defined.values() for found in tree.cited(definition)]
-    seen = set()
-    while left:
-        it = left.pop()
-        if not isinstance(it, str) and id(it) not in seen:
-            seen.add(id(it))
-            left += tree.cited(it)
+    seen = {id(it) for it in tree.reached(left)[0]}
     for path in sorted(it for it in tree.logic if ".specs." in it and not it.endswith(".Lib")):
         lost = {id(it): it for it in tree.module(path).defined.values() if id(it) not in seen}
         yield from (f"{os.path.relpath(it.module.file, TOP)}: {it.names[0]}" for it in lost.values())
 
 
-def end_of_clause(text, at):
-    depth = 1
-    for brace in re.finditer(r"[{}]", text[at:]):
-        depth += 1 if brace[0] == "{" else -1
-        if not depth:
-            return at + brace.start()
-    return len(text)
-
-
 def wide(sources):
-    for it in sources:
-        for clause in CLAUSE.finditer(it.read) if it.ext == "rt" else []:
-            said = " ".join(it.text[clause.end() : end_of_clause(it.read, clause.end())].split())
+    for it in [it for it in sources if it.ext == "rt"]:
+        for clause in CLAUSE.finditer(it.read):
+            depth, end = 0, clause.end()
+            for brace in re.compile(r"[{}]").finditer(it.read, end):
+                depth, end = depth + (1 if brace[0] == "{" else -1), brace.start()
+                if not depth:
+                    break
+            said = " ".join(it.text[clause.end() + 1 : end].split())
             if len(said) > WIDE:
                 yield f"{it.line(clause.start())}: {len(said)} characters"
 
 
-def functions(source):
-    """Each function as rt fmt lays it out: its name, its line, and the lines of its body."""
-    head = body = None
-    for number, line in enumerate(source.text.split("\n"), 1):
-        if m := FUNCTION.match(line):
-            head, body = (m[1], m[2], number), None
-        if not head:
-            continue
-        indent, name, first = head
-        if body is None and (line == f"{indent}{{" or number == first and line.endswith("{")):
-            body = number
-        if line.startswith(f"{indent}}}") or number == first and line.endswith(("}", ";")):
-            yield name, first, number - (body or number) - 1
-            head = None
-
-
 def long_bodies(sources):
-    for it in sources:
-        for name, line, lines in functions(it) if it.ext == "rt" else []:
-            if lines > LONG_BODY:
-                yield f"{it.path}:{line}: {name}, {lines} lines"
+    """Functions as rt fmt lays them out: a body stands between lines with a brace alone."""
+    for it in [it for it in sources if it.ext == "rt"]:
+        head = body = None
+        for number, line in enumerate(it.text.split("\n"), 1):
+            if found := FUNCTION.match(line):
+                head, body = (found[1], found[2], number), None
+            if not head:
+                continue
+            indent, name, first = head
+            if body is None and (line == f"{indent}{{" or number == first and line.endswith("{")):
+                body = number
+            if line.startswith(f"{indent}}}") or number == first and line.endswith(("}", ";")):
+                if number - (body or number) - 1 > LONG_BODY:
+                    yield f"{it.path}:{first}: {name}, {number - body - 1} lines"
+                head = None
 
 
 def ambiguous(sources):
@@ -203,12 +162,10 @@ def kept():
 
 def wrong():
     """Where tools/house.txt isn't what the crates are."""
-    had = kept()
     for rule, broken in found().items():
-        if len(broken) > had.get(rule, 0):
-            yield f"{len(broken)} {rule}, where tools/house.txt has {had.get(rule, 0)}: `tools/crates house` names them"
-        if len(broken) < had.get(rule, 0):
-            yield f"{len(broken)} {rule}, where tools/house.txt still has {had[rule]}: tools/crates renew"
+        count, had = len(broken), kept().get(rule, 0)
+        if count != had:
+            yield f"{count} {rule}, where tools/house.txt " + (f"has {had}: `tools/crates house` names them" if count > had else f"still has {had}: tools/crates renew")
 
 
 def page():

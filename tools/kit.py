@@ -7,6 +7,8 @@ import fcntl
 import functools
 import glob
 import hashlib
+import importlib.machinery
+import importlib.util
 import os
 import re
 import resource
@@ -18,11 +20,11 @@ import sys
 import time
 
 TOP = os.path.dirname(os.path.dirname(os.path.abspath(__file__)))
-PROVED = os.path.join(TOP, "proved.txt")
 PARTS = ("src", "specs", "proofs")
 # What the proof of a crate takes that the gate didn't time yet.
 MINUTES_OF_A_CRATE = 5
-NO_KIT = "there is no rt on the path: the Rattle kit is needed, as README.md says"
+# How often a long work is looked at, and the longest time without a line, where nothing changed in what would be said.
+QUIET_SECONDS, SILENT_SECONDS = 10, 60
 
 
 def say(text):
@@ -32,7 +34,7 @@ def say(text):
 def has_kit():
     """Whether there is a kit; says so if there is none."""
     if not shutil.which("rt"):
-        say(NO_KIT)
+        say("there is no rt on the path: the Rattle kit is needed, as README.md says")
         return False
     return True
 
@@ -42,6 +44,21 @@ def folder():
     """The kit's folder: `rt doc` prints the path of a page that stands in it."""
     page = subprocess.run(["rt", "doc"], capture_output=True, text=True, check=True).stdout.strip()
     return os.path.dirname(os.path.realpath(page))
+
+
+def loaded(name, path):
+    """A file of Python as a module, whatever its name ends in."""
+    loader = importlib.machinery.SourceFileLoader(name, path)
+    module = importlib.util.module_from_spec(importlib.util.spec_from_loader(name, loader))
+    loader.exec_module(module)
+    return module
+
+
+def told_by(*words):
+    """What a command prints, or nothing where it isn't there."""
+    with contextlib.suppress(OSError):
+        return subprocess.run(words, cwd=TOP, capture_output=True, text=True, check=False).stdout.strip()
+    return ""
 
 
 def processors():
@@ -69,18 +86,18 @@ def libraries():
     return {name: [it for it in rest if it in given] for name, rest in given.items()}
 
 
-def needed(program):
-    """The program, and before it all crates that it stands on, each behind those below it."""
-    given, found = libraries(), []
+def needed(*names):
+    """Some crates, and before them all that they stand on, each behind those below it."""
+    given, found = libraries(), {}
 
     def add(name):
-        for it in given.get(name, []):
+        for it in [it for it in given.get(name, ()) if it not in found]:
             add(it)
-        if name not in found:
-            found.append(name)
+        found.setdefault(name)
 
-    add(program)
-    return found
+    for name in names:
+        add(name)
+    return [*found]
 
 
 def program_file(program):
@@ -92,62 +109,44 @@ def proved_program(program="goset"):
     file = program_file(program)
     if not os.access(file, os.X_OK):
         name, by = os.path.relpath(sys.argv[0], TOP), "./goset --prove" if program == "goset" else f"rt ci {program}"
-        told = f"{name}: there is no program {os.path.relpath(file, TOP)}; {by} builds it, after its proof"
-        print(told, file=sys.stderr)
+        print(f"{name}: there is no program {os.path.relpath(file, TOP)}; {by} builds it, after its proof", file=sys.stderr)
         sys.exit(2)
     return file
 
 
-def sources_sum(crates, parts=PARTS, said=b""):
-    """The SHA-256 of the files of some crates."""
-    total = hashlib.sha256(said)
-    for crate in sorted(crates):
-        for part in parts:
-            for name in sorted(glob.glob(os.path.join(TOP, "crates", crate, part, "**", "*"), recursive=True)):
-                if os.path.isfile(name):
-                    with open(name, "rb") as file:
-                        told = f"{os.path.relpath(name, TOP)}\0".encode()
-                        total.update(told + hashlib.sha256(file.read()).digest())
+def sources_sum(crates, said, parts=PARTS):
+    """The SHA-256 of some words, and of the files of some crates."""
+    total = hashlib.sha256(said.encode())
+    for where in [os.path.join(TOP, "crates", crate, part) for crate in sorted(crates) for part in parts]:
+        for name in sorted(filter(os.path.isfile, glob.glob(f"{where}/**/*", recursive=True))):
+            with open(name, "rb") as file:
+                total.update(f"{os.path.relpath(name, TOP)}\0".encode() + hashlib.sha256(file.read()).digest())
     return total.hexdigest()
 
 
 def crate_sum(crate):
     """The SHA-256 of a crate's files, and of what it stands on."""
-    return sources_sum([crate], said=" ".join(sorted(listed()[crate])).encode())
-
-
-def proofs_noted():
-    """What proved.txt says: the date of the gate that proved crates last, its kit, and the sum of each crate; nothing where it isn't there."""
-    try:
-        with open(PROVED, encoding="utf-8") as file:
-            rows = dict(line.split(maxsplit=1) for line in file.read().splitlines() if line and not line.startswith("#"))
-    except FileNotFoundError:
-        return None
-    return rows.pop("date"), rows.pop("kit"), rows
+    return sources_sum([crate], " ".join(sorted(listed()[crate])))
 
 
 def said_of_proofs(program):
-    """What the gate proved of the sources of a program that isn't proved here, in a line."""
-    noted = proofs_noted()
-    if not noted:
+    """What the gate proved of the sources of a program that isn't proved here, in a line: proved.txt has the sum of each crate's."""
+    try:
+        with open(os.path.join(TOP, "proved.txt"), encoding="utf-8") as file:
+            noted = dict(line.split(maxsplit=1) for line in file.read().splitlines() if line and not line.startswith("#"))
+    except FileNotFoundError:
         return "UNPROVED: no proof of these sources is noted, and this build checks nothing"
-    date, kit, sums = noted
-    changed = [it for it in needed(program) if sums.get(it) != crate_sum(it)]
+    changed = [it for it in needed(program) if noted.get(it) != crate_sum(it)]
     if not changed:
-        return f"these sources were proved on {date} by {kit}; this build doesn't prove them again"
-    return f"UNPROVED: this build checks nothing, and {len(changed)} of its crates changed since the gate of {date}, as {changed[0]}"
-
-
-def timed():
-    """The processor minutes that the proof of each crate took in the run of the gate that docs/GATE.md tells of."""
-    with open(os.path.join(TOP, "docs", "GATE.md"), encoding="utf-8") as file:
-        return {name: float(worked) for name, worked in re.findall(r"(?m)^\| (\w+) \|[^|\n]*\| (\d+\.\d\d) \|", file.read())}
+        return f"these sources were proved on {noted['date']} by {noted['kit']}; this build doesn't prove them again"
+    return f"UNPROVED: this build checks nothing, and {len(changed)} of its crates changed since the gate of {noted['date']}, as {changed[0]}"
 
 
 def reckoned(crates):
-    """The processor minutes that the proofs of some crates take."""
-    known = timed()
-    return sum(known.get(name, MINUTES_OF_A_CRATE) for name in crates)
+    """The processor minutes that the proofs of some crates took in the run of the gate that docs/GATE.md tells of."""
+    with open(os.path.join(TOP, "docs", "GATE.md"), encoding="utf-8") as file:
+        known = dict(re.findall(r"(?m)^\| (\w+) \|[^|\n]*\| (\d+\.\d\d) \|", file.read()))
+    return sum(float(known.get(name, MINUTES_OF_A_CRATE)) for name in crates)
 
 
 class Watch:
@@ -160,33 +159,25 @@ class Watch:
         """Looks, and returns the checks that ended since the last look: what each was, with its processor seconds."""
         now = {}
         for process in filter(str.isdigit, os.listdir("/proc")):
-            check, seconds = self.seen(process)
-            if check:
-                now.setdefault(check, {})[process] = seconds
+            with contextlib.suppress(OSError, IndexError, ValueError):
+                now.setdefault(self.check_of(process), {})[process] = seconds_of(process, 2)
+        now.pop(None, None)
         ended = [(check[0], sum(self.seconds.pop(check).values())) for check in [*self.seconds] if check not in now]
         for check, seconds in now.items():
             self.seconds.setdefault(check, {}).update(seconds)
         return ended
 
-    def seen(self, process):
-        """What a process checks, in words and by its folder, and its processor seconds, or nothing twice."""
-        try:
-            with open(f"/proc/{process}/cmdline", "rb") as file:
-                words = os.fsdecode(file.read()).split("\0")
-            if "--crate-name" not in words or "--only" in words:
-                return None, None
-            name, folder = words[words.index("--crate-name") + 1], os.readlink(f"/proc/{process}/cwd")
-            with open(f"/proc/{process}/stat", encoding="ascii", errors="replace") as file:
-                told = file.read().rpartition(")")[2].split()
-            if folder == os.path.join(self.top, "crates", name):
-                check = f"{name}: its tests" if "--test" in words else name
-            elif os.path.basename(folder).startswith("rt-edit-") and int(told[3]) == os.getsid(0):
-                check = f"{name}: an edit"
-            else:
-                return None, None
-            return (check, folder), sum(map(int, told[11:13])) / os.sysconf("SC_CLK_TCK")
-        except (OSError, IndexError):
-            return None, None
+    def check_of(self, process):
+        """What a process checks, in words and by its folder, or nothing."""
+        with open(f"/proc/{process}/cmdline", "rb") as file:
+            words = os.fsdecode(file.read()).split("\0")
+        if "--crate-name" not in words or "--only" in words:
+            return None
+        name, where = words[words.index("--crate-name") + 1], os.readlink(f"/proc/{process}/cwd")
+        if where == os.path.join(self.top, "crates", name):
+            return f"{name}: its tests" if "--test" in words else name, where
+        is_edit = os.path.basename(where).startswith("rt-edit-") and os.getsid(int(process)) == os.getsid(0)
+        return (f"{name}: an edit", where) if is_edit else None
 
 
 # turns and commands
@@ -196,10 +187,10 @@ class Ended(Exception):
     """The number of the signal that ends this command."""
 
 
-def end_on_signals():
-    """From here on INT and TERM raise Ended, and so does HUP where it isn't ignored; so what was started is ended, too."""
-    ending = [signal.SIGINT, signal.SIGTERM]
-    ending += [signal.SIGHUP] * (signal.getsignal(signal.SIGHUP) != signal.SIG_IGN)
+def end_by(main, told=None):
+    """Ends with the status that main answers to the words, or behind a line with that of the signal that ends it: INT, TERM, or HUP where it
+    isn't ignored. So what was started is ended, too."""
+    ending = [signal.SIGINT, signal.SIGTERM] + [signal.SIGHUP] * (signal.getsignal(signal.SIGHUP) != signal.SIG_IGN)
 
     def end(number, _):
         # a second one doesn't break the ending off
@@ -209,6 +200,12 @@ def end_on_signals():
 
     for it in ending:
         signal.signal(it, end)
+    try:
+        sys.exit(main(sys.argv[1:]))
+    except Ended as why:
+        if told:
+            say(told)
+        sys.exit(128 + why.args[0])
 
 
 @contextlib.contextmanager
@@ -245,11 +242,11 @@ def run_all(commands, look, **how):
     return [statuses[it] for it in sorted(statuses)]
 
 
-def seconds_of(process):
-    """What the processors did so far for a process, and for what it started and that ended; nothing where it is gone."""
+def seconds_of(process, parts=4):
+    """What the processors did so far for a process (2 parts), and for what it started and that ended (4); nothing where it is gone."""
     try:
         with open(f"/proc/{process}/stat", encoding="ascii", errors="replace") as file:
-            return sum(map(int, file.read().rpartition(")")[2].split()[11:15])) / os.sysconf("SC_CLK_TCK")
+            return sum(map(int, file.read().rpartition(")")[2].split()[11 : 11 + parts])) / os.sysconf("SC_CLK_TCK")
     except OSError:
         return 0.0
 
@@ -268,40 +265,60 @@ def lines_of(child, seconds):
             yield None
             continue
         data = os.read(child.stdout.fileno(), 65536)
-        if not data:
-            break
         *lines, rest = (rest + data).split(b"\n")
+        lines += [rest] if rest and not data else []
         yield from (f"{line.decode('utf-8', 'replace')}\n" for line in lines)
-    if rest:
-        yield f"{rest.decode('utf-8', 'replace')}\n"
+        if not data:
+            return
 
 
-def whose(file):
-    """Takes the turn that a file stands for, or says who has it."""
-    try:
-        fcntl.flock(file, fcntl.LOCK_EX | fcntl.LOCK_NB)
-        return None
-    except BlockingIOError:
-        file.seek(0)
-        return f"another ./goset, {file.read() or 'which begins just now'}"
+class Progress:
+    """Which step a work is at, and the minutes that are left, at the pace of the step: what runs beside it slows it down."""
+
+    def __init__(self, name, steps):
+        self.name, self.steps, self.looked, self.slower, self.said, self.line = name, steps, time.monotonic(), 1.0, 0.0, ""
+        self.begin(next(iter(steps)))
+
+    def begin(self, step):
+        self.step, self.begun, self.done = step, time.monotonic(), 0.0
+
+    def left(self):
+        """The seconds that are left. A step that has just begun goes at the pace of the one before it."""
+        names = [*self.steps]
+        if self.done > 1:
+            self.slower = max((time.monotonic() - self.begun) / self.done, 1.0)
+        rest = sum(self.steps[it] for it in names[names.index(self.step) + 1 :])
+        return (rest + max(self.steps[self.step] - self.done, 0.0)) * self.slower
+
+    def look(self, done=0.0, more=""):
+        """Notes how many of the step's seconds are done, and says how far it is, if that changed and it is time for it."""
+        self.done, now = done or self.done, time.monotonic()
+        if now - self.looked < QUIET_SECONDS:
+            return
+        self.looked, step = now, [*self.steps].index(self.step) + 1
+        line = f"{self.name}: {self.step}{more} (step {step} of {len(self.steps)}); {told_minutes(self.left() / 60)} left"
+        if line != self.line or now - self.said >= SILENT_SECONDS:
+            self.line, self.said = line, now
+            say(line)
 
 
-def whose_turn(name):
-    """Who has a turn, or nothing where nobody has it."""
-    try:
-        with open(os.path.join(TOP, "out", name), "a+", encoding="utf-8") as file:
-            return whose(file)
-    except FileNotFoundError:
-        return None
+def whose_turn(name, file=None):
+    """Who has a turn, or nothing where nobody has it, and then a file that is handed over takes it."""
+    with contextlib.suppress(FileNotFoundError), contextlib.ExitStack() as ending:
+        file = file or ending.enter_context(open(os.path.join(TOP, "out", name), "a+", encoding="utf-8"))
+        try:
+            return fcntl.flock(file, fcntl.LOCK_EX | fcntl.LOCK_NB)
+        except BlockingIOError:
+            file.seek(0)
+            return f"another ./goset, {file.read() or 'which begins just now'}"
 
 
 @contextlib.contextmanager
 def turn(name, what):
     """Waits until no other ./goset of this checkout does what needs this turn, and says for whom it waits."""
-    path = os.path.join(TOP, "out", name)
-    os.makedirs(os.path.dirname(path), exist_ok=True)
-    with open(path, "a+", encoding="utf-8") as file:
-        who = whose(file)
+    os.makedirs(os.path.join(TOP, "out"), exist_ok=True)
+    with open(os.path.join(TOP, "out", name), "a+", encoding="utf-8") as file:
+        who = whose_turn(name, file)
         if who:
             say(f"{who}; this one waits for it, and Ctrl-C ends it")
             fcntl.flock(file, fcntl.LOCK_EX)

@@ -9,6 +9,7 @@ import re
 
 WORD = re.compile(r"[^\s(){}\[\],;:|×→↔⊎λ≡≢≤<=+&∷!\"]+")
 HEADER = re.compile(r"^((?:(?:pub|abbrev|unfoldable|opaque|data|record)\s+)*)([^\s:(){},=|]+)\s*(?:\(|\{|:\s|:$)")
+ITEM = re.compile(r"^( *)(?:pub(?:\([^)]*\))? )?(?:const )?(struct|enum|trait|fn|impl)\b ?([^\n{;]*)", re.MULTILINE)
 
 
 def read(path):
@@ -23,20 +24,13 @@ class Definition:
         self.module, self.names, self.lines = module, names, lines
 
     def words(self):
-        """The words of its lines: plain ones, and pairs of a module's short name and a word of it."""
+        """The words of its lines: plain ones, and pairs of a module's short name and a word of it. (Those may be a value and its field.)"""
         for line in self.lines:
             for word in WORD.findall(re.sub(r'"[^"]*"', "", line.partition(" -- ")[0])):
-                word = word.rstrip(".")
                 if not word.startswith("."):
-                    yield from dotted(word)
-
-
-def dotted(word):
-    """`a.b` may be the word b of a module a, or a field of a value a."""
-    parts = word.split(".")
-    yield (None, parts[0])
-    if len(parts) > 1:
-        yield (parts[0], parts[1])
+                    first, *rest = word.rstrip(".").split(".")
+                    yield None, first
+                    yield from ((first, it) for it in rest[:1])
 
 
 class Module:
@@ -57,24 +51,18 @@ class Module:
         """A `use` item of the program logic: `A.B.{c, d as e}`, `A.B as m` or `A.B.{c}` behind `pub`."""
         text = re.sub(r"^(pub\s+)?use\s+", "", text.strip().rstrip(";"))
         listed = re.match(r"([\w.]+)\.\{(.*)\}$", text, re.DOTALL)
-        if listed:
-            for item in filter(None, map(str.strip, listed[2].split(","))):
-                name, _, other = item.partition(" as ")
-                self.brought[other.strip() or name] = (listed[1], name)
-            return
-        path, _, short = text.partition(" as ")
-        self.short[short.strip() or path.rpartition(".")[2]] = path
-
-
-def code_lines(text):
-    """Without blank lines and comments."""
-    return [line for line in text.split("\n") if line.strip() and not line.strip().startswith("--")]
+        for item in filter(None, map(str.strip, listed[2].split(",") if listed else ())):
+            name, _, other = item.partition(" as ")
+            self.brought[other.strip() or name] = (listed[1], name)
+        if not listed:
+            path, _, short = text.partition(" as ")
+            self.short[short.strip() or path.rpartition(".")[2]] = path
 
 
 def logic_module(path, file):
-    """Reads a file of specs/ or proofs/."""
-    module, lines, at = Module(path, file), code_lines(read(file)), 0
-    parameters = []
+    """Reads a file of specs/ or proofs/, without blank lines and comments."""
+    module, at, parameters = Module(path, file), 0, []
+    lines = [line for line in read(file).split("\n") if line.strip() and not line.strip().startswith("--")]
     while at < len(lines):
         end = at + 1
         while end < len(lines) and (lines[end][0] in " ])}" or lines[end].startswith("unfolding ")):
@@ -104,20 +92,14 @@ def names_in_block(block):
 
 def define(module, block, parameters):
     """Takes a definition's head, or an equation of the definition before."""
-    first = block[0]
-    name = first.split()[0]
-    known = module.defined.get(name)
-    header = HEADER.match(first)
+    known, header = module.defined.get(block[0].split()[0]), HEADER.match(block[0])
     if known and not (header and header[1]):
         known.lines += block
         return
     if not header:
-        raise SystemExit(f"{module.file}: what is this line? {first!r}")
-    names = [header[2]]
-    if "data " in header[1]:
-        names += [it[1] for it in (re.match(r"  ([^\s:]+) :", line) for line in block[1:]) if it]
-        names += [it[1] for it in (re.match(r"  ([^\s:(){}]+)$", line) for line in block[1:]) if it]
-    module.define(names, parameters + block)
+        raise SystemExit(f"{module.file}: what is this line? {block[0]!r}")
+    forms = [re.match(form, line) for form in (r"  ([^\s:]+) :", r"  ([^\s:(){}]+)$") for line in block[1:] if "data " in header[1]]
+    module.define([header[2], *(it[1] for it in forms if it)], parameters + block)
 
 
 def closed(text, at):
@@ -139,9 +121,6 @@ def head_end(text, at):
         at = closed(text, found.end() - 1)
 
 
-ITEM = re.compile(r"^( *)(?:pub(?:\([^)]*\))? )?(?:const )?(struct|enum|trait|fn|impl)\b ?([^\n{;]*)", re.MULTILINE)
-
-
 def code_module(path, file):
     """Reads a file of src/: types, traits, heads of functions, and the ghost members of impls."""
     text = re.sub(r"^\s*(//.*|#!?\[.*\])\n", "", read(file), flags=re.MULTILINE)
@@ -149,15 +128,12 @@ def code_module(path, file):
     for it in re.findall(r"^\s*ghost use ([^;]*);", text, re.MULTILINE):
         module.use(re.sub(r"\s+", " ", it))
     for it in re.findall(r"^(?:pub )?use ([^;]*);", text, re.MULTILINE):
-        for name, place in rust_uses(re.sub(r"\s+", "", it.replace(" as ", "@")), path):
-            module.passed_on[name] = place
+        module.passed_on.update(rust_uses(re.sub(r"\s+", "", it.replace(" as ", "@")), path))
     owner, owned = "", 0
     for found in ITEM.finditer(text):
-        kind, rest = found[2], found[3]
-        name = re.match(r"\w+", rest)
+        kind, name = found[2], re.match(r"\w+", found[3])
         if kind == "fn":
-            end = head_end(text, found.end())
-            definition = module.define([f"fn {name[0]}"], rust_lines(text[found.start() : end]))
+            definition = module.define([f"fn {name[0]}"], rust_lines(text[found.start() : head_end(text, found.end())]))
             module.functions.append((owner if found.start() < owned else "", name[0], definition))
         elif kind == "impl":
             owner, owned = impl(module, text, found)
@@ -172,22 +148,21 @@ def impl(module, text, found):
     """What an impl says of a type: its model, and the ghost members of a trait's impl. Returns the type, and where the impl ends."""
     head = re.match(r"(?:<[^{]*?> )?(?:(\w+)(?:<[^{]*?>)? for )?(\w+)", found[3])
     end = closed(text, text.index("{", found.start()))
-    body = text[found.start() : end]
     if not head or not head[1]:
         return (head[2] if head else ""), end
-    ghosts = [it for it in re.findall(r"^\s*ghost (?!use)[^;]*(?:\{[^;]*\})?;", body, re.MULTILINE)]
+    ghosts = re.findall(r"^\s*ghost (?!use)[^;]*(?:\{[^;]*\})?;", text[found.start() : end], re.MULTILINE)
     # (an invariant is a premise of no clause: who makes a value meets it, and the view alone says what the value is)
     invariants = [it for it in ghosts if re.match(r"\s*ghost invariant\b", it)]
     if invariants:
         module.invariants[head[2]] = Definition(module, [f"invariant of {head[2]}"], [line for it in invariants for line in rust_lines(it)])
     ghosts = [it for it in ghosts if it not in invariants]
-    lines = [line for it in ghosts for line in rust_lines(it)]
     for it in ghosts:
         # (of a trait's laws an impl has the proofs, which nobody needs to read)
         member = re.match(r"\s*ghost (\w+)", it)[1]
         module.define([f"{member} of {head[2]}"], rust_lines(it))
-    if lines:
-        module.define([f"impl {head[1]} for {head[2]}"] + [f"model {head[2]}"] * (head[1] == "Model"), lines)
+    if ghosts:
+        names = [f"impl {head[1]} for {head[2]}"] + [f"model {head[2]}"] * (head[1] == "Model")
+        module.define(names, [line for it in ghosts for line in rust_lines(it)])
     return head[2], end
 
 
@@ -199,21 +174,19 @@ def rust_uses(text, path):
     """The names that a Rust `use` brings, each with the crate and the name there."""
     listed = re.match(r"(.*?)::\{(.*)\}$", text)
     if listed:
-        depth, part, parts = 0, "", []
-        for c in listed[2]:
-            depth += {"{": 1, "}": -1}.get(c, 0)
-            if c == "," and depth == 0:
-                parts.append(part)
-                part = ""
-            else:
-                part += c
-        for it in filter(None, parts + [part]):
+        # (a comma outside of inner braces parts them)
+        for it in filter(None, re.findall(r"(?:[^,{]|\{(?:[^{}]|\{[^{}]*\})*\})+", listed[2])):
             yield from rust_uses(f"{listed[1]}::{it}", path)
         return
     whole, _, other = text.partition("@")
     words = whole.split("::")
-    crate = path.split(".")[1] if words[0] in ("crate", "self", "super") else words[0]
-    yield other or words[-1], (crate, words[-1])
+    yield other or words[-1], (path.split(".")[1] if words[0] in ("crate", "self", "super") else words[0], words[-1])
+
+
+def rust_files(folder):
+    """Without tests."""
+    files = glob.glob(os.path.join(folder, "src", "**", "*.rt"), recursive=True)
+    return sorted(it for it in files if not re.search(r"/tests?(/|\.rt$)", it))
 
 
 class Tree:
@@ -227,16 +200,13 @@ class Tree:
                 for file in glob.glob(os.path.join(folder, part, "**", "*.antt"), recursive=True):
                     inner = os.path.relpath(file, os.path.join(folder, part)).removesuffix(".antt").replace(os.sep, ".")
                     if part == "specs" or inner.rpartition(".")[2] not in ("Answers", "Invariants", "Facts"):
-                        path = f"Rattle.{crate}.{part}.{inner}"
-                        self.logic[path] = (file, None)
+                        self.logic[f"Rattle.{crate}.{part}.{inner}"] = (file, None)
             self.code[crate] = [code_module(f"Rattle.{crate}.src", file) for file in rust_files(folder)]
 
     def module(self, path):
         file, module = self.logic[path]
-        if module is None:
-            module = logic_module(path, file)
-            self.logic[path] = (file, module)
-        return module
+        self.logic[path] = (file, module or logic_module(path, file))
+        return self.logic[path][1]
 
     def at(self, path, name):
         """The definitions that a place names; a word of the kit as a text."""
@@ -247,36 +217,31 @@ class Tree:
             module = self.module(path)
             if name in module.defined:
                 return [module.defined[name]]
-            if name in module.brought:
-                return self.at(*module.brought[name])
-            return []
-        if re.match(r"Rattle\.(\w+)\.", path) and re.match(r"Rattle\.(\w+)\.", path)[1] in self.code:
-            return self.of_type(re.match(r"Rattle\.(\w+)\.", path)[1], name)
-        return [f"{path}.{name}"]
+            return self.at(*module.brought[name]) if name in module.brought else []
+        crate = re.match(r"Rattle\.(\w+)\.", path)
+        return self.of_type(crate[1], name) if crate and crate[1] in self.code else [f"{path}.{name}"]
 
     def of_type(self, crate, name):
         """A Rust type or trait, and what its model says."""
         keys = (f"type {name}", f"model {name}")
         found = [it.defined[key] for it in self.code.get(crate, []) for key in keys if key in it.defined]
         passed = [it.passed_on[name] for it in self.code.get(crate, []) if name in it.passed_on]
-        if not found and passed and passed[0] != (crate, name):
-            return self.of_type(*passed[0])
-        return found
+        return self.of_type(*passed[0]) if not found and passed and passed[0] != (crate, name) else found
 
     def cited(self, definition):
         """What a definition cites."""
         module, found = definition.module, []
         for short, name in definition.words():
-            if short is None:
-                if name in module.defined and module.defined[name] is not definition:
-                    found.append(module.defined[name])
-                elif name in module.brought:
-                    found += self.at(*module.brought[name])
-                elif module.path.endswith(".src") and name[:1].isupper():
-                    crate = module.path.split(".")[1]
-                    found += self.of_type(*module.passed_on.get(name, (crate, name)))
-            elif short in module.short:
+            if short in module.short:
                 found += self.at(module.short[short], name)
+            elif short is not None:
+                continue
+            elif name in module.defined and module.defined[name] is not definition:
+                found.append(module.defined[name])
+            elif name in module.brought:
+                found += self.at(*module.brought[name])
+            elif module.path.endswith(".src") and name[:1].isupper():
+                found += self.of_type(*module.passed_on.get(name, (module.path.split(".")[1], name)))
         # (an operator is named by its parts; those of the kit need no word)
         for name, place in module.brought.items():
             if "◌" in name and place[0] in self.logic and all(it in "\n".join(definition.lines) for it in name.split("◌")):
@@ -289,27 +254,16 @@ class Tree:
         found = found or [it.defined[item] for files in self.code.values() for it in files if item in it.defined]
         if len(found) != 1:
             raise SystemExit(f"tools/trusted: {crate or 'all crates'} has {item!r} {len(found)} times")
-        return found
+        return found[0]
 
-    def closure(self, roots):
-        """All that the roots cite, and the words of the kit."""
-        left = [it for crate, item in roots for it in self.root(crate, item)]
-        seen, kit = [], set()
-        known = set()
+    def reached(self, left):
+        """Some definitions and all that they cite, and the words of the kit."""
+        seen, kit, left = {}, set(), [*left]
         while left:
             it = left.pop()
             if isinstance(it, str):
                 kit.add(it)
-            elif id(it) not in known:
-                known.add(id(it))
-                seen.append(it)
+            elif id(it) not in seen:
+                seen[id(it)] = it
                 left += self.cited(it)
-        return seen, kit
-
-
-def rust_files(folder):
-    """Without tests."""
-    files = glob.glob(os.path.join(folder, "src", "**", "*.rt"), recursive=True)
-    return sorted(it for it in files if not re.search(r"/tests?(/|\.rt$)", it))
-
-
+        return [*seen.values()], kit
