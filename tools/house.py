@@ -3,6 +3,7 @@
 tools/house.txt keeps how often each rule is broken. No rule may be broken more often than it says, and where one is
 broken less often `tools/crates renew` writes the smaller number, so that the numbers only shrink.
 """
+import contextlib
 import glob
 import os
 import re
@@ -119,8 +120,7 @@ def ambiguous(sources):
 
 def long_files(sources):
     for path in [it.path for it in sources] + [it for pattern in SCRIPTS for it in glob.glob(pattern, root_dir=TOP)]:
-        lines = text_of(os.path.join(TOP, path)).count("\n")
-        if lines > LONG_FILE:
+        if (lines := text_of(os.path.join(TOP, path)).count("\n")) > LONG_FILE:
             yield f"{path}: {lines} lines"
 
 
@@ -142,10 +142,9 @@ LOOKS = {
 
 def text_of(path):
     """The text of a file, or nothing where there is none."""
-    try:
+    with contextlib.suppress(OSError, UnicodeDecodeError):
         return read(path)
-    except (OSError, UnicodeDecodeError):
-        return ""
+    return ""
 
 
 def found():
@@ -156,16 +155,17 @@ def found():
 
 
 def kept():
-    rows = (line.split(" ", 1) for line in text_of(KEPT).splitlines() if not line.startswith("#"))
-    return {rule: int(count) for count, rule in rows}
+    return {rule: int(count) for count, rule in re.findall(r"(?m)^(\d+) (.*)$", text_of(KEPT))}
 
 
 def wrong():
     """Where tools/house.txt isn't what the crates are."""
     for rule, broken in found().items():
-        count, had = len(broken), kept().get(rule, 0)
-        if count != had:
-            yield f"{count} {rule}, where tools/house.txt " + (f"has {had}: `tools/crates house` names them" if count > had else f"still has {had}: tools/crates renew")
+        had, told = kept().get(rule, 0), f"{len(broken)} {rule}, where tools/house.txt"
+        if len(broken) > had:
+            yield f"{told} has {had}: `tools/crates house` names them"
+        if len(broken) < had:
+            yield f"{told} still has {had}: tools/crates renew"
 
 
 def page():

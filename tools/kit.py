@@ -31,19 +31,21 @@ def say(text):
     print(f"goset: {text}", file=sys.stderr, flush=True)
 
 
+def misused(page):
+    """Tells a tool's page, or what it lacks; the status of that."""
+    print(page, end="", file=sys.stderr)
+    return 2
+
+
 def has_kit():
     """Whether there is a kit; says so if there is none."""
-    if not shutil.which("rt"):
-        say("there is no rt on the path: the Rattle kit is needed, as README.md says")
-        return False
-    return True
+    return shutil.which("rt") or say("there is no rt on the path: the Rattle kit is needed, as README.md says")
 
 
 @functools.lru_cache(maxsize=None)
 def folder():
     """The kit's folder: `rt doc` prints the path of a page that stands in it."""
-    page = subprocess.run(["rt", "doc"], capture_output=True, text=True, check=True).stdout.strip()
-    return os.path.dirname(os.path.realpath(page))
+    return os.path.dirname(os.path.realpath(told_by("rt", "doc")))
 
 
 def loaded(name, path):
@@ -56,9 +58,7 @@ def loaded(name, path):
 
 def told_by(*words):
     """What a command prints, or nothing where it isn't there."""
-    with contextlib.suppress(OSError):
-        return subprocess.run(words, cwd=TOP, capture_output=True, text=True, check=False).stdout.strip()
-    return ""
+    return subprocess.run(words, cwd=TOP, capture_output=True, text=True, check=False).stdout.strip() if shutil.which(words[0]) else ""
 
 
 def processors():
@@ -106,11 +106,9 @@ def program_file(program):
 
 def proved_program(program="goset"):
     """Where a proved program is. Whatever needs it ends with a sentence where there is none, which asks for no proof by itself."""
-    file = program_file(program)
+    file, name = program_file(program), os.path.relpath(sys.argv[0], TOP)
     if not os.access(file, os.X_OK):
-        name, by = os.path.relpath(sys.argv[0], TOP), "./goset --prove" if program == "goset" else f"rt ci {program}"
-        print(f"{name}: there is no program {os.path.relpath(file, TOP)}; {by} builds it, after its proof", file=sys.stderr)
-        sys.exit(2)
+        sys.exit(misused(f"{name}: there is no program {os.path.relpath(file, TOP)}; ./goset --prove builds it, after its proof\n"))
     return file
 
 
@@ -187,7 +185,7 @@ class Ended(Exception):
     """The number of the signal that ends this command."""
 
 
-def end_by(main, told=None):
+def end_by(main, told=""):
     """Ends with the status that main answers to the words, or behind a line with that of the signal that ends it: INT, TERM, or HUP where it
     isn't ignored. So what was started is ended, too."""
     ending = [signal.SIGINT, signal.SIGTERM] + [signal.SIGHUP] * (signal.getsignal(signal.SIGHUP) != signal.SIG_IGN)
@@ -203,8 +201,7 @@ def end_by(main, told=None):
     try:
         sys.exit(main(sys.argv[1:]))
     except Ended as why:
-        if told:
-            say(told)
+        print(f"goset: {told}\n" * bool(told), end="", file=sys.stderr, flush=True)
         sys.exit(128 + why.args[0])
 
 
@@ -227,28 +224,25 @@ def started(command, **how):
 
 
 def run_all(commands, look, **how):
-    """Runs commands, as many at once as there are processors; all the while calls `look` with what the processors did for them. Returns the
-    status of each."""
-    left, running, statuses, before = [*enumerate(commands)], {}, {}, processor_seconds()
+    """Runs commands, as many at once as there are processors; all the while calls `look` with what the processors did for them. Returns whether
+    one failed."""
+    left, running, failed, before = [*commands], [], False, processor_seconds()
     with contextlib.ExitStack() as ending:
         while left or running:
             while left and len(running) < processors():
-                at, command = left.pop(0)
-                running[at] = ending.enter_context(started(command, stdin=subprocess.DEVNULL, **how))
+                running.append(ending.enter_context(started(left.pop(0), stdin=subprocess.DEVNULL, **how)))
             time.sleep(0.05)
-            for at in [it for it in running if running[it].poll() is not None]:
-                statuses[at] = running.pop(at).returncode
-            look(processor_seconds() - before + sum(seconds_of(it.pid) for it in running.values()))
-    return [statuses[it] for it in sorted(statuses)]
+            failed = failed or any(it.poll() for it in running)
+            running = [it for it in running if it.poll() is None]
+            look(processor_seconds() - before + sum(seconds_of(it.pid) for it in running))
+    return failed
 
 
 def seconds_of(process, parts=4):
     """What the processors did so far for a process (2 parts), and for what it started and that ended (4); nothing where it is gone."""
-    try:
-        with open(f"/proc/{process}/stat", encoding="ascii", errors="replace") as file:
-            return sum(map(int, file.read().rpartition(")")[2].split()[11 : 11 + parts])) / os.sysconf("SC_CLK_TCK")
-    except OSError:
-        return 0.0
+    with contextlib.suppress(OSError), open(f"/proc/{process}/stat", encoding="ascii", errors="replace") as file:
+        return sum(map(int, file.read().rpartition(")")[2].split()[11 : 11 + parts])) / os.sysconf("SC_CLK_TCK")
+    return 0.0
 
 
 def processor_seconds():
