@@ -6,7 +6,7 @@ ghost use Rattle.std.specs.Prelude.{◌≡◌, ◌≢◌, ◌<◌, ◌↔◌, �
 ghost use Rattle.std.specs.List.{All, list_any, slice_index_or};
 ghost use Rattle.std.specs.Str.{bytes_eq};
 ghost use Rattle.ws_action.specs.Actions.{action_id};
-ghost use Rattle.ws_board.specs.Rows.{times, those_of};
+ghost use Rattle.ws_board.specs.Rows.{those_of};
 ghost use Rattle.ws_board.specs.Indexes.{id_in, run_with, jobs_by, run_by, jobs_in, run_in, is_free_in, is_released, Changes, SetsRun, JoinsIn, BeginsIn, MarksFree, IsSameBut};
 
 use crate::flags::Flags;
