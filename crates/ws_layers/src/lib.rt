@@ -1,4 +1,4 @@
-//! Maps that keep the greatest value of each key, in two layers that copies share.
+//! Maps that keep the greatest value of each key, in layers that copies share.
 #![tactic(auto)]
 
 ghost use Rattle.std.specs.Prelude.{◌≡◌, OnOk, OnErr, IfOk, IfErr, option_copied};
@@ -6,17 +6,20 @@ ghost use Rattle.std.specs.FinMap as map;
 ghost use Rattle.ws_map.specs.Greater.{greater, joined_option};
 ghost use Rattle.ws_map.specs.Kept.{joined, taken, is_news};
 
+use levels::Levels;
 use std::alloc::{AllocError, Global};
 use std::marker::Model;
 use ws_map::{Key, Ranked, SharedMap};
 
-/// The greatest value of each key. Copies share both layers. A value that is put goes into the
-/// news, so that these alone are cloned where copies share them; where they have become many they
-/// go into the base.
+mod levels;
+
+/// The greatest value of each key. Copies share all layers. A value that is put goes into the news,
+/// so that these alone are cloned where copies share them; where they have become many they go into
+/// the levels below.
 #[derive(Drop)]
 pub struct Layers<K: Key, V: Ranked> {
     alloc: Global,
-    base: SharedMap<K, V>,
+    base: Levels<K, V>,
     news: SharedMap<K, V>,
 }
 
@@ -41,7 +44,7 @@ impl<K: Key, V: Ranked> Layers<K, V> {
     {
         Layers {
             alloc,
-            base: SharedMap::new(alloc),
+            base: Levels::new(alloc),
             news: SharedMap::new(alloc),
         }
     }
@@ -60,7 +63,7 @@ impl<K: Key, V: Ranked> Layers<K, V> {
         ensures back { IfErr result (λ back. back ≡ value) }
         ensures err { OnErr result (self.new ≡ self.old) }
     {
-        // What the base has is no news, and needs no clone of them.
+        // What the levels have is no news, and needs no clone of them.
         if !self.is_news(&key, &value) {
             return Ok(());
         }
@@ -69,7 +72,7 @@ impl<K: Key, V: Ranked> Layers<K, V> {
         Ok(())
     }
 
-    /// Another owner of both layers. An `Err` only where memory ran out.
+    /// Another owner of all layers. An `Err` only where memory ran out.
     pub fn copy(&self) -> Result<Layers<K, V>, AllocError>
         ensures { IfOk result (λ copy. copy ≡ self.now) }
     {
@@ -87,7 +90,7 @@ impl<K: Key, V: Ranked> Layers<K, V> {
         ensures ok { OnOk result (self.new ≡ joined (greater V.rank) self.old other.now) }
         ensures err { OnErr result (self.new ≡ self.old) }
     {
-        // The few news go into a copy, so that an `Err` of the base changes nothing.
+        // The few news go into a copy, so that an `Err` of the levels changes nothing.
         let mut news = self.news.copy()?;
         news.merge(&other.news)?;
         self.base.merge(&other.base)?;
@@ -105,14 +108,14 @@ impl<K: Key, V: Ranked> Layers<K, V> {
         }
     }
 
-    // Where the news are many they go into the base; where memory is wanting for it they stay.
+    // Where the news are many they go into the levels; where memory is wanting for it they stay.
     fn fold_news(&mut self)
         ensures { self.new ≡ self.old }
     {
-        if !are_many(count_of(&self.news), count_of(&self.base)) {
+        if count_of(&self.news) < MANY {
             return;
         }
-        let Ok(()) = self.base.merge(&self.news) else {
+        let Ok(()) = self.base.add(&self.news) else {
             return;
         };
         self.news = SharedMap::new(self.alloc);
@@ -143,12 +146,5 @@ fn count_of<K: Key, V: Ranked>(layer: &SharedMap<K, V>) -> usize {
     }
 }
 
-// How many news are never many.
-const FEW: usize = 64;
-
-// Whether so many news are many beside the base: more than the root of its number. Where copies are
-// made all the while, each put clones the news, and each time that they are many the base is
-// cloned: with the root neither costs more than the other.
-fn are_many(news: usize, base: usize) -> bool {
-    FEW < news && base < news.saturating_mul(news)
-}
+// How many news are many: each put clones them where copies are made all the while.
+const MANY: usize = 16;
