@@ -1,1 +1,1 @@
-pub mod Captures
+mod Rest

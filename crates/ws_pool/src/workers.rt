@@ -1,5 +1,5 @@
 //! Workers in threads, who take a board's jobs from behind its lock.
-ghost use Rattle.std.specs.Prelude.{◌≡◌, ◌<◌, ◌≤◌, All, List, [], length, None, IfOk, IfSome, max, min, vec_len};
+ghost use Rattle.std.specs.Prelude.{◌≡◌, ◌<◌, ◌≤◌, All, List, [], None, IfOk, IfSome, max, min, vec_len};
 ghost use Rattle.std.specs.Bool.{OnTrue};
 ghost use Rattle.ws_action.specs.Actions.{Action as AnAction};
 ghost use Rattle.ws_shared.specs.Ends.{AreFinished, Comes, ComesToEnds};
@@ -77,52 +77,58 @@ fn work<L: Desk, G: Gate, R: Wait>(
 }
 
 // All hands at once: the first on the calling thread, each other one in a thread of its own where
-// one can be had. A hand whose thread can't be made takes no job; the others take them all.
+// one can be had. A hand whose thread can't be made takes no job; the others take them all. Answers
+// how many hands took jobs.
 fn work_all<L: Desk + Send + Sync, G: Gate, R: Threads + Wait + Sync>(
     rt: &R,
     board: &SharedBoard<L>,
     hands: &mut [SharedHand<L>],
     gate: &G,
-)
+) -> usize
     requires rest { All (λ hand. hand.runs ≡ None) hands.old }
 {
     thread::scope(
         thread::scope_env(),
         rt,
         |scope|
-            requires { All (λ hand. hand.runs ≡ None) hands.old }
+            requires { All (λ hand. hand.runs ≡ None) hands.now }
         {
             let Some((first, others)) = hands.split_first_mut() else {
-                return;
+                return 0;
             };
+            let mut working = 1usize;
             for hand in others.iter_mut() {
-                let _ = Builder::new().stack_size(STACK).spawn_scoped(
+                let thread = Builder::new().stack_size(STACK).spawn_scoped(
                     scope,
                     move ||
-                        requires { hand.old.runs ≡ None }
+                        requires { hand.now.runs ≡ None }
                     { work(rt, board, hand, gate) },
                 );
+                if thread.is_ok() {
+                    working = working.saturating_add(1);
+                }
             }
             work(rt, board, first, gate);
+            working
         },
     )
 }
 
-// So many of the hands at once. The others make nothing.
+// So many of the hands at once. The others make nothing. Answers how many took jobs.
 fn work_by<L: Desk + Send + Sync, G: Gate, R: Threads + Wait + Sync>(
     rt: &R,
     board: &SharedBoard<L>,
     hands: &mut Vec<SharedHand<L>>,
     count: usize,
     gate: &G,
-)
+) -> usize
     requires rest { All (λ hand. hand.runs ≡ None) hands.old.items }
     requires some { 0 < count }
     requires within { count ≤ vec_len hands.old }
     ensures { vec_len hands.new ≡ vec_len hands.old }
 {
     let (first, _) = hands.as_mut_slice().split_at_mut(count);
-    work_all(rt, board, first, gate);
+    work_all(rt, board, first, gate)
 }
 
 // No more workers than there are jobs, and one at least.
@@ -151,10 +157,10 @@ fn run_jobs<L: Desk + Send + Sync, G: Gate, R: Threads + Wait + Sync>(
     let (board, mut hands) = SharedBoard::<L>::open(alloc, jobs, cache, workers, blanks)?;
     // A hand more than there are jobs left would find nothing to do.
     let count = needed(workers, board.left(rt));
-    work_by(rt, &board, &mut hands, count as usize, gate);
+    let working = work_by(rt, &board, &mut hands, count as usize, gate);
     let board = board.close(hands);
     // Who ended for want of memory was never told that nothing is left.
-    if !board.has_idled() || (board.idles() as u64) < count {
+    if !board.has_idled() || board.idles() < working {
         return Err(AllocError);
     }
     Ok(board.built())
