@@ -1,1 +1,2 @@
+mod Captures
 mod Rest
