@@ -8,7 +8,7 @@ use Rattle.ws_command.specs.Lines.{lines_of}
 use Rattle.goset_cli.specs.Requests.{IsFirst}
 use Rattle.ws_session.specs.Text.{TextFrom, IsBeginning, ReachedFrom}
 use Rattle.ws_session.proofs.Filed.{IsFiled, filed_after}
-use Rattle.ws_session.proofs.SomeText.{some_after, some_text_from}
+use Rattle.ws_session.proofs.SomeText.{some_after}
 
 -- From the first world's lines on, all that is said from here on follows this front, and each world that is reached from here is reached.
 -- What the replicas here took is of files.
@@ -80,23 +80,27 @@ unfolding TextFrom
 all_said {first = first} {all = all} {world = world} {front = front} leads none =
     subst (λ (t : List ℕ). TextFrom 0 all first t) (append-nil front) (leads.text [] (subst (λ (ls : List (List ℕ)). TextFrom 0 ls world []) (sym none) refl))
 
+-- whatever lines are left in a world of files, there is a text for them
+abbrev LinesHaveText : Type 0
+LinesHaveText = (taken : ℕ) (lines : List (List ℕ)) (world : World) → IsFiled world → (told : List ℕ) × TextFrom taken lines world told
+
 -- some bytes are a beginning of all that is said
 abbrev pub BegunFrom : List (List ℕ) → World → List ℕ → Type 0
 BegunFrom all first front = (text : List ℕ) × TextFrom 0 all first text × IsBeginning front text
 
 -- the front is a beginning
-pub front_said : {first : World} {all : List (List ℕ)} {world : World} {left : List (List ℕ)} {front : List ℕ} → LeadsTo first all world left front → BegunFrom all first front
-front_said {world = world} {left = left} {front = front} leads =
-    let later = some_text_from 0 left world leads.filed in
+pub front_said : {first : World} {all : List (List ℕ)} {world : World} {left : List (List ℕ)} {front : List ℕ} → LinesHaveText → LeadsTo first all world left front → BegunFrom all first front
+front_said {world = world} {left = left} {front = front} some_text leads =
+    let later = some_text 0 left world leads.filed in
     (front ++ later.0, leads.text later.0 later.1, (later.0, refl))
 
 -- and so is the front with some of what the next command prints
-pub part_said : {first : World} {all : List (List ℕ)} {world : World} {line : List ℕ} {lines : List (List ℕ)} {front : List ℕ} → LeadsTo first all world (line ∷ lines) front → (told : List ℕ) (n : ℕ) →
-    LinePrints line lines world told → BegunFrom all first (front ++ take n told)
-part_said {world = world} {line = line} {lines = lines} {front = front} leads told n prints =
+pub part_said : {first : World} {all : List (List ℕ)} {world : World} {line : List ℕ} {lines : List (List ℕ)} {front : List ℕ} → LinesHaveText → LeadsTo first all world (line ∷ lines) front →
+    (told : List ℕ) (n : ℕ) → LinePrints line lines world told → BegunFrom all first (front ++ take n told)
+part_said {world = world} {line = line} {lines = lines} {front = front} some_text leads told n prints =
     let next = some_after (command_of line) (text_of (text_lines (command_of line)) lines) world in
     let filed = filed_after (command_of line) (text_of (text_lines (command_of line)) lines) world next.0 next.1 leads.filed in
-    let later = some_text_from 0 (drop (text_lines (command_of line)) lines) next.0 filed in
+    let later = some_text 0 (drop (text_lines (command_of line)) lines) next.0 filed in
     let split : front ++ (told ++ later.0) ≡ (front ++ take n told) ++ (drop n told ++ later.0) =
     ap (λ t. front ++ (t ++ later.0)) (sym (take-append-drop n told)) ∙ ap (λ t. front ++ t) (append_assoc (take n told) (drop n told) later.0)
     ∙ sym (append_assoc front (take n told) (drop n told ++ later.0)) in
@@ -132,6 +136,6 @@ first_leads {first = first} {all = all} {world = world} {front = front} is leads
     (leads_on (at_line is leads) next told (prints_line is world told prints) (after_line is world next after))
 
 -- the front with some of what it prints is a beginning
-pub first_part : {first : World} {all : List (List ℕ)} {world : World} {front : List ℕ} {script : List ℕ} {command : Command} {text : Option (List ℕ)} {rest : List ℕ} → IsFirst script command text rest →
+pub first_part : {first : World} {all : List (List ℕ)} {world : World} {front : List ℕ} {script : List ℕ} {command : Command} {text : Option (List ℕ)} {rest : List ℕ} → LinesHaveText → IsFirst script command text rest →
     LeadsTo first all world (lines_of script) front → (told : List ℕ) (n : ℕ) → Prints command text world told → BegunFrom all first (front ++ take n told)
-first_part {world = world} is leads told n prints = part_said (at_line is leads) told n (prints_line is world told prints)
+first_part {world = world} some_text is leads told n prints = part_said some_text (at_line is leads) told n (prints_line is world told prints)

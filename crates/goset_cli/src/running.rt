@@ -21,6 +21,7 @@ use std::thread::Threads;
 use thiserror::Error;
 use ws_command::commands::{Asked, ask};
 use ws_command::lines::{closed, cut_line, next_line};
+use ws_replica::law::law_held_program_means_its_sources;
 use ws_session::Gate;
 use ws_session::replicas::Replicas;
 
@@ -162,6 +163,8 @@ pub fn answer<R: Threads + Wait + Sync, O: ScriptOut, G: Gate>(
 {
     let mut rest = script;
     'commands: while !rest.is_empty() {
+        // What is left of the script has a text, since a held program ends or goes on.
+        law_held_program_means_its_sources();
         let Request {
             asked,
             text,

@@ -5,6 +5,7 @@ use Rattle.goset_cli.specs.Requests.{IsFirst}
 use Rattle.goset_cli.specs.Told.{Grows}
 use Rattle.ws_session.specs.Standing.{StandFor}
 use Rattle.ws_session.specs.World.{World, After, Prints}
+use Rattle.ws_session.proofs.SomeText.{some_text_from}
 use Rattle.goset_cli.proofs.Texts.{empty_is}
 use Rattle.goset_cli.proofs.Growth.{grows_on, grows_by}
 use Rattle.goset_cli.proofs.Reaches.{LeadsTo, all_said, front_said, first_reaches, first_leads, first_part}
@@ -19,12 +20,12 @@ returns-clause-ok g c = λ edition opened clear.
 pub returns-in_err-asked-clause-err : goal.returns-in_err-asked-clause-err
 returns-in_err-asked-clause-err g c = λ edition opened. on_refusal c.from_residual.result (λ clear.
     let so_far = c.commands.invariant.so_far edition opened clear in
-    (so_far.1, front_said so_far.4, so_far.3))
+    (so_far.1, front_said (some_text_from c.law_held_program_means_its_sources.ensures.ends) so_far.4, so_far.3))
 
 pub returns-in_err-told-clause-err : goal.returns-in_err-told-clause-err
 returns-in_err-told-clause-err g c = λ edition opened. on_refusal c.from_residual-in_err-told.result (λ clear.
     let so_far = c.commands.invariant.so_far edition opened clear in
-    (so_far.1, front_said so_far.4, so_far.3))
+    (so_far.1, front_said (some_text_from c.law_held_program_means_its_sources.ensures.ends) so_far.4, so_far.3))
 
 -- the world after a command is led to, with what it prints behind the front
 goes_on : {first_world : World} {all : List (List ℕ)} {left rest front : List ℕ} {command : Command} {text : Option (List ℕ)} {world next : World} (old mid new : Option (List ℕ)) (told : List ℕ) (stands : World → Type 0)
@@ -74,4 +75,4 @@ returns-in_err-write_whole-clause-err g c = λ edition opened. on_refusal c.from
     let some = c.in_err-write_whole.ensures.err in
     let wrote : Grows (written c.commands.writer) (written c.write_whole.new.writer) (take some.0 told) =
     grows_by _ _ _ _ (ap (λ (t : List ℕ). take some.0 t) c.as_slice.ensures.value) some.1 in
-    (so_far.1 ++ take some.0 told, first_part first so_far.4 told some.0 printed.0, grows_on _ _ _ so_far.1 (take some.0 told) so_far.3 wrote))
+    (so_far.1 ++ take some.0 told, first_part (some_text_from c.law_held_program_means_its_sources.ensures.ends) first so_far.4 told some.0 printed.0, grows_on _ _ _ so_far.1 (take some.0 told) so_far.3 wrote))
