@@ -19,7 +19,7 @@ QUESTIONS = [
     ("How far may a constant be shifted?", "operators, shifts", "go_const/specs/Constants.antt: shift", "go_const/src/shift.rt: shift", ""),
     ("When may a value be assigned?", "may be assigned", "go_types/specs/Relations.antt: assignable", "go_types/src/relations.rt: assignable", ""),
     ("Which fault of a package is reported?", "or their first fault", "go_package/specs/Packages.antt: IsFaultOf", "go_check/src/check.rt: check", "go_check/proofs/check/check"),
-    ("Why may an importer be checked against a summary?", "importers see", "go_import/specs/Names.antt: importable_by", "go_check/src/law.rt: law_by_summaries", "go_check/proofs/law/law_by_summaries"),
+    ("Why may an importer be checked against a summary?", "importers see", "go_check/specs/Names.antt: importable_by", "go_check/src/law.rt: law_by_summaries", "go_check/proofs/law/law_by_summaries"),
     ("In which order are a package's variables initialized?", "order of a package's variables", "go_init/specs/Variables.antt: variable_order", "go_init/src/variables.rt: variable_order", "go_init/proofs/variables/variable_order"),
     ("What does an expression mean?", "what a form means", "go_meaning/specs/Meaning.antt: eval", "go_meaning_laws/src/law.rt: law_typed_program_is_never_stuck", "go_meaning_laws/proofs/law/law_typed_program_is_never_stuck"),
     ("Why does an image do what its packages mean?", "its code", "go_gen/specs/Translation.antt: object_of", "go_translation_laws/src/law.rt: law_program_means_sources", "go_translation_laws/proofs/law/law_program_means_sources"),

@@ -10,7 +10,7 @@ import re
 from collections import Counter, defaultdict
 
 from kit import PARTS, TOP
-from sources import Definition, Tree, read, rust_lines
+from sources import Definition, Tree, closed, read, rust_lines
 
 KEPT = os.path.join(TOP, "tools", "house.txt")
 PAGES = ("PROOFS", "TRUST", "THEOREM")
@@ -75,12 +75,7 @@ def uncited(sources):
 def wide(sources):
     for it in [it for it in sources if it.ext == "rt"]:
         for clause in CLAUSE.finditer(it.read):
-            depth, end = 0, clause.end()
-            for brace in re.compile(r"[{}]").finditer(it.read, end):
-                depth, end = depth + (1 if brace[0] == "{" else -1), brace.start()
-                if not depth:
-                    break
-            said = " ".join(it.text[clause.end() + 1 : end].split())
+            said = " ".join(it.text[clause.end() + 1 : closed(it.read, clause.end()) - 1].split())
             if len(said) > WIDE:
                 yield f"{it.line(clause.start())}: {len(said)} characters"
 
@@ -103,8 +98,8 @@ def long_bodies(sources):
                 head = None
 
 
-def ambiguous(sources):
-    """Names in the pages on what is proved, beside their quotations, that two pages of specs/ define."""
+def twins(sources, is_wanted):
+    """The names that two pages of specs/ define, where a name on these pages is wanted."""
     pages, block = defaultdict(list), ""
     for it in sources:
         for line in it.read.split("\n") if it.part == "specs" else ():
@@ -113,9 +108,21 @@ def ambiguous(sources):
             # (in a record they are its fields)
             if found and found[1] != "use" and (line == block or "mutual" in block or block.startswith("module")):
                 pages[found[1]].append(it.path)
+    yield from (f"{name}: {' '.join(pages[name])}" for name in sorted(pages) if len(pages[name]) > 1 and is_wanted(name, pages[name]))
+
+
+def ambiguous(sources):
+    """Names in the pages on what is proved, beside their quotations."""
     text = "".join(re.sub(r"(?s)```.*?```", "", text_of(os.path.join(TOP, "docs", f"{page}.md"))) for page in PAGES)
     named = {name for code in re.findall(r"`([^`]+)`", text) for name in NAME.findall(code)}
-    yield from (f"{name}: {' '.join(pages[name])}" for name in sorted(named) if len(pages[name]) > 1)
+    return twins(sources, lambda name, pages: name in named)
+
+
+def shared(sources):
+    """Names that another crate cites."""
+    uses = [use for it in sources for use in USE[it.ext].finditer(it.read) if not use[2].startswith(f"{it.crate}.")]
+    cited = {(f"crates/{use[2].replace('.', '/')}.antt", it.split()[0]) for use in uses for it in (use[3] or "").split(",") if it.strip()}
+    return twins(sources, lambda name, pages: any((page, name) in cited for page in pages))
 
 
 def long_files(sources):
@@ -135,6 +142,7 @@ LOOKS = {
     f"clauses of over {WIDE} characters": wide,
     f"function bodies of over {LONG_BODY} lines": long_bodies,
     "documented names that two pages of specs/ define": ambiguous,
+    "names that two pages of specs/ define and another crate cites": shared,
     f"files of over {LONG_FILE} lines": long_files,
     f"crates of over {LARGE} functions": large,
 }
@@ -162,10 +170,8 @@ def wrong():
     """Where tools/house.txt isn't what the crates are."""
     for rule, broken in found().items():
         had, told = kept().get(rule, 0), f"{len(broken)} {rule}, where tools/house.txt"
-        if len(broken) > had:
-            yield f"{told} has {had}: `tools/crates house` names them"
-        if len(broken) < had:
-            yield f"{told} still has {had}: tools/crates renew"
+        if len(broken) != had:
+            yield f"{told} has {had}: `tools/crates house` names them" if len(broken) > had else f"{told} still has {had}: tools/crates renew"
 
 
 def page():

@@ -70,9 +70,6 @@ def told_minutes(minutes):
     return "less than a minute" if minutes < 1 else f"about {minutes:.0f} minute{'s' * (round(minutes) != 1)}"
 
 
-# crates
-
-
 def listed():
     """Each crate of crates.txt, in its order, with the libraries that it stands on, those of the kit, too."""
     with open(os.path.join(TOP, "crates.txt"), encoding="utf-8") as file:
@@ -176,9 +173,6 @@ class Watch:
             return f"{name}: its tests" if "--test" in words else name, where
         is_edit = os.path.basename(where).startswith("rt-edit-") and os.getsid(int(process)) == os.getsid(0)
         return (f"{name}: an edit", where) if is_edit else None
-
-
-# turns and commands
 
 
 class Ended(Exception):

@@ -1,7 +1,7 @@
 //! Cells as the machine keeps them, and what operators give of them.
 #![tactic(auto)]
 
-mod number;
+pub mod number;
 pub mod operate;
 pub mod part;
 pub mod row;

@@ -1,11 +1,13 @@
 //! Integers and their types.
-ghost use Rattle.std.specs.Prelude.{◌≡◌, ◌≢◌, ◌^◌, ◌*ℤ◌, ◌<◌, ℕ, true, pos, negsuc, Some, None, IfSome, MatchOption};
+ghost use Rattle.std.specs.Prelude.{◌≡◌, ◌≢◌, ◌^◌, ◌*ℤ◌, ◌<◌, ◌∷◌, [], ℕ, true, pos, negsuc, Some, None, IfSome, MatchOption};
 ghost use Rattle.go_const.specs.Constants.{arithmetic, divides, sizes};
 ghost use Rattle.go_const.specs.declared.kind.IntKind.{IntKind as AKind};
 ghost use Rattle.go_code.specs.Lines.{number_fits};
-ghost use Rattle.go_code.specs.Operators.{wrapped};
+ghost use Rattle.go_code.specs.Operators.{wrapped, Gives, operate};
+ghost use Rattle.go_code.specs.declared.operator.Operator.TheVariants.{Arithmetic, Shift};
 ghost use Rattle.go_cells.specs.Numbers.{numbers, shifted_number};
 
+use go_code::cell::Cell;
 use go_const::kind::IntKind;
 use go_const::operator::{ArithmeticOperator, ShiftOperator};
 
@@ -94,5 +96,26 @@ pub(crate) fn shift(operator: ShiftOperator, kind: IntKind, number: i128, count:
         ShiftOperator::Right => wrap(kind, number >> count.min(127)),
         ShiftOperator::Left if count >= 64 => 0,
         ShiftOperator::Left => wrap(kind, number.wrapping_mul(power_of_two(count))),
+    }
+}
+
+/// What an operator gives of two numbers of a type, if it doesn't panic.
+pub fn calculated(operator: ArithmeticOperator, kind: IntKind, x: i128, y: i128) -> Option<i128>
+    requires { number_fits x ≡ true }
+    ensures { IfSome result (λ z. operate (Arithmetic operator kind) (Cell.Int x ∷ Cell.Int y ∷ []) ≡ Gives (Cell.Int z)) }
+{
+    if operator.divides() && y == 0 {
+        return None;
+    }
+    Some(calculate(operator, kind, x, y))
+}
+
+/// A number of a type, shifted by a count, if that isn't below 0.
+pub fn shifted(operator: ShiftOperator, kind: IntKind, x: i128, count: i128) -> Option<i128>
+    ensures { IfSome result (λ z. operate (Shift operator kind) (Cell.Int x ∷ Cell.Int count ∷ []) ≡ Gives (Cell.Int z)) }
+{
+    match u64::try_from(count) {
+        Ok(count) => Some(shift(operator, kind, x, count)),
+        Err(_) => None,
     }
 }

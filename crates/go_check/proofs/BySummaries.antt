@@ -4,7 +4,7 @@ use Rattle.go_text.specs.Faults.{Fault}
 use Rattle.go_ast.specs.Parse.{Parsed}
 use Rattle.go_typed.specs.Trees.{Package}
 use Rattle.go_package.specs.Imports.{Importable}
-use Rattle.go_import.specs.Names.{importable_by, importable_of}
+use Rattle.go_check.specs.Names.{importable_by, importable_of}
 use Rattle.go_export.specs.Summaries.{summary_of}
 use Rattle.go_check.specs.Checked.{AreTyped, HaveFault}
 

@@ -9,7 +9,7 @@ use Rattle.std.proofs.lemmas.Simd.{map-map}
 use Rattle.go_expr.specs.Known.{Names}
 use Rattle.go_expr.specs.Seen.{names_of}
 use Rattle.go_export.specs.Summaries.{Summary}
-use Rattle.go_import.specs.Names.{importable_by, summary_names}
+use Rattle.go_check.specs.Names.{importable_by, summary_names}
 use Rattle.go_package.specs.Imports as imports
 use Rattle.go_package.specs.Seen.{importable_of, importables_of}
 use Rattle.go_package.specs.declared.import.Importable.{Importable}

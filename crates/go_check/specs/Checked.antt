@@ -9,7 +9,7 @@ use Rattle.go_ast.specs.Parse.{Parsed, Derived, IsParse}
 use Rattle.go_typed.specs.Trees.{Package}
 use Rattle.go_expr.specs.Known.{library}
 use Rattle.go_export.specs.Summaries.{summary_of}
-use Rattle.go_import.specs.Names.{importable_by, importable_of}
+use Rattle.go_check.specs.Names.{importable_by, importable_of}
 use Rattle.go_package.specs.Claims.{SomeOne}
 use Rattle.go_package.specs.Imports.{Importable}
 use Rattle.go_package.specs.Packages.{package_in, IsFaultOf}

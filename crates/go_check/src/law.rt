@@ -1,11 +1,13 @@
-//! What holds of all files of packages.
-ghost use Rattle.std.specs.Prelude.{ℕ, List};
+//! What holds of all files of packages, and of what importers find.
+ghost use Rattle.std.specs.Prelude.{◌≡◌, ℕ, List};
 ghost use Rattle.go_text.specs.Faults.{Fault};
 ghost use Rattle.go_ast.specs.Trees.{File};
 ghost use Rattle.go_ast.specs.Parse.{Parsed};
 ghost use Rattle.go_typed.specs.Trees.{Package};
+ghost use Rattle.go_export.specs.Summaries.{summary_of};
 ghost use Rattle.go_package.specs.Imports.{Importable};
 ghost use Rattle.go_package.specs.Claims.{AtMostOne, NeverBoth};
+ghost use Rattle.go_check.specs.Names.{importable_by, importable_of};
 ghost use Rattle.go_check.specs.Checked.{AreTrees, AreTyped, AreTypedOrFaulty, HaveFault, HoldsBySummaries};
 
 /// Files are one typed package, or have one fault, and never both.
@@ -30,4 +32,9 @@ pub fn law_by_summaries()
         → HoldsBySummaries packages (λ imports. AreTyped path files imports typed) }
     ensures fault { (path : List ℕ) (files : List Parsed) (packages : List Package) (fault : Fault)
         → HoldsBySummaries packages (λ imports. HaveFault path files imports fault) }
+{}
+
+/// By a package's summary importers find what they find by its typed tree.
+pub fn law_importable()
+    ensures { (p : Package) → importable_by (summary_of p) ≡ importable_of p }
 {}

@@ -5,3 +5,4 @@ pub mod check;
 pub mod error;
 pub mod files;
 pub mod law;
+mod names;

@@ -4,12 +4,12 @@ use Rattle.std.specs.Prelude.{option_map, map, if◌then◌else◌}
 use Rattle.std.proofs.lemmas.Bool.{cases_Bool}
 use Rattle.go_text.specs.declared.place.Place.{Place}
 use Rattle.go_text.specs.declared.fault.FaultKind.{FaultKind}
-use Rattle.go_ast.specs.Trees.{TypeExpr, named, qualified, array, slice, struct, Fields, no_fields, field, Expr, name, integer, rune, string, parenthesized, composite_lit, conversion, selector, index, cut, Bound, no_bound, bound, call, type_operand, unary, binary, Exprs, no_exprs, some_exprs, Elements, no_elements, element, Element, expression_element, value_element}
-use Rattle.go_expr.specs.Known.{type', declared, Known, Verdict, Fine, Breaks, Passed, Scope, look_up}
+use Rattle.go_ast.specs.Trees.{TypeExpr, Name, named, qualified, array, slice, struct, Fields, no_fields, field, Expr, name, integer, rune, string, parenthesized, composite_lit, conversion, selector, index, cut, Bound, no_bound, bound, call, type_operand, unary, binary, Exprs, no_exprs, some_exprs, Elements, no_elements, element, Element, expression_element, value_element}
+use Rattle.go_expr.specs.Known.{type', package', declared, Known, Verdict, Fine, Breaks, Passed, Scope, look_up}
 use Rattle.go_types.specs.Types.{Type'}
 use Rattle.go_typed.specs.Trees.{Expr as Typed}
-use Rattle.go_expr.specs.Rules.{fine, checked, valued, type_due, array_of, slice_of, declared_field, struct_of, value_due, unpackaged, selectable, callable, literal, literal_of, Due, element_due, due_type, untyped_literal, selected, exported_by, index_of, cut_of, made, unmade, unprinted, binary_of, unary_of, converted, called}
-use Rattle.go_expr.specs.Verdicts.{asked, both, asked_both, joined, qualified_known, operand, inside, subject, callee, key_text, is_make, is_name, verdict, bound_known, made_verdict, operands, elements, element_verdict, type_verdict, fields_known, broken, bare_place, part_broken, operand_broken, struct_place, faults, bound_faults, made_faults, call_faults, operands_faults, elements_faults, element_faults, type_faults, fields_faults}
+use Rattle.go_expr.specs.Rules.{fine, checked, valued, type_due, array_of, slice_of, declared_field, struct_of, value_due, unpackaged, selectable, callable, literal, literal_of, Due, element_due, due_type, untyped_literal, selected, field_of, exported_by, packaged, index_of, cut_of, made, unmade, unprinted, binary_of, unary_of, converted, called}
+use Rattle.go_expr.specs.Verdicts.{asked, both, asked_both, joined, qualified_known, operand, inside, subject, callee, key_text, is_make, is_name, verdict, bound_known, made_verdict, operands, elements, element_verdict, type_verdict, fields_known, broken, bare_place, part_broken, operand_broken, package_broken, qualifier_broken, struct_place, faults, bound_faults, made_faults, call_faults, operands_faults, elements_faults, element_faults, type_faults, fields_faults}
 
 abbrev IsKnown : {A : Type 0} → Option A → Type 0
 IsKnown {A} o = (x : A) × (o ≡ Some x)
@@ -87,6 +87,31 @@ never_made None xs k = cc
 never_made (Some x) None k = cc
 never_made (Some x) (Some xs) k = cc
 
+-- what a name of a type finds stands in a package, where it has a dot
+no_type : (v : Verdict Typed) → IsKnown (fine (asked type_due (fine (valued v)))) → ⊥
+no_type (Fine e) k = cc
+no_type (Breaks kind) k = cc
+no_type Passed k = cc
+
+not_selected : (path x : List ℕ) (v : Verdict Typed) → IsKnown (fine (asked type_due (fine (asked (selected path x) (fine (valued v)))))) → ⊥
+not_selected path x (Fine e) k = no_type (checked (field_of path x) (Fine e)) k
+not_selected path x (Breaks kind) k = cc
+not_selected path x Passed k = cc
+
+of_package : (p : Place) (path x : List ℕ) (v : Verdict Known) → IsKnown (fine (asked type_due (fine (asked (selected path x) (fine (subject v)))))) → broken p (asked packaged (fine v)) ≡ []
+of_package p path x (Breaks kind) k = refl
+of_package p path x Passed k = refl
+of_package p path x (Fine (package' names)) k = refl
+of_package p path x (Fine known) k = absurd (not_selected path x (value_due known) k)
+
+package_clean : (s : Scope) (p : Place) (e : Expr) (x : Name) → IsKnown (fine (asked type_due (fine (verdict s (selector p e x))))) → package_broken s e ≡ []
+package_clean s p (name q y) x k = of_package q s.path x.text (look_up y s.names) k
+package_clean s p e x k = refl
+
+qualified_clean : (s : Scope) (e : Expr) → IsKnown (fine (asked type_due (fine (verdict s e)))) → qualifier_broken s e ≡ []
+qualified_clean s (selector p e x) k = package_clean s p e x k
+qualified_clean s e k = refl
+
 mutual
   clean : (s : Scope) (e : Expr) → IsKnown (fine (verdict s e)) → faults s e ≡ []
   clean s (name p x) k = own p (look_up x s.names) k
@@ -144,8 +169,8 @@ mutual
     | inl is ↦ (
         let of = asked type_due (fine (verdict s e)) in
         let ks = two made (fine of) (operands s es) (rw is at k) in
-        rw is (none_of_three (faults s e) (part_broken e of) (operands_faults s es)
-        (clean s e (part type_due (fine (verdict s e)) ks.0)) (own (bare_place e) of ks.0) (operands_clean s es ks.1)))
+        rw is (none_of_four (qualifier_broken s e) (faults s e) (part_broken e of) (operands_faults s es)
+        (qualified_clean s e ks.0) (clean s e (part type_due (fine (verdict s e)) ks.0)) (own (bare_place e) of ks.0) (operands_clean s es ks.1)))
     | inr other ↦ absurd (never_made (fine (asked unprinted (fine (verdict s e)))) (operands s es) (rw other at k))
   ]
 

@@ -2,7 +2,7 @@
 use Rattle.std.proofs.Common.{◌≡◌, Bool, true, false, Option, Result, Err, List, [], ◌∷◌, ◌++◌, Box, Vec, Global, sym, ap, ◌∙◌, subst, refl}
 use Rattle.go_text.specs.declared.place.Place.{Place}
 use Rattle.go_text.specs.declared.fault.FaultKind.{FaultKind}
-use Rattle.go_ast.specs.Trees.{TypeExpr, Expr, Exprs, some_exprs, call, composite_lit, Elements}
+use Rattle.go_ast.specs.Trees.{TypeExpr, Expr, name, selector, Exprs, some_exprs, call, composite_lit, Elements}
 use Rattle.std.specs.Prelude.{map, option_map, string_bytes, if◌then◌else◌}
 use Rattle.go_types.specs.Types as types
 use Rattle.go_types.specs.Views.{type_of, fields_in}
@@ -19,7 +19,7 @@ use Rattle.go_expr.proofs.Lists.{fails_front}
 use Rattle.go_expr.specs.declared.known.Known.{Known as Found}
 use Rattle.go_expr.specs.Known.{Known, Verdict, Scope}
 use Rattle.go_typed.specs.Trees.{Expr as Typed}
-use Rattle.go_expr.specs.Verdicts.{asked, asked_both, broken, callee, is_make, is_name, call_verdict, call_faults, verdict, made_verdict, operands, type_verdict, part_broken, faults, made_faults, operands_faults, elements_faults, type_faults}
+use Rattle.go_expr.specs.Verdicts.{asked, asked_both, broken, callee, is_make, is_name, call_verdict, call_faults, verdict, made_verdict, operands, type_verdict, part_broken, package_broken, qualifier_broken, is_package_name, faults, made_faults, operands_faults, elements_faults, type_faults}
 use Rattle.go_expr.specs.Seen.{known_of, elements_in, field_of, literal_verdict, Fails, Answers, Behind}
 
 -- where nothing is found before
@@ -66,33 +66,58 @@ other_than_name s e = asked unprinted (fine (verdict s e))
 abbrev made_if : Bool → Scope → Expr → Exprs → Verdict Typed
 made_if b s e es = if b then asked_both made (fine (due_of_name s e)) (operands s es) else asked_both unmade (fine (other_than_name s e)) (operands s es)
 
+-- what isn't the name of a type has no package before a dot
+no_package : (s : Scope) (e : Expr) → is_package_name e ≡ false → package_broken s e ≡ []
+no_package s (name p x) h = cc
+no_package s e h = refl
+
+no_qualifier : (s : Scope) (e : Expr) → is_name e ≡ false → qualifier_broken s e ≡ []
+no_qualifier s (selector p e x) h = no_package s e h
+no_qualifier s e h = refl
+
 abbrev due_if : Bool → Scope → Expr → List (Place × FaultKind)
 due_if b s e = if b then part_broken e (due_of_name s e) else part_broken e (other_than_name s e)
 
 by_name : {X : Type 0} (view : X → Known) (r : Result (Option X) ExprError) (s : Scope) (p : Place) (e : Expr) (es : Exprs) → is_name e ≡ true →
-    Behind view r (faults s e ++ part_broken e (due_of_name s e) ++ operands_faults s es) p (valued (asked_both made (fine (due_of_name s e)) (operands s es))) →
+    Behind view r (qualifier_broken s e ++ faults s e ++ part_broken e (due_of_name s e) ++ operands_faults s es) p (valued (asked_both made (fine (due_of_name s e)) (operands s es))) →
     Behind view r (made_faults s (some_exprs e es)) p (valued (made_verdict s (some_exprs e es)))
-by_name view r s p e es is h = subst (λ (b : Bool). Behind view r (faults s e ++ due_if b s e ++ operands_faults s es) p (valued (made_if b s e es))) (sym is) h
+by_name view r s p e es is h =
+    subst (λ (b : Bool). Behind view r (qualifier_broken s e ++ faults s e ++ due_if b s e ++ operands_faults s es) p (valued (made_if b s e es))) (sym is) h
 
 by_other : {X : Type 0} (view : X → Known) (r : Result (Option X) ExprError) (s : Scope) (p : Place) (e : Expr) (es : Exprs) → is_name e ≡ false →
     Behind view r (faults s e ++ part_broken e (other_than_name s e) ++ operands_faults s es) p (valued (asked_both unmade (fine (other_than_name s e)) (operands s es))) →
     Behind view r (made_faults s (some_exprs e es)) p (valued (made_verdict s (some_exprs e es)))
-by_other view r s p e es other h = subst (λ (b : Bool). Behind view r (faults s e ++ due_if b s e ++ operands_faults s es) p (valued (made_if b s e es))) (sym other) h
+by_other view r s p e es other h =
+    subst (λ (l : List (Place × FaultKind)). Behind view r (l ++ faults s e ++ due_if (is_name e) s e ++ operands_faults s es) p (valued (made_if (is_name e) s e es))) (sym (no_qualifier s e other))
+    (subst (λ (b : Bool). Behind view r (faults s e ++ due_if b s e ++ operands_faults s es) p (valued (made_if b s e es))) (sym other) h)
 
 -- a name whose type has no fault
-pub made_named : {X : Type 0} (view : X → Known) (r : Result (Option X) ExprError) (s : Scope) (p : Place) (e : Expr) (es : Exprs) (k : Option types.Type') → is_name e ≡ true →
+pub made_named : {X : Type 0} (view : X → Known) (r : Result (Option X) ExprError) (s : Scope) (p : Place) (e : Expr) (es : Exprs) (k : Option types.Type') → is_name e ≡ true → qualifier_broken s e ≡ [] →
     faults s e ++ part_broken e (due_of_name s e) ≡ [] → fine (due_of_name s e) ≡ k → Behind view r (operands_faults s es) p (valued (asked_both made k (operands s es))) →
     Behind view r (made_faults s (some_exprs e es)) p (valued (made_verdict s (some_exprs e es)))
-made_named view r s p e es k is none gives h =
-    by_name view r s p e es is
-    (subst (λ (o : Option types.Type'). Behind view r (faults s e ++ part_broken e (due_of_name s e) ++ operands_faults s es) p (valued (asked_both made o (operands s es)))) (sym gives)
-    (subst (λ (l : List (Place × FaultKind)). Behind view r (l ++ operands_faults s es) p (valued (asked_both made k (operands s es)))) (sym none) h))
-
-pub name_fails : {X : Type 0} (view : X → Known) (error : ExprError) (s : Scope) (p : Place) (e : Expr) (es : Exprs) → is_name e ≡ true → Fails error (faults s e ++ part_broken e (due_of_name s e)) →
-    Behind view (Err error) (made_faults s (some_exprs e es)) p (valued (made_verdict s (some_exprs e es)))
-name_fails view error s p e es is h =
+made_named view r s p e es k is before none gives h =
     let own = faults s e ++ part_broken e (due_of_name s e) in
-    by_name view (Err error) s p e es is (fails_front error (own ++ operands_faults s es) _ (fails_front error own (operands_faults s es) h))
+    by_name view r s p e es is
+    (subst (λ (l : List (Place × FaultKind)). Behind view r (l ++ faults s e ++ part_broken e (due_of_name s e) ++ operands_faults s es) p (valued (asked_both made (fine (due_of_name s e)) (operands s es)))) (sym before)
+    (subst (λ (o : Option types.Type'). Behind view r (own ++ operands_faults s es) p (valued (asked_both made o (operands s es)))) (sym gives)
+    (subst (λ (l : List (Place × FaultKind)). Behind view r (l ++ operands_faults s es) p (valued (asked_both made k (operands s es)))) (sym none) h)))
+
+-- no package before its dot
+pub qualifier_fails : {X : Type 0} (view : X → Known) (error : ExprError) (s : Scope) (p : Place) (e : Expr) (es : Exprs) → is_name e ≡ true → Fails error (qualifier_broken s e) →
+    Behind view (Err error) (made_faults s (some_exprs e es)) p (valued (made_verdict s (some_exprs e es)))
+qualifier_fails view error s p e es is h =
+    let before = qualifier_broken s e in
+    let due = part_broken e (due_of_name s e) in
+    by_name view (Err error) s p e es is (fails_front error (before ++ faults s e ++ due ++ operands_faults s es) _ (fails_front error (before ++ faults s e ++ due) (operands_faults s es)
+    (fails_front error (before ++ faults s e) due (fails_front error before (faults s e) h))))
+
+pub name_fails : {X : Type 0} (view : X → Known) (error : ExprError) (s : Scope) (p : Place) (e : Expr) (es : Exprs) → is_name e ≡ true → qualifier_broken s e ≡ [] →
+    Fails error (faults s e ++ part_broken e (due_of_name s e)) → Behind view (Err error) (made_faults s (some_exprs e es)) p (valued (made_verdict s (some_exprs e es)))
+name_fails view error s p e es is before h =
+    let own = faults s e ++ part_broken e (due_of_name s e) in
+    by_name view (Err error) s p e es is
+    (subst (λ (l : List (Place × FaultKind)). Behind view (Err error) (l ++ faults s e ++ part_broken e (due_of_name s e) ++ operands_faults s es) p (valued (asked_both made (fine (due_of_name s e)) (operands s es)))) (sym before)
+    (fails_front error (own ++ operands_faults s es) _ (fails_front error own (operands_faults s es) h)))
 
 -- what can't be a type, without fault
 pub made_unnamed : {X : Type 0} (view : X → Known) (r : Result (Option X) ExprError) (s : Scope) (p : Place) (e : Expr) (es : Exprs) (k : Option Known) → is_name e ≡ false →

@@ -376,6 +376,9 @@ selected path x k = elim k [ package' names ↦ exported x names | k ↦ valued 
 abbrev pub exported_by : List ℕ → Known → Verdict Known
 exported_by x k = elim k [ package' names ↦ exported x names | _ ↦ Breaks Mismatch ]
 
+abbrev pub packaged : Known → Verdict Known
+packaged k = elim k [ package' names ↦ Fine (package' names) | _ ↦ Breaks Mismatch ]
+
 -- https://go.dev/ref/spec#Index_expressions
 -- a byte of a string, and an element of an array, and how many there are where that is known
 abbrev pub indexed_type : Type' → Option Type'

@@ -11,7 +11,7 @@ use Rattle.go_types.specs.declared.types.Untyped.TheVariants as kinds
 use Rattle.go_types.specs.Types.{Type', basic}
 use Rattle.go_typed.specs.Trees.{Expr as Typed, constant}
 use Rattle.go_expr.specs.Known.{type', make', declared, Known, Verdict, Fine, Breaks, Passed, Scope, look_up}
-use Rattle.go_expr.specs.Rules.{fine, checked, valued, type_due, array_of, slice_of, FieldList, declared_field, struct_of, value_due, unpackaged, selectable, callable, literal, ElementList, literal_of, Due, element_due, due_type, untyped_literal, selected, exported_by, index_of, cut_of, made, unmade, unprinted, binary_of, unary_of, converted, called}
+use Rattle.go_expr.specs.Rules.{fine, checked, valued, type_due, array_of, slice_of, FieldList, declared_field, struct_of, value_due, unpackaged, selectable, callable, literal, ElementList, literal_of, Due, element_due, due_type, untyped_literal, selected, exported_by, packaged, index_of, cut_of, made, unmade, unprinted, binary_of, unary_of, converted, called}
 
 -- a rule over parts, which is asked where they are fine
 abbrev pub asked : {A B : Type 0} → (A → Verdict B) → Option A → Verdict B
@@ -150,6 +150,15 @@ abbrev pub struct_place : Place → Fields → Place
 struct_place p no_fields = p
 struct_place p (field names t fs) = unwrap_or (first_blank names) (struct_place p fs)
 
+-- in the name of a type a package is due before the dot
+abbrev pub package_broken : Scope → Expr → List (Place × FaultKind)
+package_broken s (name p x) = broken p (asked packaged (fine (look_up x s.names)))
+package_broken s e = []
+
+abbrev pub qualifier_broken : Scope → Expr → List (Place × FaultKind)
+qualifier_broken s (selector p e x) = package_broken s e
+qualifier_broken s e = []
+
 abbrev mutual
   pub faults : Scope → Expr → List (Place × FaultKind)
   faults s (parenthesized p e) = faults s e ++ part_broken e (inside (verdict s e))
@@ -178,7 +187,8 @@ abbrev mutual
   pub made_faults : Scope → Exprs → List (Place × FaultKind)
   made_faults s no_exprs = []
   made_faults s (some_exprs e es) =
-      faults s e ++ (if is_name e then part_broken e (asked type_due (fine (verdict s e))) else part_broken e (asked unprinted (fine (verdict s e))))
+      qualifier_broken s e ++ faults s e
+      ++ (if is_name e then part_broken e (asked type_due (fine (verdict s e))) else part_broken e (asked unprinted (fine (verdict s e))))
       ++ operands_faults s es
 
   pub operands_faults : Scope → Exprs → List (Place × FaultKind)

@@ -1,14 +1,16 @@
 //! What is due of a part of an expression.
-ghost use Rattle.std.specs.Prelude.{◌≡◌};
+ghost use Rattle.std.specs.Prelude.{◌≡◌, [], IfErr, OnOk};
 ghost use Rattle.std.specs.Option.{option_map};
 ghost use Rattle.go_ast.specs.Views.{expr_of as expr_tree};
 ghost use Rattle.go_typed.specs.Views.{expr_of};
-ghost use Rattle.go_expr.specs.Rules.{selectable, callable, unpackaged, unprinted, value_due};
-ghost use Rattle.go_expr.specs.Verdicts.{asked, bare_place};
-ghost use Rattle.go_expr.specs.Seen.{known_of, AnswersAt, Gives};
+ghost use Rattle.go_expr.specs.Known.{look_up};
+ghost use Rattle.go_expr.specs.Rules.{fine, selectable, callable, packaged, unpackaged, unprinted, value_due};
+ghost use Rattle.go_expr.specs.Verdicts.{asked, bare_place, broken, package_broken, qualifier_broken};
+ghost use Rattle.go_expr.specs.Seen.{known_of, scope_of, AnswersAt, Fails, Gives};
 
 use crate::error::{ExprError, RuleError};
 use crate::known::Known;
+use crate::scope::Scope;
 use crate::selector::value_due;
 use go_ast::expression::{Expr, ExprKind};
 use go_text::fault::FaultKind;
@@ -66,6 +68,52 @@ pub(crate) fn unprinted_at<'a>(
     match known {
         Some(Known::Printed(_)) => Err(ExprError::Faulty(place, FaultKind::Mismatch)),
         known => Ok(known),
+    }
+}
+
+/// The fault at a place where a package is due and anything else is known.
+fn package_at(place: Place, known: &Option<Known<'_>>) -> Result<(), ExprError>
+    ensures fault { IfErr result (λ error. Fails error (broken place (asked packaged (option_map known_of known.now)))) }
+    ensures none { OnOk result (broken place (asked packaged (option_map known_of known.now)) ≡ []) }
+{
+    match known {
+        None | Some(Known::Package(_)) => Ok(()),
+        Some(_) => Err(ExprError::Faulty(place, FaultKind::Mismatch)),
+    }
+}
+
+/// The fault of what stands before the dot in the name of a type, where it is known to be no package.
+#[tactic(auto, unfolding(go_ast::specs::Views::expr_of))]
+pub(crate) fn check_qualifier(scope: &Scope<'_>, e: &Expr) -> Result<(), ExprError>
+    ensures fault { IfErr result (λ error. Fails error (qualifier_broken (scope_of scope.now) (expr_tree e.now))) }
+    ensures none { OnOk result (qualifier_broken (scope_of scope.now) (expr_tree e.now) ≡ []) }
+{
+    match &e.kind {
+        ExprKind::Selector(package, _) => check_package(scope, package),
+        _ => Ok(()),
+    }
+}
+
+#[tactic(auto, unfolding(go_ast::specs::Views::expr_of))]
+fn check_package(scope: &Scope<'_>, e: &Expr) -> Result<(), ExprError>
+    ensures fault { IfErr result (λ error. Fails error (package_broken (scope_of scope.now) (expr_tree e.now))) }
+    ensures none { OnOk result (package_broken (scope_of scope.now) (expr_tree e.now) ≡ []) }
+{
+    match &e.kind {
+        ExprKind::Name(name) => check_package_name(scope, e.place, name.as_str()),
+        _ => Ok(()),
+    }
+}
+
+fn check_package_name(scope: &Scope<'_>, place: Place, name: &str) -> Result<(), ExprError>
+    ensures fault { let known = fine (look_up name.now (scope_of scope.now).names) in
+        IfErr result (λ error. Fails error (broken place (asked packaged known))) }
+    ensures none { let known = fine (look_up name.now (scope_of scope.now).names) in OnOk result (broken place (asked packaged known) ≡ []) }
+{
+    match scope.look_up(place, name) {
+        Ok(known) => package_at(place, &known),
+        Err(ExprError::Faulty(_, _)) => Ok(()),
+        Err(ExprError::Memory) => Err(ExprError::Memory),
     }
 }
 

@@ -11,7 +11,9 @@ ghost use Rattle.go_expr.specs.Seen.{known_of, element_of, elements_in, literal_
 
 use crate::call::{call_at, conversion_at};
 use crate::composite::{Element, element_due, key_text, literal_at, untyped_literal_at};
-use crate::due::{bare_place, callee_at, inside_at, operand_at, subject_at, unprinted_at};
+use crate::due::{
+    bare_place, callee_at, check_qualifier, inside_at, operand_at, subject_at, unprinted_at,
+};
 use crate::error::ExprError;
 use crate::known::Known;
 use crate::literal::{literal, rune, text_constant};
@@ -233,6 +235,7 @@ fn check_make<'a>(
         return Err(ExprError::Faulty(place, FaultKind::Count));
     };
     if is_name(first) {
+        check_qualifier(scope, first)?;
         let of = check_type_operand(alloc, scope, first)?;
         return check_sizes(alloc, scope, place, of, arguments);
     }

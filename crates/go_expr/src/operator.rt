@@ -4,7 +4,11 @@ ghost use Rattle.std.specs.Option.{option_map};
 ghost use Rattle.go_const.specs.declared.error.ConstError.TheVariants as errors;
 ghost use Rattle.go_const.specs.declared.operator.BinaryOperator.TheVariants.{Arithmetic, Comparison};
 ghost use Rattle.go_types.specs.Views.{type_of};
+ghost use Rattle.go_typed.specs.declared.expression.Operator.TheVariants as nodes;
+ghost use Rattle.go_typed.specs.Trees as typed;
+ghost use Rattle.go_typed.specs.Trees.{expr_type};
 ghost use Rattle.go_typed.specs.Views.{expr_of};
+ghost use Rattle.go_expr.specs.Known.{Fine};
 ghost use Rattle.go_expr.specs.declared.error.RuleError.TheVariants.{Memory};
 ghost use Rattle.go_expr.specs.Rules.{valued, constant_in, as_type, given, takes, common, is_defined, result_type, operation, divides_by_zero, operated, operand_type, combined, counted_by, shift_of, shifted, binary_of, operator_of, is_operand, unary_of};
 ghost use Rattle.go_expr.specs.Verdicts.{asked, asked_both};
@@ -229,15 +233,29 @@ fn shift_of(
 ) -> Result<TypedExpr, RuleError>
     ensures { Gives expr_of result (shift_of operator (expr_of x) (expr_of count) (constant_in (expr_of x)) (constant_in (expr_of count))) }
 {
-    let of = type_in(&x).copy()?;
     if let (Some(c), Some(d)) = (constant_in(&x), constant_in(&count)) {
+        let of = type_in(&x).copy()?;
         let value = shift(operator, int_kind(&of), c, d);
         return given(of, value);
     }
     if !lies_in(&uint(), &count) {
         return Err(RuleError::Broken(FaultKind::Range));
     }
+    shift_by(alloc, operator, x, count)
+}
+
+/// The shift of an integer by a count that is counted.
+fn shift_by(
+    alloc: Global,
+    operator: ShiftOperator,
+    x: TypedExpr,
+    count: TypedExpr,
+) -> Result<TypedExpr, RuleError>
+    ensures { let e = expr_of x in
+        Gives expr_of result (Fine (typed.binary (expr_type e) (nodes.Shift operator) e (counted_by (expr_of count)))) }
+{
     let count = counted_by(alloc, count)?;
+    let of = type_in(&x).copy()?;
     Ok(binary_node(alloc, of, Operator::Shift(operator), x, count)?)
 }
 

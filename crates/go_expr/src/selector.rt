@@ -1,11 +1,13 @@
 //! What names and indices select. [Selectors](https://go.dev/ref/spec#Selectors)
-ghost use Rattle.std.specs.Prelude.{◌≡◌, IfOk, map, option_copied, string_bytes};
+ghost use Rattle.std.specs.Prelude.{◌≡◌, IfOk, if◌then◌else◌, map, option_copied, string_bytes};
 ghost use Rattle.std.specs.Option.{option_map};
+ghost use Rattle.go_text.specs.declared.fault.FaultKind.TheVariants.{Index};
 ghost use Rattle.go_types.specs.Views.{type_of};
 ghost use Rattle.go_typed.specs.Views.{expr_of};
+ghost use Rattle.go_typed.specs.Trees as typed;
 ghost use Rattle.go_typed.specs.Trees.{Expr};
-ghost use Rattle.go_expr.specs.Known.{Verdict};
-ghost use Rattle.go_expr.specs.Rules.{checked, valued, is_visible, field_named, fields_of, field_of, value_due, exported, selected, exported_by, constant_in, indexed_type, known_length, is_within, index_of};
+ghost use Rattle.go_expr.specs.Known.{Verdict, Fine, Breaks};
+ghost use Rattle.go_expr.specs.Rules.{checked, valued, is_visible, field_named, fields_of, field_of, value_due, exported, selected, exported_by, constant_in, indexed_type, known_length, is_within, index_of, settled};
 ghost use Rattle.go_expr.specs.Verdicts.{asked, asked_both};
 ghost use Rattle.go_expr.specs.Seen.{known_of, names_of, field_of as field_seen, AnswersAt, Gives};
 
@@ -233,7 +235,20 @@ pub(crate) fn index_of(
     if !is_integer(type_in(&index)) {
         return Err(RuleError::Broken(FaultKind::Mismatch));
     }
-    let index = defaulted(alloc, index)?;
+    element_at(alloc, of, value, defaulted(alloc, index)?)
+}
+
+/// The element of a value at an index of an integer type. `Index` where a constant index is
+/// negative or past the end.
+fn element_at(
+    alloc: Global,
+    of: GoType,
+    value: TypedExpr,
+    index: TypedExpr,
+) -> Result<TypedExpr, RuleError>
+    ensures { let e = expr_of value in let i = expr_of index in
+        Gives expr_of result (if is_within (known_length e) (constant_in i) then Fine (typed.index (type_of of) (settled e) i) else Breaks Index) }
+{
     if !is_within(known_length(&value), constant_in(&index)) {
         return Err(RuleError::Broken(FaultKind::Index));
     }

@@ -154,17 +154,39 @@ fn cut_to(alloc: Global, value: TypedExpr, bounds: Vec<TypedExpr>) -> Result<Typ
     let Some(last) = bounds.pop() else {
         return Err(RuleError::Memory);
     };
-    let of = default_type(type_in(&value))?;
-    let value = settled(alloc, value)?;
-    let Some(first) = bounds.pop() else {
-        return Ok(tail(alloc, of, value, last)?);
-    };
+    let first = bounds.pop();
     if !bounds.is_empty() {
         return Err(RuleError::Memory);
     }
+    match first {
+        Some(first) => cut_between(alloc, value, first, last),
+        None => cut_behind(alloc, value, last),
+    }
+}
+
+/// The part of a value from a bound on.
+fn cut_behind(alloc: Global, value: TypedExpr, from: TypedExpr) -> Result<TypedExpr, RuleError>
+    ensures { Gives expr_of result (cut_to (expr_of value) (expr_of from ∷ [])) }
+{
+    let of = default_type(type_in(&value))?;
+    let value = settled(alloc, value)?;
+    Ok(tail(alloc, of, value, from)?)
+}
+
+/// The part of a value between two bounds. `Index` where constant ones aren't in order.
+fn cut_between(
+    alloc: Global,
+    value: TypedExpr,
+    first: TypedExpr,
+    last: TypedExpr,
+) -> Result<TypedExpr, RuleError>
+    ensures { Gives expr_of result (cut_to (expr_of value) (expr_of first ∷ expr_of last ∷ [])) }
+{
     if !are_ordered(constant_in(&first), constant_in(&last)) {
         return Err(RuleError::Broken(FaultKind::Index));
     }
+    let of = default_type(type_in(&value))?;
+    let value = settled(alloc, value)?;
     Ok(cut(alloc, of, value, first, last)?)
 }
 

@@ -15,8 +15,8 @@ use Rattle.go_objects.specs.Table.{Package, number_of, scope_at, object_verdict}
 use Rattle.go_objects.proofs.Filling.{one_table}
 use Rattle.go_stmt.specs.Statements.{values_known}
 use Rattle.go_stmt.specs.Functions.{function_at}
-use Rattle.go_decl.specs.Faults.{Facts, Faults, is_declared_by, name_faults, written_type, parts_faults, constants_by, group_faults, type_spec_faults, var_parts_faults, variables_by, var_spec_faults, context_at, top_faults}
-use Rattle.go_decl.specs.Faults as decl
+use Rattle.go_package.specs.Faults.{Facts, Faults, is_declared_by, name_faults, written_type, parts_faults, constants_by, group_faults, type_spec_faults, var_parts_faults, variables_by, var_spec_faults, context_at, top_faults}
+use Rattle.go_package.specs.Faults as decl
 use Rattle.go_package.specs.Imports.{Importable, imports_in}
 use Rattle.go_package.specs.Packages.{import_faults, imports_faults, file_faults, each_file, numbered_faults, constants_faults, main_faults, package_faults, IsFaultIn}
 

@@ -11,7 +11,7 @@ use Rattle.go_stmt.specs.Rules.{variables_source}
 use Rattle.go_stmt.specs.Statements.{values_known}
 use Rattle.go_objects.specs.Table.{Package, scope_at}
 use Rattle.go_objects.proofs.Filling.{one_table}
-use Rattle.go_decl.specs.Faults.{written_type}
+use Rattle.go_package.specs.Faults.{written_type}
 use Rattle.go_package.specs.Imports.{Importable}
 use Rattle.go_package.proofs.OneFault.{two, flat_same, by}
 use Rattle.go_package.specs.Typed.{constants_in, types_in, variables_in, alone, each_alone, initializations_by, spec_initializations, top_initializations, top_uses, top_functions, with_numbers, of_files, package_name, typed_package, IsTypedIn}

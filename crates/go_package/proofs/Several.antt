@@ -12,10 +12,10 @@ use Rattle.go_expr.specs.declared.error.ExprError.{ExprError}
 use Rattle.go_expr.specs.declared.error.ExprError.TheVariants as errors_of
 use Rattle.go_expr.specs.Seen.{Fails}
 use Rattle.go_objects.proofs.Signatures.{next_of}
-use Rattle.go_decl.specs.declared.error.DeclError.{DeclError}
-use Rattle.go_decl.specs.declared.error.DeclError.TheVariants as errors
-use Rattle.go_decl.specs.Faults.{Facts, Faults}
-use Rattle.go_decl.specs.Seen.{FailsIn, FindsIn}
+use Rattle.go_package.specs.declared.error.DeclError.{DeclError}
+use Rattle.go_package.specs.declared.error.DeclError.TheVariants as errors
+use Rattle.go_package.specs.Faults.{Facts, Faults}
+use Rattle.go_package.specs.Seen.{FailsIn, FindsIn}
 use Rattle.go_package.specs.Imports.{Importable, declared_by, imports_in}
 use Rattle.go_package.specs.Packages.{Numbered, each_file, names_faults, absent_main_faults, main_faults, import_faults, imports_faults}
 

@@ -8,7 +8,7 @@ use Rattle.go_ast.specs.Trees.{File}
 use Rattle.go_typed.specs.Trees as typed
 use Rattle.go_objects.specs.Table.{Package, rows}
 use Rattle.go_objects.proofs.Lookups.{rows_stay}
-use Rattle.go_decl.specs.Faults.{Facts}
+use Rattle.go_package.specs.Faults.{Facts}
 use Rattle.go_package.specs.Imports.{Importable}
 use Rattle.go_package.specs.Packages.{AreFacts, package_faults, IsFaultIn}
 use Rattle.go_package.specs.Typed.{typed_package, IsTypedIn}

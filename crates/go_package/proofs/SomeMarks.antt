@@ -10,8 +10,8 @@ use Rattle.ws_reach.specs.Worklist.{is_marked}
 use Rattle.ws_reach.proofs.Reached.{contains_get, get_contains}
 use Rattle.ws_reach.proofs.Closure.{IsOneOf, reach, reach_sound, reach_complete}
 use Rattle.go_scope.specs.Order.{DependsOnItself}
-use Rattle.go_decl.specs.Faults.{AreRecursive}
-use Rattle.go_decl.proofs.Marks.{one_more, all_marked}
+use Rattle.go_package.specs.Faults.{AreRecursive}
+use Rattle.go_package.proofs.Marks.{one_more, all_marked}
 
 -- ---- edges and walks are decided by tests
 

@@ -2,7 +2,7 @@
 use Rattle.std.proofs.Common.{◌≡◌, ℕ, suc, List, [], ◌∷◌, ◌++◌, map, refl, ap, ◌∙◌}
 use Rattle.std.specs.List.{flat_map}
 use Rattle.go_ast.specs.Trees.{File}
-use Rattle.go_decl.specs.Faults.{Facts, Faults, top_faults, files_faults}
+use Rattle.go_package.specs.Faults.{Facts, Faults, top_faults, files_faults}
 use Rattle.go_package.specs.Imports.{Importable, imports_in}
 use Rattle.go_package.specs.Packages.{each_file, imports_faults, file_faults, constants_faults, main_faults, package_faults}
 

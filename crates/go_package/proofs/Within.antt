@@ -10,7 +10,7 @@ use Rattle.go_ast.specs.Trees.{Name, TypeExpr, Expr, Exprs, no_exprs, some_exprs
 use Rattle.go_scope.specs.Specifications.{meant}
 use Rattle.go_objects.specs.Objects.{Object, constant, function', paired, begin_of, other_object, unpaired, constants_of, in_group, typed_object, valued_object, result_objects, uncounted, variables_of, type_object, objects_in, objects_from}
 use Rattle.go_objects.specs.Table.{number_of}
-use Rattle.go_decl.specs.Faults.{Facts, Faults, object_faults}
+use Rattle.go_package.specs.Faults.{Facts, Faults, object_faults}
 use Rattle.go_package.specs.Imports.{Importable}
 use Rattle.go_package.specs.Packages.{Numbered, each_file, file_faults, numbered_faults, constants_faults, absent_main_faults, main_faults, names_faults, package_faults, IsFaultOf}
 

@@ -1,4 +1,5 @@
 pub mod Claims
+pub mod Faults
 pub mod Imports
 pub mod Packages
 pub mod Seen

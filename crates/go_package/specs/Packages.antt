@@ -10,7 +10,7 @@ use Rattle.go_expr.specs.Known.{Names}
 use Rattle.go_uses.specs.Uses.{file_refers}
 use Rattle.go_objects.specs.Objects.{Object, objects_from, objects_of}
 use Rattle.go_objects.specs.Table.{Package, number_of, rows, IsTable}
-use Rattle.go_decl.specs.Faults.{Facts, Faults, AreRecursive, object_faults, top_faults}
+use Rattle.go_package.specs.Faults.{Facts, Faults, AreRecursive, object_faults, top_faults}
 use Rattle.go_package.specs.Imports.{Importable, imports_in, imports_of}
 
 -- the package of an edition at a path: what its files import and declare

@@ -22,7 +22,7 @@ use Rattle.go_stmt.specs.Statements.{values_known}
 use Rattle.go_stmt.specs.Functions.{function_at}
 use Rattle.go_objects.specs.Objects.{Object}
 use Rattle.go_objects.specs.Table.{Package, imports_at, is_hidden, scope_at}
-use Rattle.go_decl.specs.Faults.{Facts, written_type, context_at}
+use Rattle.go_package.specs.Faults.{Facts, written_type, context_at}
 use Rattle.go_package.specs.Imports.{Importable}
 use Rattle.go_package.specs.Packages.{AreFacts, package_faults, package_in}
 

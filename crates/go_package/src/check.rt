@@ -1,85 +1,30 @@
-//! The checker of packages.
-ghost use Rattle.std.specs.Prelude.{◌≡◌, ℕ, map, Some, None, Err, IfOk};
+//! The first fault of a package, or what its declarations come to.
+ghost use Rattle.std.specs.Prelude.{◌≡◌, ◌++◌, map, IfOk, OnOk};
 ghost use Rattle.std.specs.List.{flat_map};
 ghost use Rattle.go_ast.specs.Views.{file_of};
-ghost use Rattle.go_decl.specs.Seen.{facts_of, Finds, FailsIn, FindsIn};
-ghost use Rattle.go_decl.specs.Faults.{Faults};
-ghost use Rattle.go_decl.specs.declared.error.DeclError.TheVariants as errors;
+ghost use Rattle.go_package.specs.Seen.{facts_of, Finds, FailsIn, FindsIn, importables_of, files_of, texts_of, initial_in, uses_in, functions_in};
+ghost use Rattle.go_package.specs.Typed.{top_initializations, top_uses, top_functions, of_files};
+ghost use Rattle.go_package.specs.Told.{in_file};
+ghost use Rattle.go_package.specs.Faults.{Faults};
 ghost use Rattle.go_objects.specs.Packages.{package_of};
-ghost use Rattle.go_package.specs.Packages.{package_in, file_faults, names_faults, each_file, absent_main_faults, main_faults, package_faults, IsFaultIn, IsFaultOf};
-ghost use Rattle.go_package.specs.Seen.{importables_of, files_of, Tells};
-ghost use Rattle.go_expr.specs.Seen.{names_of, Fails};
-ghost use Rattle.go_objects.specs.Table.{IsTable};
+ghost use Rattle.go_package.specs.Packages.{package_in, file_faults, names_faults, each_file, absent_main_faults, main_faults, package_faults};
+ghost use Rattle.go_expr.specs.Seen.{Fails};
 
-use crate::constants::check_constants;
+use crate::bodies::Bodies;
+use crate::error::DeclError;
+use crate::facts::Facts;
 use crate::files::check_file;
-use crate::import::{Importable, Packages, imports_of};
+use crate::import::{Packages, imports_of};
 use crate::main_rule::check_reserved;
+use crate::mutual::check_constants;
 use go_ast::file::File;
 use go_ast::name::Name;
-use go_decl::error::DeclError;
-use go_decl::facts::Facts;
 use go_expr::error::ExprError;
-use go_expr::known::Names;
 use go_objects::listing::objects_of;
 use go_objects::package::Package;
-use go_objects::table::table;
 use go_text::edition::Edition;
 use go_text::fault::FaultKind;
-use go_text::place::Place;
 use std::alloc::{AllocError, Global};
-
-/// The first fault of the package of an edition at a path that some files are, which come in ascending order of
-/// their names and have one package name, by the packages that they may import, the library fmt
-/// too; `Ok` where there is none. `Faulty` has the number of its file and its place: the first node
-/// in declaration order, parts before the whole and left to right, that breaks a rule, while all
-/// that it stands on is known; then the first constant that isn't fine though its specification was
-/// passed over; then the first name main or init that isn't such a function; then, at the first
-/// file's package name, that a package named main has no function main.
-/// [Packages](https://go.dev/ref/spec#Packages)
-pub fn check<'a>(
-    alloc: Global,
-    edition: Edition,
-    path: &'a str,
-    files: &[&'a File],
-    packages: &[Importable<'a>],
-) -> Result<(), DeclError>
-    ensures good { IfOk result (λ u. IsFaultOf edition path.now (files_of files.now) (importables_of packages.now) None) }
-    ensures faulty { (file : ℕ) (place : Place) (kind : FaultKind) → result ≡ Err (errors.Faulty file place kind)
-        → IsFaultOf edition path.now (files_of files.now) (importables_of packages.now) (Some (file, (place, kind))) }
-{
-    let packages = Packages::new(alloc, packages)?;
-    let package = package_of(alloc, edition, path, files, &packages)?;
-    check_package(alloc, &packages, &package, files)
-}
-
-// The first fault, by what the files import and declare.
-fn check_package<'a>(
-    alloc: Global,
-    packages: &Packages<'_, 'a>,
-    package: &Package<'_>,
-    files: &[&'a File],
-) -> Result<(), DeclError>
-    ensures { Tells result (IsFaultIn (package_of «package».now) (files_of files.now) (importables_of packages.now.all.now)) }
-{
-    let known = table(alloc, package)?;
-    check_known(alloc, packages, package, &known, files)
-}
-
-// The first fault, by the table of the package.
-fn check_known<'a>(
-    alloc: Global,
-    packages: &Packages<'_, 'a>,
-    package: &Package<'_>,
-    known: &Names,
-    files: &[&'a File],
-) -> Result<(), DeclError>
-    requires { IsTable (package_of «package».now) (names_of known.now) }
-    ensures { Tells result (IsFaultIn (package_of «package».now) (files_of files.now) (importables_of packages.now.all.now)) }
-{
-    let facts = Facts::new(alloc, package, known)?;
-    check_facts(alloc, packages, &facts, files)
-}
 
 // What the files of a package of an edition import and declare. An `Err` only where memory ran out.
 pub(crate) fn package_of<'a>(
@@ -99,44 +44,70 @@ pub(crate) fn package_of<'a>(
     })
 }
 
-// The first fault, by what is known of the package.
+// What the declarations of a package come to, by what is known of it, or its first fault.
 pub(crate) fn check_facts<'a>(
     alloc: Global,
     packages: &Packages<'_, 'a>,
     facts: &Facts<'_>,
+    names: &[&str],
     files: &[&'a File],
-) -> Result<(), DeclError>
-    ensures { FindsIn result (package_faults (importables_of packages.now.all.now) (facts_of facts.now) (files_of files.now)) }
+) -> Result<Bodies, DeclError>
+    ensures faults { FindsIn result (package_faults (importables_of packages.now.all.now) (facts_of facts.now) (files_of files.now)) }
+    ensures initializations { IfOk result (λ bodies. initial_in bodies
+        ≡ of_files (top_initializations (facts_of facts.now) (texts_of names.now)) 0 (files_of files.now)) }
+    ensures uses { IfOk result (λ bodies. uses_in bodies ≡ of_files (top_uses (facts_of facts.now)) 0 (files_of files.now)) }
+    ensures functions { IfOk result (λ bodies. functions_in bodies ≡ of_files (top_functions (facts_of facts.now)) 0 (files_of files.now)) }
 {
-    check_files(alloc, packages, facts, files)?;
+    let bodies = check_files(alloc, packages, facts, names, files)?;
     check_constants(alloc, facts, files)?;
-    check_main(facts, files)
+    check_main(facts, files)?;
+    Ok(bodies)
 }
 
 fn check_files<'a>(
     alloc: Global,
     packages: &Packages<'_, 'a>,
     facts: &Facts<'_>,
+    names: &[&str],
     files: &[&'a File],
-) -> Result<(), DeclError>
-    ensures { FindsIn result (each_file (file_faults (importables_of packages.now.all.now) (facts_of facts.now)) 0 (files_of files.now)) }
+) -> Result<Bodies, DeclError>
+    ensures faults { FindsIn result (each_file (file_faults (importables_of packages.now.all.now) (facts_of facts.now)) 0 (files_of files.now)) }
+    ensures initializations { IfOk result (λ bodies. initial_in bodies
+        ≡ of_files (top_initializations (facts_of facts.now) (texts_of names.now)) 0 (files_of files.now)) }
+    ensures uses { IfOk result (λ bodies. uses_in bodies ≡ of_files (top_uses (facts_of facts.now)) 0 (files_of files.now)) }
+    ensures functions { IfOk result (λ bodies. functions_in bodies ≡ of_files (top_functions (facts_of facts.now)) 0 (files_of files.now)) }
 {
+    let mut bodies = Bodies {
+        initializations: Vec::new(alloc),
+        uses: Vec::new(alloc),
+        functions: Vec::new(alloc),
+    };
     for (number, file) in files.iter().enumerate() {
-        check_numbered(alloc, packages, facts, number, *file)?;
+        check_numbered(alloc, packages, facts, names, number, *file, &mut bodies)?;
     }
-    Ok(())
+    Ok(bodies)
 }
 
+// The first fault of one file, as one of several. What declarations without a fault come to is kept.
 fn check_numbered<'a>(
     alloc: Global,
     packages: &Packages<'_, 'a>,
     facts: &Facts<'_>,
+    names: &[&str],
     number: usize,
     file: &'a File,
+    bodies: &mut Bodies,
 ) -> Result<(), DeclError>
-    ensures { FindsIn result (map (λ x. (number, x)) (file_faults (importables_of packages.now.all.now) (facts_of facts.now) number (file_of file.now))) }
+    ensures faults { FindsIn result (map (λ x. (number, x)) (file_faults (importables_of packages.now.all.now) (facts_of facts.now) number (file_of file.now))) }
+    ensures initializations { OnOk result (initial_in bodies.new ≡ initial_in bodies.old
+        ++ in_file (top_initializations (facts_of facts.now) (texts_of names.now)) number (file_of file.now)) }
+    ensures uses { OnOk result (uses_in bodies.new ≡ uses_in bodies.old ++ in_file (top_uses (facts_of facts.now)) number (file_of file.now)) }
+    ensures functions { OnOk result (functions_in bodies.new ≡ functions_in bodies.old ++ in_file (top_functions (facts_of facts.now)) number (file_of file.now)) }
 {
-    numbered(number, check_file(alloc, packages, facts, number, file))
+    match check_file(alloc, packages, facts, names, number, file, bodies) {
+        Ok(()) => Ok(()),
+        Err(error) => Err(in_file(number, error)),
+    }
 }
 
 fn check_reserved_in(clause: &str, number: usize, file: &File) -> Result<(), DeclError>

@@ -1,12 +1,14 @@
 //! What holds of all packages.
-ghost use Rattle.std.specs.Prelude.{◌≡◌, ◌⊎◌, ◌<◌, ℕ, List, length, Some, None};
+ghost use Rattle.std.specs.Prelude.{◌≡◌, ◌⊎◌, ◌<◌, ℕ, List, [], length, Some, None};
 ghost use Rattle.go_text.specs.declared.edition.Edition.{Edition};
 ghost use Rattle.go_text.specs.declared.place.Place.{Place};
 ghost use Rattle.go_text.specs.declared.fault.FaultKind.{FaultKind};
 ghost use Rattle.go_ast.specs.Trees.{File};
 ghost use Rattle.go_typed.specs.Trees as typed;
-ghost use Rattle.go_objects.specs.Table.{Package};
-ghost use Rattle.go_decl.specs.Faults.{Facts};
+ghost use Rattle.go_scope.specs.Order.{Grounded};
+ghost use Rattle.go_objects.specs.Objects.{objects_of};
+ghost use Rattle.go_objects.specs.Table.{Package, rows};
+ghost use Rattle.go_package.specs.Faults.{Facts, AreRecursive, files_faults};
 ghost use Rattle.go_package.specs.Imports.{Importable};
 ghost use Rattle.go_package.specs.Claims.{AtMostOne, OfAllFiles, SomeOne};
 ghost use Rattle.go_package.specs.Packages.{AreFacts, IsFaultOf};
@@ -46,4 +48,10 @@ pub fn law_fault_or_typed()
 /// A package is one typed package.
 pub fn law_one_typed()
     ensures { OfAllFiles (λ path files ps edition names. AtMostOne (IsTypedFrom edition path files ps names)) }
+{}
+
+/// Where no declaration has a fault, none leads to one that depends on itself: what is known of each is what its form declares.
+pub fn law_faultless_is_grounded()
+    ensures { (t : Facts) (files : List File) → t.package.objects ≡ objects_of files → AreRecursive (rows t.package) t.recursive → files_faults t 0 files ≡ []
+        → (k : ℕ) → Grounded (rows t.package) k }
 {}

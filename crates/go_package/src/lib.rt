@@ -1,16 +1,25 @@
-//! The checker of packages: the first fault of a package's files.
+//! The checker of packages: the typed package that files are, or its first fault.
 #![tactic(auto)]
 
-pub mod check;
+mod apart;
+mod bodies;
+mod check;
 mod constants;
+mod declarations;
+mod declared;
+pub mod error;
+mod facts;
 mod files;
-pub mod functions;
+mod functions;
 pub mod import;
-pub mod initializations;
+mod initializations;
 mod inits;
 pub mod law;
 mod main_rule;
+mod mutual;
 mod names;
 mod references;
 pub mod typed;
+mod types;
 mod uses;
+mod variables;

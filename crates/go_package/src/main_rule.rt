@@ -4,7 +4,7 @@ ghost use Rattle.std.specs.Prelude.{◌≡◌, map};
 ghost use Rattle.std.specs.List.{flat_map};
 ghost use Rattle.go_ast.specs.Trees as trees;
 ghost use Rattle.go_ast.specs.Views.{const_of, var_of, type_spec_of, function_of, top_of, file_of};
-ghost use Rattle.go_decl.specs.Seen.{Finds};
+ghost use Rattle.go_package.specs.Seen.{Finds};
 ghost use Rattle.go_package.specs.Packages.{is_reserved, reserved_faults, function_faults, names_faults};
 
 use go_ast::declaration::{ConstSpec, Decl, TypeSpec, VarSpec};

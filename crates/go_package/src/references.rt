@@ -1,32 +1,19 @@
 //! Which names of a package stand in the initial values of its variables.
 //! [Package initialization](https://go.dev/ref/spec#Package_initialization)
 ghost use Rattle.std.specs.Prelude.{◌≡◌, map, IfOk, string_bytes};
-ghost use Rattle.std.specs.Option.{option_map};
 ghost use Rattle.go_scope.specs.Names.{used};
-ghost use Rattle.go_expr.specs.Seen.{declared_of};
 ghost use Rattle.go_objects.specs.Table.{is_hidden};
 ghost use Rattle.go_objects.specs.Packages.{imports_of};
-ghost use Rattle.go_decl.specs.Seen.{facts_of};
-ghost use Rattle.go_package.specs.Typed.{refers, is_reference, references};
+ghost use Rattle.go_package.specs.Seen.{facts_of};
+ghost use Rattle.go_package.specs.Typed.{is_reference, references};
 
+use crate::facts::Facts;
 use crate::names::declared_at;
-use go_decl::facts::Facts;
 use go_expr::known::Declared;
 use go_expr::scope::Import;
 use go_objects::package::imports_at;
 use go_scope::names::UsedName;
 use std::alloc::{AllocError, Global};
-
-// Whether a name declares a variable or a function of the package.
-fn refers(declared: Option<&Declared>) -> bool
-    ensures { result ≡ refers (option_map (λ d. declared_of d.now) declared.entry) }
-{
-    match declared {
-        Some(Declared::Global(_, _)) => true,
-        Some(Declared::Function(_)) => true,
-        _ => false,
-    }
-}
 
 // Whether one of some imports has a name.
 fn is_hidden(imports: &[Import<'_>], name: &str) -> bool
@@ -44,7 +31,14 @@ fn is_hidden(imports: &[Import<'_>], name: &str) -> bool
 fn is_reference(facts: &Facts<'_>, file: usize, name: &str) -> bool
     ensures { result ≡ is_reference (facts_of facts.now) file name.now }
 {
-    !is_hidden(imports_at(facts.package(), file), name) && refers(declared_at(facts.known(), name))
+    if is_hidden(imports_at(facts.package(), file), name) {
+        return false;
+    }
+    match declared_at(facts.known(), name) {
+        Some(Declared::Global(_, _)) => true,
+        Some(Declared::Function(_)) => true,
+        _ => false,
+    }
 }
 
 /// The package's variables and functions among names that are used in a file. An `Err` only where

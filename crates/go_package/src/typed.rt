@@ -1,29 +1,22 @@
-//! The typed package of files that have no fault.
+//! The typed package that files are, or its first fault.
 //! [Packages](https://go.dev/ref/spec#Packages)
-ghost use Rattle.std.specs.Prelude.{◌≡◌, ℕ, [], Some, Err, IfOk};
+ghost use Rattle.std.specs.Prelude.{◌≡◌, ℕ, Some, Err, IfOk};
 ghost use Rattle.go_typed.specs.Views.{typed_of};
-ghost use Rattle.go_expr.specs.Seen.{names_of};
-ghost use Rattle.go_objects.specs.Table.{IsTable};
 ghost use Rattle.go_objects.specs.Packages.{package_of};
-ghost use Rattle.go_decl.specs.Faults.{files_faults};
-ghost use Rattle.go_decl.specs.Seen.{facts_of};
-ghost use Rattle.go_decl.specs.declared.error.DeclError.TheVariants as errors;
+ghost use Rattle.go_package.specs.Seen.{facts_of, files_of, importables_of, texts_of, initial_in, uses_in, functions_in};
+ghost use Rattle.go_package.specs.declared.error.DeclError.TheVariants as errors;
 ghost use Rattle.go_package.specs.Packages.{package_in, IsFaultOf};
-ghost use Rattle.go_package.specs.Seen.{files_of, importables_of, texts_of};
-ghost use Rattle.go_package.specs.Typed.{package_name, typed_package, IsTypedIn};
+ghost use Rattle.go_package.specs.Typed.{package_name, typed_package, top_initializations, top_uses, top_functions, of_files, IsTypedIn};
 ghost use Rattle.go_package.specs.Told.{TypesIn};
 
+use crate::bodies::Bodies;
 use crate::check::{check_facts, package_of};
-use crate::functions::functions_in;
+use crate::error::DeclError;
+use crate::facts::Facts;
 use crate::import::{Importable, Packages};
-use crate::initializations::initializations_in;
 use crate::inits::with_numbers;
 use crate::names::{constants_in, types_in, variables_in};
-use crate::uses::uses_in;
 use go_ast::file::File;
-use go_decl::error::DeclError;
-use go_decl::facts::Facts;
-use go_expr::known::Names;
 use go_objects::package::Package;
 use go_objects::table::table;
 use go_text::edition::Edition;
@@ -42,15 +35,19 @@ fn package_name<'a>(files: &[&'a File]) -> &'a str
     }
 }
 
-// The typed package, by what is known of it, the edition and the names of its files.
+// The typed package, by what is known of it, what its declarations come to, the edition and the
+// names of its files.
 fn typed_package(
     alloc: Global,
     edition: Edition,
     facts: &Facts<'_>,
     names: &[&str],
     files: &[&File],
+    bodies: Bodies,
 ) -> Result<Typed, AllocError>
-    requires { files_faults (facts_of facts.now) 0 (files_of files.now) ≡ [] }
+    requires initializations { initial_in bodies ≡ of_files (top_initializations (facts_of facts.now) (texts_of names.now)) 0 (files_of files.now) }
+    requires uses { uses_in bodies ≡ of_files (top_uses (facts_of facts.now)) 0 (files_of files.now) }
+    requires functions { functions_in bodies ≡ of_files (top_functions (facts_of facts.now)) 0 (files_of files.now) }
     ensures { IfOk result (λ t. typed_of t ≡ typed_package edition (facts_of facts.now) (texts_of names.now) (files_of files.now)) }
 {
     let package = facts.package();
@@ -62,14 +59,21 @@ fn typed_package(
         constants: constants_in(alloc, known)?,
         types: types_in(alloc, known)?,
         variables: variables_in(alloc, names, known, package.objects.list())?,
-        initializations: initializations_in(alloc, facts, names, files)?,
-        uses: uses_in(alloc, facts, files)?,
-        functions: with_numbers(alloc, functions_in(alloc, facts, files)?)?,
+        initializations: bodies.initializations,
+        uses: bodies.uses,
+        functions: with_numbers(alloc, bodies.functions)?,
     })
 }
 
-/// The typed package at a path that some files of an edition are, by their names, or its first
-/// fault, as `check` tells it. [Packages](https://go.dev/ref/spec#Packages)
+/// The typed package at a path that some files of an edition are, or its first fault. The files come
+/// in ascending order of their names and have one package name, and may import some packages, the
+/// library fmt among them.
+///
+/// `Faulty` has the number of its file and its place: the first node in declaration order, parts
+/// before the whole and left to right, that breaks a rule, while all that it stands on is known; then
+/// the first constant that isn't fine though its specification was passed over; then the first name
+/// main or init that isn't such a function; then, at the first file's package name, that a package
+/// named main has no function main. [Packages](https://go.dev/ref/spec#Packages)
 pub fn typed<'a>(
     alloc: Global,
     path: &'a str,
@@ -99,22 +103,7 @@ fn typed_in<'a>(
     ensures { TypesIn edition (package_of «package».now) (files_of files.now) (importables_of packages.now.all.now) (texts_of names.now) result }
 {
     let known = table(alloc, package)?;
-    typed_by(alloc, packages, package, &known, edition, names, files)
-}
-
-fn typed_by<'a>(
-    alloc: Global,
-    packages: &Packages<'_, 'a>,
-    package: &Package<'_>,
-    known: &Names,
-    edition: Edition,
-    names: &[&str],
-    files: &[&'a File],
-) -> Result<Typed, DeclError>
-    requires { IsTable (package_of «package».now) (names_of known.now) }
-    ensures { TypesIn edition (package_of «package».now) (files_of files.now) (importables_of packages.now.all.now) (texts_of names.now) result }
-{
-    let facts = Facts::new(alloc, package, known)?;
-    check_facts(alloc, packages, &facts, files)?;
-    Ok(typed_package(alloc, edition, &facts, names, files)?)
+    let facts = Facts::new(alloc, package, &known)?;
+    let bodies = check_facts(alloc, packages, &facts, names, files)?;
+    Ok(typed_package(alloc, edition, &facts, names, files, bodies)?)
 }

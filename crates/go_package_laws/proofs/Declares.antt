@@ -19,7 +19,7 @@ use Rattle.go_scope.specs.Scopes.{is_blank}
 use Rattle.go_stmt.specs.Scopes.{Env, Context, scope_in, own, number_of, paired, declare_new, follow}
 use Rattle.go_stmt.specs.Rules.{Values, are_none, variables_source, suited}
 use Rattle.go_stmt.specs.Statements.{values_known, values_at, value_types, names_faults, names_at, written_at, place_at, variable_types, variables_at, specs_at}
-use Rattle.go_check_laws.proofs.Counts.{types_alone, values_fit}
+use Rattle.go_package_laws.proofs.Completeness.Counts.{types_alone, values_fit}
 use Rattle.go_package_laws.proofs.Soundness.{Table, IsSoundType}
 use Rattle.go_package_laws.proofs.SoundNames.{IsSoundScope}
 use Rattle.go_package_laws.proofs.Texts.{HaveTexts}

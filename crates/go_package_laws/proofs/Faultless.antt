@@ -6,14 +6,14 @@ use Rattle.go_text.specs.declared.edition.Edition.{Edition}
 use Rattle.go_ast.specs.Trees.{File}
 use Rattle.go_objects.specs.Objects.{Object, firsts, objects_from}
 use Rattle.go_objects.specs.Table.{Package}
-use Rattle.go_decl.specs.Faults.{Facts}
+use Rattle.go_package.specs.Faults.{Facts}
 use Rattle.go_package.specs.Imports.{Importable}
 use Rattle.go_package.specs.Packages.{package_faults, package_in, AreFacts}
 use Rattle.go_package.proofs.Whole.{no_faults}
-use Rattle.go_check_laws.specs.Finds.{AreWhole}
-use Rattle.go_check_laws.proofs.Apart.{AreApart}
-use Rattle.go_check_laws.proofs.Known.{given, objects_known}
-use Rattle.go_check_laws.proofs.Packages.{functions_known}
+use Rattle.go_package_laws.specs.Finds.{AreWhole}
+use Rattle.go_package_laws.proofs.Completeness.Apart.{AreApart}
+use Rattle.go_package_laws.proofs.Completeness.Known.{given, objects_known}
+use Rattle.go_package_laws.proofs.Completeness.Packages.{functions_known}
 use Rattle.go_package_laws.proofs.DeclaredTexts.{FilesHaveTexts}
 use Rattle.go_package_laws.proofs.Fits.{HasFormTexts, all_firsts, all_at, files_texts}
 use Rattle.go_package_laws.proofs.Parsed.{FilesNamed}

@@ -11,11 +11,11 @@ use Rattle.go_meaning.specs.Programs as meaning
 use Rattle.go_symbol.specs.Symbols.{same_symbol}
 use Rattle.go_stmt.specs.Functions.{function_at}
 use Rattle.go_objects.specs.Objects.{function', Object, objects_in, objects_from, firsts}
-use Rattle.go_decl.specs.Faults.{Facts, context_at, function_faults, top_faults, files_faults}
+use Rattle.go_package.specs.Faults.{Facts, context_at, function_faults, top_faults, files_faults}
 use Rattle.go_scope.specs.Scopes.{is_blank}
 use Rattle.go_package.specs.Typed.{top_functions, of_files}
-use Rattle.go_check_laws.specs.Finds.{IsKnown}
-use Rattle.go_check_laws.specs.Locals.{IsLocalBlock}
+use Rattle.go_package_laws.specs.Finds.{IsKnown}
+use Rattle.go_package_laws.specs.Locals.{IsLocalBlock}
 use Rattle.go_package_laws.proofs.DeclaredTexts.{TopHasTexts, TopsHaveTexts, FilesHaveTexts}
 use Rattle.go_package_laws.proofs.Once.{itself}
 use Rattle.go_package_laws.proofs.Fits.{is_function, AllIn, all_more, Fits, Any, decl_fits_any}

@@ -2,8 +2,8 @@
 use Rattle.std.proofs.Common.{List, [], ◌∷◌}
 use Rattle.go_text.specs.declared.edition.Edition.{Edition}
 use Rattle.go_ast.specs.Trees.{TopLevel, declared, function, File}
-use Rattle.go_check_laws.specs.Whole.{AreParsed}
-use Rattle.go_check_laws.proofs.Grammar.{AllLocal, parsed_local}
+use Rattle.go_package_laws.specs.Whole.{AreParsed}
+use Rattle.go_package_laws.proofs.Completeness.Grammar.{AllLocal, parsed_local}
 use Rattle.go_package_laws.proofs.Found.{LocalTops, LocalFiles}
 
 local_tops : (tops : List TopLevel) → AllLocal tops → LocalTops tops

@@ -27,9 +27,9 @@ use Rattle.go_stmt.specs.Rules.{values_of, variables_source}
 use Rattle.go_stmt.specs.Statements.{each_of, values_known, alone_types, variable_types, written_at}
 use Rattle.go_objects.specs.Objects.{Object, paired, typed_object, valued_object, result_objects, uncounted, variables_of, firsts, objects_in, objects_from, objects_of}
 use Rattle.go_objects.specs.Table.{number_of, iota_in, scope_at, result_type, form_verdict, object_verdict, declared_in}
-use Rattle.go_decl.specs.Faults.{Facts, Faults, written_type, is_declared_by, name_faults, var_spec_faults, top_faults, files_faults}
+use Rattle.go_package.specs.Faults.{Facts, Faults, written_type, is_declared_by, name_faults, var_spec_faults, top_faults, files_faults}
 use Rattle.go_package.specs.Typed.{own_name, alone, each_alone, together, initializations_by, spec_initializations, top_initializations, of_files, typed_package}
-use Rattle.go_check_laws.specs.Finds.{IsKnown, AreKnown}
+use Rattle.go_package_laws.specs.Finds.{IsKnown, AreKnown}
 use Rattle.go_meaning_laws.specs.WellTyped.{Suits, IsSource, AreExprs, exprs_types, source_types, AreGiven, IsStart, variable_at, outside}
 use Rattle.go_package_laws.proofs.Soundness.{Table}
 use Rattle.go_package_laws.proofs.SoundNames.{IsSoundScope}

@@ -13,7 +13,7 @@ use Rattle.go_scope.specs.Scopes.{is_blank}
 use Rattle.go_stmt.specs.Scopes.{nothing, scope_in}
 use Rattle.go_stmt.specs.Functions.{function_at}
 use Rattle.go_objects.specs.Table.{types_known, parameters_known}
-use Rattle.go_decl.specs.Faults.{Facts, Faults, context_at}
+use Rattle.go_package.specs.Faults.{Facts, Faults, context_at}
 use Rattle.go_package.specs.Packages.{reserved_faults, names_faults, absent_main_faults, main_faults, each_file}
 use Rattle.go_package.specs.Typed.{top_functions, of_files, with_numbers}
 use Rattle.go_package_laws.proofs.Dots.{no_dot}

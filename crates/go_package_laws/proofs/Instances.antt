@@ -21,13 +21,13 @@ use Rattle.go_expr.specs.Rules.{fine, int}
 use Rattle.go_objects.specs.Objects.{Object}
 use Rattle.go_objects.specs.Table.{rows, object_verdict, declared_in}
 use Rattle.go_objects.specs.Table as objects
-use Rattle.go_decl.specs.Faults.{Facts}
+use Rattle.go_package.specs.Faults.{Facts}
 use Rattle.go_stmt.specs.Functions.{function_at}
 use Rattle.go_package.specs.Imports.{Importable}
 use Rattle.go_package.specs.Packages.{package_in, package_faults, AreFacts}
 use Rattle.go_package.specs.Typed.{typed_package, IsTypedIn}
 use Rattle.go_export.specs.Exports.{exports_of}
-use Rattle.go_import.specs.Names.{importable_of}
+use Rattle.go_check.specs.Names.{importable_of}
 
 -- ---- what stands on nothing
 

@@ -4,6 +4,7 @@ pub mod Bodies
 pub mod BodyTexts
 pub mod Calls
 pub mod Cases
+pub mod Completeness
 pub mod Compound
 pub mod Constants
 pub mod DeclaredTexts
@@ -59,8 +60,8 @@ pub mod SlicedInstance
 pub mod SlicedText
 pub mod Slices
 pub mod Sound
-pub mod Soundness
 pub mod SoundNames
+pub mod Soundness
 pub mod Spelled
 pub mod Strings
 pub mod Tables

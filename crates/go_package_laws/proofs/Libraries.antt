@@ -5,7 +5,7 @@ use Rattle.std.specs.Map.{lookup}
 use Rattle.std.proofs.lemmas.Bool.{cases_Bool}
 use Rattle.go_expr.specs.Known.{Declared, println, Names, library}
 use Rattle.go_package.specs.Imports.{Importable}
-use Rattle.go_check_laws.specs.Finds.{AreWhole}
+use Rattle.go_package_laws.specs.Finds.{AreWhole}
 use Rattle.go_meaning_laws.specs.WellTyped.{Setting}
 use Rattle.go_package_laws.proofs.Soundness.{Table, IsSoundDeclared, AreSoundNames}
 use Rattle.go_package_laws.specs.Packages.{AreLibraries}

@@ -16,11 +16,11 @@ use Rattle.go_expr.specs.Known.{Declared, value, type', function, declared, Fine
 use Rattle.go_stmt.specs.Functions.{function_at}
 use Rattle.go_objects.specs.Objects.{Form, constant, type' as type_form, typed_variable, valued_variable, result_variable, function', other, Object, firsts, objects_from, objects_of}
 use Rattle.go_objects.specs.Table.{iota_in, scope_at, form_verdict, object_verdict}
-use Rattle.go_decl.specs.Faults.{Facts, context_at, function_faults, files_faults}
+use Rattle.go_package.specs.Faults.{Facts, context_at, function_faults, files_faults}
 use Rattle.go_package.specs.Typed.{top_functions, of_files, typed_package}
-use Rattle.go_check_laws.specs.Finds.{IsKnown, AreKnown}
-use Rattle.go_check_laws.specs.Locals.{IsLocalBlock}
-use Rattle.go_check_laws.proofs.Apart.{AreApart}
+use Rattle.go_package_laws.specs.Finds.{IsKnown, AreKnown}
+use Rattle.go_package_laws.specs.Locals.{IsLocalBlock}
+use Rattle.go_package_laws.proofs.Completeness.Apart.{AreApart}
 use Rattle.go_meaning_laws.specs.WellTyped.{Signature, Setting, signature_at, variable_at}
 use Rattle.go_package_laws.proofs.Soundness.{Table}
 use Rattle.go_package_laws.proofs.DeclaredTexts.{FilesHaveTexts}

@@ -6,7 +6,7 @@ use Rattle.std.proofs.lemmas.Bool.{cases_Bool}
 use Rattle.go_ast.specs.Trees.{Name, TypeExpr, ConstSpec, VarSpec, TypeSpec, Decl, constants, variables, types, TopLevel, declared, function, Parameter, File}
 use Rattle.go_objects.specs.Objects.{function', Object, objects_in, objects_from}
 use Rattle.go_objects.specs.Table.{number_of}
-use Rattle.go_decl.specs.Faults.{Facts, Faults}
+use Rattle.go_package.specs.Faults.{Facts, Faults}
 use Rattle.go_package.specs.Packages.{reserved_faults, names_faults, absent_main_faults, main_faults, each_file}
 use Rattle.go_package_laws.proofs.DeclaredTexts.{TopHasTexts, TopsHaveTexts, FilesHaveTexts}
 use Rattle.go_package_laws.proofs.Fits.{AllIn, all_more, Fits, AllNames, ConstantNames, VariableNames, TypeNames, DeclNames, decl_fits}

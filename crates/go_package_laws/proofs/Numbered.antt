@@ -116,7 +116,7 @@ next_new : (n : Name) (t : Option Type') (env : Env) → is_blank n.text ≡ fal
 next_new n t env h k = (let r : scopes.is_own env.names n.text ≡ false = is_own_known env n None k in rw (h, r) refl)
 
 added : Name → Type' → Env → Env
-added n t env = record { names = record { inner = env.names.inner ++ (n.text, Some (value (local t (length env.types)))) ∷ []; outer = env.names.outer; next = env.names.next }; types = env.types ++ t ∷ [] }
+added n t env = record { names = record { inner = env.names.inner ++ (n.text, Some (value (local t (length env.types)))) ∷ []; outer = env.names.outer }; types = env.types ++ t ∷ [] }
 
 new_added : (n : Name) (t : Type') (env : Env) → is_blank n.text ≡ false → with_variable n t env ≡ added n t env
 unfolding added

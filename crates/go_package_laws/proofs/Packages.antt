@@ -23,11 +23,11 @@ use Rattle.go_expr.specs.Known.{Declared, value, type', function as known_functi
 use Rattle.go_export.specs.Exports as exports
 use Rattle.go_export.specs.Exports.{Export, Exports, named_constant, named_type, named_variable, named_function, exports_of, look_up as look_up_export}
 use Rattle.go_export.proofs.Found.{found}
-use Rattle.go_import.specs.Names.{declared_as as exported_as, names_by}
+use Rattle.go_check.specs.Names.{declared_as as exported_as, names_by}
 use Rattle.go_stmt.specs.Functions.{function_at}
 use Rattle.go_objects.specs.Objects.{Form, Object, firsts, objects_from, objects_of}
 use Rattle.go_objects.specs.Table.{imports_at, iota_in, scope_at, form_verdict, object_verdict}
-use Rattle.go_decl.specs.Faults.{Facts, own_faults, context_at, top_faults, files_faults}
+use Rattle.go_package.specs.Faults.{Facts, own_faults, context_at, top_faults, files_faults}
 use Rattle.go_package.specs.Imports.{Importable, package_at, import_name, named_import, imports_in, imports_of}
 use Rattle.go_package.specs.Packages.{main_faults}
 use Rattle.go_scope.specs.Scopes.{is_blank}

@@ -6,7 +6,7 @@ use Rattle.go_text.specs.declared.edition.Edition.{Edition}
 use Rattle.go_ast.specs.Parse.{Derived, IsParse}
 use Rattle.go_ast.specs.Tokens.{lexemes}
 use Rattle.go_ast.specs.Trees.{TypeSpec, constants, variables, types, TopLevel, declared, function, File}
-use Rattle.go_check_laws.specs.Whole.{AreParsed}
+use Rattle.go_package_laws.specs.Whole.{AreParsed}
 use Rattle.go_meaning_laws.specs.WellTyped.{is_text}
 use Rattle.go_package_laws.specs.Packages.{AreOfTexts}
 use Rattle.go_package_laws.proofs.Literals.{Every}

@@ -18,7 +18,7 @@ use Rattle.go_meaning.specs.Programs.{symbol_of}
 use Rattle.go_meaning_laws.specs.WellTyped.{is_text}
 use Rattle.go_stmt.specs.Functions.{function_at}
 use Rattle.go_export.specs.Exports.{exports_of}
-use Rattle.go_import.specs.Names.{importable_of}
+use Rattle.go_check.specs.Names.{importable_of}
 use Rattle.go_init.specs.Variables.{variable_order}
 use Rattle.go_package.specs.Packages.{package_in}
 use Rattle.go_package.specs.Typed.{IsTypedIn}

@@ -8,8 +8,8 @@ use Rattle.go_text.specs.declared.place.Place.{Place}
 use Rattle.go_ast.specs.Trees.{File}
 use Rattle.go_init.proofs.Members.{one_any, one_left, one_here}
 use Rattle.go_objects.specs.Objects.{Object, objects_from}
-use Rattle.go_decl.specs.Faults.{is_declared_by}
-use Rattle.go_check_laws.proofs.Apart.{AreApart}
+use Rattle.go_package.specs.Faults.{is_declared_by}
+use Rattle.go_package_laws.proofs.Completeness.Apart.{AreApart}
 use Rattle.go_package_laws.proofs.Fits.{AllIn}
 
 pub weaken : (P Q : Object → Type 0) (os : List Object) → ((o : Object) → P o → Q o) → AllIn P os → AllIn Q os

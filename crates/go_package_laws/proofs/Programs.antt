@@ -15,14 +15,14 @@ use Rattle.go_meaning.specs.Programs.{Step, symbol_of, package_functions, first_
 use Rattle.go_meaning.specs.Programs as meaning
 use Rattle.go_expr.specs.Known.{Declared}
 use Rattle.go_objects.specs.Table.{Package}
-use Rattle.go_decl.specs.Faults.{Facts}
+use Rattle.go_package.specs.Faults.{Facts}
 use Rattle.go_package.specs.Imports.{Importable, imports_of}
 use Rattle.go_package.specs.Packages.{file_faults, each_file, constants_faults, main_faults}
 use Rattle.go_package.specs.Typed.{typed_package}
 use Rattle.go_export.specs.Exports.{Exports, exports_of}
-use Rattle.go_import.specs.Names.{declared_as, names_by, importable_of}
-use Rattle.go_check_laws.specs.Finds.{AreWhole}
-use Rattle.go_check_laws.proofs.Apart.{parsed_apart}
+use Rattle.go_check.specs.Names.{declared_as, names_by, importable_of}
+use Rattle.go_package_laws.specs.Finds.{AreWhole}
+use Rattle.go_package_laws.proofs.Completeness.Apart.{parsed_apart}
 use Rattle.go_meaning_laws.specs.WellTyped.{Setting, IsFunction, IsStart, IsWellTyped}
 use Rattle.go_package_laws.proofs.Soundness.{Table, IsSoundType}
 use Rattle.go_package_laws.specs.Packages.{AreLibraries, IsChecked, AreCheckedBehind, AreChecked, IsNamedMain}

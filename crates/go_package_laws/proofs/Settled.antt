@@ -11,8 +11,8 @@ use Rattle.go_expr.specs.Rules.{fine, lies_in, default_type, defaulted, settled_
 use Rattle.go_stmt.specs.Scopes.{Env, paired, declare_new}
 use Rattle.go_stmt.specs.Rules.{Values, separate, together, no_values}
 use Rattle.go_stmt.specs.Statements.{alone_types}
-use Rattle.go_check_laws.proofs.Forms.{AllDue, due_more, old_stays}
-use Rattle.go_check_laws.proofs.Counts.{Fit}
+use Rattle.go_package_laws.proofs.Completeness.Forms.{AllDue, due_more, old_stays}
+use Rattle.go_package_laws.proofs.Completeness.Counts.{Fit}
 use Rattle.go_package_laws.proofs.Values.{own_types}
 
 pub settled_is : (e : Expr) (u : Type') → settled_type e ≡ Some u → u ≡ default_type (expr_type e)

@@ -20,8 +20,8 @@ use Rattle.go_scope.specs.Scopes.{is_blank}
 use Rattle.go_stmt.specs.Scopes.{Env, Context, scope_in, own, number_of, paired, declare_new}
 use Rattle.go_stmt.specs.Rules.{all_some, Values, suited, differ, is_new, due_for, dues_for, suited_partly, redefined}
 use Rattle.go_stmt.specs.Statements.{values_known, value_types, short_at}
-use Rattle.go_check_laws.proofs.Counts.{values_fit}
-use Rattle.go_check_laws.proofs.Declares.{Dues, fit_due}
+use Rattle.go_package_laws.proofs.Completeness.Counts.{values_fit}
+use Rattle.go_package_laws.proofs.Completeness.Declares.{Dues, fit_due}
 use Rattle.go_package_laws.proofs.Soundness.{Table, IsSoundType}
 use Rattle.go_package_laws.proofs.Texts.{HaveTexts}
 use Rattle.go_package_laws.proofs.Expected.{Expected}

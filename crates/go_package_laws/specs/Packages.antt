@@ -10,7 +10,7 @@ use Rattle.go_init.specs.Variables.{variable_order}
 use Rattle.go_code.specs.declared.ending.Ending.{Ending}
 use Rattle.go_meaning.specs.Programs.{SourceMeaning, last_package, symbol_of}
 use Rattle.go_expr.specs.Known.{library}
-use Rattle.go_import.specs.Names.{importable_of}
+use Rattle.go_check.specs.Names.{importable_of}
 use Rattle.go_meaning_laws.specs.WellTyped.{is_text}
 use Rattle.go_package.specs.Imports.{Importable}
 use Rattle.go_package.specs.Packages.{package_in}

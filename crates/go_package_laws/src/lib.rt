@@ -1,5 +1,7 @@
-//! What the checker accepts is well typed.
+//! What the checker accepts is well typed, and nothing of it is passed over.
 #![tactic(auto)]
 
+pub mod complete;
 pub mod edition;
 pub mod law;
+pub mod typed;

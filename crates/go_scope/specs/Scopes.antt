@@ -8,11 +8,10 @@ use Rattle.std.specs.Str.{bytes_eq}
 abbrev pub Block : Type 0 → Type 0
 Block T = List (List ℕ × T)
 
--- the innermost block, those round it from the inside out, and the number of the next variable
+-- the innermost block, and those round it from the inside out
 pub record Env (T : Type 0) : Type 0 where
   pub inner : Block T
   pub outer : List (Block T)
-  pub next : ℕ
 
 -- https://go.dev/ref/spec#Declarations_and_scope
 -- what a name stands for: a block hides the names of those round it
@@ -28,11 +27,11 @@ is_blank x = bytes_eq x (codes "_")
 
 -- a name more in the innermost block; the blank one declares nothing
 abbrev pub declare : {T : Type 0} → Env T → List ℕ → T → Env T
-declare env x t = if is_blank x then env else record { inner = env.inner ++ (x, t) ∷ []; outer = env.outer; next = env.next }
+declare env x t = if is_blank x then env else record { inner = env.inner ++ (x, t) ∷ []; outer = env.outer }
 
 -- into a block, and out of it again
 abbrev pub enter : {T : Type 0} → Env T → Env T
-enter env = record { inner = []; outer = env.inner ∷ env.outer; next = env.next }
+enter env = record { inner = []; outer = env.inner ∷ env.outer }
 
 abbrev pub leave : {T : Type 0} → Env T → Env T
-leave env = elim env.outer [ [] ↦ env | block ∷ blocks ↦ record { inner = block; outer = blocks; next = env.next } ]
+leave env = elim env.outer [ [] ↦ env | block ∷ blocks ↦ record { inner = block; outer = blocks } ]

@@ -1,5 +1,5 @@
 //! What names stand for in the blocks of a package, a file and a function.
-ghost use Rattle.std.specs.Prelude.{◌≡◌, ◌+◌, ◌∷◌, List, [], map, reverse, true, false, IfOk, IfErr, OnOk, OnErr, option_copied};
+ghost use Rattle.std.specs.Prelude.{◌≡◌, ◌∷◌, List, [], map, reverse, true, false, IfErr, OnOk, OnErr, option_copied};
 ghost use Rattle.std.specs.List.{flat_map};
 ghost use Rattle.std.specs.Map.{lookup};
 ghost use Rattle.std.specs.Str.{bytes_eq};
@@ -30,15 +30,13 @@ impl From<AllocError> for DeclareError {
     }
 }
 
-/// The blocks round a place in the source, each with its names and what they stand for, and the
-/// number of the next variable.
+/// The blocks round a place in the source, each with its names and what they stand for.
 /// [Declarations and scope](https://go.dev/ref/spec#Declarations_and_scope)
 #[derive(Drop)]
 pub struct Scopes<T: Drop> {
     alloc: Global,
     inner: Block<T>,
     outer: Vec<Block<T>>,
-    next: usize,
 }
 
 impl<T: Drop> Model for Scopes<T> {
@@ -47,19 +45,18 @@ impl<T: Drop> Model for Scopes<T> {
 
     ghost Value = { scopes.Env T };
 
-    ghost view = { λ a. record { inner = a.inner; outer = reverse a.outer.items; next = a.next } };
+    ghost view = { λ a. record { inner = a.inner; outer = reverse a.outer.items } };
 }
 
 impl<T: Drop> Scopes<T> {
-    /// A block in which nothing is declared, with none round it; the next variable has number 0.
+    /// A block in which nothing is declared, with none round it.
     pub fn new(alloc: Global) -> Scopes<T>
-        ensures { result ≡ record { inner = []; outer = []; next = 0 } }
+        ensures { result ≡ record { inner = []; outer = [] } }
     {
         Scopes {
             alloc,
             inner: Block::new(alloc),
             outer: Vec::new(alloc),
-            next: 0,
         }
     }
 
@@ -78,7 +75,7 @@ impl<T: Drop> Scopes<T> {
         }
     }
 
-    /// Goes out of the innermost block, if there is one round it. Numbers that were given stay.
+    /// Goes out of the innermost block, if there is one round it.
     pub fn leave(&mut self)
         ensures { self.new ≡ leave self.old }
     {
@@ -123,24 +120,6 @@ impl<T: Drop> Scopes<T> {
             Some(value) => Some(value),
             None => find(self.outer.as_slice(), name),
         }
-    }
-
-    /// The number of a new variable. An `Err` only where no number is left, and changes nothing.
-    pub fn number(&mut self) -> Result<usize, AllocError>
-        ensures number { IfOk result (λ number. number ≡ self.old.next) }
-        ensures ok { OnOk result (self.new ≡ record self.old { next = self.old.next + 1 }) }
-        ensures err { OnErr result (self.new ≡ self.old) }
-    {
-        let number = self.next;
-        self.next = number.checked_add(1).ok_or(AllocError)?;
-        Ok(number)
-    }
-
-    /// Numbers variables from 0 on, as each function does.
-    pub fn renumber(&mut self)
-        ensures { self.new ≡ record self.old { next = 0 } }
-    {
-        self.next = 0;
     }
 }
 

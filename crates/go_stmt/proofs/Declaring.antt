@@ -22,7 +22,7 @@ use Rattle.go_stmt.specs.Seen.{shown_block}
 use Rattle.go_stmt.proofs.Lookups.{own_shown, shown_more}
 
 abbrev pub shown_names : scopes.Env (Option Declared) → scopes.Env (Option known.Declared)
-shown_names names = record { inner = shown_block names.inner; outer = map shown_block names.outer; next = names.next }
+shown_names names = record { inner = shown_block names.inner; outer = map shown_block names.outer }
 
 abbrev pub shown : scopes.Env (Option Declared) → List GoType → Env
 shown names types = record { names = shown_names names; types = map type_of types }
@@ -42,7 +42,7 @@ declared_shown : (names : scopes.Env (Option Declared)) (x : List ℕ) (d : Opti
     shown_names (scopes.declare names x d) ≡ scopes.declare (shown_names names) x (option_map declared_of d)
 declared_shown names x d = elim (cases_Bool (bytes_eq x (codes "_"))) [
   | inl blank ↦ rw blank refl
-  | inr other ↦ rw other (ap (λ l. record { inner = l; outer = map shown_block names.outer; next = names.next }) (shown_more names.inner x d))
+  | inr other ↦ rw other (ap (λ l. record { inner = l; outer = map shown_block names.outer }) (shown_more names.inner x d))
 ]
 
 pub kept_own : (names : scopes.Env (Option Declared)) (types : List GoType) (n : Name) (t : Option Type') → is_blank n.text ≡ false → scopes.is_own names n.text ≡ true →

@@ -32,7 +32,7 @@ pub record Context : Type 0 where
 
 -- nothing is declared
 abbrev pub nothing : Env
-nothing = record { names = record { inner = []; outer = []; next = 0 }; types = [] }
+nothing = record { names = record { inner = []; outer = [] }; types = [] }
 
 abbrev pub scope_in : Context → Option ℕ → Env → Scope
 scope_in c iota env = record {

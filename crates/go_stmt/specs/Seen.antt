@@ -45,7 +45,7 @@ shown_block block = map (λ n. (n.0, option_map declared_of n.1)) block
 
 abbrev pub env_of : envs.Env → Env
 env_of env = record {
-  names = record { inner = shown_block env.names.inner; outer = map shown_block env.names.outer; next = env.names.next };
+  names = record { inner = shown_block env.names.inner; outer = map shown_block env.names.outer };
   types = map type_of env.types.items;
 }
 

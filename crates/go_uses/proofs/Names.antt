@@ -11,7 +11,7 @@ use Rattle.go_uses.specs.Uses.{outside}
 abbrev shown : List (List ℕ) → Used → Bool
 shown xs u = not (list_any (bytes_eq u.0) xs)
 
-outside_none : (us : List Used) → outside [] us ≡ us
+pub outside_none : (us : List Used) → outside [] us ≡ us
 outside_none [] = refl
 outside_none (u ∷ us) = ap (λ l. u ∷ l) (outside_none us)
 

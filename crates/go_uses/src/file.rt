@@ -2,9 +2,9 @@
 ghost use Rattle.std.specs.Prelude.{◌≡◌, ◌++◌, map, IfOk, OnOk};
 ghost use Rattle.std.specs.List.{flat_map};
 ghost use Rattle.go_ast.specs.Trees as trees;
-ghost use Rattle.go_ast.specs.Views.{type_of, const_of, var_of, type_spec_of, block_of, parameter_of, function_of, top_of, file_of};
+ghost use Rattle.go_ast.specs.Views.{type_of, const_of, var_of, type_spec_of, block_of, parameter_of, function_of, top_of};
 ghost use Rattle.go_scope.specs.Names.{in_type, used};
-ghost use Rattle.go_uses.specs.Uses.{texts, outside, in_block, in_const, in_var, in_function, in_top, is_dotted, file_refers};
+ghost use Rattle.go_uses.specs.Uses.{texts, outside, in_block, in_const, in_var, in_function, in_top};
 
 use crate::declarations::{in_const, in_var};
 use crate::expressions::in_type;
@@ -12,7 +12,7 @@ use crate::hidden::{hide, joined, outside};
 use crate::statements::in_block;
 use go_ast::declaration::{ConstSpec, Decl, TypeSpec, VarSpec};
 use go_ast::expression::TypeExpr;
-use go_ast::file::{File, Function, Parameter, TopLevel};
+use go_ast::file::{Function, Parameter, TopLevel};
 use go_ast::statement::Block;
 use go_scope::name_index::NameIndex;
 use go_scope::names::UsedName;
@@ -99,9 +99,9 @@ fn in_body<'a>(
     outside(alloc, &hidden, &names)
 }
 
-/// The names that a function uses where nothing in it declares them, those of its parameters' and
-/// results' types among them. An `Err` only where memory ran out.
-pub fn names_in_function<'a>(
+/// Those of a function where nothing in it declares them, its parameters' and results' types among
+/// them.
+fn names_in_function<'a>(
     alloc: Global,
     function: &'a Function,
 ) -> Result<Vec<UsedName<'a>>, AllocError>
@@ -113,7 +113,9 @@ pub fn names_in_function<'a>(
     joined(parameters, joined(results, body)?)
 }
 
-fn in_top<'a>(alloc: Global, top: &'a TopLevel) -> Result<Vec<UsedName<'a>>, AllocError>
+/// The names that a declaration of a file uses where nothing in a function declares them. An `Err`
+/// only where memory ran out.
+pub fn names_in_top<'a>(alloc: Global, top: &'a TopLevel) -> Result<Vec<UsedName<'a>>, AllocError>
     ensures { IfOk result (λ names. map used names.items ≡ in_top (top_of top.now)) }
 {
     match top {
@@ -122,38 +124,4 @@ fn in_top<'a>(alloc: Global, top: &'a TopLevel) -> Result<Vec<UsedName<'a>>, All
         TopLevel::Declared(Decl::Types(_, specs)) => in_all_types(alloc, specs),
         TopLevel::Function(function) => names_in_function(alloc, function),
     }
-}
-
-/// The names that a file uses where nothing in a function declares them. An `Err` only where memory
-/// ran out.
-pub fn names_in_file<'a>(alloc: Global, file: &'a File) -> Result<Vec<UsedName<'a>>, AllocError>
-    ensures { IfOk result (λ names. map used names.items ≡ flat_map in_top (file_of file.now).declarations) }
-{
-    let mut found = Vec::new(alloc);
-    for top in &file.declarations {
-        found = joined(found, in_top(alloc, top)?)?;
-    }
-    Ok(found)
-}
-
-/// Whether a name is one before a dot.
-fn is_dotted(name: &str, names: &[UsedName<'_>]) -> bool
-    ensures { result ≡ is_dotted name.now (map used names.now) }
-{
-    for used in names {
-        if used.dotted && name == used.text {
-            return true;
-        }
-    }
-    false
-}
-
-/// Whether a file refers to a name, as that of an import: it is written before a dot where nothing
-/// in a function declares it. An `Err` only where memory ran out.
-/// [Import declarations](https://go.dev/ref/spec#Import_declarations)
-pub fn file_refers(alloc: Global, name: &str, file: &File) -> Result<bool, AllocError>
-    ensures { IfOk result (λ b. b ≡ file_refers name.now (file_of file.now)) }
-{
-    let names = names_in_file(alloc, file)?;
-    Ok(is_dotted(name, &names))
 }

@@ -36,7 +36,7 @@ pub(crate) fn outside<'a>(
 ) -> Result<Vec<UsedName<'a>>, AllocError>
     ensures { IfOk result (λ found. map used found.items ≡ outside hidden.now (map used names.now)) }
 {
-    let mut found = Vec::new(alloc);
+    let mut found = Vec::with_capacity(alloc, names.len())?;
     for name in names {
         if !is_hidden(hidden, *name) {
             found.push(*name)?;
@@ -52,6 +52,9 @@ pub(crate) fn joined<'a>(
 ) -> Result<Vec<UsedName<'a>>, AllocError>
     ensures { IfOk result (λ all. map used all.items ≡ map used names.entry.items ++ map used more.entry.items) }
 {
+    if names.is_empty() {
+        return Ok(more);
+    }
     let mut all = names;
     let mut more = more;
     all.append(&mut more)?;

@@ -55,18 +55,6 @@ fn hide_simple<'a>(hidden: &mut NameIndex<'a>, simple: &'a Simple) -> Result<(),
     }
 }
 
-fn hide_optional<'a>(
-    hidden: &mut NameIndex<'a>,
-    simple: &'a Option<Box<Simple>>,
-) -> Result<(), AllocError>
-    ensures { OnOk result (hidden.new ≡ hidden.old ++ optional_names (if_boxed simple_of simple.now)) }
-{
-    match simple {
-        Some(simple) => hide_simple(hidden, simple),
-        None => Ok(()),
-    }
-}
-
 /// Hides the names that a statement declares in the block that it stands in.
 #[tactic(auto, unfolding(go_ast::specs::Views::stmt_of))]
 fn hide_stmt<'a>(hidden: &mut NameIndex<'a>, statement: &'a Stmt) -> Result<(), AllocError>
@@ -80,18 +68,22 @@ fn hide_stmt<'a>(hidden: &mut NameIndex<'a>, statement: &'a Stmt) -> Result<(), 
 }
 
 /// Those of a statement before others, and of these.
+#[tactic(auto, using(crate::proofs::Names::outside_none))]
 fn behind<'a>(
     alloc: Global,
     before: &'a Option<Box<Simple>>,
-    names: &[UsedName<'a>],
+    names: Vec<UsedName<'a>>,
 ) -> Result<Vec<UsedName<'a>>, AllocError>
     ensures { let o = if_boxed simple_of before.now in
-        IfOk result (λ all. map used all.items ≡ if_any in_simple o ++ outside (optional_names o) (map used names.now)) }
+        IfOk result (λ all. map used all.items ≡ if_any in_simple o ++ outside (optional_names o) (map used names.entry.items)) }
 {
+    let Some(simple) = before else {
+        return Ok(names);
+    };
     let mut hidden = NameIndex::new(alloc);
-    hide_optional(&mut hidden, before)?;
-    let first = in_optional(alloc, before)?;
-    joined(first, outside(alloc, &hidden, names)?)
+    hide_simple(&mut hidden, simple)?;
+    let first = in_simple(alloc, simple)?;
+    joined(first, outside(alloc, &hidden, &names)?)
 }
 
 /// The names that a statement uses.
@@ -131,7 +123,7 @@ fn in_if<'a>(alloc: Global, conditional: &'a If) -> Result<Vec<UsedName<'a>>, Al
     let body = in_block(alloc, &conditional.body)?;
     let otherwise = in_else(alloc, &conditional.otherwise)?;
     let names = joined(condition, joined(body, otherwise)?)?;
-    behind(alloc, &conditional.init, &names)
+    behind(alloc, &conditional.init, names)
 }
 
 #[cycle(uses)]
@@ -154,7 +146,7 @@ fn in_for<'a>(alloc: Global, looped: &'a For) -> Result<Vec<UsedName<'a>>, Alloc
     let post = in_optional(alloc, &looped.post)?;
     let body = in_block(alloc, &looped.body)?;
     let names = joined(condition, joined(post, body)?)?;
-    behind(alloc, &looped.init, &names)
+    behind(alloc, &looped.init, names)
 }
 
 #[cycle(uses)]
@@ -196,7 +188,7 @@ fn in_switch<'a>(
 {
     let tag = in_condition(alloc, tag)?;
     let names = joined(tag, in_clauses(alloc, clauses)?)?;
-    behind(alloc, before, &names)
+    behind(alloc, before, names)
 }
 
 /// Those of some statements.

@@ -1,11 +1,13 @@
-//! `goset`: a replicated workspace with a shared build cache, driven by a script on standard input;
-//! and `goset run`, which runs a Go program.
+//! `goset`: a replicated workspace with a shared build cache, driven by a script on standard input
+//! and kept between runs where it is asked for; and `goset run`, which runs a Go program.
 #![tactic(auto)]
 
 use goset_cli::ends::{FromReader, ToWriter};
+use goset_cli::keep::run_keep_words;
+use goset_cli::kept_files::KeptFiles;
 use goset_cli::program::{refuse_words, run_words};
 use goset_cli::run::{refuse_run_words, run_program};
-use goset_cli::words::words_of_run;
+use goset_cli::words::{asks_to_keep, words_of_run};
 use std::env::Env;
 use std::process::ExitCode;
 use std::sync::Wait;
@@ -25,24 +27,37 @@ fn is_run(rt: &HostRuntime) -> bool {
     matches!(rt.arg(1, &mut word), Ok(3)) && word.starts_with(b"run")
 }
 
-// What the words ask for, and the status.
+// What the words ask for, and the status. The one runtime starts threads, and the other has the
+// files and the ends.
 fn work<T: Threads + Wait + Sync>(rt: &T, host: &HostRuntime) -> u8 {
-    let mut output = ToWriter::new(host.stdout());
-    let mut errors = ToWriter::new(host.stderr());
     match words_of(host) {
-        Ok(words) => match words_of_run(words.as_slice()) {
-            Some(asked) => run_program(rt, host, asked, &mut output, &mut errors),
-            None => run_words(
-                rt,
-                host.alloc(),
-                words.as_slice(),
-                &mut FromReader::new(host.stdin()),
-                &mut output,
-                &mut errors,
-            ),
-        },
+        Ok(words) => run(rt, host, words.as_slice()),
         Err(error) => refuse(host, &error),
     }
+}
+
+// The same of words that are all UTF-8.
+fn run<T: Threads + Wait + Sync>(rt: &T, host: &HostRuntime, words: &[String]) -> u8 {
+    let mut output = ToWriter::new(host.stdout());
+    let mut errors = ToWriter::new(host.stderr());
+    if let Some(asked) = words_of_run(words) {
+        return run_program(rt, host, asked, &mut output, &mut errors);
+    }
+    let alloc = host.alloc();
+    let mut input = FromReader::new(host.stdin());
+    if asks_to_keep(words) {
+        let mut files = KeptFiles::new(host);
+        return run_keep_words(
+            rt,
+            alloc,
+            words,
+            &mut files,
+            &mut input,
+            &mut output,
+            &mut errors,
+        );
+    }
+    run_words(rt, alloc, words, &mut input, &mut output, &mut errors)
 }
 
 // Says why nothing is done, and answers the status.

@@ -1,5 +1,5 @@
 -- What is known of the answer of files that are run.
-use Rattle.std.proofs.Common.{◌≡◌, ℕ, List, Result, Ok, refl, subst}
+use Rattle.std.proofs.Common.{◌≡◌, ℕ, List, Result, Ok, subst}
 use Rattle.go_text.specs.declared.edition.Edition.{Edition}
 use Rattle.go_vm.specs.Outcomes.{Outcome}
 use Rattle.ws_report.specs.declared.Report.{Report}

@@ -1,5 +1,8 @@
 mod AnswersOfFiles
 mod Growth
+mod Journals
+mod Keeps
+mod KeptOutcomes
 mod Numbers
 mod Outcomes
 mod Reaches

@@ -10,7 +10,7 @@ use Rattle.std.proofs.lemmas.Slice.Eq.{bytes_eq-Decides}
 use Rattle.std.proofs.lemmas.List.Elements.{All-get_or}
 use Rattle.clap.specs.Facts.{Entry, EntryPasses, HasReading, PassesArg, ValuesPass, args_of, groups_of, parser_of, parser_of_value}
 use Rattle.clap.specs.Built.{IsAuto, IsParsedFrom, IsPlain}
-use Rattle.clap.specs.Matches.{ReadsOne, found_of, matched_of, one_text, raw_values}
+use Rattle.clap.specs.Matches.{ReadsOne, first_value, found_of, matched_of, one_text, raw_values}
 use Rattle.clap.specs.Simple.{App, HasMatchesOf, app_of, is_simple, matches_of}
 use Rattle.clap.specs.Values.{Accepts, read_as, reading_of}
 use Rattle.clap.specs.Walk.{Rule, Text, all_of, one_of, rule_of}
@@ -25,7 +25,8 @@ use Rattle.clap.specs.declared.parser.matches.MatchedArg.{MatchedArg}
 use Rattle.clap.proofs.CallerLemmas.{entry_by_id, same_rules_by_id}
 use Rattle.clap.proofs.CallerReads.{signed_reads}
 use Rattle.clap.proofs.WalkLemmas.{one_text-rows, raw_values-rows}
-use Rattle.goset_cli.specs.CommandLine.{all_ticks, goset, number_of, run}
+use Rattle.goset_cli.specs.CommandLine.{all_ticks, goset, keep, named_number, number_of, run}
+use Rattle.goset_cli.specs.CommandLine.{named_text as named_text_of}
 
 -- ---- a text that is read of an entry passed its argument's parser
 
@@ -118,6 +119,42 @@ edition_option = record {
     alone zero d lt same = cc
     alone (suc zero) d lt same = refl
     alone (suc (suc j)) d lt same = absurd (omega (arith, lt))
+
+pub keep_workers_option : IsOption keep.top.rules (codes "workers") (parsers.Signed (pos 1) (pos 64)) 1
+keep_workers_option = record {
+  below = omega arith;
+  parser_is = λ d. refl;
+  name_is = λ d. refl;
+  alone = alone;
+  not_help = λ e. let bad : 119 ≡ 104 = ap (λ (l : List ℕ). slice_index_or l 0 0) e in absurd (omega (arith, bad));
+  not_version = λ e. let bad : 119 ≡ 118 = ap (λ (l : List ℕ). slice_index_or l 0 0) e in absurd (omega (arith, bad));
+  some = λ e. let bad : 7 ≡ 0 = ap length e in absurd (omega (arith, bad));
+}
+  where
+    alone : (j : ℕ) (d : Rule) → j < length keep.top.rules → bytes_eq (slice_index_or keep.top.rules j d).id (codes "workers") ≡ true → j ≡ 1
+    alone zero d lt same = cc
+    alone (suc zero) d lt same = refl
+    alone (suc (suc zero)) d lt same = cc
+    alone (suc (suc (suc zero))) d lt same = cc
+    alone (suc (suc (suc (suc j)))) d lt same = absurd (omega (arith, lt))
+
+pub keep_edition_option : IsOption keep.top.rules (codes "edition") (parsers.Signed (pos 1) (pos 2)) 2
+keep_edition_option = record {
+  below = omega arith;
+  parser_is = λ d. refl;
+  name_is = λ d. refl;
+  alone = alone;
+  not_help = λ e. let bad : 101 ≡ 104 = ap (λ (l : List ℕ). slice_index_or l 0 0) e in absurd (omega (arith, bad));
+  not_version = λ e. let bad : 101 ≡ 118 = ap (λ (l : List ℕ). slice_index_or l 0 0) e in absurd (omega (arith, bad));
+  some = λ e. let bad : 7 ≡ 0 = ap length e in absurd (omega (arith, bad));
+}
+  where
+    alone : (j : ℕ) (d : Rule) → j < length keep.top.rules → bytes_eq (slice_index_or keep.top.rules j d).id (codes "edition") ≡ true → j ≡ 2
+    alone zero d lt same = cc
+    alone (suc zero) d lt same = cc
+    alone (suc (suc zero)) d lt same = refl
+    alone (suc (suc (suc zero))) d lt same = cc
+    alone (suc (suc (suc (suc j)))) d lt same = absurd (omega (arith, lt))
 
 pub ticks_option : IsOption run.top.rules (codes "ticks") (parsers.Unsigned 0 all_ticks) 0
 ticks_option = record {
@@ -265,6 +302,34 @@ number_read app name most place is_option plain_app simple none least few fits o
         let read : unwrap_or r none ≡ n.0 = ap (λ (o : Option ℕ). unwrap_or o none) n.1 in
         (read ∙ (value.1 ∙ sym named), rw read n.2, rw read n.3)
 
+-- the number that is read of the words, where they name one
+pub named_read : (app : App) (name : List ℕ) (most place : ℕ) → IsOption app.top.rules name (parsers.Signed (pos 1) (pos most)) place → app.top.is_plain ≡ true → is_simple app ≡ true
+    → most < 2 ^ 8 → (old : Command) (m : ArgMatches) (words : List Text) → IsParsedFrom old m → app_of old ≡ app → IsPlain old
+    → HasMatchesOf (app_of old) words m → (E : Type 0) (G : List ℕ → Result ℕ E → Type 0) (r : Option ℕ)
+    → (one_text (found_of m) name ≡ None → r ≡ None)
+    → ((t : List ℕ) → one_text (found_of m) name ≡ Some t → ReadsOne G t r)
+    → ((u : List ℕ) (x : Result ℕ E) → G u x → ParsesUnsigned 8 10 u x)
+    → r ≡ named_number app name words
+named_read app name most place is_option plain_app simple fits old m words p app_is plain has E G r absent present reads =
+    go (one_text (found_of m) name) refl
+  where
+    parser : ValueParser
+    parser = parsers.Signed (pos 1) (pos most)
+
+    number : Option (List ℕ) → Option ℕ
+    number o = option_map (λ text. digits_value 10 (without_leading_plus text)) o
+
+    is : one_of name (matches_of app words) ≡ one_text (found_of m) name
+    is = text_is app name parser place is_option plain_app simple old m p app_is words has
+
+    go : (o : Option (List ℕ)) → one_text (found_of m) name ≡ o → r ≡ named_number app name words
+    go None e = absent e ∙ sym (ap number (is ∙ e))
+    go (Some t) e =
+        let got = named_text app name parser place is_option plain_app simple old m p app_is plain t e in
+        let n = signed_reads E G 8 1 most got.0 r (subst (λ (u : List ℕ). ReadsOne G u r) got.1 (present t e)) reads fits got.2.1 in
+        let value = reads t (Ok n.0) (subst (λ (o : Option ℕ). ReadsOne G t o) n.1 (present t e)) in
+        n.1 ∙ (ap Some value.1 ∙ sym (ap number (is ∙ e)))
+
 -- the same of a number without a least
 pub count_read : (app : App) (name : List ℕ) (place : ℕ) → IsOption app.top.rules name (parsers.Unsigned 0 all_ticks) place → app.top.is_plain ≡ true → is_simple app ≡ true
     → (none : ℕ) → (old : Command) (m : ArgMatches) (words : List Text) → IsParsedFrom old m → app_of old ≡ app → IsPlain old
@@ -344,3 +409,19 @@ pub values_are : (app : App) (name : List ℕ) → is_simple app ≡ true → (o
     → option_map raw_values (matched_of (found_of m) name) ≡ all_of name (matches_of app words)
 values_are app name simple old m words app_is has =
     raw_values-rows (found_of m) name ∙ ap (all_of name) ((has (ap is_simple app_is ∙ simple)).0 ∙ ap (λ (a : App). matches_of a words) app_is)
+
+-- ---- the text of an option
+
+first_now : (vs : List (Bor (List ℕ))) → option_map (λ v. v.now) (slice_get vs 0) ≡ slice_get (map (λ v. v.now) vs) 0
+first_now [] = refl
+first_now (v ∷ vs) = refl
+
+first_raw : (o : Option MatchedArg) → option_and_then (λ a. option_map (λ s. s.now) (slice_get a.vals.items 0)) o ≡ option_and_then (λ texts. slice_get texts 0) (option_map raw_values o)
+first_raw None = refl
+first_raw (Some a) = first_now a.vals.items
+
+-- the text that the words give it
+pub text_read_of : (app : App) (name : List ℕ) → is_simple app ≡ true → (old : Command) (m : ArgMatches) (words : List Text) → app_of old ≡ app → HasMatchesOf (app_of old) words m
+    → first_value (found_of m) name ≡ named_text_of app name words
+text_read_of app name simple old m words app_is has =
+    first_raw (matched_of (found_of m) name) ∙ ap (λ (o : Option (List Text)). option_and_then (λ texts. slice_get texts 0) o) (values_are app name simple old m words app_is has)

@@ -1,5 +1,5 @@
 -- What is known of how files that are run end.
-use Rattle.std.proofs.Common.{◌≡◌, ◌≤◌, ℕ, Bool, List, Option, Result, Ok, inl, inr, arith, refl, subst}
+use Rattle.std.proofs.Common.{◌≡◌, ◌≤◌, ℕ, Bool, List, Option, inl, inr, arith, refl, subst}
 use Rattle.std.specs.Prelude.{◌⊎◌}
 use Rattle.clap.specs.Walk.{Text}
 use Rattle.go_text.specs.declared.edition.Edition.{Edition}

@@ -10,6 +10,7 @@ use Rattle.std.proofs.Math.Dec.{eqb-suc-zero}
 use Rattle.ws_command.specs.Lines.{lines_of}
 use Rattle.ws_command.specs.Commands.{text_of}
 use Rattle.ws_command.specs.Pieces.{without_newline, closed}
+use Rattle.goset_cli.specs.Requests.{AreLines}
 
 -- the front of a script is the text of its first lines, all but the last that are left
 pub record IsFront (script front rest : List ℕ) (lines left : ℕ) : Type 0 where
@@ -37,7 +38,7 @@ ended_by b text = if b == 10 then text else text ++ 10 ∷ []
 ended_by-append : (b : ℕ) (front piece : List ℕ) → ended_by b (front ++ piece) ≡ front ++ ended_by b piece
 ended_by-append b front piece = elim (eqb_tells b 10) [ inl t ↦ rw t.0 refl | inr t ↦ rw t.0 (append_assoc front piece (10 ∷ [])) ]
 
-closed_is : (text : List ℕ) → 0 < length text → closed text ≡ ended_by (get_or text (length text - 1) 0) text
+pub closed_is : (text : List ℕ) → 0 < length text → closed text ≡ ended_by (get_or text (length text - 1) 0) text
 closed_is text lt = closed_if (length text) (get_or text (length text - 1) 0) text lt
 
 last-append : (front piece : List ℕ) → 0 < length piece → get_or (front ++ piece) (length (front ++ piece) - 1) 0 ≡ get_or piece (length piece - 1) 0
@@ -46,7 +47,7 @@ last-append front piece lt =
     get_or-append_right front piece (length front) (length (front ++ piece) - 1) 0 refl (omega (arith, length-append front piece)) ∙ ap (λ (k : ℕ). get_or piece k 0) n
 
 -- the newline is added to the last piece
-closed-append : (front piece : List ℕ) → 0 < length piece → closed (front ++ piece) ≡ front ++ closed piece
+pub closed-append : (front piece : List ℕ) → 0 < length piece → closed (front ++ piece) ≡ front ++ closed piece
 closed-append front piece lt =
     closed_is (front ++ piece) (omega (arith, length-append front piece))
     ∙ ap (λ (b : ℕ). ended_by b (front ++ piece)) (last-append front piece lt)
@@ -63,7 +64,7 @@ line_by : (b : ℕ) (piece front : List ℕ) → (b ≡ 10 → piece ≡ front +
 line_by b piece front h = elim (eqb_tells b 10) [ inl t ↦ rw t.0 (h t.1) | inr t ↦ rw t.0 refl ]
 
 -- a newline is added behind a line without one
-closed_line : (piece : List ℕ) → 0 < length piece → closed piece ≡ without_newline piece ++ 10 ∷ []
+pub closed_line : (piece : List ℕ) → 0 < length piece → closed piece ≡ without_newline piece ++ 10 ∷ []
 closed_line piece lt = closed_is piece lt ∙ line_by (get_or piece (length piece - 1) 0) piece (take (length piece - 1) piece) (cut_last piece lt)
 
 -- one more line at the front
@@ -113,3 +114,25 @@ text_missing script front rest lines left at some e =
 pub empty_is : (b : Bool) (bytes : List ℕ) → b ≡ (length bytes == 0) → b ≡ true → bytes ≡ []
 empty_is b [] e f = refl
 empty_is b (x ∷ bytes) e f = absurd (false≢true (sym (eqb-suc-zero (length bytes)) ∙ sym e ∙ f))
+
+-- ---- the first command
+
+-- whole lines behind a whole line
+lines_behind : (line front : List ℕ) → closed line ≡ line → closed front ≡ front → closed (line ++ front) ≡ line ++ front
+lines_behind line [] e f = ap closed (append-nil line) ∙ (e ∙ sym (append-nil line))
+lines_behind line (b ∷ front) e f = closed-append line (b ∷ front) (omega arith) ∙ ap (λ (s : List ℕ). line ++ s) f
+
+-- a script's first line, and the lines of a text behind it, are whole lines
+pub first_lines : (script line behind front rest bytes : List ℕ) → script ≡ line ++ behind → (0 < length behind → closed line ≡ line) → behind ≡ front ++ rest
+    → (0 < length rest → closed front ≡ front) → bytes ≡ take (length script - length rest) script → AreLines script bytes rest × (bytes ≡ line ++ front)
+first_lines script line behind front rest bytes whole line_ended parts front_ended are =
+    let all : script ≡ (line ++ front) ++ rest = whole ∙ (ap (λ (s : List ℕ). line ++ s) parts ∙ sym (append_assoc line front rest)) in
+    let n : length script - length rest ≡ length (line ++ front) = omega (arith, ap length all, length-append (line ++ front) rest) in
+    let bytes_are : bytes ≡ line ++ front = are ∙ rw (n, all) (take-append_seam (line ++ front) rest) in (
+      (
+        all ∙ ap (λ (s : List ℕ). s ++ rest) (sym bytes_are),
+        λ some. ap closed bytes_are
+            ∙ (lines_behind line front (line_ended (omega (arith, some, ap length parts, length-append front rest))) (front_ended some) ∙ sym bytes_are),
+      ),
+      bytes_are,
+    )

@@ -1,5 +1,6 @@
 -- The command line, as clap reads it.
-use Rattle.std.specs.Prelude.{ℕ, Bool, nat_eq, if◌then◌else◌, List, [], ◌∷◌, Option, None, Some, true, false, codes, pos, unwrap_or}
+use Rattle.std.specs.Prelude.{ℕ, Bool, nat_eq, if◌then◌else◌, List, [], ◌∷◌, Option, None, Some, true, false, codes, pos, unwrap_or, option_and_then, option_map, slice_get, ◌||◌}
+use Rattle.std.specs.List.{list_any, starts_with}
 use Rattle.std.specs.Option.{option_map_or}
 use Rattle.std.specs.Str.{bytes_eq}
 use Rattle.std.specs.Str.Parse.{digits_value, without_leading_plus}
@@ -45,6 +46,14 @@ edition_option = numbered (codes "edition") 2
 abbrev pub number_of : App → Text → ℕ → List Text → ℕ
 number_of app name none words = option_map_or (λ text. digits_value 10 (without_leading_plus text)) (one_of name (matches_of app words)) none
 
+-- the number that the words give an option, if they give one
+abbrev pub named_number : App → Text → List Text → Option ℕ
+named_number app name words = option_map (λ text. digits_value 10 (without_leading_plus text)) (one_of name (matches_of app words))
+
+-- the text that the words give an option, if they give one
+abbrev pub named_text : App → Text → List Text → Option Text
+named_text app name words = option_and_then (λ texts. slice_get texts 0) (all_of name (matches_of app words))
+
 -- the edition of a number: 2 is the second
 abbrev pub edition_at : ℕ → Edition
 edition_at number = if nat_eq number 2 then Two else One
@@ -55,8 +64,11 @@ versioned name = on_top (λ top. record top { has_version = true }) (new_app nam
 
 -- ---- sessions
 
+abbrev pub workers_option : Rule
+workers_option = numbered (codes "workers") 64
+
 abbrev pub goset : App
-goset = with_rule (with_rule (versioned (codes "goset")) (numbered (codes "workers") 64)) edition_option
+goset = with_rule (with_rule (versioned (codes "goset")) workers_option) edition_option
 
 -- how many workers the words name, and 4 where they name none
 abbrev pub workers_of : List Text → ℕ
@@ -69,6 +81,45 @@ edition_of words = edition_at (number_of goset (codes "edition") 1 words)
 -- what clap finds wrong with the words, or finds to show for them; nothing, where they ask for a session
 abbrev pub faults : List Text → Kinds
 faults words = fault_of goset words
+
+-- ---- sessions that go on from a kept workspace
+
+-- a word is the option that names a kept workspace
+abbrev pub names_keep : Text → Bool
+names_keep word = bytes_eq word (codes "--keep") || starts_with nat_eq word (codes "--keep=")
+
+-- a word behind the program's name is
+abbrev pub asks_to_keep : List Text → Bool
+asks_to_keep [] = false
+asks_to_keep (program ∷ words) = list_any names_keep words
+
+abbrev pub keep_option : Rule
+keep_option = record (valued (codes "keep") parsers.NonEmptyString) { required = true }
+
+abbrev pub expect_option : Rule
+expect_option = valued (codes "expect") parsers.NonEmptyString
+
+abbrev pub keep : App
+keep = with_rule (with_rule (with_rule (with_rule (versioned (codes "goset")) keep_option) workers_option) edition_option) expect_option
+
+-- the name under which the workspace is kept
+abbrev pub keep_name_of : List Text → Text
+keep_name_of words = unwrap_or (named_text keep (codes "keep") words) []
+
+abbrev pub keep_workers_of : List Text → ℕ
+keep_workers_of words = number_of keep (codes "workers") 4 words
+
+-- the edition that the words name, if they name one
+abbrev pub keep_edition_of : List Text → Option Edition
+keep_edition_of words = option_map edition_at (named_number keep (codes "edition") words)
+
+-- the digest that the words expect, if they expect one
+abbrev pub expected_of : List Text → Option Text
+expected_of words = named_text keep (codes "expect") words
+
+-- what clap finds wrong with the words, or finds to show for them; nothing, where they ask for a session behind a kept workspace
+abbrev pub keep_faults : List Text → Kinds
+keep_faults words = fault_of keep words
 
 -- ---- files that are run: of words the first is `run`
 

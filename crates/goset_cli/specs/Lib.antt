@@ -9,3 +9,5 @@ pub mod Diagnostics
 pub mod Statuses
 pub mod Refusals
 pub mod Runs
+pub mod KeptRuns
+pub mod KeptStatuses

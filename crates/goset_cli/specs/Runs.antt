@@ -1,10 +1,9 @@
 -- How files that are run end: the status, and what standard output and standard error have.
-use Rattle.std.specs.Prelude.{◌≡◌, ◌⊎◌, ◌<◌, ◌≤◌, ℕ, Bool, true, false, List, length, Option}
+use Rattle.std.specs.Prelude.{◌≡◌, ◌⊎◌, ◌≤◌, ℕ, Bool, true, false, List, Option}
 use Rattle.go_text.specs.declared.edition.Edition.{Edition}
 use Rattle.ws_run.specs.Files.{Files}
 use Rattle.ws_run.specs.Steps as steps
 use Rattle.ws_run.specs.Told.{Folders, complaint_of, output_of, status_of}
-use Rattle.ws_run.specs.declared.answer.Answer.{Answer}
 use Rattle.clap.specs.Walk.{Text}
 use Rattle.goset_cli.specs.CommandLine.{run_edition_of, ticks_of, wants_plain}
 use Rattle.goset_cli.specs.Diagnostics.{Explains}

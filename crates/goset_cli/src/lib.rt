@@ -3,6 +3,10 @@
 
 pub mod ends;
 pub mod failure;
+pub mod journal;
+pub mod keep;
+pub mod keeping;
+pub mod kept_files;
 pub mod program;
 pub mod reading;
 pub mod run;

@@ -26,7 +26,7 @@ use std::sync::Wait;
 use std::thread::Threads;
 
 // The line of standard error for a failure.
-fn line_of(failure: SessionError) -> &'static str
+pub(crate) fn line_of(failure: SessionError) -> &'static str
     ensures { result.now ≡ complaint failure }
 {
     match failure {

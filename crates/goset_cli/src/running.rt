@@ -1,18 +1,23 @@
 //! Running a script, each command's answer written before the next is read.
-ghost use Rattle.std.specs.Prelude.{◌≡◌, ℕ, ◌+◌, ◌<◌, ◌≤◌, ◌^◌, length, drop, IfOk, OnOk, OnErr, Option};
+ghost use Rattle.std.specs.Prelude.{◌≡◌, ℕ, ◌+◌, ◌<◌, ◌^◌, ◌&&◌, not, List, length, drop, IfOk, OnOk, OnErr, Option};
 ghost use Rattle.std.specs.Option.{option_map};
 ghost use Rattle.go_text.specs.declared.edition.Edition.{Edition as AnEdition};
 ghost use Rattle.ws_command.specs.Lines.{lines_of};
 ghost use Rattle.ws_command.specs.Commands.{text_of};
+ghost use Rattle.ws_command.specs.Pieces.{without_newline};
 ghost use Rattle.ws_command.specs.Seen.{seen};
-ghost use Rattle.goset_cli.specs.Requests.{IsFirst};
+ghost use Rattle.ws_keep.specs.Keeping.{is_change, is_refusal, kept_lines};
+ghost use Rattle.goset_cli.specs.KeptRuns.{Answered, AnsweredSome, FromEachWorld};
+ghost use Rattle.goset_cli.specs.Requests.{AreLines, IsFirst};
+ghost use Rattle.goset_cli.specs.Told.{Grows};
 ghost use Rattle.ws_session.specs.World.{opening};
 ghost use Rattle.ws_session.specs.Standing.{StandFor};
-ghost use Rattle.goset_cli.specs.Ends.{Wrote, WroteSome, Session};
+ghost use Rattle.goset_cli.specs.Ends.{Session};
 ghost use Rattle.goset_cli.specs.Failures.{failed_writes, failed_reads, unwritten};
 ghost use Rattle.goset_cli.specs.Answers.{unread, unanswered};
 ghost use Rattle.goset_cli.specs.declared.running.AnswerError.TheVariants.{Memory, Write};
 
+use crate::journal::{Journal, NoJournal};
 use crate::reading::{EndFault, ReadError, ScriptIn, read_whole};
 use crate::writing::{ScriptOut, write_whole};
 use std::alloc::{AllocError, Global};
@@ -20,7 +25,8 @@ use std::sync::Wait;
 use std::thread::Threads;
 use thiserror::Error;
 use ws_command::commands::{Asked, ask};
-use ws_command::lines::{closed, cut_line, next_line};
+use ws_command::lines::{closed, cut_line};
+use ws_keep::changes::is_change;
 use ws_replica::law::law_held_program_means_its_sources;
 use ws_session::Gate;
 use ws_session::replicas::Replicas;
@@ -92,6 +98,8 @@ impl From<EndFault> for AnswerError {
 pub struct Request<'a> {
     pub asked: Asked<'a>,
     pub text: Option<Vec<u8>>,
+    /// Its line, and the lines of its text.
+    pub lines: &'a [u8],
     pub behind: &'a [u8],
 }
 
@@ -106,7 +114,7 @@ pub fn take_text(
         option_map (λ v. v.items) taken.0 ≡ text_of lines (lines_of script.now)) }
     ensures behind { IfOk result (λ taken.
         lines_of taken.1.now ≡ drop lines (lines_of script.now)) }
-    ensures shorter { IfOk result (λ taken. length taken.1.now ≤ length script.now) }
+    ensures lines { IfOk result (λ taken. (front : List ℕ) × AreLines script.now front taken.1.now) }
 {
     let mut rest = script;
     let mut left = lines;
@@ -117,8 +125,18 @@ pub fn take_text(
     if left > 0 {
         return Ok((None, rest));
     }
-    let (text, rest) = script.split_at(script.len() - rest.len());
+    let (text, _) = script.split_at(script.len() - rest.len());
     Ok((Some(closed(alloc, text)?), rest))
+}
+
+/// A line without its newline.
+fn without_newline(line: &[u8]) -> &[u8]
+    ensures { result.now ≡ without_newline line.now }
+{
+    match line {
+        [front @ .., b'\n'] => front,
+        _ => line,
+    }
 }
 
 /// The first command of a script. An `Err` is want of memory.
@@ -126,39 +144,68 @@ pub fn first_request(alloc: Global, script: &[u8]) -> Result<Request<'_>, AllocE
     requires { 0 < length script.now }
     ensures first { IfOk result (λ request.
         IsFirst script.now (seen request.asked)
-        (option_map (λ v. v.items) request.text) request.behind.now) }
-    ensures shorter { IfOk result (λ request. length request.behind.now < length script.now) }
+        (option_map (λ v. v.items) request.text) request.lines.now request.behind.now) }
+    ensures some { IfOk result (λ request. 0 < length request.lines.now) }
 {
-    let (line, behind) = next_line(script);
-    let asked = ask(alloc, line)?;
+    let (line, behind) = cut_line(script);
+    let asked = ask(alloc, without_newline(line))?;
     let (text, behind) = take_text(alloc, behind, asked.text_lines())?;
+    let (lines, _) = script.split_at(script.len() - behind.len());
     Ok(Request {
         asked,
         text,
+        lines,
         behind,
     })
 }
 
-/// Writes what a session writes for a script, where the replicas stand for an edition's first
-/// world: whatever the number of workers, and the gate that they pass.
+/// Whether a command that prints this is kept: it changes something, and isn't refused.
+fn is_kept(asked: &Asked<'_>, told: &[u8]) -> bool
+    ensures { result ≡ (is_change (seen asked.now) && not (is_refusal told.now)) }
+{
+    is_change(asked) && !told.starts_with(b"refused ")
+}
+
+/// Lets the journal take a command that is on these lines and prints this, unless it is refused or
+/// changes nothing. An `Err` is want of memory.
+fn enter<J: Journal>(
+    journal: &mut J,
+    asked: &Asked<'_>,
+    told: &[u8],
+    lines: &[u8],
+) -> Result<(), AllocError>
+    ensures { OnOk result (Grows (J.taken journal.old) (J.taken journal.new)
+        (kept_lines (seen asked.now) told.now lines.now)) }
+{
+    if is_kept(asked, told) {
+        return journal.push(lines);
+    }
+    Ok(())
+}
+
+/// Writes what a session writes for a script, from a world on that a script leaves, for which the
+/// replicas stand: whatever the number of workers, and the gate that they pass. The journal takes
+/// the commands that do the same.
 ///
 /// On an `Err` a beginning of it is written: on `Memory` all that the commands before print, on
 /// `Write` all that the writer took.
-pub fn answer<R: Threads + Wait + Sync, O: ScriptOut, G: Gate>(
+pub fn answer<R: Threads + Wait + Sync, O: ScriptOut, J: Journal, G: Gate>(
     rt: &R,
     alloc: Global,
     replicas: &mut Replicas,
     script: &[u8],
     writer: &mut O,
+    journal: &mut J,
     workers: u64,
     gate: &G,
 ) -> Result<(), AnswerError>
     requires some { 0 < workers }
     requires writable { O.failed writer.old + 1 < 2 ^ 64 }
-    ensures ok { (edition : AnEdition) → StandFor replicas.old (opening edition) →
-        OnOk result (Wrote edition script.now (O.written writer.old) (O.written writer.new)) }
-    ensures err { (edition : AnEdition) → StandFor replicas.old (opening edition) →
-        OnErr result (WroteSome edition script.now (O.written writer.old) (O.written writer.new)) }
+    ensures ok { FromEachWorld replicas.old script.now (λ world. OnOk result
+        (Answered world script.now (O.written writer.old) (O.written writer.new)
+        (J.taken journal.old) (J.taken journal.new) replicas.new)) }
+    ensures err { FromEachWorld replicas.old script.now (λ world. OnErr result
+        (AnsweredSome world script.now (O.written writer.old) (O.written writer.new))) }
     ensures failed { O.failed writer.new ≡ O.failed writer.old + unwritten result }
 {
     let mut rest = script;
@@ -168,9 +215,11 @@ pub fn answer<R: Threads + Wait + Sync, O: ScriptOut, G: Gate>(
         let Request {
             asked,
             text,
+            lines,
             behind,
         } = first_request(alloc, rest)?;
         let told = replicas.step(rt, workers, gate, &asked, text)?;
+        enter(journal, &asked, &told, lines)?;
         write_whole(writer, told.as_slice())?;
         rest = behind;
     }
@@ -204,6 +253,15 @@ pub fn play<R: Threads + Wait + Sync, I: ScriptIn, O: ScriptOut, G: Gate>(
 {
     let bytes = read_whole(alloc, reader)?;
     let script = bytes.as_slice();
-    answer(rt, alloc, replicas, script, writer, workers, gate)?;
+    answer(
+        rt,
+        alloc,
+        replicas,
+        script,
+        writer,
+        &mut NoJournal,
+        workers,
+        gate,
+    )?;
     Ok(())
 }

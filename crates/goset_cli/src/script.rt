@@ -1,5 +1,5 @@
 //! A whole session: from the bytes that are read to the bytes that are written.
-ghost use Rattle.std.specs.Prelude.{ℕ, ◌≡◌, ◌+◌, ◌<◌, ◌≤◌, ◌^◌};
+ghost use Rattle.std.specs.Prelude.{◌≡◌, ◌+◌, ◌<◌, ◌≤◌, ◌^◌};
 ghost use Rattle.goset_cli.specs.Ends.{Session};
 ghost use Rattle.goset_cli.specs.Failures.{failed_reads, failed_writes};
 

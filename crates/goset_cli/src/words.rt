@@ -1,10 +1,14 @@
 //! What the words of the command line ask for, as clap reads them.
 ghost use Rattle.std.specs.Prelude.{◌≡◌, ◌≤◌, [], IfOk, codes, false, map, option_map, unwrap_or};
+ghost use Rattle.std.specs.List.{list_any};
 ghost use Rattle.clap.specs.Words.{FailsBy, IsPlain, IsPlainArg, app_of, found_of, matched_of, raw_values, rule_of};
 ghost use Rattle.goset_cli.specs.CommandLine.{edition_at, edition_of, edition_option, faults, file_argument, goset, is_run};
 ghost use Rattle.goset_cli.specs.CommandLine.{plain_option, run, run_edition_of, run_faults, run_files_of, ticks_of, valued, wants_plain};
-ghost use Rattle.goset_cli.specs.CommandLine.{words_of_run, workers_of};
+ghost use Rattle.goset_cli.specs.CommandLine.{words_of_run, workers_of, workers_option};
+ghost use Rattle.goset_cli.specs.CommandLine.{asks_to_keep, expect_option, expected_of, keep, keep_edition_of, keep_faults, keep_name_of, keep_option};
+ghost use Rattle.goset_cli.specs.CommandLine.{keep_workers_of, names_keep};
 
+use crate::keeping::KeepOptions;
 use clap::builder::ValueParser;
 use clap::{Arg, ArgAction, ArgMatches, Command, Error, value_parser};
 use go_text::edition::Edition;
@@ -53,6 +57,36 @@ pub fn words_of_run<S: AsStr>(words: &[S]) -> Option<&[S]>
     }
 }
 
+/// Whether the words ask for a workspace that is kept: a word behind the program's name is `--keep`,
+/// or begins with `--keep=`.
+pub fn asks_to_keep<S: AsStr>(words: &[S]) -> bool
+    ensures { result ≡ asks_to_keep (map S.text words.now) }
+{
+    match words {
+        [_, asked @ ..] => any_names_keep(asked),
+        [] => false,
+    }
+}
+
+// Whether one of these words names a kept workspace.
+fn any_names_keep<S: AsStr>(words: &[S]) -> bool
+    ensures { result ≡ list_any names_keep (map S.text words.now) }
+{
+    for word in words {
+        if names_keep(word.as_str()) {
+            return true;
+        }
+    }
+    false
+}
+
+// Whether a word is the option that names a kept workspace.
+fn names_keep(word: &str) -> bool
+    ensures { result ≡ names_keep word.now }
+{
+    word == "--keep" || word.starts_with("--keep=")
+}
+
 // Whether `run` is the first of words.
 fn is_run<S: AsStr>(words: &[S]) -> bool
     ensures { result ≡ is_run (map S.text words.now) }
@@ -90,23 +124,82 @@ fn edition_option<'a>(alloc: Global) -> Arg<'a>
     )
 }
 
+// The option that says how many workers build.
+fn workers_option<'a>(alloc: Global) -> Arg<'a>
+    ensures rule { rule_of result ≡ workers_option }
+    ensures plain { IsPlainArg result }
+    ensures local { result.global ≡ false }
+{
+    option(
+        alloc,
+        "workers",
+        value_parser!(u8).range(1..=64),
+        "How many workers build, 1 to 64 [default: 4]",
+    )
+}
+
 // What clap is to read of a session's words. An `Err` is want of memory.
 fn session_command<'a>(alloc: Global) -> Result<Command<'a>, AllocError>
     ensures app { IfOk result (λ command. app_of command ≡ goset) }
     ensures plain { IfOk result IsPlain }
 {
-    let workers = option(
-        alloc,
-        "workers",
-        value_parser!(u8).range(1..=64),
-        "How many workers build, 1 to 64 [default: 4]",
-    );
     Command::new(alloc, "goset")
         .version(VERSION)
         .about("Runs the script on standard input, and writes to standard output")
-        .after_help("goset run FILE.. runs a Go program: see goset run --help")
-        .arg(workers)?
+        .after_help(
+            "goset run FILE.. runs a Go program: see goset run --help\n\
+            goset --keep FILE goes on from a kept workspace: see goset --keep FILE --help",
+        )
+        .arg(workers_option(alloc))?
         .arg(edition_option(alloc))
+}
+
+// The option that names where a workspace is kept.
+fn keep_option<'a>(alloc: Global) -> Arg<'a>
+    ensures rule { rule_of result ≡ keep_option }
+    ensures plain { IsPlainArg result }
+    ensures local { result.global ≡ false }
+{
+    option(
+        alloc,
+        "keep",
+        ValueParser::NonEmptyString,
+        "The file in which the workspace is kept; one that isn't there is an empty workspace",
+    )
+    .value_name("FILE")
+    .required(true)
+}
+
+// The option that names the digest of what is kept.
+fn expect_option<'a>(alloc: Global) -> Arg<'a>
+    ensures rule { rule_of result ≡ expect_option }
+    ensures plain { IsPlainArg result }
+    ensures local { result.global ≡ false }
+{
+    option(
+        alloc,
+        "expect",
+        ValueParser::NonEmptyString,
+        "Runs nothing where the file's digest is another",
+    )
+    .value_name("SHA256")
+}
+
+// What clap is to read of the words of a session that goes on from a kept workspace. An `Err` is
+// want of memory.
+fn keep_command<'a>(alloc: Global) -> Result<Command<'a>, AllocError>
+    ensures app { IfOk result (λ command. app_of command ≡ keep) }
+    ensures plain { IfOk result IsPlain }
+{
+    Command::new(alloc, "goset")
+        .version(VERSION)
+        .about(
+            "Runs the script on standard input behind a kept workspace, and keeps what it leaves",
+        )
+        .arg(keep_option(alloc))?
+        .arg(workers_option(alloc))?
+        .arg(edition_option(alloc))?
+        .arg(expect_option(alloc))
 }
 
 // The flag that asks for faults in one line each.
@@ -169,6 +262,16 @@ fn edition_at(number: u8) -> Edition
     }
 }
 
+// The edition of a number that the parser lets through, where one is named.
+fn named_edition(number: Option<u8>) -> Option<Edition>
+    ensures { result ≡ option_map edition_at number }
+{
+    match number {
+        Some(number) => Some(edition_at(number)),
+        None => None,
+    }
+}
+
 /// What a session is run with that these words ask for, of which the first is the program's name.
 pub fn read_options<'a, S: AsStr>(alloc: Global, words: &'a [S]) -> Result<Options, Error>
     ensures workers { IfOk result (λ options. options.workers ≡ workers_of (map S.text words.entry.now)) }
@@ -221,5 +324,30 @@ pub fn read_run_options<'a, S: AsStr>(
         ticks,
         is_plain: matches.get_flag("plain"),
         files,
+    })
+}
+
+/// What these words ask for, which name a kept workspace; the first is the program's name.
+pub fn read_keep_options<'a, S: AsStr>(
+    alloc: Global,
+    words: &'a [S],
+) -> Result<KeepOptions<'a>, Error>
+    ensures name { IfOk result (λ options. options.name.now ≡ keep_name_of (map S.text words.entry.now)) }
+    ensures edition { IfOk result (λ options. options.edition ≡ keep_edition_of (map S.text words.entry.now)) }
+    ensures expected { IfOk result (λ options. option_map (λ digest. digest.now) options.expected
+        ≡ expected_of (map S.text words.entry.now)) }
+    ensures workers { IfOk result (λ options. options.workers ≡ keep_workers_of (map S.text words.entry.now)) }
+    ensures some { IfOk result (λ options. 1 ≤ options.workers) }
+    ensures few { IfOk result (λ options. options.workers ≤ 64) }
+    ensures refusals { FailsBy (keep_faults (map S.text words.entry.now)) result }
+{
+    let program = keep_command(alloc)?;
+    let matches = program.try_get_matches_from(words)?;
+    let workers = matches.get_one::<u8>("workers").unwrap_or(WORKERS);
+    Ok(KeepOptions {
+        name: matches.get_str("keep").unwrap_or(""),
+        edition: named_edition(matches.get_one::<u8>("edition")),
+        expected: matches.get_str("expect"),
+        workers: usize::from(workers),
     })
 }

@@ -24,8 +24,7 @@ fn name(
     }
 }
 
-/// What comes of a word: `{` and `}` go into a block and out of it; `#` tells a new number, and `^` numbers anew; others
-/// are names.
+/// What comes of a word: `{` and `}` go into a block and out of it; others are names.
 fn step(
     alloc: Global,
     scopes: &mut Scopes<usize>,
@@ -35,8 +34,6 @@ fn step(
     match word {
         "{" => scopes.enter()?,
         "}" => scopes.leave(),
-        "^" => scopes.renumber(),
-        "#" => return Ok(format!(in alloc; " #{}", scopes.number()?)?),
         _ => return name(alloc, scopes, place, word),
     }
     Ok(String::new(alloc))

@@ -1,7 +1,7 @@
 -- What is formed comes, and what is settled came to its end, where ids tell the actions that come.
 use Rattle.std.proofs.Common.{◌≡◌, ℕ, zero, suc, ◌<◌, Bool, false, List, [], ◌∷◌, map, Option, Some, None, refl, sym, ap, ◌∙◌, subst, inl, inr}
 use Rattle.std.specs.List.{slice_get, Contains, AllZip}
-use Rattle.go_import.specs.Names.{importable_by}
+use Rattle.go_check.specs.Names.{importable_by}
 use Rattle.go_export.specs.Summaries.{Summary}
 use Rattle.ws_action.specs.Actions.{Action, action_id, IsSized}
 use Rattle.ws_action.proofs.Members.{none_in_empty, head_or_later, later, at_head}

@@ -4,7 +4,7 @@ use Rattle.std.specs.List.{All, AllZip, slice_get, slice_index_or, Contains, IsD
 use Rattle.std.specs.Str.{bytes_eq}
 use Rattle.std.specs.FinMap.{get}
 use Rattle.ws_map.specs.Kept.{joined}
-use Rattle.go_import.specs.Names.{importable_by}
+use Rattle.go_check.specs.Names.{importable_by}
 use Rattle.go_export.specs.Summaries.{Summary}
 use Rattle.ws_action.specs.Actions.{Action, MakeAction, IsSized, action_id}
 use Rattle.ws_action.specs.Clash.{NoClash, AllSized, Includes, hashed_actions}

@@ -6,7 +6,7 @@ use Rattle.go_text.proofs.fault.Fault.TheSendSync as faults
 use Rattle.go_packed.proofs.packed.Packed.TheSendSync as packed
 use Rattle.go_export.proofs.Crossing.{summary_send, summary_sync}
 use Rattle.ws_action.proofs.Crossing.{origin_send, origin_sync}
-use Rattle.ws_layers.proofs.Layers.TheSendSync as layers
+use Rattle.ws_cache.proofs.layers.Layers.TheSendSync as layers
 use Rattle.ws_cache.specs.contracts.Outcome as outcome
 use Rattle.ws_cache.specs.contracts.Entry as entry
 use Rattle.ws_cache.specs.contracts.Cache as cache

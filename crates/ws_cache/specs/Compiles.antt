@@ -11,7 +11,7 @@ use Rattle.go_init.specs.Variables.{variable_order, IsCycleAt}
 use Rattle.go_package.specs.Imports.{Importable}
 use Rattle.go_check.specs.Checked.{AreTyped, HaveFault}
 use Rattle.go_gen.specs.Translation.{object_of}
-use Rattle.go_import.specs.Names.{importable_by}
+use Rattle.go_check.specs.Names.{importable_by}
 use Rattle.go_export.specs.Summaries.{Summary, summary_of}
 use Rattle.go_export.specs.Writable.{IsWritten}
 use Rattle.ws_action.specs.Actions.{Action, parsed_of, import_of}

@@ -4,3 +4,4 @@ pub mod Count
 pub mod Held
 pub mod Joined
 pub mod Laws
+pub mod Levels

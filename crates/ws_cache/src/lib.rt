@@ -1,6 +1,9 @@
 //! Compiled packages by the id of what they were compiled from.
 #![tactic(auto)]
 
+mod layers;
+mod levels;
+
 ghost use Rattle.std.specs.Prelude.{◌≡◌, ℕ, ◌++◌, ◌∷◌, [], List, OnOk, OnErr, IfOk, IfErr, Some, is_some, if◌then◌else◌, option_copied, map as map_list};
 ghost use Rattle.std.specs.Arc.{arc_value};
 ghost use Rattle.std.specs.FinMap as map;
@@ -12,7 +15,7 @@ ghost use Rattle.go_export.specs.Summaries.{Summary as ASummary};
 ghost use Rattle.go_export.specs.Writable.{IsWritten};
 ghost use Rattle.go_package.specs.Claims.{AtMostOne};
 ghost use Rattle.go_package.specs.Imports.{Importable};
-ghost use Rattle.go_import.specs.Names.{importable_by};
+ghost use Rattle.go_check.specs.Names.{importable_by};
 ghost use Rattle.go_check.specs.Checked.{AreTrees};
 ghost use Rattle.ws_map.specs.Kept.{SameMembers, taken, joined as joined_by};
 ghost use Rattle.ws_action.specs.Actions.{Action as AnAction, action_of, action_id, HaveEdition};
@@ -22,6 +25,7 @@ ghost use Rattle.ws_cache.specs.Count.{compiled_count, new_actions_count};
 ghost use Rattle.ws_cache.specs.Held.{IsHeld, CacheStandsFor, id_cmp};
 ghost use Rattle.ws_cache.specs.Joined.{lesser};
 
+use crate::layers::Layers;
 use go_export::summary::Summary;
 use go_packed::packed::Packed;
 use go_text::fault::Fault;
@@ -30,7 +34,6 @@ use std::cmp::Ordering;
 use std::marker::Model;
 use std::sync::Arc;
 use ws_action::{Action, Origin};
-use ws_layers::Layers;
 use ws_map::Ranked;
 use ws_version::Join;
 

@@ -6,7 +6,7 @@ use Rattle.go_typed.specs.Trees.{Package}
 use Rattle.go_init.specs.Variables.{variable_order, in_order}
 use Rattle.go_gen.specs.Translation.{object_in}
 use Rattle.go_package.specs.Imports.{Importable}
-use Rattle.go_import.specs.Names.{importable_by}
+use Rattle.go_check.specs.Names.{importable_by}
 use Rattle.go_export.specs.Summaries.{Summary, summary_of}
 use Rattle.go_export.specs.Writable.{IsWritten}
 use Rattle.go_check.specs.Checked.{AreTyped}

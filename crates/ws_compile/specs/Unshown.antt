@@ -5,7 +5,7 @@ use Rattle.std.specs.Map.{values_of}
 use Rattle.go_ast.specs.Parse.{Parsed}
 use Rattle.go_typed.specs.Trees.{Package}
 use Rattle.go_package.specs.Imports.{Importable}
-use Rattle.go_import.specs.Names.{importable_by}
+use Rattle.go_check.specs.Names.{importable_by}
 use Rattle.go_export.specs.Exports.{exports_of}
 use Rattle.go_export.specs.Summaries.{Summary}
 use Rattle.go_export.specs.Writable.{IsShown}

@@ -6,7 +6,7 @@ ghost use Rattle.std.specs.Arc.{arc_value};
 ghost use Rattle.go_typed.specs.Views.{typed_of};
 ghost use Rattle.go_init.specs.Variables.{variable_order, in_order};
 ghost use Rattle.go_gen.specs.Translation.{object_in};
-ghost use Rattle.go_import.specs.Names.{importable_by};
+ghost use Rattle.go_check.specs.Names.{importable_by};
 ghost use Rattle.go_export.specs.declared.error.SummaryError.TheVariants.{Unshown};
 ghost use Rattle.go_export.specs.Summaries.{summary_of};
 ghost use Rattle.ws_cache.specs.Compiles.{Good, IsResult, Compiles, compiled_of};

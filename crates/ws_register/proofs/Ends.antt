@@ -12,23 +12,23 @@ use Rattle.std.proofs.lemmas.Slice.Eq.{bytes_eq-Decides}
 use Rattle.ws_path.specs.Paths.{directory, file_name}
 use Rattle.ws_version.specs.Writes.{Write, path_cmp}
 use Rattle.ws_version.proofs.Writes.{path_cmp_total}
-use Rattle.ws_pages.specs.Pages.{Ascends, AllBelow}
-use Rattle.ws_pages.proofs.Order.{all-weaker, sorted-first, turned_less}
+use Rattle.ws_register.specs.Pages.{Ascends, AllBelow}
+use Rattle.ws_register.proofs.Order.{all-weaker, sorted-first, turned_less}
 use Rattle.ws_path.proofs.Cuts.{some_before}
 use Rattle.ws_register.specs.Between.{is_from, is_past, is_between}
 use Rattle.ws_register.specs.Sources.{is_in, named, source_of, file_in, files_in, texts_of}
 use Rattle.ws_register.proofs.Files.{files_in-first}
 
-both_parts : (a b : Bool) → a && not b ≡ true → (a ≡ true) × (b ≡ false)
-both_parts true false e = (refl, refl)
-both_parts true true e = cc
-both_parts false b e = cc
+and_not_parts : (a b : Bool) → a && not b ≡ true → (a ≡ true) × (b ≡ false)
+and_not_parts true false e = (refl, refl)
+and_not_parts true true e = cc
+and_not_parts false b e = cc
 
 pub from_start : {Y : Type 0} (dir : List ℕ) (start end : Bound (String Y)) → ((path : List ℕ) → is_in dir path ≡ true → is_between start end path ≡ true) → (path : List ℕ) → is_in dir path ≡ true → is_from start path ≡ true
-from_start dir start end h path is = (both_parts (is_from start path) (is_past end path) (h path is)).0
+from_start dir start end h path is = (and_not_parts (is_from start path) (is_past end path) (h path is)).0
 
 pub before_end : {Y : Type 0} (dir : List ℕ) (start end : Bound (String Y)) → ((path : List ℕ) → is_in dir path ≡ true → is_between start end path ≡ true) → (path : List ℕ) → is_in dir path ≡ true → is_past end path ≡ false
-before_end dir start end h path is = (both_parts (is_from start path) (is_past end path) (h path is)).1
+before_end dir start end h path is = (and_not_parts (is_from start path) (is_past end path) (h path is)).1
 
 -- a write outside the directory is no file of it
 no_file : (dir : List ℕ) (w : Write) (b : Bool) → is_in dir w.0 ≡ b → (b ≡ true → ⊥) → file_in dir w ≡ None
@@ -52,10 +52,10 @@ files_past : {Y : Type 0} (dir : List ℕ) (end : Bound (String Y)) (W : List Wr
 files_past dir end [] h past = refl
 files_past dir end (w ∷ W) h past = left_out dir w W (λ is. differ (is_past end w.0) past.0 (h w.0 is)) ∙ files_past dir end W h past.1
 
-is_less : (r : Ordering) → is_lt r ≡ true → r ≡ Less
-is_less Less e = refl
-is_less Equal e = cc
-is_less Greater e = cc
+lt_is_less : (r : Ordering) → is_lt r ≡ true → r ≡ Less
+lt_is_less Less e = refl
+lt_is_less Equal e = cc
+lt_is_less Greater e = cc
 
 later_than : (b p q : List ℕ) (r : Ordering) → path_cmp b p ≡ r → is_le r ≡ true → path_cmp p q ≡ Less → path_cmp b q ≡ Less
 later_than b p q Less e h lt = path_cmp_total.trans b p q e lt
@@ -63,7 +63,7 @@ later_than b p q Equal e h lt = path_cmp_total.congr b p q e ∙ lt
 later_than b p q Greater e h lt = cc
 
 past_later : {Y : Type 0} (end : Bound (String Y)) (p q : List ℕ) → is_past end p ≡ true → path_cmp p q ≡ Less → is_past end q ≡ true
-past_later (Included b) p q h lt = ap is_lt (path_cmp_total.trans (string_bytes b) p q (is_less (path_cmp (string_bytes b) p) h) lt)
+past_later (Included b) p q h lt = ap is_lt (path_cmp_total.trans (string_bytes b) p q (lt_is_less (path_cmp (string_bytes b) p) h) lt)
 past_later (Excluded b) p q h lt = ap is_le (later_than (string_bytes b) p q (path_cmp (string_bytes b) p) refl h lt)
 past_later Unbounded p q h lt = cc
 

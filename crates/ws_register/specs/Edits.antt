@@ -5,7 +5,7 @@ use Rattle.std.specs.FinMap.{FinMap, get, entries}
 use Rattle.ws_path.specs.Paths.{is_path, file_name}
 use Rattle.ws_map.specs.Greater.{joined_option}
 use Rattle.ws_version.specs.Writes.{Held, Write, path_cmp, greater_held}
-pub use Rattle.ws_pages.specs.Tops.{top}
+pub use Rattle.ws_register.specs.Tops.{top}
 use Rattle.ws_register.specs.declared.EditError.{EditError}
 use Rattle.ws_register.specs.declared.EditError.TheVariants.{BadPath, NoFile, CounterFull, Memory}
 

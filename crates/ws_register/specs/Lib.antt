@@ -1,5 +1,10 @@
 pub mod Between
 pub mod Edits
+pub mod Listed
 pub mod News
+pub mod Nodes
+pub mod Pages
+pub mod Search
 pub mod Sources
 pub mod Texted
+pub mod Tops

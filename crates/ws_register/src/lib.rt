@@ -1,5 +1,17 @@
-//! The greatest write for each path.
+//! The greatest write for each path, on pages that copies share.
 #![tactic(auto)]
+
+mod draft;
+mod edit;
+mod grow;
+mod leaves;
+mod merge;
+mod news;
+mod node;
+mod page;
+mod pages;
+mod rest;
+mod search;
 
 ghost use Rattle.std.specs.Prelude.{◌≡◌, ℕ, ◌+◌, ◌++◌, ◌∷◌, [], List, OnOk, OnErr, IfOk, IfErr, IfSome, IfNone, true, false, Some, None, string_bytes, option_copied, option_map, map as map_list};
 ghost use Rattle.std.specs.FinMap as map;
@@ -8,20 +20,21 @@ ghost use Rattle.std.specs.Ordering.{is_gt, is_lt};
 ghost use Rattle.ws_map.specs.Kept.{StandsFor, StandsAt, SameMembers, taken, joined as joined_by};
 ghost use Rattle.ws_version.specs.Writes.{Write as AWrite, Held as AHeld, held_cmp, path_cmp, greater_held};
 ghost use Rattle.ws_register.specs.Texted.{texted};
-ghost use Rattle.ws_pages.specs.Pages.{Ascends};
+ghost use Rattle.ws_register.specs.Pages.{Ascends};
 ghost use Rattle.ws_register.specs.Between.{is_from, is_past, is_between};
 ghost use Rattle.ws_register.specs.Sources.{texts_of, is_in, file_in, files_in, pair_of, IsShown, IsSources, HasFiles};
 ghost use Rattle.ws_register.specs.declared.EditError.TheVariants.{Memory};
 ghost use Rattle.ws_register.specs.News.{TakesAt, HoldBothAt};
 ghost use Rattle.ws_register.specs.Edits.{top, greatest_at, greatest_counter, fits, is_missing, edit_refusal, removal_refusal, IsRefusal, edited, removed};
 
+use crate::pages::Pages;
+use crate::rest::Rest;
 use go_text::source::Source;
 use go_text::text::Text;
 use std::alloc::{AllocError, Global};
 use std::marker::Model;
 use std::ops::Bound;
 use thiserror::Error;
-use ws_pages::{Pages, Rest};
 use ws_path::{FilePath, directory as directory_of, file_name};
 use ws_version::{Held, Join, Version, Write};
 

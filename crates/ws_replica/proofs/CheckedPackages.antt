@@ -10,7 +10,7 @@ use Rattle.go_ast.specs.Parse.{Parsed}
 use Rattle.go_ast.specs.Trees.{File}
 use Rattle.go_typed.specs.Trees.{Package}
 use Rattle.go_check.specs.Checked.{edition_of, fmt}
-use Rattle.go_import.specs.Names.{importable_of}
+use Rattle.go_check.specs.Names.{importable_of}
 use Rattle.go_init.specs.Packages.{package_order}
 use Rattle.go_init.proofs.Orders as orders
 use Rattle.go_package_laws.specs.Packages.{AreOfTexts, IsChecked, AreChecked}

@@ -7,7 +7,7 @@ use Rattle.std.specs.declared.cmp.Ordering.TheVariants.{Less}
 use Rattle.std.proofs.lemmas.Slice.Eq.{bytes_eq-Decides}
 use Rattle.go_text.specs.declared.edition.Edition.{Edition}
 use Rattle.go_typed.specs.Trees.{Package}
-use Rattle.go_import.specs.Names.{importable_of}
+use Rattle.go_check.specs.Names.{importable_of}
 use Rattle.go_export.specs.Summaries.{summary_of}
 use Rattle.ws_action.specs.Actions.{Action, action_of}
 use Rattle.ws_action.proofs.Members.{none_in_empty, head_or_later, at_head, later}

@@ -7,7 +7,7 @@ use Rattle.go_text.specs.declared.edition.Edition.{Edition}
 use Rattle.go_ast.specs.Parse.{Parsed}
 use Rattle.go_typed.specs.Trees.{Package}
 use Rattle.go_package.specs.Imports.{Importable}
-use Rattle.go_import.specs.Names.{importable_by, importable_of}
+use Rattle.go_check.specs.Names.{importable_by, importable_of}
 use Rattle.go_check.proofs.BySummaries.{seen_same}
 use Rattle.go_export.specs.Exports.{exports_of}
 use Rattle.go_export.specs.Summaries.{Summary, summary_of}

@@ -8,7 +8,7 @@ use Rattle.go_ast.specs.Parse.{Parsed}
 use Rattle.go_ast.specs.Trees.{File}
 use Rattle.go_check.specs.Checked.{AreTrees}
 use Rattle.go_typed.specs.Trees.{Package}
-use Rattle.go_import.specs.Names.{importable_of}
+use Rattle.go_check.specs.Names.{importable_of}
 use Rattle.ws_version.specs.Writes.{Write}
 use Rattle.ws_cache.proofs.SomeResult.{some_result}
 use Rattle.ws_graph.specs.Packages.{package_files}

@@ -15,7 +15,7 @@ use Rattle.ws_report.specs.Reports.{rows}
 use Rattle.ws_replica.specs.declared.BuildError.{BuildError}
 use Rattle.ws_replica.specs.declared.building.Target.{Target}
 use Rattle.ws_replica.specs.declared.BuildError.TheVariants as build
-use Rattle.ws_replica.specs.Holdings.{Replica, ReplicaStandsFor, Took}
+use Rattle.ws_replica.specs.Holdings.{Replica, ReplicaStandsFor, Took, AllStandFor}
 use Rattle.ws_replica.specs.Reports.{TargetBuild, IsTargetBuild, all_actions, report_of}
 
 -- what is answered where there is no plan
@@ -38,6 +38,10 @@ held_by took targets = flat_map (λ t. (took_at took t.0).actions) targets
 -- the entries that the replicas of these numbers hold
 abbrev pub held_at : List Took → List ℕ → List Action
 held_at took numbers = flat_map (λ k. (took_at took k).actions) numbers
+
+-- the texts of the entries that each took are sized
+abbrev pub AllTookSized : List Took → Type 0
+AllTookSized took = AllSized (flat_map (λ (t : Took). t.actions) took)
 
 -- the replicas of these numbers hold together what those of the targets hold
 abbrev pub HoldAll : List Took → List ℕ → List (ℕ × List ℕ) → Type 0
@@ -75,6 +79,11 @@ pub record AreBuilt (edition : Edition) (took : List Took) (targets : List (ℕ 
   pub are : AreBuilds edition took targets all
   pub right : NoClash (hashed_actions (held_by took targets ++ all_actions edition all)) → AreRight edition took targets all reports new
 
+-- the same, of replicas of which some, by their numbers, hold together all that those of the targets hold
+abbrev pub AreBuiltOver : Edition → List ℕ → List (ℕ × List ℕ) → List Replica → List Report → List Replica → Type 0
+AreBuiltOver edition holders targets old reports new =
+    (took : List Took) → AllStandFor old took → AllTookSized took → HoldAll took holders targets → AreBuilt edition took targets reports new
+
 -- The same of a build that changes no replica, and gives a cache with what those that build hold together and what was compiled.
 pub record AreRightFrom (edition : Edition) (took : List Took) (targets : List (ℕ × List ℕ)) (all : List TargetBuild) (given : List Report) (cache : FinMap id_cmp Action) : Type 0 where
   pub told : AreReports edition took targets all given
@@ -89,7 +98,3 @@ pub record AreBuiltFrom (edition : Edition) (took : List Took) (targets : List (
 -- a target without package files
 abbrev pub LacksPackage : Edition → List Took → List (ℕ × List ℕ) → Type 0
 LacksPackage edition took targets = (k : ℕ) × (directory : List ℕ) × Contains targets (k, directory) × IsTargetBuild edition (took_at took k).writes directory None
-
--- the texts of the entries that each took are sized
-abbrev pub AllTookSized : List Took → Type 0
-AllTookSized took = AllSized (flat_map (λ (t : Took). t.actions) took)

@@ -1,5 +1,5 @@
 -- What a target reaches of all that is reached from its replica, and what is told of it.
-use Rattle.std.specs.Prelude.{◌≡◌, ◌↔◌, ◌<◌, ℕ, List, length, map, Some}
+use Rattle.std.specs.Prelude.{◌≡◌, ◌↔◌, ◌<◌, ℕ, List, map, Some}
 use Rattle.std.specs.List.{AllZip, Contains, filter_map, slice_get}
 use Rattle.std.specs.List.Sorted.{IsStrictlyIncreasing}
 use Rattle.std.specs.FinMap.{FinMap}

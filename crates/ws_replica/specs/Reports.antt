@@ -5,7 +5,7 @@ use Rattle.go_text.specs.declared.edition.Edition.{Edition}
 use Rattle.go_text.specs.Faults.{Fault}
 use Rattle.go_ast.specs.Parse.{Parsed}
 use Rattle.go_typed.specs.Trees.{Package}
-use Rattle.go_import.specs.Names.{importable_of}
+use Rattle.go_check.specs.Names.{importable_of}
 use Rattle.go_export.specs.Summaries.{summary_of}
 use Rattle.ws_action.specs.Actions.{Action, action_of}
 use Rattle.ws_cache.specs.Compiles.{AreGood, AreFaulty}

@@ -3,7 +3,7 @@ ghost use Rattle.std.specs.Prelude.{◌≡◌, ◌<◌, ◌+◌, ◌++◌, List,
 ghost use Rattle.ws_replica.specs.Holdings.{Took, AllStandFor};
 ghost use Rattle.ws_replica.specs.Jobs.{place_of, reached_of, all_reached_of, all_places_of, job_after, jobs_after};
 ghost use Rattle.ws_replica.specs.Parts.{part_of, AllPartsWithin, IsRunOf};
-ghost use Rattle.ws_replica.specs.Builds.{target_of, AreBuilt, LacksPackage, AllTookSized, HoldAll};
+ghost use Rattle.ws_replica.specs.Builds.{target_of, AreBuilt, AreBuiltOver, LacksPackage, AllTookSized};
 
 use crate::acted::{all_acted, remember_all};
 use crate::openings::{all_planned, give_results, numbers_of, opening_of};
@@ -152,9 +152,8 @@ pub fn build_over<R: Threads + Wait + Sync, G: Gate>(
     requires within { All (λ t. t.replica < length replicas.old) targets.now }
     requires holding { All (λ k. k < length replicas.old) holders.now }
     requires some { 0 < workers }
-    ensures ok { IfOk result (λ reports. (took : List Took) → AllStandFor replicas.old took → AllTookSized took
-        → HoldAll took holders.now (map target_of targets.now)
-        → AreBuilt edition took (map target_of targets.now) reports.items replicas.new) }
+    ensures ok { IfOk result (λ reports.
+        AreBuiltOver edition holders.now (map target_of targets.now) replicas.old reports.items replicas.new) }
     ensures registers { map (λ r. r.registers) replicas.new ≡ map (λ r. r.registers) replicas.old }
     ensures none { result ≡ Err BuildError.NoPackage → (took : List Took) → AllStandFor replicas.old took
         → LacksPackage edition took (map target_of targets.now) }

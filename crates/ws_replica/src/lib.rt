@@ -40,6 +40,7 @@ use go_text::edition::Edition;
 use go_text::source::Source;
 use go_text::text::Text;
 pub use linking::image;
+pub use openings::numbers_of;
 use past::Past;
 use plan::{Plan, kept_or_planned};
 use reached::{Reached, all_reached};

@@ -1,5 +1,5 @@
 //! What the replicas that targets name bring to a build, and what they take from it.
-ghost use Rattle.std.specs.Prelude.{◌≡◌, ◌==◌, ◌<◌, ◌++◌, ◌∷◌, [], ℕ, List, length, map, IfOk, OnOk, OnErr, Err, Some, All};
+ghost use Rattle.std.specs.Prelude.{◌≡◌, ◌==◌, ◌<◌, ◌++◌, ◌∷◌, [], List, length, map, IfOk, OnOk, OnErr, Err, Some, All};
 ghost use Rattle.std.specs.FinMap.{FinMap};
 ghost use Rattle.std.specs.List.{slice_get, list_all};
 ghost use Rattle.ws_action.specs.Actions.{Action as AnAction};
@@ -102,8 +102,8 @@ pub(crate) fn all_planned(
     Ok(all)
 }
 
-/// The numbers of the replicas that the targets name.
-pub(crate) fn numbers_of(alloc: Global, targets: &[Target<'_>]) -> Result<Vec<usize>, AllocError>
+/// The numbers of the replicas that the targets name. An `Err` is want of memory.
+pub fn numbers_of(alloc: Global, targets: &[Target<'_>]) -> Result<Vec<usize>, AllocError>
     ensures { IfOk result (λ numbers. numbers.items ≡ map (λ t. t.replica) targets.now) }
 {
     let mut numbers = Vec::with_capacity(alloc, targets.len())?;

@@ -8,10 +8,9 @@ use Rattle.std.proofs.lemmas.Bool.{cases_eq, eqb-true}
 use Rattle.std.proofs.lemmas.List.{get_or-set_same, get_or-set_other, length-map}
 use Rattle.std.proofs.lemmas.List.Elements.{All-head, All-tail, Contains-append_left, Contains-append_right, Contains-append_cases}
 use Rattle.ws_action.specs.Actions.{Action}
-use Rattle.ws_version.specs.Writes.{Write as AWrite}
 use Rattle.ws_action.proofs.Members.{none_in_empty, head_or_later, at_head, later}
 use Rattle.ws_version_vector.specs.Counts.{counts_at, AreBelow, AreRaisedAndShared, is_among}
-use Rattle.ws_version_vector.specs.Told.{AreKept, took_at}
+use Rattle.ws_version_vector.specs.Told.{took_at}
 use Rattle.ws_version_vector.proofs.Told.{grown as with_batch, among_first, among_later}
 use Rattle.ws_version_vector.proofs.Kept.{raised_kept, shared_kept, AnyTook, same_kept, within_below}
 use Rattle.ws_replica.specs.Builds as numbered

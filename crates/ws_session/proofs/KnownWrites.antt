@@ -1,5 +1,5 @@
 -- A replica that takes what some others wrote, by the paths that are logged.
-use Rattle.std.proofs.Common.{◌≡◌, ◌<◌, ◌≤◌, ◌+◌, ℕ, List, [], ◌∷◌, ◌++◌, take, length, get_or, Option, Some, refl, sym, ap, ◌∙◌, subst, inl, inr, arith, append-nil, append_assoc, Vec, Global}
+use Rattle.std.proofs.Common.{◌≡◌, ◌<◌, ◌≤◌, ◌+◌, ℕ, List, [], ◌∷◌, ◌++◌, take, length, get_or, Some, sym, ap, ◌∙◌, subst, inl, inr, arith, append-nil, append_assoc, Vec, Global}
 use Rattle.std.specs.List.{Contains, flat_map, slice_get}
 use Rattle.std.proofs.lemmas.Grind.{flat_map-append}
 use Rattle.std.proofs.lemmas.List.{take_all, take_more}
@@ -11,19 +11,19 @@ use Rattle.ws_register.specs.News.{HasNewsAt}
 use Rattle.ws_action.specs.Actions.{Action}
 use Rattle.ws_version_vector.specs.Counts.{count_at, counts_at, IsMost, AreTops}
 use Rattle.ws_version_vector.specs.Keyed.{AreKeysBetween}
-use Rattle.ws_version_vector.specs.Told.{AreKept, IsKept, took_at, IsWithin}
+use Rattle.ws_version_vector.specs.Told.{IsKept, took_at, IsWithin}
 use Rattle.ws_version_vector.proofs.Told.{told_below}
 use Rattle.ws_version_vector.proofs.Kept.{kept_merged}
 use Rattle.ws_version_vector.proofs.Logged.{news_between}
 use Rattle.ws_replica.specs.Builds as numbered
 use Rattle.ws_replica.specs.Holdings as holdings
-use Rattle.ws_replica.specs.Holdings.{ReplicaStandsFor, Took, AllStandFor, all_taken}
+use Rattle.ws_replica.specs.Holdings.{ReplicaStandsFor, Took, all_taken}
 use Rattle.ws_replica.proofs.Membership.{same_members}
 use Rattle.ws_replica.proofs.Numbered.{some_same}
 use Rattle.ws_session.specs.declared.replicas.Named.{Named}
 use Rattle.ws_session.specs.declared.written.Written.{Written}
 use Rattle.ws_session.specs.World.{World, Replica}
-use Rattle.ws_session.specs.Standing.{AllStand, AreWritten, AreCounted, HoldsAllOf, HoldsWritesOf, writes_in, actions_in, replicas_of}
+use Rattle.ws_session.specs.Standing.{AllStand, AreWritten, AreCounted, HoldsAllOf, HoldsWritesOf, writes_in, actions_in}
 use Rattle.ws_session.proofs.Building.{took_read}
 use Rattle.ws_session.proofs.Joining.{written_by, compiled_by, into_flat, written_are, compiled_are, written_all, compiled_all, all_written, all_compiled, all_both, stands_at}
 use Rattle.ws_session.proofs.Settled.{took_of, all_stand_for, all_writes, all_actions}

@@ -57,7 +57,7 @@ none_or_some world (t ∷ targets) (y ∷ b) (name, directory, c, none) h = elim
   | inr rest ↦ none_or_some world targets b (name, directory, rest, none) h.1
 ]
 
-one_builds : (world : World) (targets : List (List ℕ × List ℕ)) (a b : Option (List TargetBuild)) → AreBuilds world targets a → AreBuilds world targets b → a ≡ b
+pub one_builds : (world : World) (targets : List (List ℕ × List ℕ)) (a b : Option (List TargetBuild)) → AreBuilds world targets a → AreBuilds world targets b → a ≡ b
 one_builds world targets None None g h = refl
 one_builds world targets None (Some b) g h = absurd (none_or_some world targets b g h)
 one_builds world targets (Some a) None g h = absurd (none_or_some world targets a h g)
@@ -137,7 +137,7 @@ one_after_by : (refusal : Option Refusal) (command : Command) (text : Option (Li
 one_after_by None command text world a b g h = one_accepted command text world a b g h
 one_after_by (Some refusal) command text world a b g h = g ∙ sym h
 
-one_after : (command : Command) (text : Option (List ℕ)) (world a b : World) → After command text world a → After command text world b → a ≡ b
+pub one_after : (command : Command) (text : Option (List ℕ)) (world a b : World) → After command text world a → After command text world b → a ≡ b
 unfolding After
 one_after command text world a b g h = one_after_by (first_of (refusals command text world)) command text world a b g h
 

@@ -2,7 +2,7 @@
 use Rattle.std.specs.Prelude.{◌≡◌, ℕ, ◌+◌, ◌==◌, suc, not, is_some, cond, true, false, List, [], ◌∷◌, ◌++◌, map, slice_set, slice_index_or, Option, None, Some, MatchOption, Result, Ok, Err, Vec}
 use Rattle.std.specs.Borrow.{Bor}
 use Rattle.std.specs.Global.{Global}
-use Rattle.std.specs.List.{AllZip, Contains, flat_map, list_all}
+use Rattle.std.specs.List.{AllZip, Contains, flat_map, list_all, slice_get}
 use Rattle.std.specs.Str.{bytes_eq, is_utf8}
 use Rattle.std.specs.Option.{option_map}
 use Rattle.go_text.specs.declared.edition.Edition.{Edition}
@@ -26,7 +26,7 @@ use Rattle.ws_action.specs.Actions.{Action}
 use Rattle.ws_action.specs.Clash.{AllSized, NoClash, hashed_actions}
 use Rattle.ws_replica.specs.Reports.{TargetBuild, IsTargetBuild, actions_of}
 use Rattle.ws_replica.specs.declared.building.Target.{Target}
-use Rattle.ws_replica.specs.Builds.{took_at, target_of, AllTookSized, AreBuilt, LacksPackage, HoldAll}
+use Rattle.ws_replica.specs.Builds.{took_at, target_of, AreBuiltOver, LacksPackage}
 use Rattle.ws_report.specs.declared.Report.{Report}
 use Rattle.ws_report.specs.Reports.{rows}
 use Rattle.ws_replica.specs.Holdings as holdings
@@ -262,6 +262,11 @@ HoldsWritesOf named wrote results first writers joined =
     → IsWithin (written.took_at first (writes_in world.replicas)) V → IsWithin (flat_map (λ k. written.took_at k (actions_in world.replicas)) writers) E
     → ReplicaStandsFor results V E → ReplicaStandsFor joined (V ++ flat_map (λ k. written.took_at k (writes_in world.replicas)) writers) E
 
+-- the same of the first of some replicas, where there is one
+abbrev pub HoldsKnownWrites : Vec Named Global → Written → holdings.Replica → List ℕ → List ℕ → holdings.Replica → Type 0
+HoldsKnownWrites named wrote results builders writers joined =
+    (first : ℕ) × (slice_get builders 0 ≡ Some first) × HoldsWritesOf named wrote results first writers joined
+
 -- what is news of the second's writes, by paths where these are known
 abbrev pub IsBrought : News → Option (Vec (List ℕ) Global) → List Write → List Write → Type 0
 IsBrought writes None V W = Brings writes V W
@@ -299,7 +304,7 @@ AreTargets named asked (Err refusal) = targets_row named asked ≡ Some refusal
 -- replicas built targets, with these reports, where those of some numbers held all; and each has its name and number
 pub record Built (edition : Edition) (holders : List ℕ) (targets : List (ℕ × List ℕ)) (reports : List Report) (old new : List Named) : Type 0 where
   pub labels : labels_of new ≡ labels_of old
-  pub builds : (took : List Took) → AllStandFor (replicas_of old) took → AllTookSized took → HoldAll took holders targets → AreBuilt edition took targets reports (replicas_of new)
+  pub builds : AreBuiltOver edition holders targets (replicas_of old) reports (replicas_of new)
 
 -- or nothing changed, since a target has no package files
 abbrev pub AreBuiltBy : Edition → List ℕ → List (ℕ × List ℕ) → List Named → Option (Vec Report Global) → List Named → Type 0

@@ -13,7 +13,7 @@ use go_text::edition::Edition;
 use std::alloc::{AllocError, Global};
 use std::thread::Threads;
 use ws_command::refusal::Refusal;
-use ws_replica::Target;
+use ws_replica::{Target, numbers_of};
 use ws_version::Version;
 use ws_version_vector::Vectors;
 
@@ -153,17 +153,6 @@ fn count_merge(
         return Ok(());
     };
     vectors.merge(mine, theirs)
-}
-
-/// The numbers of the replicas that targets name.
-fn numbers_of(alloc: Global, targets: &[Target<'_>]) -> Result<Vec<usize>, AllocError>
-    ensures { IfOk result (λ numbers. numbers.items ≡ map (λ t. t.replica) targets.now) }
-{
-    let mut numbers = Vec::new(alloc);
-    for target in targets {
-        numbers.push(target.replica)?;
-    }
-    Ok(numbers)
 }
 
 /// The numbers of replicas that hold together all results of those that targets name.

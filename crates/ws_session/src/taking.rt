@@ -1,10 +1,9 @@
 //! What the replicas of a session take of one another: merges, and settles of all.
-ghost use Rattle.std.specs.Prelude.{◌≡◌, ◌≢◌, ◌<◌, ℕ, vec_len, replicate, Some, IfOk, IfSome, OnOk, None};
-ghost use Rattle.std.specs.List.{slice_get};
+ghost use Rattle.std.specs.Prelude.{◌≡◌, ◌≢◌, ◌<◌, vec_len, replicate, Some, IfOk, IfSome, OnOk, None};
 ghost use Rattle.std.specs.List.{All, flat_map};
 ghost use Rattle.ws_replica.specs.Holdings.{ReplicaStandsFor};
 ghost use Rattle.ws_command.specs.Commands.{Merge, Settle};
-ghost use Rattle.ws_session.specs.Standing.{AllStand, AreCounted, SettlesCounted, ChangedAt, MergedFrom, TakesNews, HoldsAllOf, HoldsWritesOf, replicas_of, labels_of};
+ghost use Rattle.ws_session.specs.Standing.{AllStand, AreCounted, SettlesCounted, ChangedAt, MergedFrom, TakesNews, HoldsAllOf, HoldsWritesOf, HoldsKnownWrites, replicas_of, labels_of};
 ghost use Rattle.ws_session.specs.World.{World};
 
 use crate::replicas::{Named, index_of};
@@ -202,7 +201,7 @@ fn with_known_writes(
     writers: &[usize],
 ) -> Result<Option<Replica>, AllocError>
     requires { All (λ t. t < vec_len named.now) writers.now }
-    ensures { IfOk result (λ joined. IfSome joined (λ joined. (first : ℕ) × (slice_get builders.now 0 ≡ Some first) × HoldsWritesOf named.now wrote.now results.now first writers.now joined)) }
+    ensures { IfOk result (λ joined. IfSome joined (HoldsKnownWrites named.now wrote.now results.now builders.now writers.now)) }
 {
     match builders.first() {
         None => Ok(None),

@@ -1,6 +1,6 @@
 use Rattle.std.proofs.Common.{map}
 use Rattle.std.specs.Arc.{arc_value}
-use Rattle.go_import.specs.Names.{importable_by}
+use Rattle.go_check.specs.Names.{importable_by}
 use Rattle.ws_cache.specs.Compiles.{IsResult, Compiles, compiled_of}
 use Rattle.ws_compile.proofs.Results.{if_ok_map, compiles, unshown}
 use Rattle.ws_compile.proofs.outcome_of.Goals as goal

@@ -1,7 +1,7 @@
 use Rattle.std.proofs.Common.{map}
 use Rattle.std.specs.Arc.{arc_value}
 use Rattle.go_typed.specs.Views.{typed_of}
-use Rattle.go_import.specs.Names.{importable_by}
+use Rattle.go_check.specs.Names.{importable_by}
 use Rattle.ws_cache.specs.Compiles.{IsResult, compiled_of}
 use Rattle.ws_compile.specs.Ordered.{ComesTo}
 use Rattle.ws_compile.proofs.Results.{if_ok_map, typed_result}

@@ -1,8 +1,8 @@
 use Rattle.std.proofs.Common.{◌++◌, sym, ap, subst, ◌∙◌, map, append-nil, List, ℕ}
 use Rattle.std.specs.Option.{option_map}
 use Rattle.ws_version.specs.Writes.{Held, path_cmp}
-use Rattle.ws_pages.specs.Pages.{Ascends}
-use Rattle.ws_pages.proofs.Order.{sorted-rest}
+use Rattle.ws_register.specs.Pages.{Ascends}
+use Rattle.ws_register.proofs.Order.{sorted-rest}
 use Rattle.ws_register.specs.Between.{is_past}
 use Rattle.ws_register.specs.Sources.{file_in, files_in, texts_of, pair_of}
 use Rattle.ws_register.proofs.Ends.{files_ended}

@@ -1,5 +1,5 @@
 use Rattle.std.proofs.Common.{◌≡◌, ◌++◌, map, length}
-use Rattle.ws_pages.specs.Pages.{Ascends}
+use Rattle.ws_register.specs.Pages.{Ascends}
 use Rattle.ws_register.specs.Sources.{texts_of, files_in, pair_of}
 use Rattle.ws_register.proofs.files_before.Given as goal
 

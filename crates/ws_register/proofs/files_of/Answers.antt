@@ -1,6 +1,6 @@
 use Rattle.std.proofs.Common.{sym, ap, ◌∙◌}
 use Rattle.std.specs.FinMap.{entries, entries_sorted}
-use Rattle.ws_pages.proofs.Walks.{still-ascends}
+use Rattle.ws_register.proofs.Walks.{still-ascends}
 use Rattle.ws_register.specs.Sources.{texts_of, files_in}
 use Rattle.ws_register.proofs.Ends.{files_from, from_start}
 use Rattle.ws_register.proofs.files_of.Goals as goal

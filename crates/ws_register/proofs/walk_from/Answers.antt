@@ -1,7 +1,7 @@
 use Rattle.std.proofs.Common.{◌≡◌, false, sym, subst}
 use Rattle.std.specs.List.{AllByRecursion}
 use Rattle.ws_version.specs.Writes.{Write}
-use Rattle.ws_pages.specs.Pages.{AllBelow}
+use Rattle.ws_register.specs.Pages.{AllBelow}
 use Rattle.ws_register.specs.Between.{is_from}
 use Rattle.ws_register.proofs.Ends.{below_start}
 use Rattle.ws_register.proofs.walk_from.Goals as goal

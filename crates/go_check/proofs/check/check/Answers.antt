@@ -1,6 +1,6 @@
 use Rattle.std.proofs.Common.{map}
 use Rattle.std.specs.Arc.{arc_value}
-use Rattle.go_import.specs.Names.{importable_by}
+use Rattle.go_check.specs.Names.{importable_by}
 use Rattle.go_check.proofs.Answered.{typed_told}
 use Rattle.go_check.proofs.check.check.Goals as goal
 

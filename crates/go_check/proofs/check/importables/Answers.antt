@@ -6,7 +6,7 @@ use Rattle.std.specs.Iterator.Adapters.{zip_first, zip_second}
 use Rattle.std.specs.Slice.Iter.{iter_rest}
 use Rattle.go_expr.specs.Seen.{names_of}
 use Rattle.go_export.specs.Summaries.{Summary}
-use Rattle.go_import.specs.Names.{importable_by}
+use Rattle.go_check.specs.Names.{importable_by}
 use Rattle.go_package.specs.declared.import.Importable.{Importable}
 use Rattle.go_check.specs.Checked.{fmt}
 use Rattle.go_check.proofs.Importables.{named_at, seen, pushed, next_of}

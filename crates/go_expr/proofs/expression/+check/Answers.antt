@@ -19,7 +19,7 @@ use Rattle.go_expr.specs.Rules.{fine, valued, declared_field, Due, element_due, 
 use Rattle.go_expr.specs.Verdicts.{asked, bare_place, key_text, broken, elements, element_verdict, elements_faults, element_faults, joined, operand, verdict, made_verdict, operands, type_verdict, fields_known, operand_broken, faults, made_faults, operands_faults, type_faults, fields_faults}
 use Rattle.go_expr.specs.Seen.{Fails, literal_verdict, known_of, due_of, element_of, elements_in, field_of, scope_of, all_of, Answers, Behind}
 use Rattle.go_expr.proofs.Lists.{left, copied, fails_front, fault_later, known_later, joined_done}
-use Rattle.go_expr.proofs.Nodes.{of_part, call_asked, make_called, other_called, made_named, name_fails, made_unnamed, other_fails, literal_answered}
+use Rattle.go_expr.proofs.Nodes.{of_part, call_asked, make_called, other_called, made_named, qualifier_fails, name_fails, made_unnamed, other_fails, literal_answered}
 use Rattle.go_expr.proofs.expression.+check.Goals as goal
 
 -- parts where something is due
@@ -89,16 +89,27 @@ check_make-returns-then-is_name t c =
     let es = c.args.arguments.now in
     let r = c.check_sizes.result in
     subst (λ (l : List Expression). Behind known_of r (made_faults s (exprs_in l)) c.args.place (valued (made_verdict s (exprs_in l)))) (sym (first_argument es x c.in-len1-up.len_at_least c.first-item.is))
-    (made_named known_of r s c.args.place (expr_tree x) (exprs_in (drop 1 es)) (option_map type_of c.in_ok-of.of) (sym c.is_name.ensures ∙ c.if-is_name.true) c.in_ok-of.ensures.0 c.in_ok-of.ensures.1 c.check_sizes.ensures)
+    (made_named known_of r s c.args.place (expr_tree x) (exprs_in (drop 1 es)) (option_map type_of c.in_ok-of.of) (sym c.is_name.ensures ∙ c.if-is_name.true) c.in_ok-check_qualifier.ensures.none c.in_ok-of.ensures.0 c.in_ok-of.ensures.1 c.check_sizes.ensures)
+
+pub check_make-returns-in_err-check_qualifier : goal.check_make-returns-in_err-check_qualifier
+check_make-returns-in_err-check_qualifier t c =
+    let s = scope_of c.args.scope.now in
+    let x = c.first-item.result in
+    let es = c.args.arguments.now in
+    let r = c.from_residual.result in
+    let p = err_from_is_err_and r c.from_residual.ensures.1 in
+    let told = qualifier_fails known_of c.in_err-check_qualifier.field-0.0 s c.args.place (expr_tree x) (exprs_in (drop 1 es)) (sym c.is_name.ensures ∙ c.if-is_name.true) c.in_err-check_qualifier.ensures.fault in
+    subst (λ (l : List Expression). Behind known_of r (made_faults s (exprs_in l)) c.args.place (valued (made_verdict s (exprs_in l)))) (sym (first_argument es x c.in-len1-up.len_at_least c.first-item.is))
+    (rw (p.1, p.2) told)
 
 pub check_make-returns-in_err-of : goal.check_make-returns-in_err-of
 check_make-returns-in_err-of t c =
     let s = scope_of c.args.scope.now in
     let x = c.first-item.result in
     let es = c.args.arguments.now in
-    let r = c.from_residual.result in
-    let p = err_from_is_err_and r c.from_residual.ensures.1 in
-    let told = name_fails known_of c.in_err-of.field-0.0 s c.args.place (expr_tree x) (exprs_in (drop 1 es)) (sym c.is_name.ensures ∙ c.if-is_name.true) c.in_err-of.ensures in
+    let r = c.from_residual-in_err-of.result in
+    let p = err_from_is_err_and r c.from_residual-in_err-of.ensures.1 in
+    let told = name_fails known_of c.in_err-of.field-0.0 s c.args.place (expr_tree x) (exprs_in (drop 1 es)) (sym c.is_name.ensures ∙ c.if-is_name.true) c.in_ok-check_qualifier.ensures.none c.in_err-of.ensures in
     subst (λ (l : List Expression). Behind known_of r (made_faults s (exprs_in l)) c.args.place (valued (made_verdict s (exprs_in l)))) (sym (first_argument es x c.in-len1-up.len_at_least c.first-item.is))
     (rw (p.1, p.2) told)
 

@@ -4,8 +4,7 @@ use Rattle.std.specs.Option.{option_map}
 use Rattle.std.proofs.lemmas.Result.{err_from_is_err_and}
 use Rattle.go_scope.proofs.Indexes.{is_some_position}
 use Rattle.go_ast.specs.Views.{file_of, import_of}
-use Rattle.go_decl.specs.Seen.{facts_of}
-use Rattle.go_package.specs.Seen.{importable_of, imported_of}
+use Rattle.go_package.specs.Seen.{facts_of, importable_of, imported_of}
 use Rattle.go_package.proofs.Dotted.{is_referred}
 use Rattle.go_package.specs.Imports.{imports_in}
 use Rattle.go_package.specs.Packages.{imports_faults}
@@ -25,7 +24,7 @@ returns-in_err-check_import c =
     let found = sym c.declared_by.ensures ∙ ap (option_map imported_of) c.in-Some.is in
     let file = file_of c.args.file.now in
     let doubled = c.is_some-doubled.ensures ∙ ap is_some c.in_ok-insert.ensures.first ∙ is_some_position (bytes_eq x.import.name.now) c.loop-spec.before in
-    let refers = c.is_some-refers.ensures ∙ ap is_some c.get.ensures ∙ is_referred x.import.name.now c.in_ok-used.used file c.in_ok-used.ensures in
+    let refers = c.is_some-refers.ensures ∙ ap is_some c.get.ensures ∙ is_referred x.import.name.now c.args.used.now file c.requires in
     let fails = c.in_err-check_import.ensures file c.loop-spec.before doubled refers in
     rw (p.1, p.2) (imports_here (facts_of c.args.facts.now) file c.loop-spec.before (map importable_of c.args.packages.now.all.now) specs c.loop-spec.spec-index c.spec-item.result
     (imported_of x) c.in_err-check_import.field-0.0 _ within item found invariant fails)
@@ -41,7 +40,7 @@ loop-spec-preserved c =
     let ps = map importable_of c.args.packages.now.all.now in
     let before = c.loop-spec.before in
     let doubled = c.is_some-doubled.ensures ∙ ap is_some c.in_ok-insert.ensures.first ∙ is_some_position (bytes_eq x.import.name.now) before in
-    let refers = c.is_some-refers.ensures ∙ ap is_some c.get.ensures ∙ is_referred x.import.name.now c.in_ok-used.used file c.in_ok-used.ensures in
+    let refers = c.is_some-refers.ensures ∙ ap is_some c.get.ensures ∙ is_referred x.import.name.now c.args.used.now file c.requires in
     let none = c.in_ok-check_import.ensures file before doubled refers in
     let rest = imports_in ps (map import_of (drop (c.loop-spec.spec-index + 1) specs)) in
     subst (λ (ns : List (List ℕ)). imports_faults t file ns rest ≡ imports_faults t file [] (imports_in ps (map import_of specs))) (sym c.in_ok-insert.ensures.ok)

@@ -1,9 +1,8 @@
 use Rattle.std.proofs.Common.{◌≡◌, [], drop, map}
 use Rattle.go_ast.specs.Views.{import_of, file_of}
-use Rattle.go_decl.specs.Seen.{facts_of}
+use Rattle.go_package.specs.Seen.{facts_of, importable_of}
 use Rattle.go_package.specs.Imports.{imports_in}
 use Rattle.go_package.specs.Packages.{imports_faults}
-use Rattle.go_package.specs.Seen.{importable_of}
 use Rattle.go_package.proofs.files.check_imports.Given as goal
 
 abbrev pub invariant-loop-spec : goal.invariant-loop-spec

@@ -4,8 +4,8 @@ use Rattle.go_ast.specs.Trees.{Name, Exprs, no_exprs, some_exprs}
 use Rattle.go_ast.specs.Views.{exprs_in as exprs_trees}
 use Rattle.go_typed.specs.Views.{exprs_in, initialization_of}
 use Rattle.go_typed.specs.declared.expression.TypedExpr.{TypedExpr}
-use Rattle.go_decl.specs.Faults.{Facts}
-use Rattle.go_decl.specs.Seen.{facts_of}
+use Rattle.go_package.specs.Faults.{Facts}
+use Rattle.go_package.specs.Seen.{facts_of}
 use Rattle.go_package.specs.Typed.{each_alone}
 use Rattle.go_package.proofs.initializations.add_alone.Goals as goal
 

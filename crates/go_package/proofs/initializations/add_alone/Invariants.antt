@@ -1,7 +1,7 @@
 use Rattle.std.proofs.Common.{◌≡◌, ◌++◌, ◌≤◌, length, drop, map}
 use Rattle.go_ast.specs.Views.{exprs_in as exprs_trees, var_of}
 use Rattle.go_typed.specs.Views.{exprs_in, initialization_of}
-use Rattle.go_decl.specs.Seen.{facts_of}
+use Rattle.go_package.specs.Seen.{facts_of}
 use Rattle.go_package.specs.Typed.{each_alone}
 use Rattle.go_package.proofs.initializations.add_alone.Given as goal
 

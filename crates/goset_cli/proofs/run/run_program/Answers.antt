@@ -1,4 +1,4 @@
-use Rattle.std.proofs.Common.{ap, ◌∙◌, ◌≡◌, sym, map, arith, inl, inr}
+use Rattle.std.proofs.Common.{ap, ◌∙◌, sym, map, inl, inr}
 use Rattle.clap.specs.Values.{kind_of}
 use Rattle.goset_cli.specs.CommandLine.{run_faults}
 use Rattle.goset_cli.specs.Runs.{run_code_of}

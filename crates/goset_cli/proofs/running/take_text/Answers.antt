@@ -15,5 +15,11 @@ returns-then-left-gt0-clause-text c =
       | else-lines-test w ↦ absurd (omega arith)
     ]
 
+pub returns-then-left-gt0-clause-lines : goal.returns-then-left-gt0-clause-lines
+returns-then-left-gt0-clause-lines c = (c.lines.invariant.0, (c.lines.invariant.1.whole, c.lines.invariant.1.ended))
+
 pub returns-clause-text : goal.returns-clause-text
 returns-clause-text c = all_taken _ _ _ _ _ _ _ c.lines.invariant.1 (omega (arith, c.if-left-gt0.false)) c.split_at.ensures.front c.in_ok-closed.ensures
+
+pub returns-clause-lines : goal.returns-clause-lines
+returns-clause-lines c = (c.lines.invariant.0, (c.lines.invariant.1.whole, c.lines.invariant.1.ended))

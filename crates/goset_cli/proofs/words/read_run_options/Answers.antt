@@ -1,9 +1,9 @@
-use Rattle.std.proofs.Common.{ap, ◌∙◌, ◌≡◌, List, [], ℕ, Option, map, sym, refl, codes, arith}
+use Rattle.std.proofs.Common.{ap, ◌∙◌, List, [], ℕ, Option, map, sym, refl, codes, arith}
 use Rattle.std.specs.Prelude.{unwrap_or}
 use Rattle.std.specs.Str.Parse.{ParsesUnsigned, ExplainsUnsignedError, HasUnsignedDigitsIfOk}
 use Rattle.clap.specs.Simple.{App}
 use Rattle.clap.specs.Faults.{fault_of, is_simple_and_free}
-use Rattle.goset_cli.specs.CommandLine.{all_ticks, edition_at, number_of, run}
+use Rattle.goset_cli.specs.CommandLine.{all_ticks, edition_at, run}
 use Rattle.goset_cli.proofs.Numbers.{count_read, flag_read, number_read, plain_flag, run_edition_option, ticks_option, values_are}
 use Rattle.goset_cli.proofs.words.read_run_options.Goals as goal
 

@@ -1,4 +1,4 @@
-use Rattle.std.proofs.Common.{rules, ◌≡◌, ap, ◌∙◌}
+use Rattle.std.proofs.Common.{rules, ◌≡◌, ap}
 use Rattle.ws_graph.specs.Discovery.{texts}
 use Rattle.ws_replica.specs.Holdings.{Replica}
 use Rattle.ws_replica.proofs.Plans.{kept_plan}

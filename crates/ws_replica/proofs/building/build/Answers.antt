@@ -1,8 +1,8 @@
-use Rattle.std.proofs.Common.{◌≡◌, ◌∙◌, List, ℕ, sym, ap, subst}
+use Rattle.std.proofs.Common.{◌≡◌, ◌∙◌, List, sym, ap, subst}
 use Rattle.std.proofs.lemmas.Result.{IfOk-weaker}
-use Rattle.std.specs.List.{All, Contains}
+use Rattle.std.specs.List.{Contains}
 use Rattle.ws_action.specs.Actions.{Action}
-use Rattle.ws_replica.specs.Builds.{target_of, held_at}
+use Rattle.ws_replica.specs.Builds.{held_at}
 use Rattle.ws_replica.proofs.TargetSteps.{held_numbers, numbers_within}
 use Rattle.ws_replica.proofs.building.build.Goals as goal
 

@@ -3,7 +3,7 @@ use Rattle.std.specs.FinMap.{FinMap}
 use Rattle.std.proofs.lemmas.List.{take_all, take_more}
 use Rattle.ws_action.specs.Actions.{Action}
 use Rattle.ws_cache.specs.Held.{id_cmp, CacheStandsFor}
-use Rattle.ws_replica.proofs.TargetSteps.{first_number, no_first, IsOpenedBy, opened_first, opened_more, opened_same, opened_whole}
+use Rattle.ws_replica.proofs.TargetSteps.{first_number, IsOpenedBy, opened_first, opened_more, opened_same, opened_whole}
 use Rattle.ws_replica.proofs.openings.opening_of.Goals as goal
 use Rattle.ws_replica.proofs.openings.opening_of.Goals.{then-number-first+in_ok-merge, else-number-first}
 

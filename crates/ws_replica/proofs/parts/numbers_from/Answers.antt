@@ -1,8 +1,6 @@
-use Rattle.std.proofs.Common.{◌≡◌, ◌<◌, ◌∙◌, ℕ, List, Some, rules, sym, ap, subst, map, length, arith}
-use Rattle.std.proofs.lemmas.List.{length-map}
-use Rattle.std.proofs.lemmas.Option.{slice_get_within}
-use Rattle.std.specs.List.{Contains, slice_get}
-use Rattle.ws_reach.specs.Reach.{Edge, Reaches, EdgesStayWithin, rows_of}
+use Rattle.std.proofs.Common.{◌≡◌, ℕ, List, Some, rules, sym, subst, map}
+use Rattle.std.specs.List.{slice_get}
+use Rattle.ws_reach.specs.Reach.{Edge, Reaches, EdgesStayWithin}
 use Rattle.ws_replica.specs.Jobs.{reached_of}
 use Rattle.ws_replica.specs.Parts.{reached_paths, reached_rows}
 use Rattle.ws_replica.proofs.PlannedTargets.{part_found, part_none, rows_length}

@@ -1,4 +1,4 @@
-use Rattle.std.proofs.Common.{◌++◌, ◌∷◌, [], List, ℕ, subst, refl, ap, ◌∙◌, arith}
+use Rattle.std.proofs.Common.{◌++◌, ◌∷◌, [], subst, refl, arith}
 use Rattle.ws_version.specs.Writes.{Write}
 use Rattle.ws_replica.specs.Holdings.{ReplicaStandsFor}
 use Rattle.ws_session.specs.declared.replicas.Named.{Named}

@@ -1,4 +1,4 @@
-use Rattle.std.proofs.Common.{◌≡◌, ◌<◌, ◌≤◌, List, ℕ, length, get_or, sym, subst, ◌∙◌, arith}
+use Rattle.std.proofs.Common.{◌<◌, List, ℕ, length, get_or, sym, subst, arith}
 use Rattle.ws_version_vector.specs.Counts.{counts_at, IsMost}
 use Rattle.ws_version_vector.specs.Keyed.{AreKeysBetween}
 use Rattle.ws_register.specs.News.{HasNewsAt}

@@ -11,7 +11,7 @@ returns-in-Some g c =
     let q = c.args.name.now in
     let inside = c.self.inside in
     c.in-Some.ensures
-    ∙ sym (look_inner (record { inner = inside.inner; outer = reverse inside.outer.items; next = inside.next }) q (ap is_some (sym c.in-Some.ensures)))
+    ∙ sym (look_inner (record { inner = inside.inner; outer = reverse inside.outer.items }) q (ap is_some (sym c.in-Some.ensures)))
     ∙ ap (λ env. look_up env q) c.self.view_is
 
 pub returns-in-None : goal.returns-in-None
@@ -20,5 +20,5 @@ returns-in-None g c =
     let inside = c.self.inside in
     c.find.ensures
     ∙ ap (λ blocks. lookup (bytes_eq q) (flat_map (λ block. block) (reverse blocks))) c.as_slice.ensures.value
-    ∙ sym (look_outer (record { inner = inside.inner; outer = reverse inside.outer.items; next = inside.next }) q (sym c.in-None.ensures))
+    ∙ sym (look_outer (record { inner = inside.inner; outer = reverse inside.outer.items }) q (sym c.in-None.ensures))
     ∙ ap (λ env. look_up env q) c.self.view_is

@@ -6,12 +6,12 @@ use Rattle.ws_command.specs.declared.refusal.Refusal.TheVariants.{BadCommand}
 use Rattle.ws_session.specs.declared.replicas.Replicas.{Replicas}
 use Rattle.ws_session.specs.declared.replicas.Named.{Named}
 use Rattle.ws_session.specs.declared.written.Written.{Written}
-use Rattle.ws_command.specs.Commands.{Nothing, Bad, Create, Write, Remove, Apply, Merge, Settle, Build, Run, Ids, Show, Use}
+use Rattle.ws_command.specs.Commands.{Nothing, Bad, Create, Write, Remove, Apply, Merge, Settle, Build, Run, Ids, Show}
 use Rattle.ws_command.specs.Seen.{seen}
 use Rattle.ws_session.specs.Standing.{asked_of, index_of, TellsCounted}
 use Rattle.ws_session.specs.World.{edit_of, removal_of, content_in}
 use Rattle.ws_session.proofs.Standings.{if_ok_map}
-use Rattle.ws_session.proofs.Counted.{same_counted, create_counted, write_counted, after_write, after_remove, after_apply, merge_counted, settle_counted, after_nothing, after_bad, after_show, after_use, after_run, after_ids}
+use Rattle.ws_session.proofs.Counted.{same_counted, create_counted, write_counted, after_write, after_remove, after_apply, merge_counted, settle_counted, after_nothing, after_bad, after_show, after_run, after_ids}
 use Rattle.ws_session.proofs.CountedBuild.{written_after}
 use Rattle.ws_session.proofs.Telling.{after_by, settled_tells, stepped, prints_nothing, prints_bad, prints_create, prints_write, prints_remove, prints_apply, prints_merge, prints_settle, used, nothing_settles, bad_settles}
 use Rattle.ws_session.proofs.replicas.Replicas.step.Goals as goal

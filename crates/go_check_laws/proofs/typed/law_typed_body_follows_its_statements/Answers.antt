@@ -1,5 +1,0 @@
-use Rattle.go_check_laws.proofs.TypedForms.{function_has}
-use Rattle.go_check_laws.proofs.typed.law_typed_body_follows_its_statements.Goals as goal
-
-pub returns : goal.returns
-returns c = function_has

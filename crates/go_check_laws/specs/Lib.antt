@@ -1,4 +1,0 @@
-pub mod Finds
-pub mod Locals
-pub mod Whole
-pub mod TypedStatements

@@ -1,5 +1,0 @@
-use Rattle.go_decl.proofs.Faultless.{faultless_grounded}
-use Rattle.go_decl.proofs.law.law_faultless_is_grounded.Goals as goal
-
-pub returns : goal.returns
-returns c = faultless_grounded

@@ -1,8 +1,0 @@
-use Rattle.std.proofs.Common.{◌≡◌, drop}
-use Rattle.std.specs.List.{flat_map}
-use Rattle.go_decl.specs.Faults.{name_faults}
-use Rattle.go_decl.specs.Seen.{facts_of}
-use Rattle.go_decl.proofs.names.check_names.Given as goal
-
-abbrev pub invariant-loop-name : goal.invariant-loop-name
-invariant-loop-name l = flat_map (name_faults (facts_of l.facts) l.file) (drop l.name-index l.names) ≡ flat_map (name_faults (facts_of l.facts) l.file) l.names

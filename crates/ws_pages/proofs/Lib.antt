@@ -1,9 +1,0 @@
-pub mod Contents
-pub mod Edited
-pub mod Joined
-pub mod Order
-pub mod Parts
-pub mod Places
-pub mod Searching
-pub mod Shared
-pub mod Walks

@@ -1,5 +1,0 @@
-use Rattle.ws_pages.proofs.Shared.{same_values}
-use Rattle.ws_pages.proofs.node.NodeClone.clone.Goals as goal
-
-pub returns : goal.returns
-returns c = record { cases = same_values c.args.self.now.pages.items c.in_ok-pages.pages.items c.in_ok-pages.ensures.cases.0 }
