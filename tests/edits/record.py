@@ -14,7 +14,7 @@ HERE = os.path.dirname(os.path.abspath(__file__))
 TOP = os.path.dirname(os.path.dirname(HERE))
 SEEN, PAGE = os.path.join(HERE, "seen.txt"), os.path.join(HERE, "README.md")
 sys.path.insert(0, HERE)
-from functions import ANSWERED, PLACED, SEARCHED
+from functions import ANSWERED, LOST, PLACED, SEARCHED
 from stated import Stated, read
 
 TITLE = """\
@@ -89,6 +89,7 @@ def due():
 
 REFUSED, LOST_ALONE = "refused by ", "refused only because a proof names what it took away"
 NO_MEASURE, NOT_TRIED = "refused only because a loop of its has no measure", "not tried"
+NOT_REFUSED = "not refused: all is still proved"
 
 
 def is_refused(said):
@@ -96,11 +97,13 @@ def is_refused(said):
 
 
 def refused_by(line, function=None):
-    """What is kept of the line that says which goal isn't proved: the function, where it is known, and the goal."""
+    """What is kept of the line that says which goals aren't proved: the function, where it is known, and the first goal of it."""
     found = ANSWERED.match(line) or SEARCHED.match(line) or PLACED.match(line)
     if not found:
         return REFUSED + line.removeprefix("note: ").strip()[:160]
-    return f"{REFUSED}{function or found['at'].replace('/', '::')}, {found['goal'][:80]}"
+    goals = re.findall("`([^`]+)`", found["goal"].partition(";")[0]) or [found["goal"].strip("`")]
+    own = [it for it in goals if function and it.startswith(f"{function.rpartition('::')[2]}-")]
+    return f"{REFUSED}{function or found['at'].replace('/', '::')}, `{[*own, *goals][0][:80]}`"
 
 
 def of_must_fail(line):
@@ -115,6 +118,17 @@ def of_must_fail(line):
     if rest.startswith(" (only because "):
         return edit, LOST_ALONE
     return edit, refused_by(rest[2:]) if rest.startswith(": ") else REFUSED + "a goal that rt doesn't name"
+
+
+def of_check(status, lines):
+    """What a check of a whole crate with an edit says of the edit."""
+    if not status:
+        return NOT_REFUSED
+    told = [it for it in lines if ANSWERED.match(it) or SEARCHED.match(it) or PLACED.match(it)]
+    first = next((it for it in told if not LOST.match(it.removeprefix("note: "))), None)
+    if first:
+        return refused_by(first)
+    return LOST_ALONE if lines and lines[-1].startswith("logic=not-proved") else NOT_TRIED
 
 
 def git(*words):

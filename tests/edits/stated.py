@@ -14,7 +14,7 @@ HERE = os.path.dirname(os.path.abspath(__file__))
 TOP = os.path.dirname(os.path.dirname(HERE))
 sys.path[:0] = [HERE, os.path.join(TOP, "tools"), os.path.join(TOP, "tests")]
 from edited import changes
-from functions import functions_in
+from functions import functions_in, types_in
 from kit import needed
 from sources import Definition, Tree, read, rust_lines
 
@@ -26,14 +26,20 @@ def digest(texts):
     return hashlib.sha256("\0".join(texts).encode()).hexdigest()[:12]
 
 
+def homes_in(folder):
+    """The file of each type that a crate declares."""
+    files = [os.path.relpath(os.path.join(at, name), folder) for at, _, names in os.walk(os.path.join(folder, "src")) for name in names]
+    return {it: file for file in sorted(files) for it in types_in(read(os.path.join(folder, file)))}
+
+
 def functions_of(edit, folder):
     """The functions that an edit changes, each with its file's text; none where it changes more than functions, or doesn't apply."""
-    changed = []
+    changed, homes = [], homes_in(folder)
     for file, old, _ in changes(edit):
         path = os.path.join(folder, file)
         text = read(path) if os.path.isfile(path) else ""
         at = text[: text.find(old)].count("\n") + 1
-        its = [it for it in functions_in(file, text) if it.first <= at <= it.last] if file.startswith("src/") else []
+        its = [it for it in functions_in(file, text, homes) if it.first <= at <= it.last] if file.startswith("src/") else []
         if text.count(old) != 1 or not its:
             return []
         changed += its

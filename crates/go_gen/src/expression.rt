@@ -23,7 +23,7 @@ use crate::instr::{call, constant_cell, load, no_slice, store, zero_cell};
 use crate::layout::Layout;
 use crate::operator::{put_binary, put_conversion, put_operator, put_unary};
 use crate::size::{cells, difference, element_cells, offset, offset_by, offsets_of, sum};
-use crate::temps::{expr_temps, exprs_temps, parts_temps};
+use crate::temps::{cell_behind, cell_kept, expr_temps, exprs_temps, parts_temps};
 use go_code::cell::Cell;
 use go_code::instr::{AccessInstr, FrameInstr, Instr, JumpInstr, PartInstr, RowInstr};
 use go_code::operator::{Operator as CellOperator, SliceOperator, TextOperator};
@@ -276,7 +276,7 @@ fn emit_make(
 ) -> Result<(), AllocError>
     ensures { OnOk result (code.new ≡ expr_code (places_of layout.now) k (trees.make (type_of of.now) (expr_of length.now) trees.absent) ++ code.old) }
 {
-    let temp = sum(k, expr_temps(length)?)?;
+    let temp = cell_behind(k, length)?;
     let (_, element) = element_type(of);
     put_make(code, of)?;
     code.put(load(temp, 1))?;
@@ -326,7 +326,7 @@ pub(crate) fn emit_expr(
             emit_expr(alloc, code, layout, k, operand)
         }
         TypedExprKind::Index(operand, index) => {
-            let behind = sum(k, expr_temps(operand)?)?;
+            let behind = cell_behind(k, operand)?;
             put_index(code, underlying(&operand.of))?;
             emit_expr(alloc, code, layout, behind, index)?;
             emit_expr(alloc, code, layout, k, operand)
@@ -343,13 +343,13 @@ pub(crate) fn emit_expr(
             emit_expr(alloc, code, layout, k, operand)
         }
         TypedExprKind::Binary(operator, a, b) => {
-            let behind = sum(k, expr_temps(a)?)?;
+            let behind = cell_behind(k, a)?;
             put_binary(code, &a.of, *operator)?;
             emit_expr(alloc, code, layout, behind, b)?;
             emit_expr(alloc, code, layout, k, a)
         }
         TypedExprKind::Both(a, b) => {
-            let behind = sum(k, expr_temps(a)?)?;
+            let behind = cell_behind(k, a)?;
             put_answer(code, false)?;
             let end = code.len();
             emit_expr(alloc, code, layout, behind, b)?;
@@ -357,7 +357,7 @@ pub(crate) fn emit_expr(
             emit_expr(alloc, code, layout, k, a)
         }
         TypedExprKind::Either(a, b) => {
-            let behind = sum(k, expr_temps(a)?)?;
+            let behind = cell_behind(k, a)?;
             put_answer(code, true)?;
             let end = code.len();
             emit_expr(alloc, code, layout, behind, b)?;
@@ -388,17 +388,15 @@ pub(crate) fn emit_expr(
             emit_exprs(alloc, code, layout, k, arguments)
         }
         TypedExprKind::Tail(operand, low) => {
-            let temp = sum(k, expr_temps(operand)?)?;
-            let behind = sum(temp, 1)?;
+            let (temp, behind) = cell_kept(k, operand)?;
             put_tail(code, underlying(&operand.of), temp)?;
             emit_expr(alloc, code, layout, behind, low)?;
             put_kept(code, temp)?;
             emit_expr(alloc, code, layout, k, operand)
         }
         TypedExprKind::Cut(operand, low, high) => {
-            let temp = sum(k, expr_temps(operand)?)?;
-            let behind = sum(temp, 1)?;
-            let last = sum(behind, expr_temps(low)?)?;
+            let (temp, behind) = cell_kept(k, operand)?;
+            let last = cell_behind(behind, low)?;
             put_cut(code, underlying(&operand.of))?;
             emit_expr(alloc, code, layout, last, high)?;
             emit_expr(alloc, code, layout, behind, low)?;
@@ -406,8 +404,7 @@ pub(crate) fn emit_expr(
             emit_expr(alloc, code, layout, k, operand)
         }
         TypedExprKind::MakeWithin(length, room) => {
-            let temp = sum(k, expr_temps(length)?)?;
-            let behind = sum(temp, 1)?;
+            let (temp, behind) = cell_kept(k, length)?;
             put_make(code, &e.of)?;
             emit_expr(alloc, code, layout, behind, room)?;
             put_kept(code, temp)?;
@@ -415,7 +412,7 @@ pub(crate) fn emit_expr(
             emit_element_zero(alloc, code, &e.of)
         }
         TypedExprKind::Append(slice, es) => {
-            let behind = sum(k, expr_temps(slice)?)?;
+            let behind = cell_behind(k, slice)?;
             put_append(code, &e.of, es)?;
             emit_exprs(alloc, code, layout, behind, es)?;
             emit_expr(alloc, code, layout, k, slice)

@@ -1,5 +1,5 @@
 //! How many cells temporaries take.
-ghost use Rattle.std.specs.Prelude.{◌≡◌, IfOk};
+ghost use Rattle.std.specs.Prelude.{◌≡◌, ◌+◌, IfOk};
 ghost use Rattle.go_typed.specs.Views.{expr_of, exprs_in, parts_in};
 ghost use Rattle.go_gen.specs.Translation.{expr_temps, exprs_temps, parts_temps};
 
@@ -42,6 +42,21 @@ pub(crate) fn expr_temps(e: &TypedExpr) -> Result<usize, AllocError>
         TypedExprKind::Literal(parts) => sum(cells(&e.of)?, parts_temps(parts)?),
         TypedExprKind::Call(_, arguments) => exprs_temps(arguments),
     }
+}
+
+/// The number of the first cell behind the temporaries of an expression, of which `k` is the first.
+pub(crate) fn cell_behind(k: usize, e: &TypedExpr) -> Result<usize, AllocError>
+    ensures { IfOk result (λ n. n ≡ k + expr_temps (expr_of e.now)) }
+{
+    sum(k, expr_temps(e)?)
+}
+
+/// The temporary that an operand is kept in, behind those of its own, and the cell behind it.
+pub(crate) fn cell_kept(k: usize, e: &TypedExpr) -> Result<(usize, usize), AllocError>
+    ensures { IfOk result (λ n. (n.0 ≡ k + expr_temps (expr_of e.now)) × (n.1 ≡ n.0 + 1)) }
+{
+    let temp = cell_behind(k, e)?;
+    Ok((temp, sum(temp, 1)?))
 }
 
 /// Those of some expressions.

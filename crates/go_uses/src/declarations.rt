@@ -7,7 +7,7 @@ ghost use Rattle.go_scope.specs.Names.{used};
 ghost use Rattle.go_uses.specs.Uses.{texts, in_const, in_var, in_consts, in_vars, in_decl, decl_names};
 
 use crate::expressions::{in_exprs, in_written};
-use crate::hidden::{hide, joined, outside};
+use crate::hidden::{add_outside, hide, joined};
 use go_ast::declaration::{ConstSpec, Decl, VarSpec};
 use go_scope::name_index::NameIndex;
 use go_scope::names::UsedName;
@@ -40,7 +40,7 @@ fn in_consts<'a>(alloc: Global, specs: &'a [ConstSpec]) -> Result<Vec<UsedName<'
     let mut found = Vec::new(alloc);
     for spec in specs {
         let names = in_const(alloc, spec)?;
-        found = joined(found, outside(alloc, &hidden, &names)?)?;
+        add_outside(&mut found, &hidden, &names)?;
         hide(&mut hidden, &spec.names)?;
     }
     Ok(found)
@@ -54,7 +54,7 @@ fn in_vars<'a>(alloc: Global, specs: &'a [VarSpec]) -> Result<Vec<UsedName<'a>>,
     let mut found = Vec::new(alloc);
     for spec in specs {
         let names = in_var(alloc, spec)?;
-        found = joined(found, outside(alloc, &hidden, &names)?)?;
+        add_outside(&mut found, &hidden, &names)?;
         hide(&mut hidden, &spec.names)?;
     }
     Ok(found)

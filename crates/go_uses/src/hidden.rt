@@ -28,6 +28,22 @@ fn is_hidden(hidden: &NameIndex<'_>, name: UsedName<'_>) -> bool
     hidden.get(name.text).is_some()
 }
 
+/// Adds the names that aren't hidden to those that were found. An `Err` only where memory ran out.
+pub(crate) fn add_outside<'a>(
+    found: &mut Vec<UsedName<'a>>,
+    hidden: &NameIndex<'_>,
+    names: &[UsedName<'a>],
+) -> Result<(), AllocError>
+    ensures { OnOk result (map used found.new.items ≡ map used found.old.items ++ outside hidden.now (map used names.now)) }
+{
+    for name in names {
+        if !is_hidden(hidden, *name) {
+            found.push(*name)?;
+        }
+    }
+    Ok(())
+}
+
 /// The names that aren't hidden. An `Err` only where memory ran out.
 pub(crate) fn outside<'a>(
     alloc: Global,
@@ -37,11 +53,7 @@ pub(crate) fn outside<'a>(
     ensures { IfOk result (λ found. map used found.items ≡ outside hidden.now (map used names.now)) }
 {
     let mut found = Vec::with_capacity(alloc, names.len())?;
-    for name in names {
-        if !is_hidden(hidden, *name) {
-            found.push(*name)?;
-        }
-    }
+    add_outside(&mut found, hidden, names)?;
     Ok(found)
 }
 

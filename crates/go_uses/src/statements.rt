@@ -9,7 +9,7 @@ ghost use Rattle.go_uses.specs.Uses.{if_any, texts, outside, in_simple, simple_n
 
 use crate::declarations::{hide_decl, in_decl};
 use crate::expressions::{in_case, in_condition, in_expr, in_exprs};
-use crate::hidden::{hide, joined, outside};
+use crate::hidden::{add_outside, hide, joined, outside};
 use go_ast::expression::Expr;
 use go_ast::name::Name;
 use go_ast::statement::{Block, Clause, Else, For, If, Range, Simple, Stmt};
@@ -82,8 +82,9 @@ fn behind<'a>(
     };
     let mut hidden = NameIndex::new(alloc);
     hide_simple(&mut hidden, simple)?;
-    let first = in_simple(alloc, simple)?;
-    joined(first, outside(alloc, &hidden, &names)?)
+    let mut all = in_simple(alloc, simple)?;
+    add_outside(&mut all, &hidden, &names)?;
+    Ok(all)
 }
 
 /// The names that a statement uses.
@@ -200,7 +201,7 @@ fn in_list<'a>(alloc: Global, statements: &'a [Stmt]) -> Result<Vec<UsedName<'a>
     let mut found = Vec::new(alloc);
     for statement in statements {
         let names = in_stmt(alloc, statement)?;
-        found = joined(found, outside(alloc, &hidden, &names)?)?;
+        add_outside(&mut found, &hidden, &names)?;
         hide_stmt(&mut hidden, statement)?;
     }
     Ok(found)

@@ -7,6 +7,7 @@ use goset_cli::keep::run_keep_words;
 use goset_cli::kept_files::KeptFiles;
 use goset_cli::program::{refuse_words, run_words};
 use goset_cli::run::{refuse_run_words, run_program};
+use goset_cli::status::code_of;
 use goset_cli::words::{asks_to_keep, words_of_run};
 use std::env::Env;
 use std::process::ExitCode;
@@ -47,7 +48,7 @@ fn run<T: Threads + Wait + Sync>(rt: &T, host: &HostRuntime, words: &[String]) -
     let mut input = FromReader::new(host.stdin());
     if asks_to_keep(words) {
         let mut files = KeptFiles::new(host);
-        return run_keep_words(
+        let ended = run_keep_words(
             rt,
             alloc,
             words,
@@ -56,8 +57,10 @@ fn run<T: Threads + Wait + Sync>(rt: &T, host: &HostRuntime, words: &[String]) -
             &mut output,
             &mut errors,
         );
+        return code_of(ended);
     }
-    run_words(rt, alloc, words, &mut input, &mut output, &mut errors)
+    let ended = run_words(rt, alloc, words, &mut input, &mut output, &mut errors);
+    code_of(ended)
 }
 
 // Says why nothing is done, and answers the status.
@@ -66,7 +69,7 @@ fn refuse(rt: &HostRuntime, error: &io::Error) -> u8 {
     if is_run(rt) {
         refuse_run_words(error, &mut errors)
     } else {
-        refuse_words(error, &mut errors)
+        code_of(refuse_words(error, &mut errors))
     }
 }
 

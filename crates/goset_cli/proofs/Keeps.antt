@@ -1,6 +1,6 @@
 -- How a run ends that goes on from what is kept, by where it ends.
-use Rattle.std.proofs.Common.{Vec, Global, ◌≡◌, ℕ, ◌≤◌, ◌<◌, ◌+◌, List, length, Option, None, Some, Result, Ok, Err, sym, ◌∙◌, subst, refl, inl, inr, arith}
-use Rattle.std.specs.Prelude.{IfErr, MatchResult}
+use Rattle.std.proofs.Common.{Vec, Global, ◌≡◌, ℕ, ◌≤◌, ◌+◌, List, length, Option, None, Some, Result, Ok, Err, sym, ◌∙◌, subst, refl, inl, inr, arith}
+use Rattle.std.specs.Prelude.{IfErr}
 use Rattle.go_text.specs.declared.edition.Edition.{Edition}
 use Rattle.ws_keep.specs.Keeping.{Continues, IsClearBehind}
 use Rattle.ws_keep.specs.Stored.{Becomes, Holds}
@@ -8,7 +8,7 @@ use Rattle.ws_keep.specs.declared.store.StoreError.{StoreError}
 use Rattle.goset_cli.specs.Answers.{unanswered, unread}
 use Rattle.goset_cli.specs.KeptRuns.{Begins, KeptNothing, KeptRun, NotLoaded, Resumed, ResumedSome, WentOn, opened}
 use Rattle.goset_cli.specs.Failures.{unwritten}
-use Rattle.goset_cli.specs.KeptStatuses.{kept_reads, kept_writes, unkept}
+use Rattle.goset_cli.specs.KeptStatuses.{kept_reads, kept_writes}
 use Rattle.goset_cli.specs.Reading.{GaveAll, NotRead, failures_of, limit}
 use Rattle.goset_cli.specs.Told.{Told, Grows}
 use Rattle.goset_cli.specs.declared.keeping.KeepError.{KeepError}
@@ -117,7 +117,7 @@ kept_becomes store found store' kept new ran_kept ran_new still same_kept same h
 module _ {A : Type 0} (r : Result A KeepError) (n m : ℕ) where
   -- how many the reader counts where nothing was run
   abbrev pub Counted : Type 0
-  Counted = MatchResult r (λ _. n ≡ m) (λ e. n ≡ m + kept_reads (unkept e))
+  Counted = n ≡ m + kept_reads r
 
   pub unread_counted : (refusal : ReadError) → r ≡ Err (Session (unread refusal)) → n ≡ m + failures_of {A = Vec ℕ Global} (Err refusal) → Counted
   unread_counted reads.Memory e h = rw e h
@@ -139,7 +139,7 @@ module _ {A : Type 0} (r : Result A KeepError) (n m : ℕ) where
 module _ {A : Type 0} (r : Result A KeepError) where
   -- how many the writer counts where nothing was run: none
   abbrev pub Unwrote : Type 0
-  Unwrote = IfErr r (λ e. kept_writes (unkept e) ≡ 0)
+  Unwrote = kept_writes r ≡ 0
 
   pub unread_unwrote : (refusal : ReadError) → r ≡ Err (Session (unread refusal)) → Unwrote
   unread_unwrote reads.Memory e = rw e refl

@@ -1,6 +1,6 @@
--- What the kinds of an error and the program's status say of each other.
-use Rattle.std.proofs.Common.{◌≡◌, ◌∙◌, ap, ℕ, Bool, true, false, not, List, [], ◌∷◌, Option, Some, None, refl, sym, subst, inl, inr, arith, append-nil}
-use Rattle.std.specs.Prelude.{◌⊎◌, ◌||◌}
+-- What the kinds of an error and how the program ends say of each other.
+use Rattle.std.proofs.Common.{◌≡◌, ◌∙◌, ap, ℕ, Bool, true, false, not, List, [], ◌∷◌, Option, Some, None, Result, Ok, Err, refl, sym, subst, inl, inr, append-nil}
+use Rattle.std.specs.Prelude.{◌||◌, IfErr, IfOk, OnOk}
 use Rattle.clap.specs.Kinds.{HasKind, IsAmong, Kinds}
 use Rattle.clap.specs.Values.{kind_of}
 use Rattle.clap.specs.declared.error.Error.{Error}
@@ -8,13 +8,13 @@ use Rattle.clap.specs.declared.error.kind.ErrorKind.{ErrorKind}
 use Rattle.clap.specs.declared.error.kind.ErrorKind.TheVariants.{OutOfMemory}
 use Rattle.go_text.specs.declared.edition.Edition.{Edition}
 use Rattle.goset_cli.specs.Ends.{Session}
-use Rattle.goset_cli.specs.Failures.{failed_reads}
+use Rattle.goset_cli.specs.Failures.{failed_reads, failed_writes}
 use Rattle.goset_cli.specs.Told.{Told, Grows}
 use Rattle.goset_cli.specs.declared.running.SessionError.{SessionError}
-use Rattle.goset_cli.specs.declared.running.SessionError.TheVariants.{Memory, Write}
-use Rattle.goset_cli.specs.Statuses.{FailsUnasked, asks_text, code_of, is_asked, is_wrong, stopped}
+use Rattle.goset_cli.specs.declared.running.SessionError.TheVariants.{Memory, Read, Write, TooLong}
+use Rattle.goset_cli.specs.Statuses.{FailsByKind, FailsUnasked, asks_text, is_asked, is_wrong}
 use Rattle.goset_cli.specs.declared.status.Status.{Status}
-use Rattle.goset_cli.specs.declared.status.Status.TheVariants.{Done, Failed, Misused}
+use Rattle.goset_cli.specs.declared.status.Status.TheVariants.{Done, Misused}
 
 or_left : (a b : Bool) → a ≡ true → (a || b) ≡ true
 or_left a b h = rw h refl
@@ -73,45 +73,54 @@ error_memory kinds e h none = elim h [
   | inr among ↦ absurd (subst (IsAmong (kind_of e)) none among)
 ]
 
-pub is_done : (s : Status) → code_of s ≡ 0 → s ≡ Done
-is_done Done h = refl
-is_done Failed h = absurd (omega (arith, h))
-is_done Misused h = absurd (omega (arith, h))
-
-pub is_failed : (s : Status) → code_of s ≡ 1 → s ≡ Failed
-is_failed Done h = absurd (omega (arith, h))
-is_failed Failed h = refl
-is_failed Misused h = absurd (omega (arith, h))
-
-pub is_misused : (s : Status) → code_of s ≡ 2 → s ≡ Misused
-is_misused Done h = absurd (omega (arith, h))
-is_misused Failed h = absurd (omega (arith, h))
-is_misused Misused h = refl
-
 -- what grows by nothing
 pub stays : {A : Type 0} (known : Option (List A)) → Grows known known []
 stays None = tt
 stays (Some xs) = sym (append-nil xs)
 
--- a session that had no memory to read its words told and wrote nothing
-pub memory_session : (edition : Edition) (told : Option (List Told)) (written : Option (List ℕ)) (failure : SessionError) → failure ≡ Memory
-    → Session edition (stopped failure) told told written written
-memory_session edition told written failure memory = rw memory (inl (([], stays told), stays written))
+-- ---- sessions
 
--- a session that stopped is of one edition, which has two names
-pub stopped_in : (edition named : Edition) (told told' : Option (List Told)) (written written' : Option (List ℕ)) (failure : SessionError) → edition ≡ named
-    → Session edition (stopped failure) told told' written written' → Session named (stopped failure) told told' written written'
-stopped_in edition named told told' written written' failure same session =
-    subst (λ (e : Edition). Session e (stopped failure) told told' written written') same session
+-- what a session says of its failure, whatever it answers else
+pub stopped_as : (A B : Type 0) (edition : Edition) (failure : SessionError) (told told' : Option (List Told)) (written written' : Option (List ℕ))
+    → Session {A = A} edition (Err failure) told told' written written' → Session {A = B} edition (Err failure) told told' written written'
+stopped_as A B edition Memory told told' written written' session = session
+stopped_as A B edition Read told told' written written' session = session
+stopped_as A B edition Write told told' written written' session = session
+stopped_as A B edition TooLong told told' written written' session = session
 
-pub no_reads : {T : Type 0} (failure : SessionError) → (failure ≡ Memory) ⊎ ((failure ≡ Write) × T) → failed_reads (stopped failure) ≡ 0
-no_reads failure h = elim h [
-  | inl memory ↦ ap (λ (f : SessionError). failed_reads (stopped f)) memory
-  | inr write ↦ ap (λ (f : SessionError). failed_reads (stopped f)) write.0
-]
+pub reads_as : (A B : Type 0) (failure : SessionError) → failed_reads {A = A} (Err failure) ≡ failed_reads {A = B} (Err failure)
+reads_as A B Memory = refl
+reads_as A B Read = refl
+reads_as A B Write = refl
+reads_as A B TooLong = refl
+
+pub writes_as : (A B : Type 0) (failure : SessionError) → failed_writes {A = A} (Err failure) ≡ failed_writes {A = B} (Err failure)
+writes_as A B Memory = refl
+writes_as A B Read = refl
+writes_as A B Write = refl
+writes_as A B TooLong = refl
+
+-- a session is of one edition, which has two names
+pub session_in : {A : Type 0} (edition named : Edition) (ended : Result A SessionError) (told told' : Option (List Told)) (written written' : Option (List ℕ)) → edition ≡ named
+    → Session edition ended told told' written written' → Session named ended told told' written written'
+session_in edition named ended told told' written written' same session =
+    subst (λ (e : Edition). Session e ended told told' written written') same session
+
+-- one that had no memory to read its words told and wrote nothing
+pub memory_session : {A : Type 0} (edition : Edition) (ended : Result A SessionError) (told : Option (List Told)) (written : Option (List ℕ)) → ended ≡ Err Memory
+    → Session edition ended told told written written
+memory_session edition ended told written memory = rw memory (inl (([], stays told), stays written))
+
+-- ---- words that ask for no session
+
+-- clap finds something in them, so that no answer but want of memory says that it doesn't
+pub not_ended : (kinds : Kinds) (e : Error) (status : Status) → HasKind kinds e → kinds ≡ [] → (status ≡ Done → is_asked (kind_of e) ≡ true)
+    → (status ≡ Misused → (is_asked (kind_of e) ≡ false) × (kind_of e ≡ OutOfMemory → ⊥)) → ⊥
+not_ended kinds e Done h none asked misused = not_memory (kind_of e) (asked refl) (error_memory kinds e h none)
+not_ended kinds e Misused h none asked misused = (misused refl).1 (error_memory kinds e h none)
 
 -- no failure but want of memory, where no text is asked for
-pub only_memory : (k : ErrorKind) (failure : SessionError) → (failure ≡ Memory) ⊎ ((failure ≡ Write) × (is_asked k ≡ true)) → is_asked k ≡ false → failure ≡ Memory
+pub only_memory : (k : ErrorKind) (failure : SessionError) → FailsByKind k failure → is_asked k ≡ false → failure ≡ Memory
 only_memory k failure h none = elim h [
   | inl memory ↦ memory
   | inr write ↦
@@ -119,10 +128,66 @@ only_memory k failure h none = elim h [
       cc
 ]
 
--- how words fail that ask for no session, where this error was told of them
-pub fails_unasked : (kinds : Kinds) (e : Error) (failure : SessionError) → HasKind kinds e
-    → (failure ≡ Memory) ⊎ ((failure ≡ Write) × (is_asked (kind_of e) ≡ true)) → FailsUnasked failure kinds
-fails_unasked kinds e failure h told = elim told [
+pub memory_unasked : (kinds : Kinds) (e : Error) → HasKind kinds e → kinds ≡ [] → is_asked (kind_of e) ≡ false
+memory_unasked kinds e h none = ap is_asked (error_memory kinds e h none)
+
+pub memory_ended : (kinds : Kinds) (e : Error) (ended : Result Status SessionError) → HasKind kinds e → kinds ≡ []
+    → IfOk ended (λ status. status ≡ Done → is_asked (kind_of e) ≡ true)
+    → IfOk ended (λ status. status ≡ Misused → (is_asked (kind_of e) ≡ false) × (kind_of e ≡ OutOfMemory → ⊥))
+    → IfErr ended (FailsByKind (kind_of e)) → ended ≡ Err Memory
+memory_ended kinds e (Ok status) h none asked misused fails = absurd (not_ended kinds e status h none asked misused)
+memory_ended kinds e (Err failure) h none asked misused fails = ap Err (only_memory (kind_of e) failure fails (memory_unasked kinds e h none))
+
+-- they end as the kind of their error says
+pub asks_of : (kinds : Kinds) (e : Error) (ended : Result Status SessionError) → HasKind kinds e → IfOk ended (λ status. status ≡ Done → is_asked (kind_of e) ≡ true)
+    → IfOk ended (λ status. status ≡ Done → asks_text kinds ≡ true)
+asks_of kinds e (Ok status) h asked = λ done. error_asked kinds e h (asked done)
+asks_of kinds e (Err failure) h asked = tt
+
+pub wrong_of : (kinds : Kinds) (e : Error) (ended : Result Status SessionError) → HasKind kinds e
+    → IfOk ended (λ status. status ≡ Misused → (is_asked (kind_of e) ≡ false) × (kind_of e ≡ OutOfMemory → ⊥))
+    → IfOk ended (λ status. status ≡ Misused → is_wrong kinds ≡ true)
+wrong_of kinds e (Ok status) h misused = λ is. let found = misused is in error_wrong kinds e h found.0 found.1
+wrong_of kinds e (Err failure) h misused = tt
+
+pub fails_unasked : (kinds : Kinds) (e : Error) (failure : SessionError) → HasKind kinds e → FailsByKind (kind_of e) failure → FailsUnasked kinds failure
+fails_unasked kinds e failure h fails = elim fails [
   | inl memory ↦ inl memory
   | inr write ↦ inr (write.0, error_asked kinds e h write.1)
 ]
+
+pub fails_of : (kinds : Kinds) (e : Error) (ended : Result Status SessionError) → HasKind kinds e → IfErr ended (FailsByKind (kind_of e)) → IfErr ended (FailsUnasked kinds)
+fails_of kinds e (Ok status) h fails = tt
+fails_of kinds e (Err failure) h fails = fails_unasked kinds e failure h fails
+
+pub no_read : (k : ErrorKind) (failure : SessionError) → FailsByKind k failure → failed_reads {A = Status} (Err failure) ≡ 0
+no_read k failure fails = elim fails [
+  | inl memory ↦ ap (λ (f : SessionError). failed_reads {A = Status} (Err f)) memory
+  | inr write ↦ ap (λ (f : SessionError). failed_reads {A = Status} (Err f)) write.0
+]
+
+pub no_reads : (k : ErrorKind) (ended : Result Status SessionError) → IfErr ended (FailsByKind k) → failed_reads ended ≡ 0
+no_reads k (Ok status) fails = refl
+no_reads k (Err failure) fails = no_read k failure fails
+
+-- ---- what is known of some end
+
+-- what holds of each answer holds of one
+pub always : {E : Type 0} (P : Type 0) (ended : Result Status E) → OnOk ended P → IfOk ended (λ status. status ≡ Done → P)
+always P (Ok status) holds = λ done. holds
+always P (Err e) holds = tt
+
+-- a session that was run isn't one of wrong words
+pub never_misused : {E : Type 0} (P : Type 0) (ended : Result Status E) → IfOk ended (λ status. status ≡ Done) → IfOk ended (λ status. status ≡ Misused → P)
+never_misused P (Ok Done) done = λ is. cc
+never_misused P (Ok Misused) done = λ is. cc
+never_misused P (Err e) done = tt
+
+pub on_done : {E : Type 0} {P : Type 0} (ended : Result Status E) → ended ≡ Ok Done → IfOk ended (λ status. status ≡ Done → P) → P
+on_done {E} {P} ended is holds = (subst (λ (x : Result Status E). IfOk x (λ status. status ≡ Done → P)) is holds) refl
+
+pub on_misused : {E : Type 0} {P : Type 0} (ended : Result Status E) → ended ≡ Ok Misused → IfOk ended (λ status. status ≡ Misused → P) → P
+on_misused {E} {P} ended is holds = (subst (λ (x : Result Status E). IfOk x (λ status. status ≡ Misused → P)) is holds) refl
+
+pub on_failed : {E : Type 0} (P : E → Type 0) (ended : Result Status E) (failure : E) → ended ≡ Err failure → IfErr ended P → P failure
+on_failed {E} P ended failure is holds = subst (λ (x : Result Status E). IfErr x P) is holds

@@ -1,5 +1,5 @@
 -- What is known of how files that are run end.
-use Rattle.std.proofs.Common.{◌≡◌, ◌≤◌, ℕ, Bool, List, Option, inl, inr, arith, refl, subst}
+use Rattle.std.proofs.Common.{◌≡◌, ◌≤◌, ℕ, Bool, List, Option, Result, Ok, Err, inl, inr, arith, refl, subst}
 use Rattle.std.specs.Prelude.{◌⊎◌}
 use Rattle.clap.specs.Walk.{Text}
 use Rattle.go_text.specs.declared.edition.Edition.{Edition}
@@ -11,34 +11,29 @@ use Rattle.goset_cli.specs.declared.failure.Failure.TheVariants as failures
 use Rattle.goset_cli.specs.declared.running.SessionError.{SessionError}
 use Rattle.goset_cli.specs.declared.running.SessionError.TheVariants.{Memory, Read, Write, TooLong}
 use Rattle.goset_cli.specs.declared.status.Status.{Status}
-use Rattle.goset_cli.specs.declared.status.Status.TheVariants.{Done, Failed, Misused}
+use Rattle.goset_cli.specs.declared.status.Status.TheVariants.{Done, Misused}
 
 -- ---- statuses
 
-pub code_known : (s : Status) → IsRunStatus (run_code_of s)
-code_known Done = inl (omega arith)
-code_known Failed = inr (inr refl)
-code_known Misused = inr (inl refl)
+pub code_known : {E : Type 0} (ended : Result Status E) → IsRunStatus (run_code_of ended)
+code_known (Ok Done) = inl (omega arith)
+code_known (Err e) = inr (inr refl)
+code_known (Ok Misused) = inr (inl refl)
 
-pub is_shown : (s : Status) → (run_code_of s ≡ 70 → ⊥) → (run_code_of s ≡ 64 → ⊥) → s ≡ Done
-is_shown Done not_70 not_64 = refl
-is_shown Failed not_70 not_64 = absurd (not_70 refl)
-is_shown Misused not_70 not_64 = absurd (not_64 refl)
+pub is_shown : {E : Type 0} (ended : Result Status E) → (run_code_of ended ≡ 70 → ⊥) → (run_code_of ended ≡ 64 → ⊥) → ended ≡ Ok Done
+is_shown (Ok Done) not_70 not_64 = refl
+is_shown (Err e) not_70 not_64 = absurd (not_70 refl)
+is_shown (Ok Misused) not_70 not_64 = absurd (not_64 refl)
 
-pub is_failed : (s : Status) → run_code_of s ≡ 70 → s ≡ Failed
-is_failed Done h = absurd (omega (arith, h))
-is_failed Failed h = refl
-is_failed Misused h = absurd (omega (arith, h))
+pub is_failed : {E : Type 0} (ended : Result Status E) → run_code_of ended ≡ 70 → (failure : E) × (ended ≡ Err failure)
+is_failed (Ok Done) h = absurd (omega (arith, h))
+is_failed (Err e) h = (e, refl)
+is_failed (Ok Misused) h = absurd (omega (arith, h))
 
-pub is_misused : (s : Status) → run_code_of s ≡ 64 → s ≡ Misused
-is_misused Done h = absurd (omega (arith, h))
-is_misused Failed h = absurd (omega (arith, h))
-is_misused Misused h = refl
-
-pub none_asked : (s : Status) → (s ≡ Done → ⊥) → (s ≡ Misused → ⊥) → s ≡ Failed
-none_asked Done not_done not_misused = absurd (not_done refl)
-none_asked Failed not_done not_misused = refl
-none_asked Misused not_done not_misused = absurd (not_misused refl)
+pub is_misused : {E : Type 0} (ended : Result Status E) → run_code_of ended ≡ 64 → ended ≡ Ok Misused
+is_misused (Ok Done) h = absurd (omega (arith, h))
+is_misused (Err e) h = absurd (omega (arith, h))
+is_misused (Ok Misused) h = refl
 
 -- a program's status, and that of a failure, isn't that of wrong words
 pub not_misused : (status : ℕ) → (status ≤ 3) ⊎ (status ≡ 70) → status ≡ 64 → ⊥

@@ -1,10 +1,15 @@
 -- How a session ends.
-use Rattle.std.specs.Prelude.{ℕ, ◌⊎◌, ◌≤◌, List, [], length, Option, Result, Ok, Err}
+use Rattle.std.specs.Prelude.{◌≡◌, ℕ, ◌⊎◌, ◌≤◌, List, [], length, Option, Result, Ok, Err}
+use Rattle.clap.specs.Walk.{Text}
 use Rattle.go_text.specs.declared.edition.Edition.{Edition}
+use Rattle.goset_cli.specs.CommandLine.{edition_of, faults}
 use Rattle.goset_cli.specs.Told.{Told, Grows}
 use Rattle.goset_cli.specs.Reading.{GaveAll, NotRead, limit}
 use Rattle.goset_cli.specs.declared.reading.ReadError.TheVariants as reads
 use Rattle.ws_session.specs.Text.{SessionText, Begun, IsClear}
+use Rattle.ws_session.specs.World.{opening}
+use Rattle.ws_session.specs.Standing.{StandFor}
+use Rattle.ws_session.specs.declared.replicas.Replicas.{Replicas}
 use Rattle.goset_cli.specs.declared.running.SessionError.{SessionError}
 use Rattle.goset_cli.specs.declared.running.SessionError.TheVariants.{Memory, Read, Write, TooLong}
 
@@ -25,3 +30,11 @@ Session edition (Err Memory) told told' written written' = (NotRead reads.Memory
 Session edition (Err Read) told told' written written' = NotRead reads.Read told told' × Grows written written' []
 Session edition (Err Write) told told' written written' = (script : List ℕ) × GaveAll told told' script × WroteSome edition script written written'
 Session edition (Err TooLong) told told' written written' = NotRead reads.TooLong told told' × Grows written written' []
+
+-- the same of replicas that stand for the first world of an edition
+abbrev pub SessionFrom : {A : Type 0} → Replicas → Result A SessionError → Option (List Told) → Option (List Told) → Option (List ℕ) → Option (List ℕ) → Type 0
+SessionFrom replicas ended told told' written written' = (edition : Edition) → StandFor replicas (opening edition) → Session edition ended told told' written written'
+
+-- and of what words ask for, if clap finds no fault in them
+abbrev pub SessionBy : {A : Type 0} → List Text → Result A SessionError → Option (List Told) → Option (List Told) → Option (List ℕ) → Option (List ℕ) → Type 0
+SessionBy words ended told told' written written' = faults words ≡ [] → Session (edition_of words) ended told told' written written'

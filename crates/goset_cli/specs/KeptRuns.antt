@@ -12,7 +12,7 @@ use Rattle.ws_session.specs.Standing.{StandFor}
 use Rattle.ws_keep.specs.Keeping.{Continues, IsClearBehind, IsClearFrom, RestoresBehind, LeavesFrom, ReplaysFrom}
 use Rattle.ws_keep.specs.Stored.{Becomes, Holds}
 use Rattle.clap.specs.Walk.{Text}
-use Rattle.goset_cli.specs.CommandLine.{expected_of, keep_edition_of, keep_name_of}
+use Rattle.goset_cli.specs.CommandLine.{expected_of, keep_edition_of, keep_faults, keep_name_of}
 use Rattle.goset_cli.specs.Told.{Told, Grows}
 use Rattle.goset_cli.specs.Reading.{GaveAll, NotRead, limit}
 use Rattle.goset_cli.specs.declared.reading.ReadError.TheVariants as reads
@@ -48,6 +48,15 @@ pub record AnsweredSome (world : World) (script : List ℕ) (written written' : 
 abbrev pub FromEachWorld : Replicas → List ℕ → (World → Type 0) → Type 0
 FromEachWorld replicas script Holds =
     (edition : Edition) (before : List ℕ) (world : World) → LeavesFrom (opening edition) before world → StandFor replicas world → IsClearFrom world script → Holds world
+
+-- from each such world on the script was answered
+abbrev pub AnsweredFrom : Replicas → List ℕ → Option (List ℕ) → Option (List ℕ) → Option (List ℕ) → Option (List ℕ) → Replicas → Type 0
+AnsweredFrom replicas script written written' taken taken' replicas' =
+    FromEachWorld replicas script (λ world. Answered world script written written' taken taken' replicas')
+
+-- or a beginning of its text was written
+abbrev pub AnsweredSomeFrom : Replicas → List ℕ → Option (List ℕ) → Option (List ℕ) → Type 0
+AnsweredSomeFrom replicas script written written' = FromEachWorld replicas script (λ world. AnsweredSome world script written written')
 
 -- ---- runs
 
@@ -141,11 +150,12 @@ abbrev pub KeptWith : {A : Type 0} → KeepOptions → Result A KeepError → (L
 KeptWith options ended store store' told told' written written' =
     KeptRun options.edition (option_map (λ digest. digest.now) options.expected) ended (store options.name.now) (store' options.name.now) told told' written written'
 
--- and of what words ask for
+-- and of what words ask for, if clap finds no fault in them
 abbrev pub KeptBy : {A : Type 0} → List Text → Result A KeepError → (List ℕ → Option (List ℕ)) → (List ℕ → Option (List ℕ))
     → Option (List Told) → Option (List Told) → Option (List ℕ) → Option (List ℕ) → Type 0
 KeptBy words ended store store' told told' written written' =
-    KeptRun (keep_edition_of words) (expected_of words) ended (store (keep_name_of words)) (store' (keep_name_of words)) told told' written written'
+    keep_faults words ≡ []
+    → KeptRun (keep_edition_of words) (expected_of words) ended (store (keep_name_of words)) (store' (keep_name_of words)) told told' written written'
 
 -- A script was read, and what options name is kept: these lines are run behind it.
 abbrev pub BegunWith : KeepOptions → (List ℕ → Option (List ℕ)) → Option (List Told) → Option (List Told) → List ℕ → List ℕ → Type 0

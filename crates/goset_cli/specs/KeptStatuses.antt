@@ -4,7 +4,7 @@ use Rattle.clap.specs.Kinds.{Kinds}
 use Rattle.ws_keep.specs.declared.store.StoreError.{StoreError}
 use Rattle.ws_keep.specs.declared.store.StoreError.TheVariants as stores
 use Rattle.goset_cli.specs.Failures.{failed_reads, failed_writes}
-use Rattle.goset_cli.specs.Statuses.{FailsUnasked, complaint, stopped}
+use Rattle.goset_cli.specs.Statuses.{FailsUnasked, complaint}
 use Rattle.goset_cli.specs.declared.keeping.KeepError.{KeepError}
 use Rattle.goset_cli.specs.declared.keeping.KeepError.TheVariants.{Session, Store, Full, Another}
 
@@ -26,23 +26,21 @@ keep_complaint (Store error) = store_complaint error
 keep_complaint Full = codes "goset: keep: over 16777216 bytes with the script\n"
 keep_complaint Another = codes "goset: keep: another\n"
 
--- a run that kept what it leaves, and one that kept nothing
-abbrev pub kept : Result (Unit {0}) KeepError
-kept = Ok tt
+-- how many failures of the reader an error counts, and of the writer
+abbrev pub error_reads : KeepError → ℕ
+error_reads error = elim error [ Session failure ↦ failed_reads {A = Unit {0}} (Err failure) | _ ↦ 0 ]
 
-abbrev pub unkept : KeepError → Result (Unit {0}) KeepError
-unkept error = Err error
+abbrev pub error_writes : KeepError → ℕ
+error_writes error = elim error [ Session failure ↦ failed_writes {A = Unit {0}} (Err failure) | _ ↦ 0 ]
 
--- how many failures of the reader such an answer counts, and of the writer
+-- and what a run answers
 abbrev pub kept_reads : {A : Type 0} → Result A KeepError → ℕ
-kept_reads (Err (Session failure)) = failed_reads (stopped failure)
-kept_reads _ = 0
+kept_reads ended = elim ended [ Ok a ↦ 0 | Err error ↦ error_reads error ]
 
 abbrev pub kept_writes : {A : Type 0} → Result A KeepError → ℕ
-kept_writes (Err (Session failure)) = failed_writes (stopped failure)
-kept_writes _ = 0
+kept_writes ended = elim ended [ Ok a ↦ 0 | Err error ↦ error_writes error ]
 
--- how words that ask for no session may fail: memory ran out, or the text that they ask for wasn't taken
-abbrev pub FailsUnkept : KeepError → Kinds → Type 0
-FailsUnkept (Session failure) kinds = FailsUnasked failure kinds
-FailsUnkept _ kinds = ⊥
+-- how words in which clap finds these kinds fail that ask for no session
+abbrev pub FailsUnkept : Kinds → KeepError → Type 0
+FailsUnkept kinds (Session failure) = FailsUnasked kinds failure
+FailsUnkept kinds _ = ⊥

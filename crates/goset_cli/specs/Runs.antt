@@ -1,5 +1,5 @@
 -- How files that are run end: the status, and what standard output and standard error have.
-use Rattle.std.specs.Prelude.{◌≡◌, ◌⊎◌, ◌≤◌, ℕ, Bool, true, false, List, Option}
+use Rattle.std.specs.Prelude.{◌≡◌, ◌⊎◌, ◌≤◌, ℕ, Bool, true, false, List, Option, Result, Ok, Err}
 use Rattle.go_text.specs.declared.edition.Edition.{Edition}
 use Rattle.ws_run.specs.Files.{Files}
 use Rattle.ws_run.specs.Steps as steps
@@ -14,11 +14,11 @@ use Rattle.goset_cli.specs.declared.failure.Failure.{Failure}
 use Rattle.goset_cli.specs.declared.run.Account.{Account}
 use Rattle.goset_cli.specs.declared.running.SessionError.TheVariants.{Memory}
 use Rattle.goset_cli.specs.declared.status.Status.{Status}
-use Rattle.goset_cli.specs.declared.status.Status.TheVariants.{Done, Failed, Misused}
+use Rattle.goset_cli.specs.declared.status.Status.TheVariants.{Done, Misused}
 
 -- the status of words that ask for a text, or are wrong
-abbrev pub run_code_of : Status → ℕ
-run_code_of status = elim status [ Done ↦ 0 | Failed ↦ 70 | Misused ↦ 64 ]
+abbrev pub run_code_of : {E : Type 0} → Result Status E → ℕ
+run_code_of ended = elim ended [ Ok Done ↦ 0 | Err e ↦ 70 | Ok Misused ↦ 64 ]
 
 -- that of a program is at most 3
 abbrev pub IsRunStatus : ℕ → Type 0

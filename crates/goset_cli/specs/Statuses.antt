@@ -8,10 +8,11 @@ use Rattle.goset_cli.specs.Told.{Grows}
 use Rattle.goset_cli.specs.declared.running.SessionError.{SessionError}
 use Rattle.goset_cli.specs.declared.running.SessionError.TheVariants.{Memory, Read, Write, TooLong}
 use Rattle.goset_cli.specs.declared.status.Status.{Status}
-use Rattle.goset_cli.specs.declared.status.Status.TheVariants.{Done, Failed, Misused}
+use Rattle.goset_cli.specs.declared.status.Status.TheVariants.{Done, Misused}
 
-abbrev pub code_of : Status → ℕ
-code_of status = elim status [ Done ↦ 0 | Failed ↦ 1 | Misused ↦ 2 ]
+-- the number by which the system is told how the program ends
+abbrev pub code_of : {E : Type 0} → Result Status E → ℕ
+code_of ended = elim ended [ Ok Done ↦ 0 | Err e ↦ 1 | Ok Misused ↦ 2 ]
 
 -- the line of standard error for each failure
 abbrev pub complaint : SessionError → List ℕ
@@ -28,13 +29,6 @@ not_utf8 = codes "error: a word isn't UTF-8\n"
 abbrev pub not_utf8_file : List ℕ
 not_utf8_file = codes "goset: a file's name isn't UTF-8\n"
 
--- a session that was run to its end, and one that stopped
-abbrev pub whole : Result (Unit {0}) SessionError
-whole = Ok tt
-
-abbrev pub stopped : SessionError → Result (Unit {0}) SessionError
-stopped failure = Err failure
-
 -- words that clap answers with this kind ask for a text, help or the version
 abbrev pub is_asked : ErrorKind → Bool
 is_asked kind = elim kind [ DisplayHelp ↦ true | DisplayVersion ↦ true | _ ↦ false ]
@@ -47,8 +41,12 @@ abbrev pub is_wrong : Kinds → Bool
 is_wrong = list_any (λ kind. not (is_asked kind))
 
 -- how words of these kinds that ask for no session may fail: memory ran out, or the text that they ask for wasn't taken
-abbrev pub FailsUnasked : SessionError → Kinds → Type 0
-FailsUnasked failure kinds = (failure ≡ Memory) ⊎ ((failure ≡ Write) × (asks_text kinds ≡ true))
+abbrev pub FailsUnasked : Kinds → SessionError → Type 0
+FailsUnasked kinds failure = (failure ≡ Memory) ⊎ ((failure ≡ Write) × (asks_text kinds ≡ true))
+
+-- the same of words that clap answers with one kind
+abbrev pub FailsByKind : ErrorKind → SessionError → Type 0
+FailsByKind kind failure = (failure ≡ Memory) ⊎ ((failure ≡ Write) × (is_asked kind ≡ true))
 
 -- an end took a text, or a write of it failed and the end took a beginning; it counts its failed writes
 abbrev pub Tells : List ℕ → ℕ → ℕ → Option (List ℕ) → Option (List ℕ) → Type 0

@@ -1,11 +1,10 @@
-//! Runs that go on from a kept workspace, from the program's words to the status.
-ghost use Rattle.std.specs.Prelude.{◌≡◌, ◌≢◌, ℕ, List, ◌+◌, ◌<◌, ◌≤◌, ◌^◌, [], false, map, true};
+//! Runs that go on from a kept workspace, from the program's words to how it ends.
+ghost use Rattle.std.specs.Prelude.{◌≡◌, ◌≢◌, ℕ, List, ◌+◌, ◌<◌, ◌≤◌, ◌^◌, [], IfErr, IfOk, OnOk, false, map, true};
 ghost use Rattle.goset_cli.specs.CommandLine.{keep_faults, keep_name_of};
 ghost use Rattle.goset_cli.specs.KeptRuns.{KeptBy, KeptWith};
-ghost use Rattle.goset_cli.specs.KeptStatuses.{FailsUnkept, keep_complaint, kept, kept_reads, kept_writes, store_complaint, unkept};
+ghost use Rattle.goset_cli.specs.KeptStatuses.{FailsUnkept, keep_complaint, kept_reads, kept_writes, store_complaint};
 ghost use Rattle.goset_cli.specs.Statuses.{Complains, Shows, Tells, asks_text, is_wrong};
-ghost use Rattle.goset_cli.specs.declared.keeping.KeepError.{KeepError as AKeepError};
-ghost use Rattle.goset_cli.specs.declared.status.Status.TheVariants.{Done, Failed, Misused};
+ghost use Rattle.goset_cli.specs.declared.status.Status.TheVariants.{Done, Misused};
 
 use crate::Plain;
 use crate::keeping::{KeepError, KeepOptions, run_kept};
@@ -57,50 +56,45 @@ fn run<T: Threads + Wait + Sync, K: Store, I: ScriptIn, O: ScriptOut, E: ScriptO
     reader: &mut I,
     writer: &mut O,
     errors: &mut E,
-) -> Status
+) -> Result<Status, KeepError>
     requires some { 1 ≤ options.now.workers }
     requires few { options.now.workers ≤ 64 }
     requires readable { I.failed reader.old + 1 < 2 ^ 64 }
     requires writable { O.failed writer.old + 1 < 2 ^ 64 }
     requires tellable { E.failed errors.old + 1 < 2 ^ 64 }
-    ensures done { result ≡ Done → KeptWith options.now kept (K.kept store.old) (K.kept store.new)
-        (I.told reader.old) (I.told reader.new) (O.written writer.old) (O.written writer.new) }
-    ensures silent { result ≡ Done → (I.failed reader.new ≡ I.failed reader.old)
-        × (O.failed writer.new ≡ O.failed writer.old) × (errors.new ≡ errors.old) }
-    ensures failed { result ≡ Failed → (error : AKeepError)
-        × (I.failed reader.new ≡ I.failed reader.old + kept_reads (unkept error))
-        × (O.failed writer.new ≡ O.failed writer.old + kept_writes (unkept error))
-        × Tells (keep_complaint error) (E.failed errors.old) (E.failed errors.new)
-        (E.written errors.old) (E.written errors.new)
-        × KeptWith options.now (unkept error) (K.kept store.old) (K.kept store.new)
+    ensures kept { KeptWith options.now result (K.kept store.old) (K.kept store.new)
         (I.told reader.old) (I.told reader.new) (O.written writer.old) (O.written writer.new) }
     ensures others { (other : List ℕ) → other ≢ options.now.name.now → K.kept store.new other ≡ K.kept store.old other }
-    ensures used { result ≢ Misused }
+    ensures done { IfOk result (λ status. status ≡ Done) }
+    ensures silent { OnOk result (errors.new ≡ errors.old) }
+    ensures tells { IfErr result (λ error. Tells (keep_complaint error) (E.failed errors.old)
+        (E.failed errors.new) (E.written errors.old) (E.written errors.new)) }
+    ensures reads { I.failed reader.new ≡ I.failed reader.old + kept_reads result }
+    ensures writes { O.failed writer.new ≡ O.failed writer.old + kept_writes result }
 {
     match run_kept(rt, alloc, store, reader, writer, options, &Plain) {
-        Ok(()) => Status::Done,
+        Ok(()) => Ok(Status::Done),
         Err(error) => {
             tell(errors, keep_line(error).as_bytes());
-            Status::Failed
+            Err(error)
         }
     }
 }
 
 /// Runs the session that these words ask for behind what a store has under the name that they give,
-/// keeps what it leaves there, and answers the status. The first word is the program's name.
+/// and keeps what it leaves there. The first word is the program's name.
 ///
-/// - 0: the script was run, refusals or not, and what it leaves is kept; or help or the version was
-///   written.
-/// - 1: memory ran out, a read or a write failed, the store failed or is in use, what it has isn't
-///   what is expected, or is too long with the script. The errors have a line that says which, and
-///   the store has what it had. Where no session is asked for it is memory, or a write of the text
-///   that is asked for.
-/// - 2: the words are wrong. The errors have the reason.
+/// - `Done`: the script was run, refusals or not, and what it leaves is kept; or help or the
+///   version was written.
+/// - `Misused`: the words are wrong. The errors have the reason.
+/// - An `Err`: memory ran out, a read or a write failed, the store failed or is in use, what it has
+///   isn't what is expected, or is too long with the script. The errors have a line that says
+///   which, and the store has what it had. Where no session is asked for it is memory, or a write
+///   of the text that is asked for.
 ///
 /// Nothing is read before the words are found to ask for a session, and nothing is loaded before
-/// the script is read. That the errors fail changes no status.
+/// the script is read. That the errors fail changes no answer.
 pub fn run_keep_words<
-    'a,
     T: Threads + Wait + Sync,
     S: AsStr,
     K: Store,
@@ -110,49 +104,42 @@ pub fn run_keep_words<
 >(
     rt: &T,
     alloc: Global,
-    words: &'a [S],
+    words: &[S],
     store: &mut K,
     reader: &mut I,
     writer: &mut O,
     errors: &mut E,
-) -> u8
+) -> Result<Status, KeepError>
     requires readable { I.failed reader.old + 1 < 2 ^ 64 }
     requires writable { O.failed writer.old + 1 < 2 ^ 64 }
     requires tellable { E.failed errors.old + 1 < 2 ^ 64 }
-    ensures known { result ≤ 2 }
-    ensures kept { keep_faults (map S.text words.entry.now) ≡ [] → result ≡ 0
-        → KeptBy (map S.text words.entry.now) kept (K.kept store.old) (K.kept store.new)
+    ensures kept { KeptBy (map S.text words.now) result (K.kept store.old) (K.kept store.new)
         (I.told reader.old) (I.told reader.new) (O.written writer.old) (O.written writer.new) }
-    ensures asked { keep_faults (map S.text words.entry.now) ≢ [] → result ≡ 0
-        → asks_text (keep_faults (map S.text words.entry.now)) ≡ true }
-    ensures shown { keep_faults (map S.text words.entry.now) ≢ [] → result ≡ 0
-        → Shows (O.written writer.old) (O.written writer.new) }
-    ensures silent { result ≡ 0 → (I.failed reader.new ≡ I.failed reader.old)
-        × (O.failed writer.new ≡ O.failed writer.old) × (errors.new ≡ errors.old) }
-    ensures failed { result ≡ 1 → (error : AKeepError)
-        × (I.failed reader.new ≡ I.failed reader.old + kept_reads (unkept error))
-        × (O.failed writer.new ≡ O.failed writer.old + kept_writes (unkept error))
-        × Tells (keep_complaint error) (E.failed errors.old) (E.failed errors.new)
-        (E.written errors.old) (E.written errors.new)
-        × (keep_faults (map S.text words.entry.now) ≡ []
-        → KeptBy (map S.text words.entry.now) (unkept error) (K.kept store.old) (K.kept store.new)
-        (I.told reader.old) (I.told reader.new) (O.written writer.old) (O.written writer.new))
-        × (keep_faults (map S.text words.entry.now) ≢ []
-        → FailsUnkept error (keep_faults (map S.text words.entry.now))) }
-    ensures misused { result ≡ 2 → is_wrong (keep_faults (map S.text words.entry.now)) ≡ true }
-    ensures explained { result ≡ 2 → Complains (E.failed errors.old) (E.failed errors.new)
-        (E.written errors.old) (E.written errors.new) }
-    ensures unread { keep_faults (map S.text words.entry.now) ≢ [] → reader.new ≡ reader.old }
-    ensures unkept { keep_faults (map S.text words.entry.now) ≢ [] → store.new ≡ store.old }
-    ensures others { (other : List ℕ) → other ≢ keep_name_of (map S.text words.entry.now)
+    ensures others { (other : List ℕ) → other ≢ keep_name_of (map S.text words.now)
         → K.kept store.new other ≡ K.kept store.old other }
-    ensures unwritten { keep_faults (map S.text words.entry.now) ≢ []
-        → asks_text (keep_faults (map S.text words.entry.now)) ≡ false
+    ensures asked { keep_faults (map S.text words.now) ≢ [] → IfOk result (λ status. status ≡ Done
+        → asks_text (keep_faults (map S.text words.now)) ≡ true) }
+    ensures shown { keep_faults (map S.text words.now) ≢ [] → IfOk result (λ status. status ≡ Done
+        → Shows (O.written writer.old) (O.written writer.new)) }
+    ensures silent { IfOk result (λ status. status ≡ Done → errors.new ≡ errors.old) }
+    ensures misused { IfOk result (λ status. status ≡ Misused
+        → is_wrong (keep_faults (map S.text words.now)) ≡ true) }
+    ensures explained { IfOk result (λ status. status ≡ Misused → Complains (E.failed errors.old)
+        (E.failed errors.new) (E.written errors.old) (E.written errors.new)) }
+    ensures fails { keep_faults (map S.text words.now) ≢ []
+        → IfErr result (FailsUnkept (keep_faults (map S.text words.now))) }
+    ensures tells { IfErr result (λ error. Tells (keep_complaint error) (E.failed errors.old)
+        (E.failed errors.new) (E.written errors.old) (E.written errors.new)) }
+    ensures reads { I.failed reader.new ≡ I.failed reader.old + kept_reads result }
+    ensures writes { O.failed writer.new ≡ O.failed writer.old + kept_writes result }
+    ensures unread { keep_faults (map S.text words.now) ≢ [] → reader.new ≡ reader.old }
+    ensures unkept { keep_faults (map S.text words.now) ≢ [] → store.new ≡ store.old }
+    ensures unwritten { keep_faults (map S.text words.now) ≢ []
+        → asks_text (keep_faults (map S.text words.now)) ≡ false
         → writer.new ≡ writer.old }
 {
-    let status = match read_keep_options(alloc, words) {
+    match read_keep_options(alloc, words) {
         Ok(options) => run(rt, alloc, &options, store, reader, writer, errors),
-        Err(error) => explain(alloc, &error, writer, errors),
-    };
-    status.code()
+        Err(error) => Ok(explain(alloc, &error, writer, errors)?),
+    }
 }

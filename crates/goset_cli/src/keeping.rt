@@ -1,5 +1,5 @@
 //! A run that goes on from what is kept, and keeps what it leaves.
-ghost use Rattle.std.specs.Prelude.{◌≡◌, ◌≢◌, ℕ, ◌+◌, ◌<◌, ◌≤◌, ◌^◌, List, length, IfErr, IfOk, MatchResult, None, OnErr, OnOk, Option, false, option_map, true};
+ghost use Rattle.std.specs.Prelude.{◌≡◌, ◌≢◌, ℕ, ◌+◌, ◌<◌, ◌≤◌, ◌^◌, List, length, IfErr, IfOk, None, OnErr, OnOk, Option, false, option_map, true};
 ghost use Rattle.std.specs.Str.{bytes_eq};
 ghost use Rattle.hex.specs.Hex.{encode_lower};
 ghost use Rattle.sha2.specs.Sha256.{sha256};
@@ -8,7 +8,7 @@ ghost use Rattle.ws_keep.specs.Stored.{Becomes, Holds};
 ghost use Rattle.goset_cli.specs.Answers.{unanswered, unread};
 ghost use Rattle.goset_cli.specs.Failures.{unwritten};
 ghost use Rattle.goset_cli.specs.KeptRuns.{BegunWith, IsExpected, KeptWith, NotLoaded, NothingWith, Resumed, ResumedSome, edition_line, opened};
-ghost use Rattle.goset_cli.specs.KeptStatuses.{kept_reads, kept_writes, unkept};
+ghost use Rattle.goset_cli.specs.KeptStatuses.{kept_reads, kept_writes};
 ghost use Rattle.goset_cli.specs.Reading.{limit};
 ghost use Rattle.goset_cli.specs.declared.keeping.KeepError.TheVariants as errors;
 ghost use Rattle.goset_cli.specs.declared.running.SessionError.TheVariants.{Memory};
@@ -256,9 +256,8 @@ fn begin<S: Store, I: ScriptIn>(
     ensures refused { (written : Option (List ℕ)) → IfErr result (λ e.
         NothingWith options.now e (S.kept store.old) (I.told reader.old) (I.told reader.new) written) }
     ensures still { S.kept store.new ≡ S.kept store.old }
-    ensures reads { MatchResult result (λ _. I.failed reader.new ≡ I.failed reader.old)
-        (λ e. I.failed reader.new ≡ I.failed reader.old + kept_reads (unkept e)) }
-    ensures writes { IfErr result (λ e. kept_writes (unkept e) ≡ 0) }
+    ensures reads { I.failed reader.new ≡ I.failed reader.old + kept_reads result }
+    ensures writes { kept_writes result ≡ 0 }
 {
     let bytes = read_whole(alloc, reader)?;
     let script = opened(alloc, options.edition, bytes)?;

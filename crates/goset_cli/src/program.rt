@@ -1,14 +1,13 @@
-//! Sessions that the program's words ask for, from these words to the status.
-ghost use Rattle.std.specs.Prelude.{◌≡◌, ◌≢◌, ◌⊎◌, ◌+◌, ◌<◌, ◌≤◌, ◌^◌, [], false, true, map, length, string_bytes, IfOk};
+//! Sessions that the program's words ask for, from these words to how the program ends.
+ghost use Rattle.std.specs.Prelude.{◌≡◌, ◌≢◌, ◌+◌, ◌<◌, ◌≤◌, ◌^◌, [], IfErr, IfOk, MatchResult, OnErr, OnOk, false, length, map, string_bytes, true};
 ghost use Rattle.clap.specs.Words.{kind_of};
 ghost use Rattle.clap.specs.declared.error.kind.ErrorKind.TheVariants.{OutOfMemory};
-ghost use Rattle.goset_cli.specs.Ends.{Session};
+ghost use Rattle.goset_cli.specs.CommandLine.{faults};
+ghost use Rattle.goset_cli.specs.Ends.{Session, SessionBy};
 ghost use Rattle.goset_cli.specs.Failures.{failed_reads, failed_writes};
-ghost use Rattle.goset_cli.specs.declared.running.SessionError.{SessionError};
-ghost use Rattle.goset_cli.specs.declared.running.SessionError.TheVariants.{Memory, Write};
-ghost use Rattle.goset_cli.specs.CommandLine.{edition_of, faults};
-ghost use Rattle.goset_cli.specs.Statuses.{Complains, FailsUnasked, Shows, Tells, asks_text, complaint, is_asked, is_wrong, not_utf8, stopped, whole};
-ghost use Rattle.goset_cli.specs.declared.status.Status.TheVariants.{Done, Failed, Misused};
+ghost use Rattle.goset_cli.specs.Statuses.{Complains, FailsByKind, FailsUnasked, Shows, Tells, asks_text, complaint, is_asked, is_wrong, not_utf8};
+ghost use Rattle.goset_cli.specs.declared.running.SessionError.TheVariants.{Memory};
+ghost use Rattle.goset_cli.specs.declared.status.Status.TheVariants.{Done, Misused};
 
 use crate::Plain;
 use crate::reading::ScriptIn;
@@ -38,14 +37,12 @@ pub(crate) fn line_of(failure: SessionError) -> &'static str
 }
 
 // Tells of a failure, as far as standard error takes it.
-fn fail<E: ScriptOut>(failure: SessionError, errors: &mut E) -> Status
+fn complain<E: ScriptOut>(failure: SessionError, errors: &mut E)
     requires tellable { E.failed errors.old + 1 < 2 ^ 64 }
-    ensures failed { result ≡ Failed }
-    ensures tells { Tells (complaint failure) (E.failed errors.old) (E.failed errors.new)
+    ensures { Tells (complaint failure) (E.failed errors.old) (E.failed errors.new)
         (E.written errors.old) (E.written errors.new) }
 {
     tell(errors, line_of(failure).as_bytes());
-    Status::Failed
 }
 
 // Runs the script that the reader has.
@@ -56,37 +53,28 @@ fn run<T: Threads + Wait + Sync, I: ScriptIn, O: ScriptOut, E: ScriptOut>(
     reader: &mut I,
     writer: &mut O,
     errors: &mut E,
-) -> Status
+) -> Result<Status, SessionError>
     requires some { 1 ≤ options.workers }
     requires few { options.workers ≤ 64 }
     requires readable { I.failed reader.old + 1 < 2 ^ 64 }
     requires writable { O.failed writer.old + 1 < 2 ^ 64 }
     requires tellable { E.failed errors.old + 1 < 2 ^ 64 }
-    ensures done { result ≡ Done → Session options.edition whole (I.told reader.old) (I.told reader.new)
+    ensures session { Session options.edition result (I.told reader.old) (I.told reader.new)
         (O.written writer.old) (O.written writer.new) }
-    ensures silent { result ≡ Done → (I.failed reader.new ≡ I.failed reader.old)
-        × (O.failed writer.new ≡ O.failed writer.old) × (errors.new ≡ errors.old) }
-    ensures failed { result ≡ Failed → (failure : SessionError)
-        × (I.failed reader.new ≡ I.failed reader.old + failed_reads (stopped failure))
-        × (O.failed writer.new ≡ O.failed writer.old + failed_writes (stopped failure))
-        × Tells (complaint failure) (E.failed errors.old) (E.failed errors.new)
-        (E.written errors.old) (E.written errors.new)
-        × Session options.edition (stopped failure) (I.told reader.old) (I.told reader.new)
-        (O.written writer.old) (O.written writer.new) }
-    ensures used { result ≢ Misused }
+    ensures done { IfOk result (λ status. status ≡ Done) }
+    ensures silent { OnOk result (errors.new ≡ errors.old) }
+    ensures tells { IfErr result (λ failure. Tells (complaint failure) (E.failed errors.old)
+        (E.failed errors.new) (E.written errors.old) (E.written errors.new)) }
+    ensures reads { I.failed reader.new ≡ I.failed reader.old + failed_reads result }
+    ensures writes { O.failed writer.new ≡ O.failed writer.old + failed_writes result }
 {
-    let ended = run_script(
-        rt,
-        alloc,
-        reader,
-        writer,
-        options.workers,
-        options.edition,
-        &Plain,
-    );
-    match ended {
-        Ok(()) => Status::Done,
-        Err(failure) => fail(failure, errors),
+    let Options { workers, edition } = options;
+    match run_script(rt, alloc, reader, writer, workers, edition, &Plain) {
+        Ok(()) => Ok(Status::Done),
+        Err(failure) => {
+            complain(failure, errors);
+            Err(failure)
+        }
     }
 }
 
@@ -107,109 +95,107 @@ pub(crate) fn explain<O: ScriptOut, E: ScriptOut>(
     error: &Error,
     writer: &mut O,
     errors: &mut E,
-) -> Status
+) -> Result<Status, SessionError>
     requires writable { O.failed writer.old + 1 < 2 ^ 64 }
     requires tellable { E.failed errors.old + 1 < 2 ^ 64 }
-    ensures done { result ≡ Done → (is_asked (kind_of error.now) ≡ true)
-        × (O.failed writer.new ≡ O.failed writer.old) × (errors.new ≡ errors.old) }
-    ensures shown { result ≡ Done → Shows (O.written writer.old) (O.written writer.new) }
-    ensures failed { result ≡ Failed → (failure : SessionError)
-        × ((failure ≡ Memory) ⊎ ((failure ≡ Write) × (is_asked (kind_of error.now) ≡ true)))
-        × (O.failed writer.new ≡ O.failed writer.old + failed_writes (stopped failure))
-        × Tells (complaint failure) (E.failed errors.old) (E.failed errors.new)
-        (E.written errors.old) (E.written errors.new) }
-    ensures misused { result ≡ Misused → (is_asked (kind_of error.now) ≡ false)
-        × (kind_of error.now ≢ OutOfMemory) }
-    ensures explained { result ≡ Misused → Complains (E.failed errors.old) (E.failed errors.new)
-        (E.written errors.old) (E.written errors.new) }
+    ensures asked { IfOk result (λ status. status ≡ Done → is_asked (kind_of error.now) ≡ true) }
+    ensures shown { IfOk result (λ status. status ≡ Done
+        → Shows (O.written writer.old) (O.written writer.new)) }
+    ensures silent { IfOk result (λ status. status ≡ Done → errors.new ≡ errors.old) }
+    ensures misused { IfOk result (λ status. status ≡ Misused
+        → (is_asked (kind_of error.now) ≡ false) × (kind_of error.now ≢ OutOfMemory)) }
+    ensures explained { IfOk result (λ status. status ≡ Misused → Complains (E.failed errors.old)
+        (E.failed errors.new) (E.written errors.old) (E.written errors.new)) }
+    ensures fails { IfErr result (FailsByKind (kind_of error.now)) }
+    ensures tells { IfErr result (λ failure. Tells (complaint failure) (E.failed errors.old)
+        (E.failed errors.new) (E.written errors.old) (E.written errors.new)) }
+    ensures writes { O.failed writer.new ≡ O.failed writer.old + failed_writes result }
     ensures unwritten { is_asked (kind_of error.now) ≡ false → writer.new ≡ writer.old }
 {
     if error.kind() == ErrorKind::OutOfMemory {
-        return fail(SessionError::Memory, errors);
+        complain(SessionError::Memory, errors);
+        return Err(SessionError::Memory);
     }
     let Ok(text) = text_of(alloc, error) else {
-        return fail(SessionError::Memory, errors);
+        complain(SessionError::Memory, errors);
+        return Err(SessionError::Memory);
     };
     if error.use_stderr() {
         tell(errors, text.as_bytes());
-        return Status::Misused;
+        return Ok(Status::Misused);
     }
     match write_whole(writer, text.as_bytes()) {
-        Ok(()) => Status::Done,
-        Err(_) => fail(SessionError::Write, errors),
+        Ok(()) => Ok(Status::Done),
+        Err(_) => {
+            complain(SessionError::Write, errors);
+            Err(SessionError::Write)
+        }
     }
 }
 
-/// Tells why the program's words weren't had, and answers its status: 1 where memory ran out, and
-/// else 2, since a word isn't UTF-8.
-pub fn refuse_words<E: ScriptOut>(error: &io::Error, errors: &mut E) -> u8
+/// Tells why the program's words weren't had: a word isn't UTF-8, or memory ran out.
+pub fn refuse_words<E: ScriptOut>(error: &io::Error, errors: &mut E) -> Result<Status, SessionError>
     requires tellable { E.failed errors.old + 1 < 2 ^ 64 }
-    ensures known { (result ≡ 1) ⊎ (result ≡ 2) }
-    ensures memory { result ≡ 1 → Tells (complaint Memory) (E.failed errors.old) (E.failed errors.new)
-        (E.written errors.old) (E.written errors.new) }
-    ensures misused { result ≡ 2 → Tells not_utf8 (E.failed errors.old) (E.failed errors.new)
-        (E.written errors.old) (E.written errors.new) }
+    ensures known { MatchResult result (λ status. status ≡ Misused) (λ failure. failure ≡ Memory) }
+    ensures misused { OnOk result (Tells not_utf8 (E.failed errors.old) (E.failed errors.new)
+        (E.written errors.old) (E.written errors.new)) }
+    ensures memory { OnErr result (Tells (complaint Memory) (E.failed errors.old)
+        (E.failed errors.new) (E.written errors.old) (E.written errors.new)) }
 {
     if error.kind() == io::ErrorKind::OutOfMemory {
-        return fail(SessionError::Memory, errors).code();
+        complain(SessionError::Memory, errors);
+        return Err(SessionError::Memory);
     }
     tell(errors, b"error: a word isn't UTF-8\n");
-    Status::Misused.code()
+    Ok(Status::Misused)
 }
 
-/// Runs the session that these words ask for, of which the first is the program's name, and answers
-/// the status. Words of a run are wrong here.
+/// Runs the session that these words ask for, of which the first is the program's name. Words of a
+/// run are wrong here.
 ///
-/// - 0: the script was run, refusals or not; or help or the version was written.
-/// - 1: memory ran out, the script has more than 16,777,216 bytes, or a read or a write of it
-///   failed. The errors have a line that says which. Where no session is asked for it is memory, or
-///   a write of the text that is asked for.
-/// - 2: the words are wrong. The errors have the reason.
+/// - `Done`: the script was run, refusals or not; or help or the version was written.
+/// - `Misused`: the words are wrong. The errors have the reason.
+/// - An `Err`: memory ran out, the script has more than 16,777,216 bytes, or a read or a write of
+///   it failed. The errors have a line that says which. Where no session is asked for it is memory,
+///   or a write of the text that is asked for.
 ///
 /// Nothing is read before the words are found to ask for a session. That the errors fail changes
-/// no status.
-pub fn run_words<'a, T: Threads + Wait + Sync, S: AsStr, I: ScriptIn, O: ScriptOut, E: ScriptOut>(
+/// no answer.
+pub fn run_words<T: Threads + Wait + Sync, S: AsStr, I: ScriptIn, O: ScriptOut, E: ScriptOut>(
     rt: &T,
     alloc: Global,
-    words: &'a [S],
+    words: &[S],
     reader: &mut I,
     writer: &mut O,
     errors: &mut E,
-) -> u8
+) -> Result<Status, SessionError>
     requires readable { I.failed reader.old + 1 < 2 ^ 64 }
     requires writable { O.failed writer.old + 1 < 2 ^ 64 }
     requires tellable { E.failed errors.old + 1 < 2 ^ 64 }
-    ensures known { result ≤ 2 }
-    ensures session { faults (map S.text words.entry.now) ≡ [] → result ≡ 0
-        → Session (edition_of (map S.text words.entry.now)) whole (I.told reader.old) (I.told reader.new)
+    ensures session { SessionBy (map S.text words.now) result (I.told reader.old) (I.told reader.new)
         (O.written writer.old) (O.written writer.new) }
-    ensures asked { faults (map S.text words.entry.now) ≢ [] → result ≡ 0
-        → asks_text (faults (map S.text words.entry.now)) ≡ true }
-    ensures shown { faults (map S.text words.entry.now) ≢ [] → result ≡ 0
-        → Shows (O.written writer.old) (O.written writer.new) }
-    ensures silent { result ≡ 0 → (I.failed reader.new ≡ I.failed reader.old)
-        × (O.failed writer.new ≡ O.failed writer.old) × (errors.new ≡ errors.old) }
-    ensures failed { result ≡ 1 → (failure : SessionError)
-        × (I.failed reader.new ≡ I.failed reader.old + failed_reads (stopped failure))
-        × (O.failed writer.new ≡ O.failed writer.old + failed_writes (stopped failure))
-        × Tells (complaint failure) (E.failed errors.old) (E.failed errors.new)
-        (E.written errors.old) (E.written errors.new)
-        × (faults (map S.text words.entry.now) ≡ []
-        → Session (edition_of (map S.text words.entry.now)) (stopped failure) (I.told reader.old) (I.told reader.new)
-        (O.written writer.old) (O.written writer.new))
-        × (faults (map S.text words.entry.now) ≢ []
-        → FailsUnasked failure (faults (map S.text words.entry.now))) }
-    ensures misused { result ≡ 2 → is_wrong (faults (map S.text words.entry.now)) ≡ true }
-    ensures explained { result ≡ 2 → Complains (E.failed errors.old) (E.failed errors.new)
-        (E.written errors.old) (E.written errors.new) }
-    ensures unread { faults (map S.text words.entry.now) ≢ [] → reader.new ≡ reader.old }
-    ensures unwritten { faults (map S.text words.entry.now) ≢ []
-        → asks_text (faults (map S.text words.entry.now)) ≡ false
+    ensures asked { faults (map S.text words.now) ≢ [] → IfOk result (λ status. status ≡ Done
+        → asks_text (faults (map S.text words.now)) ≡ true) }
+    ensures shown { faults (map S.text words.now) ≢ [] → IfOk result (λ status. status ≡ Done
+        → Shows (O.written writer.old) (O.written writer.new)) }
+    ensures silent { IfOk result (λ status. status ≡ Done → errors.new ≡ errors.old) }
+    ensures misused { IfOk result (λ status. status ≡ Misused
+        → is_wrong (faults (map S.text words.now)) ≡ true) }
+    ensures explained { IfOk result (λ status. status ≡ Misused → Complains (E.failed errors.old)
+        (E.failed errors.new) (E.written errors.old) (E.written errors.new)) }
+    ensures fails { faults (map S.text words.now) ≢ []
+        → IfErr result (FailsUnasked (faults (map S.text words.now))) }
+    ensures tells { IfErr result (λ failure. Tells (complaint failure) (E.failed errors.old)
+        (E.failed errors.new) (E.written errors.old) (E.written errors.new)) }
+    ensures reads { I.failed reader.new ≡ I.failed reader.old + failed_reads result }
+    ensures writes { O.failed writer.new ≡ O.failed writer.old + failed_writes result }
+    ensures unread { faults (map S.text words.now) ≢ [] → reader.new ≡ reader.old }
+    ensures unwritten { faults (map S.text words.now) ≢ []
+        → asks_text (faults (map S.text words.now)) ≡ false
         → writer.new ≡ writer.old }
 {
-    let status = match read_options(alloc, words) {
+    match read_options(alloc, words) {
         Ok(options) => run(rt, alloc, options, reader, writer, errors),
         Err(error) => explain(alloc, &error, writer, errors),
-    };
-    status.code()
+    }
 }

@@ -12,6 +12,7 @@ ghost use Rattle.goset_cli.specs.declared.failure.Failure.TheVariants as failure
 
 use crate::failure::Failure;
 use crate::program::explain;
+use crate::running::SessionError;
 use crate::status::Status;
 use crate::told::{diagnostics, package_files};
 use crate::words::{RunOptions, read_run_options};
@@ -157,13 +158,13 @@ fn run_with<R: Threads + Wait + Sync, O: ScriptOut, E: ScriptOut>(
 }
 
 /// The status of words that ask for a text, or are wrong.
-fn code_of(status: Status) -> u8
-    ensures { result ≡ run_code_of status }
+fn run_code_of(ended: Result<Status, SessionError>) -> u8
+    ensures { result ≡ run_code_of ended }
 {
-    match status {
-        Status::Done => 0,
-        Status::Failed => FAILED,
-        Status::Misused => 64,
+    match ended {
+        Ok(Status::Done) => 0,
+        Err(_) => FAILED,
+        Ok(Status::Misused) => 64,
     }
 }
 
@@ -221,6 +222,6 @@ pub fn run_program<'a, R: Threads + Wait + Sync, S: AsStr, O: ScriptOut, E: Scri
 {
     match read_run_options(host.alloc(), words) {
         Ok(options) => run_with(rt, host, &options, writer, errors),
-        Err(error) => code_of(explain(host.alloc(), &error, writer, errors)),
+        Err(error) => run_code_of(explain(host.alloc(), &error, writer, errors)),
     }
 }

@@ -1,18 +1,15 @@
 //! Running a script, each command's answer written before the next is read.
 ghost use Rattle.std.specs.Prelude.{◌≡◌, ℕ, ◌+◌, ◌<◌, ◌^◌, ◌&&◌, not, List, length, drop, IfOk, OnOk, OnErr, Option};
 ghost use Rattle.std.specs.Option.{option_map};
-ghost use Rattle.go_text.specs.declared.edition.Edition.{Edition as AnEdition};
 ghost use Rattle.ws_command.specs.Lines.{lines_of};
 ghost use Rattle.ws_command.specs.Commands.{text_of};
 ghost use Rattle.ws_command.specs.Pieces.{without_newline};
 ghost use Rattle.ws_command.specs.Seen.{seen};
 ghost use Rattle.ws_keep.specs.Keeping.{is_change, is_refusal, kept_lines};
-ghost use Rattle.goset_cli.specs.KeptRuns.{Answered, AnsweredSome, FromEachWorld};
+ghost use Rattle.goset_cli.specs.KeptRuns.{AnsweredFrom, AnsweredSomeFrom};
 ghost use Rattle.goset_cli.specs.Requests.{AreLines, IsFirst};
 ghost use Rattle.goset_cli.specs.Told.{Grows};
-ghost use Rattle.ws_session.specs.World.{opening};
-ghost use Rattle.ws_session.specs.Standing.{StandFor};
-ghost use Rattle.goset_cli.specs.Ends.{Session};
+ghost use Rattle.goset_cli.specs.Ends.{SessionFrom};
 ghost use Rattle.goset_cli.specs.Failures.{failed_writes, failed_reads, unwritten};
 ghost use Rattle.goset_cli.specs.Answers.{unread, unanswered};
 ghost use Rattle.goset_cli.specs.declared.running.AnswerError.TheVariants.{Memory, Write};
@@ -201,11 +198,10 @@ pub fn answer<R: Threads + Wait + Sync, O: ScriptOut, J: Journal, G: Gate>(
 ) -> Result<(), AnswerError>
     requires some { 0 < workers }
     requires writable { O.failed writer.old + 1 < 2 ^ 64 }
-    ensures ok { FromEachWorld replicas.old script.now (λ world. OnOk result
-        (Answered world script.now (O.written writer.old) (O.written writer.new)
-        (J.taken journal.old) (J.taken journal.new) replicas.new)) }
-    ensures err { FromEachWorld replicas.old script.now (λ world. OnErr result
-        (AnsweredSome world script.now (O.written writer.old) (O.written writer.new))) }
+    ensures ok { OnOk result (AnsweredFrom replicas.old script.now (O.written writer.old)
+        (O.written writer.new) (J.taken journal.old) (J.taken journal.new) replicas.new) }
+    ensures err { OnErr result (AnsweredSomeFrom replicas.old script.now
+        (O.written writer.old) (O.written writer.new)) }
     ensures failed { O.failed writer.new ≡ O.failed writer.old + unwritten result }
 {
     let mut rest = script;
@@ -245,8 +241,7 @@ pub fn play<R: Threads + Wait + Sync, I: ScriptIn, O: ScriptOut, G: Gate>(
     requires some { 0 < workers }
     requires readable { I.failed reader.old + 1 < 2 ^ 64 }
     requires writable { O.failed writer.old + 1 < 2 ^ 64 }
-    ensures session { (edition : AnEdition) → StandFor replicas.old (opening edition) →
-        Session edition result (I.told reader.old) (I.told reader.new)
+    ensures session { SessionFrom replicas.old result (I.told reader.old) (I.told reader.new)
         (O.written writer.old) (O.written writer.new) }
     ensures reads { I.failed reader.new ≡ I.failed reader.old + failed_reads result }
     ensures writes { O.failed writer.new ≡ O.failed writer.old + failed_writes result }

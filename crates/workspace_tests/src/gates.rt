@@ -1,5 +1,4 @@
 //! Gates that count what passes them, hold a worker up, refuse it memory, or send it back.
-ghost use Rattle.std.specs.Prelude.{◌≡◌, IfOk, IfErr};
 
 use std::alloc::{AllocError, Global};
 use std::sync::atomic::{AtomicBool, AtomicU64, Ordering};

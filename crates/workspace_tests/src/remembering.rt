@@ -1,5 +1,5 @@
 //! A reader that remembers what it told, and a session over it.
-ghost use Rattle.std.specs.Prelude.{◌≡◌, ◌+◌, ◌<◌, ◌≤◌, ◌^◌, [], ◌∷◌, ◌++◌, Some, OnOk, OnErr};
+ghost use Rattle.std.specs.Prelude.{◌≡◌, ◌+◌, ◌<◌, ◌^◌, [], ◌∷◌, ◌++◌, Some, OnOk, OnErr};
 ghost use Rattle.std.specs.Option.{option_map};
 ghost use Rattle.go_text.specs.declared.edition.Edition.TheVariants.{One};
 ghost use Rattle.goset_cli.specs.Ends.{Wrote};

@@ -1,4 +1,4 @@
-use Rattle.std.proofs.Common.{sym, subst, arith}
+use Rattle.std.proofs.Common.{refl, sym, subst, arith}
 use Rattle.std.proofs.lemmas.Result.{on_ok_weaker}
 use Rattle.go_gen.specs.Translation.{AreOffsets}
 use Rattle.go_gen.specs.Views.{places_of}
@@ -24,7 +24,7 @@ emit_expr-returns-in_ok-emit_expr-in-Index t c =
     on_ok_weaker c.emit_expr-in-Index-2.result
     (index_emitted (places_of c.args.layout.now) c.args.k c.args.e.now c.in-Index.operand c.in-Index.index _ _ _ _ _ _ _ _ _ _ _ c.in-Index.is
     c.deref-in-Index.ensures c.deref-in-Index-2.ensures c.deref-in-Index-4.ensures c.deref-in-Index-3.ensures
-    c.in_ok-expr_temps-in-Index.ensures c.in_ok-behind-in-Index.ensures c.underlying.ensures c.in_ok-put_index-in-Index.ensures c.in_ok-emit_expr-in-Index.ensures)
+    refl c.in_ok-behind-in-Index.ensures c.underlying.ensures c.in_ok-put_index-in-Index.ensures c.in_ok-emit_expr-in-Index.ensures)
     c.emit_expr-in-Index-2.ensures
 
 pub emit_expr-returns-in_ok-emit_expr-in-Binary : goal.emit_expr-returns-in_ok-emit_expr-in-Binary
@@ -32,7 +32,7 @@ emit_expr-returns-in_ok-emit_expr-in-Binary t c =
     on_ok_weaker c.emit_expr-in-Binary-2.result
     (binary_emitted (places_of c.args.layout.now) c.args.k c.args.e.now c.in-Binary.operator c.in-Binary.a c.in-Binary.b _ _ _ _ _ _ _ _ _ _ c.in-Binary.is
     c.deref-in-Binary.ensures c.deref-in-Binary-2.ensures c.deref-in-Binary-4.ensures c.deref-in-Binary-3.ensures
-    c.in_ok-expr_temps-in-Binary.ensures c.in_ok-behind-in-Binary.ensures c.in_ok-put_binary-in-Binary.ensures c.in_ok-emit_expr-in-Binary.ensures)
+    refl c.in_ok-behind-in-Binary.ensures c.in_ok-put_binary-in-Binary.ensures c.in_ok-emit_expr-in-Binary.ensures)
     c.emit_expr-in-Binary-2.ensures
 
 pub emit_expr-returns-in_ok-put-in-Both : goal.emit_expr-returns-in_ok-put-in-Both
@@ -40,7 +40,7 @@ emit_expr-returns-in_ok-put-in-Both t c =
     on_ok_weaker c.emit_expr-in-Both-2.result
     (both_emitted (places_of c.args.layout.now) c.args.k c.args.e.now c.in-Both.a c.in-Both.b _ _ _ _ _ _ _ _ _ _ _ _ c.in-Both.is
     c.deref-in-Both.ensures c.deref-in-Both-3.ensures c.deref-in-Both-2.ensures
-    c.in_ok-expr_temps-in-Both.ensures c.in_ok-behind-in-Both.ensures c.in_ok-put_answer-in-Both.ensures c.len-end.ensures c.in_ok-emit_expr-in-Both.ensures c.len.ensures c.in_ok-put-in-Both.ensures)
+    refl c.in_ok-behind-in-Both.ensures c.in_ok-put_answer-in-Both.ensures c.len-end.ensures c.in_ok-emit_expr-in-Both.ensures c.len.ensures c.in_ok-put-in-Both.ensures)
     c.emit_expr-in-Both-2.ensures
 
 pub emit_expr-returns-in_ok-put-in-Either : goal.emit_expr-returns-in_ok-put-in-Either
@@ -48,7 +48,7 @@ emit_expr-returns-in_ok-put-in-Either t c =
     on_ok_weaker c.emit_expr-in-Either-2.result
     (either_emitted (places_of c.args.layout.now) c.args.k c.args.e.now c.in-Either.a c.in-Either.b _ _ _ _ _ _ _ _ _ _ _ _ c.in-Either.is
     c.deref-in-Either.ensures c.deref-in-Either-3.ensures c.deref-in-Either-2.ensures
-    c.in_ok-expr_temps-in-Either.ensures c.in_ok-behind-in-Either.ensures c.in_ok-put_answer-in-Either.ensures c.len-end-in-Either.ensures c.in_ok-emit_expr-in-Either.ensures c.len-in-Either.ensures c.in_ok-put-in-Either.ensures)
+    refl c.in_ok-behind-in-Either.ensures c.in_ok-put_answer-in-Either.ensures c.len-end-in-Either.ensures c.in_ok-emit_expr-in-Either.ensures c.len-in-Either.ensures c.in_ok-put-in-Either.ensures)
     c.emit_expr-in-Either-2.ensures
 
 pub emit_expr-returns-in_ok-put-in-Literal-2 : goal.emit_expr-returns-in_ok-put-in-Literal-2
@@ -69,7 +69,7 @@ emit_expr-returns-in_ok-put_kept-in-Tail t c =
     on_ok_weaker c.emit_expr-in-Tail-2.result
     (tail_form (places_of c.args.layout.now) c.args.k c.args.e.now c.in-Tail.operand c.in-Tail.low _ _ _ _ _ _ _ _ _ _ _ _ _ c.in-Tail.is
     c.deref-in-Tail.ensures c.deref-in-Tail-2.ensures c.deref-in-Tail-4.ensures c.deref-in-Tail-3.ensures
-    c.in_ok-expr_temps-in-Tail.ensures c.in_ok-temp-in-Tail.ensures c.in_ok-behind-in-Tail.ensures c.underlying-in-Tail.ensures
+    refl c.in_ok-temp-in-Tail.ensures.0 c.in_ok-temp-in-Tail.ensures.1 c.underlying-in-Tail.ensures
     c.in_ok-put_tail-in-Tail.ensures c.in_ok-emit_expr-in-Tail.ensures c.in_ok-put_kept-in-Tail.ensures)
     c.emit_expr-in-Tail-2.ensures
 
@@ -78,7 +78,7 @@ emit_expr-returns-in_ok-put_kept-in-Cut t c =
     on_ok_weaker c.emit_expr-in-Cut-3.result
     (cut_form (places_of c.args.layout.now) c.args.k c.args.e.now c.in-Cut.operand c.in-Cut.low c.in-Cut.high _ _ _ _ _ _ _ _ _ _ _ _ _ _ _ _ _ _ c.in-Cut.is
     c.deref-in-Cut.ensures c.deref-in-Cut-3.ensures c.deref-in-Cut-6.ensures c.deref-in-Cut-2.ensures c.deref-in-Cut-5.ensures c.deref-in-Cut-4.ensures
-    c.in_ok-expr_temps-in-Cut.ensures c.in_ok-temp-in-Cut.ensures c.in_ok-behind-in-Cut.ensures c.in_ok-expr_temps-in-Cut-2.ensures c.in_ok-last-in-Cut.ensures c.underlying-in-Cut.ensures
+    refl c.in_ok-temp-in-Cut.ensures.0 c.in_ok-temp-in-Cut.ensures.1 refl c.in_ok-last-in-Cut.ensures c.underlying-in-Cut.ensures
     c.in_ok-put_cut-in-Cut.ensures c.in_ok-emit_expr-in-Cut.ensures c.in_ok-emit_expr-in-Cut-2.ensures c.in_ok-put_kept-in-Cut.ensures)
     c.emit_expr-in-Cut-3.ensures
 
@@ -87,7 +87,7 @@ emit_expr-returns-in_ok-emit_expr-in-MakeWithin-2 t c =
     on_ok_weaker c.emit_element_zero.result
     (make_within_form (places_of c.args.layout.now) c.args.k c.args.e.now c.in-MakeWithin.length c.in-MakeWithin.room _ _ _ _ _ _ _ _ _ _ _ _ c.in-MakeWithin.is
     c.deref-in-MakeWithin.ensures c.deref-in-MakeWithin-3.ensures c.deref-in-MakeWithin-2.ensures
-    c.in_ok-expr_temps-in-MakeWithin.ensures c.in_ok-temp-in-MakeWithin.ensures c.in_ok-behind-in-MakeWithin.ensures
+    refl c.in_ok-temp-in-MakeWithin.ensures.0 c.in_ok-temp-in-MakeWithin.ensures.1
     c.in_ok-put_make-in-MakeWithin.ensures c.in_ok-emit_expr-in-MakeWithin.ensures c.in_ok-put_kept-in-MakeWithin.ensures c.in_ok-emit_expr-in-MakeWithin-2.ensures)
     c.emit_element_zero.ensures
 
@@ -96,7 +96,7 @@ emit_expr-returns-in_ok-emit_exprs-in-Append t c =
     on_ok_weaker c.emit_expr-in-Append.result
     (append_form (places_of c.args.layout.now) c.args.k c.args.e.now c.in-Append.slice c.in-Append.es _ _ _ _ _ _ _ _ _ _ c.in-Append.is
     c.deref-in-Append.ensures c.deref-in-Append-4.ensures c.deref-in-Append-2.ensures.value c.deref-in-Append-3.ensures.value
-    c.in_ok-expr_temps-in-Append.ensures c.in_ok-behind-in-Append.ensures c.in_ok-put_append-in-Append.ensures c.in_ok-emit_exprs-in-Append.ensures)
+    refl c.in_ok-behind-in-Append.ensures c.in_ok-put_append-in-Append.ensures c.in_ok-emit_exprs-in-Append.ensures)
     c.emit_expr-in-Append.ensures
 
 pub emit_exprs-loop-i-preserved : goal.emit_exprs-loop-i-preserved

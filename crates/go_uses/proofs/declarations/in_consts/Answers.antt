@@ -16,15 +16,14 @@ loop-spec-preserved c =
     let s = c.spec-item.result in
     let hidden = c.loop-spec.hidden in
     let found = map used c.loop-spec.found.items in
-    let next = map used c.in_ok-found.found.items in
+    let next = map used c.add_outside.new.found.items in
     let names = in_const (const_of s) in
     let own = texts (const_of s).names in
     let rest = in_consts (map const_of (drop (i + 1) specs)) in
     let within : i < length specs = omega arith in
     let splits : in_consts (map const_of (drop i specs)) ≡ names ++ outside own rest = ap (λ l. in_consts (map const_of l)) (left specs i s within c.spec-item.is) in
     let so_far : found ++ outside hidden (names ++ outside own rest) ≡ in_consts (map const_of specs) = ap (λ l. found ++ outside hidden l) (sym splits) ∙ c.loop-spec.invariant in
-    let shown : map used c.in_ok-outside.field-0.items ≡ outside hidden names =
-    c.in_ok-outside.ensures ∙ ap (λ (l : List UsedName). outside hidden (map used l)) c.deref.ensures.value ∙ ap (outside hidden) c.in_ok-names.ensures in
-    let grown : next ≡ found ++ outside hidden names = c.in_ok-found.ensures ∙ ap (λ l. found ++ l) shown in
+    let grown : next ≡ found ++ outside hidden names =
+    c.in_ok-add_outside.ensures ∙ ap (λ (l : List UsedName). found ++ outside hidden (map used l)) c.deref.ensures.value ∙ ap (λ l. found ++ outside hidden l) c.in_ok-names.ensures in
     let behind : c.hide.new.hidden ≡ hidden ++ own = c.in_ok-hide.ensures ∙ ap (λ l. hidden ++ texts l) c.deref-in-loop-spec.ensures.value in
     ap (λ xs. next ++ outside xs rest) behind ∙ further found names next hidden own rest (in_consts (map const_of specs)) so_far grown

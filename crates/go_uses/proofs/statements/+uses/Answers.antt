@@ -19,14 +19,13 @@ in_list-loop-statement-preserved t c =
     let s = c.statement-item.result in
     let hidden = c.loop-statement.hidden in
     let found = map used c.loop-statement.found.items in
-    let next = map used c.in_ok-found.found.items in
+    let next = map used c.add_outside.new.found.items in
     let names = in_stmt (stmt_of s) in
     let own = stmt_names (stmt_of s) in
     let all = λ (l : List Stmt). in_list (pack_stmts (map stmt_of l)) in
     let within : i < length ss = omega arith in
     let splits : all (drop i ss) ≡ names ++ outside own (all (drop (i + 1) ss)) = ap all (left ss i s within c.statement-item.is) in
     let so_far : found ++ outside hidden (names ++ outside own (all (drop (i + 1) ss))) ≡ all ss = ap (λ l. found ++ outside hidden l) (sym splits) ∙ c.loop-statement.invariant in
-    let shown : map used c.in_ok-outside.field-0.items ≡ outside hidden names =
-    c.in_ok-outside.ensures ∙ ap (λ (l : List UsedName). outside hidden (map used l)) c.deref.ensures.value ∙ ap (outside hidden) c.in_ok-names.ensures in
-    let grown : next ≡ found ++ outside hidden names = c.in_ok-found.ensures ∙ ap (λ l. found ++ l) shown in
+    let grown : next ≡ found ++ outside hidden names =
+    c.in_ok-add_outside.ensures ∙ ap (λ (l : List UsedName). found ++ outside hidden (map used l)) c.deref.ensures.value ∙ ap (λ l. found ++ outside hidden l) c.in_ok-names.ensures in
     ap (λ xs. next ++ outside xs (all (drop (i + 1) ss))) c.in_ok-hide_stmt.ensures ∙ further found names next hidden own (all (drop (i + 1) ss)) (all ss) so_far grown

@@ -21,20 +21,21 @@ returns-clause-ok g c = λ edition before world leaves stand clear.
     all_so_far (c.commands.invariant.so_far edition before world leaves stand clear) (empty_is c.is_empty.result _ c.is_empty.ensures c.commands-test.false)
 
 pub returns-in_err-asked-clause-err : goal.returns-in_err-asked-clause-err
-returns-in_err-asked-clause-err g c = λ edition before world leaves stand clear. on_refusal c.from_residual.result
-    (some_so_far (some_text_from c.law_held_program_means_its_sources.ensures.ends) (c.commands.invariant.so_far edition before world leaves stand clear))
+returns-in_err-asked-clause-err g c = on_refusal c.from_residual.result
+    (λ edition before world leaves stand clear. some_so_far (some_text_from c.law_held_program_means_its_sources.ensures.ends) (c.commands.invariant.so_far edition before world leaves stand clear))
 
 pub returns-in_err-told-clause-err : goal.returns-in_err-told-clause-err
-returns-in_err-told-clause-err g c = λ edition before world leaves stand clear. on_refusal c.from_residual-in_err-told.result
-    (some_so_far (some_text_from c.law_held_program_means_its_sources.ensures.ends) (c.commands.invariant.so_far edition before world leaves stand clear))
+returns-in_err-told-clause-err g c = on_refusal c.from_residual-in_err-told.result
+    (λ edition before world leaves stand clear. some_so_far (some_text_from c.law_held_program_means_its_sources.ensures.ends) (c.commands.invariant.so_far edition before world leaves stand clear))
 
 pub returns-in_err-enter-clause-err : goal.returns-in_err-enter-clause-err
-returns-in_err-enter-clause-err g c = λ edition before world leaves stand clear. on_refusal c.from_residual-in_err-enter.result
-    (some_so_far (some_text_from c.law_held_program_means_its_sources.ensures.ends) (c.commands.invariant.so_far edition before world leaves stand clear))
+returns-in_err-enter-clause-err g c = on_refusal c.from_residual-in_err-enter.result
+    (λ edition before world leaves stand clear. some_so_far (some_text_from c.law_held_program_means_its_sources.ensures.ends) (c.commands.invariant.so_far edition before world leaves stand clear))
 
 pub returns-in_err-write_whole-clause-err : goal.returns-in_err-write_whole-clause-err
-returns-in_err-write_whole-clause-err g c = λ edition before world leaves stand clear. on_refusal c.from_residual-in_err-write_whole.result
-    (let written = g.O.ScriptOut.written in
+returns-in_err-write_whole-clause-err g c = on_refusal c.from_residual-in_err-write_whole.result
+    (λ edition before world leaves stand clear.
+    let written = g.O.ScriptOut.written in
     let so_far = c.commands.invariant.so_far edition before world leaves stand clear in
     let ran = c.in_ok-told.ensures so_far.world so_far.stand in
     let first = c.in_ok-asked.ensures.first in
